@@ -1,0 +1,4 @@
+pub mod Files
+pub mod Going
+pub mod Recorded
+pub mod Sending

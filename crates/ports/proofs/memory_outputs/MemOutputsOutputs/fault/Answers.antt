@@ -1,0 +1,14 @@
+use Rattle.ports.proofs.Recorded.{faults_recorded, faults_stay_within}
+use Rattle.ports.proofs.memory_outputs.MemOutputsOutputs.fault.Goals as goal
+
+pub invariant_of-self-else-is_err : goal.invariant_of-self-else-is_err
+invariant_of-self-else-is_err c = record {
+  slots_within = faults_stay_within _ _ _ _ c.args.self.now.slots_within c.record_bytes-taken.ensures.items;
+  open_within = c.args.self.now.open_within;
+}
+
+pub returns-then-is_err-clause-events : goal.returns-then-is_err-clause-events
+returns-then-is_err-clause-events c = faults_recorded _ _ _ _ _ _ _ c.record_bytes-taken.ensures.items
+
+pub returns-else-is_err-clause-events : goal.returns-else-is_err-clause-events
+returns-else-is_err-clause-events c = faults_recorded _ _ _ _ _ _ _ c.record_bytes-taken.ensures.items

@@ -1,0 +1,17 @@
+use Rattle.ports.proofs.Recorded.{puts_recorded, puts_stay_within, some_current}
+use Rattle.ports.proofs.memory_outputs.MemOutputsOutputs.put.Goals as goal
+
+pub unwrap-requires : goal.unwrap-requires
+unwrap-requires c = some_current _ _ c.requires.is_open
+
+pub invariant_of-self-else-is_err : goal.invariant_of-self-else-is_err
+invariant_of-self-else-is_err c = record {
+  slots_within = puts_stay_within _ _ _ _ _ _ c.unwrap.ensures c.args.self.now.open_within c.args.self.now.slots_within c.record_bytes-taken.ensures.items;
+  open_within = c.args.self.now.open_within;
+}
+
+pub returns-then-is_err-clause-events : goal.returns-then-is_err-clause-events
+returns-then-is_err-clause-events c = puts_recorded _ _ _ _ _ _ _ _ c.unwrap.ensures c.record_bytes-taken.ensures.items
+
+pub returns-else-is_err-clause-events : goal.returns-else-is_err-clause-events
+returns-else-is_err-clause-events c = puts_recorded _ _ _ _ _ _ _ _ c.unwrap.ensures c.record_bytes-taken.ensures.items

@@ -1,0 +1,6 @@
+pub mod MemOutputs
+pub mod MemTree
+pub mod Outputs
+pub mod Plan
+pub mod Slots
+pub mod Tree

@@ -1,0 +1,24 @@
+use Rattle.std.specs.Prelude.{ℕ, Bool, true, List, map, String, Vec, string_bytes}
+use Rattle.std.specs.declared.alloc.Global.{Global}
+use Rattle.std.specs.Option.{option_map_or}
+use Rattle.indexmap.specs.IndexSet.{contains_text}
+use Rattle.ports.specs.Plan.{Planned}
+use Rattle.ports.specs.Tree.{TreeState}
+use Rattle.ports.specs.declared.memory_tree.MemTree.{MemTree}
+use Rattle.ports.specs.declared.plan.TreeCall.{TreeCall}
+
+-- the paths and bytes of these pairs
+abbrev pub contents : List (String Global × Vec ℕ Global) → List (List ℕ × List ℕ)
+contents files = map (λ file. (string_bytes file.0, file.1.items)) files
+
+-- what a tree in memory is seen as: it is always steady
+abbrev pub mem_tree_seen : MemTree → TreeState
+mem_tree_seen tree = record { files = contents tree.files.entries; failures = tree.failures; steady = true }
+
+-- what is planned for it
+abbrev pub mem_tree_plan : MemTree → Planned TreeCall
+mem_tree_plan tree = record { piece = tree.plan.piece; kind = tree.plan.kind; number = tree.plan.number }
+
+-- whether it answers for this path
+abbrev pub mem_tree_knows : MemTree → List ℕ → Bool
+mem_tree_knows tree path = option_map_or (λ known. contains_text known path) tree.known true

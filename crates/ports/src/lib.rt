@@ -1,0 +1,50 @@
+//! What a run is lent: a tree of files to read and outputs to write, on a disk or in memory.
+//!
+//! A device is a value of a type that is a [`Tree`] or [`Outputs`]. The calls of a device have one error, [`DeviceFault`], and each
+//! device counts its own: [`Tree::failures`] and [`Outputs::failures`]. So a caller, and a theorem about it, can tell whether a device
+//! failed.
+//!
+//! Contracts see a device as plain data. A tree is seen as its files, the count of its failures and whether it is *steady*: while it
+//! is, each call answers from the files and leaves them as they are. Outputs are seen as the list of their *events*, the name of the
+//! open output, the count of their failures and whether they *tell*: while they do, each call adds to the list what its answer says.
+//! [`MemTree`] is always steady and [`MemOutputs`] always tell; of a disk, [`DiskTree`] and [`DiskOutputs`] state neither, so what is
+//! proved of the bytes holds there as far as the disk is honest.
+//!
+//! An [`Event`] is one byte of an output, of the log or of a fault's line, or that an output was begun or ended. Outputs, log and
+//! fault lines share one list, so it has their order. What a call writes is stated as a list of *steps*, which are events without the
+//! output's name: the run of a function is the runs of its calls, one behind the other, whatever is open. The steps become events by
+//! the name that is open before them.
+//!
+//! ```text
+//! Sends old new run whole   outputs that told tell still, and behind the events of `old` stand those of `run`:
+//!                           all of them where `whole` is true, else a beginning of them
+//! ```
+//!
+//! [`put_all`], [`log_all`] and [`fault_all`] are the calls to write with. Their `run` is one step a byte, and `whole` is whether they
+//! answer `Ok`.
+#![tactic(auto)]
+
+mod disk_outputs;
+mod disk_tree;
+mod event;
+mod fault;
+mod memory_outputs;
+mod memory_tree;
+mod outputs;
+mod plan;
+mod send;
+mod tree;
+
+pub use disk_outputs::DiskOutputs;
+pub use disk_tree::DiskTree;
+pub use event::Event;
+pub use fault::DeviceFault;
+pub use memory_outputs::MemOutputs;
+pub use memory_tree::MemTree;
+pub use outputs::Outputs;
+pub use plan::{OutputCall, TreeCall};
+pub use send::{fault_all, log_all, put_all};
+pub use tree::Tree;
+
+#[cfg(test)]
+mod tests;

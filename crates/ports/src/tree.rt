@@ -1,0 +1,35 @@
+ghost use Rattle.std.specs.Prelude.{◌≡◌, ◌+◌, ◌^◌, ◌<◌, ◌≤◌, length, is_ok, IsTrue, IfOk, if◌then◌else◌};
+ghost use Rattle.std.specs.Option.{option_map};
+ghost use Rattle.ports.specs.Tree.{TreeState, file_at, bytes_at, Stays, Reads};
+
+use crate::DeviceFault;
+
+/// A tree of files by their paths, as a run reads it. A path has parts divided by `/`, none of them empty, `.` or `..`.
+///
+/// It is seen as its files, a finite map from paths to bytes; the count of its failures; and whether it is `steady`. While a tree is
+/// steady, each call answers from the map, or with a device fault, and leaves the map as it is. What the calls say of bytes and
+/// sizes holds of steady trees; the rest holds of every tree, also of one that answers as it likes.
+pub trait Tree {
+    ghost seen: { Self → TreeState };
+
+    /// How many calls have failed. A device fault adds one to the count, and nothing else changes it. Each call asks that the count
+    /// is below its last value.
+    fn failures(&self) -> u64
+        ensures { result ≡ (seen self.now).failures };
+
+    /// How many bytes the file at this path has, or none where there is no file.
+    fn size(&mut self, path: &str) -> Result<Option<u64>, DeviceFault>
+        requires { (seen self.old).failures + 1 < 2 ^ 64 }
+        ensures size { IsTrue (seen self.old).steady → IfOk result (λ size. size ≡ option_map length (file_at (seen self.old).files path.now)) }
+        ensures stays { Stays (seen self.old) (seen self.new) }
+        ensures failures { (seen self.new).failures ≡ (if is_ok result then (seen self.old).failures else (seen self.old).failures + 1) };
+
+    /// Reads bytes of the file at this path, from the place `at` on, into the front of the buffer, and says how many: at least one
+    /// where some are left and the buffer is not empty. A file that is absent has no bytes.
+    fn read_at(&mut self, path: &str, at: u64, buf: &mut [u8]) -> Result<usize, DeviceFault>
+        requires { (seen self.old).failures + 1 < 2 ^ 64 }
+        ensures within { IfOk result (λ n. n ≤ length buf.old) }
+        ensures bytes { IsTrue (seen self.old).steady → IfOk result (λ n. Reads (bytes_at (seen self.old).files path.now) at (length buf.old) n buf.new) }
+        ensures stays { Stays (seen self.old) (seen self.new) }
+        ensures failures { (seen self.new).failures ≡ (if is_ok result then (seen self.old).failures else (seen self.old).failures + 1) };
+}
