@@ -1,0 +1,16 @@
+use Rattle.std.proofs.Common.{length, map, ◌≤◌}
+use Rattle.syntax.specs.Lexeme.{lexemes}
+use Rattle.syntax.specs.Reading.{items_of}
+use Rattle.syntax.specs.Tree.{expression_of}
+use Rattle.syntax.proofs.Tails.{StillItems}
+use Rattle.syntax.proofs.parser.Parser.items.Given as goal
+
+abbrev pub invariant-loop-items : goal.invariant-loop-items
+invariant-loop-items l =
+    record {
+      within : length l.self.rest.now ≤ length l.fn.self.rest.now;
+      read : StillItems l.levels (map expression_of l.items.items) (lexemes l.self.rest.now) (items_of l.levels (lexemes l.fn.self.rest.now));
+    }
+
+abbrev pub decreases-loop-items : goal.decreases-loop-items
+decreases-loop-items l = length l.self.rest.now

@@ -1,0 +1,121 @@
+-- The bytes that tokens are made of.
+use Rattle.std.specs.Prelude.{ℕ, Bool, false, List, ◌∷◌, ◌==◌, ◌||◌, ◌&&◌, not, nat_lt, if◌then◌else◌, count_by}
+use Rattle.std.specs.Char.{is_ascii_alphabetic, is_ascii_digit}
+
+abbrev pub tab : ℕ
+tab = 9
+
+abbrev pub newline : ℕ
+newline = 10
+
+abbrev pub carriage_return : ℕ
+carriage_return = 13
+
+abbrev pub space : ℕ
+space = 32
+
+abbrev pub exclamation : ℕ
+exclamation = 33
+
+abbrev pub hash : ℕ
+hash = 35
+
+abbrev pub percent : ℕ
+percent = 37
+
+abbrev pub quote : ℕ
+quote = 39
+
+abbrev pub open_parenthesis : ℕ
+open_parenthesis = 40
+
+abbrev pub close_parenthesis : ℕ
+close_parenthesis = 41
+
+abbrev pub star : ℕ
+star = 42
+
+abbrev pub plus : ℕ
+plus = 43
+
+abbrev pub comma : ℕ
+comma = 44
+
+abbrev pub minus : ℕ
+minus = 45
+
+abbrev pub dot : ℕ
+dot = 46
+
+abbrev pub slash : ℕ
+slash = 47
+
+abbrev pub colon : ℕ
+colon = 58
+
+abbrev pub less : ℕ
+less = 60
+
+abbrev pub equals : ℕ
+equals = 61
+
+abbrev pub greater : ℕ
+greater = 62
+
+abbrev pub question : ℕ
+question = 63
+
+abbrev pub open_bracket : ℕ
+open_bracket = 91
+
+abbrev pub backslash : ℕ
+backslash = 92
+
+abbrev pub close_bracket : ℕ
+close_bracket = 93
+
+abbrev pub underscore : ℕ
+underscore = 95
+
+abbrev pub lower_f : ℕ
+lower_f = 102
+
+abbrev pub open_brace : ℕ
+open_brace = 123
+
+abbrev pub close_brace : ℕ
+close_brace = 125
+
+-- a letter or an underscore
+abbrev pub is_letter : ℕ → Bool
+is_letter b = is_ascii_alphabetic b || (b == underscore)
+
+-- what a word goes on with
+abbrev pub continues_word : ℕ → Bool
+continues_word b = is_letter b || is_ascii_digit b
+
+-- what may stand between the quotes of a string
+abbrev pub is_plain : ℕ → Bool
+is_plain b = not ((b == quote) || (b == backslash))
+
+-- a blank, where so many brackets are open: inside brackets a newline is one
+abbrev pub is_blank : ℕ → ℕ → Bool
+is_blank depth b = if b == newline then nat_lt 0 depth else (b == space) || (b == tab) || (b == carriage_return)
+
+-- what stands in a comment
+abbrev pub in_line : ℕ → Bool
+in_line b = not (b == newline)
+
+-- the newlines of a text
+abbrev pub newlines : List ℕ → ℕ
+newlines = count_by (λ b. b == newline)
+
+-- a raw string begins
+abbrev pub opens_raw : List ℕ → Bool
+opens_raw (a ∷ b ∷ c ∷ more) = (a == quote) && (b == quote) && (c == quote)
+opens_raw _ = false
+
+-- an f-string begins
+abbrev pub opens_format : List ℕ → Bool
+opens_format (a ∷ b ∷ more) = (a == lower_f) && (b == quote)
+opens_format _ = false

@@ -1,0 +1,148 @@
+-- Reading tokens by the grammar, as functions: a value and the tokens after it, or where reading stops.
+use Rattle.std.specs.Prelude.{◌≡◌, ℕ, zero, suc, ◌+◌, List, [], ◌∷◌, length, Result, Ok, Err, Bool, false, if◌then◌else◌, ◌&&◌, Option, Some, None}
+use Rattle.syntax.specs.Lexeme.{Lexeme}
+use Rattle.syntax.specs.Kinds.{is}
+use Rattle.syntax.specs.Tree.{ExpressionTree, NameTree, TextTree, StatementTree, AssignTree, CallTree, FileTree}
+use Rattle.syntax.specs.Grammar.{unquoted, given}
+use Rattle.syntax.specs.declared.token.Kind.{Kind}
+use Rattle.syntax.specs.declared.token.Kind.TheVariants as Kinds
+use Rattle.syntax.specs.declared.stop.Stop.{Stop}
+use Rattle.syntax.specs.declared.stop.Stop.TheVariants.{Unexpected, TooDeep}
+use Rattle.syntax.specs.declared.stop.ReadError.{ReadError}
+use Rattle.syntax.specs.declared.stop.ReadError.TheVariants as errors
+
+abbrev pub Reader : Type 0 → Type 0
+Reader A = List Lexeme → Result (A × List Lexeme) Stop
+
+infixl 10 ◌>>=◌
+abbrev pub ◌>>=◌ : {A B : Type 0} → Result A Stop → (A → Result B Stop) → Result B Stop
+(Ok x) >>= f = f x
+(Err e) >>= f = Err e
+
+-- What a function returned, seen by view, and the tokens that it left are what reading gives, unless memory ran out.
+abbrev pub Fails : {Y : Type 0} → ReadError → Result Y Stop → Type 0
+Fails errors.Memory read = Unit {0}
+Fails (errors.Stop f) read = read ≡ Err f
+
+abbrev pub Gives : {X Y : Type 0} → (X → Y) → Result X ReadError → List Lexeme → Result (Y × List Lexeme) Stop → Type 0
+Gives view (Ok x) rest read = read ≡ Ok (view x, rest)
+Gives view (Err e) rest read = Fails e read
+
+abbrev pub GivesAll : {X Y : Type 0} → (X → Y) → Result X ReadError → Result Y Stop → Type 0
+GivesAll view (Ok x) read = read ≡ Ok (view x)
+GivesAll view (Err e) read = Fails e read
+
+-- how many tokens are left where reading stops
+abbrev pub tokens_left : Stop → ℕ
+tokens_left (Unexpected n) = n
+tokens_left (TooDeep n) = n
+
+-- the first token is of this kind
+abbrev pub begins : Kind → List Lexeme → Bool
+begins k [] = false
+begins k (t ∷ ts) = is t.kind k
+
+unfoldable pub token_at : Kind → Reader Lexeme
+token_at k [] = Err (Unexpected 0)
+token_at k (t ∷ ts) = if is t.kind k then Ok (t, ts) else Err (Unexpected (length ts + 1))
+
+-- what r reads while the next token begins it, at most so many times
+abbrev pub many_at : {A : Type 0} → (List Lexeme → Bool) → Reader A → ℕ → Reader (List A)
+many_at next r zero ts = Ok ([], ts)
+many_at next r (suc k) ts =
+    if next ts then (r ts >>= λ x. many_at next r k x.1 >>= λ y. Ok (x.0 ∷ y.0, y.1)) else Ok ([], ts)
+
+unfoldable pub or_at : {A : Type 0} → (List Lexeme → Bool) → Reader A → Reader A → Reader A
+or_at first r s ts = if first ts then r ts else s ts
+
+unfoldable pub optional_at : {A : Type 0} → (List Lexeme → Bool) → Reader A → Reader (Option A)
+optional_at first r ts = or_at first (λ us. r us >>= λ x. Ok (Some x.0, x.1)) (λ us. Ok (None, us)) ts
+
+-- what follows an element of a list, where items reads the rest after a comma
+unfoldable pub tail_at : {A : Type 0} → Reader (List A) → Reader (List A)
+tail_at items ts = if begins Kinds.Comma ts then (token_at Kinds.Comma ts >>= λ c. items c.1) else Ok ([], ts)
+
+-- the elements of a list up to what stops it, where there are fewer than so many
+unfoldable pub items_at : {A : Type 0} → (List Lexeme → Bool) → Reader A → ℕ → Reader (List A)
+items_at stop r zero ts = Ok ([], ts)
+items_at stop r (suc k) ts = if stop ts then Ok ([], ts) else (r ts >>= λ x. tail_at (items_at stop r k) x.1 >>= λ y. Ok (x.0 ∷ y.0, y.1))
+
+-- all tokens
+abbrev pub ends_at : {A : Type 0} → A × List Lexeme → Result A Stop
+ends_at (a, []) = Ok a
+ends_at (a, t ∷ ts) = Err (Unexpected (length ts + 1))
+
+unfoldable pub all_of : {A : Type 0} → Reader A → List Lexeme → Result A Stop
+all_of r ts = r ts >>= λ x. ends_at x
+
+-- ---- the lines of the grammar
+
+unfoldable pub name_at : Reader ExpressionTree
+name_at ts = do
+  t ← token_at Kinds.Name ts
+  Ok (NameTree t.0.text t.0.line, t.1)
+
+unfoldable pub text_at : Reader ExpressionTree
+text_at ts = do
+  t ← token_at Kinds.String ts
+  Ok (TextTree (unquoted t.0.text) t.0.line, t.1)
+
+unfoldable pub group_at : {A : Type 0} → Reader A → Reader A
+group_at r ts = do
+  o ← token_at Kinds.OpenParenthesis ts
+  x ← r o.1
+  c ← token_at Kinds.CloseParenthesis x.1
+  Ok (x.0, c.1)
+
+-- where no level may be opened
+unfoldable pub deep_at : {A : Type 0} → Kind → Reader A
+deep_at k ts = if begins k ts then Err (TooDeep (length ts)) else Err (Unexpected (length ts))
+
+unfoldable pub nested_at : ℕ → Reader ExpressionTree
+nested_at zero ts = deep_at Kinds.OpenParenthesis ts
+nested_at (suc n) ts = group_at (or_at (begins Kinds.Name) name_at (or_at (begins Kinds.String) text_at (nested_at n))) ts
+
+unfoldable pub expr_at : ℕ → Reader ExpressionTree
+expr_at n ts = or_at (begins Kinds.Name) name_at (or_at (begins Kinds.String) text_at (nested_at n)) ts
+
+unfoldable pub items_of : ℕ → Reader (List ExpressionTree)
+items_of n ts = items_at (begins Kinds.CloseParenthesis) (expr_at n) (length ts + 1) ts
+
+unfoldable pub arguments_at : ℕ → Reader (List ExpressionTree)
+arguments_at zero ts = deep_at Kinds.OpenParenthesis ts
+arguments_at (suc n) ts = group_at (items_of n) ts
+
+unfoldable pub assign_at : ℕ → Reader StatementTree
+assign_at n ts = do
+  t ← token_at Kinds.Name ts
+  q ← token_at Kinds.Assign t.1
+  e ← expr_at n q.1
+  Ok (AssignTree t.0.text t.0.line e.0, e.1)
+
+unfoldable pub call_at : ℕ → Reader StatementTree
+call_at n ts = do
+  t ← token_at Kinds.Name ts
+  xs ← arguments_at n t.1
+  Ok (CallTree t.0.text t.0.line xs.0, xs.1)
+
+-- the first two tokens are of these kinds
+abbrev pub two_begin : Kind → Kind → List Lexeme → Bool
+two_begin k l [] = false
+two_begin k l (t ∷ ts) = is t.kind k && begins l ts
+
+unfoldable pub stmt_at : ℕ → Reader StatementTree
+stmt_at n ts = or_at (two_begin Kinds.Name Kinds.Assign) (assign_at n) (call_at n) ts
+
+unfoldable pub line_at : ℕ → Reader (Option StatementTree)
+line_at n ts = optional_at (begins Kinds.Name) (stmt_at n) ts
+
+unfoldable pub next_line_at : ℕ → Reader (Option StatementTree)
+next_line_at n ts = do
+  t ← token_at Kinds.Newline ts
+  line_at n t.1
+
+unfoldable pub file_at : ℕ → Reader FileTree
+file_at n ts = do
+  first ← line_at n ts
+  others ← many_at (begins Kinds.Newline) (next_line_at n) (length first.1) first.1
+  Ok (given (first.0 ∷ others.0), others.1)

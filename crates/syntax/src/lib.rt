@@ -1,0 +1,18 @@
+//! The tokens, the grammar and the trees of Meson definition files.
+//!
+//! [`tokens`] cuts a source into its tokens, [`parse`] reads the file that they spell. Both refuse a source with a
+//! [`fault::SyntaxFault`], which names what is wrong and the line. The language is that of the Meson manual's page
+//! "Syntax"; nothing here knows what a name or a call means.
+#![tactic(auto)]
+
+pub mod fault;
+mod lexer;
+mod parser;
+mod stop;
+#[cfg(test)]
+mod tests;
+pub mod token;
+pub mod tree;
+
+pub use lexer::tokens;
+pub use parser::{LEVELS, parse};

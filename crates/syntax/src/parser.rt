@@ -1,0 +1,318 @@
+//! Reads the file that tokens spell, with one token in hand.
+
+ghost use Rattle.std.specs.Prelude.{◌≡◌, ℕ, ◌+◌, ◌-◌, ◌<◌, ◌≤◌, length, map, OnOk, [], ◌∷◌, List, IfOk, MatchResult};
+ghost use Rattle.std.specs.Option.{option_map};
+ghost use Rattle.syntax.specs.Grammar.{most_levels, unquoted};
+ghost use Rattle.syntax.specs.Kinds.{is};
+ghost use Rattle.syntax.specs.Lexeme.{Lexeme, lexeme_of, lexemes};
+ghost use Rattle.syntax.specs.Parsed.{Answers, HasFault, Spells, line_of, located, parsed};
+ghost use Rattle.syntax.specs.Reading.{Gives, GivesAll, all_of, arguments_at, assign_at, begins, call_at, expr_at, file_at, group_at, items_of, tokens_left, line_at, name_at, stmt_at, text_at, token_at, two_begin};
+ghost use Rattle.syntax.specs.Tree.{FileTree, expression_of, file_of, statement_of};
+
+use crate::fault::{FaultKind, SyntaxError, SyntaxFault};
+use crate::lexer::{newlines, tokens};
+use crate::stop::{ReadError, Stop};
+use crate::token::{Kind, Token};
+use crate::tree::{Expression, File, Statement};
+use std::alloc::Global;
+
+/// How many levels may be open: brackets, blocks and prefix operators, one inside another.
+pub const LEVELS: u32 = 64;
+
+// What stands between the quotes of a string.
+fn unquoted(text: &str) -> &str
+    ensures { result.now ≡ unquoted text.now }
+{
+    let bytes = text.as_bytes();
+    let length = bytes.len();
+    if length >= 2 && bytes[0] == b'\'' && bytes[length - 1] == b'\'' {
+        &text[1..length - 1]
+    } else {
+        text
+    }
+}
+
+// The tokens that are still to be read.
+#[derive(Drop)]
+struct Parser<'t, 'a> {
+    rest: &'t [Token<'a>],
+}
+
+impl<'t, 'a> Parser<'t, 'a> {
+    // Takes the first token, where it is of this kind.
+    #[tactic(auto, using(crate::proofs::Tails::token_found, crate::proofs::Tails::token_missing, crate::proofs::Tails::token_end, crate::proofs::Tails::fails_at))]
+    fn take(&mut self, kind: Kind) -> Result<Token<'a>, ReadError>
+        ensures read { Gives lexeme_of result (lexemes self.new.rest.now) (token_at kind (lexemes self.old.rest.now)) }
+        ensures shorter { OnOk result (length self.new.rest.now < length self.old.rest.now) }
+    {
+        match self.rest {
+            [token, rest @ ..] if token.is(kind) => {
+                self.rest = rest;
+                Ok(*token)
+            }
+            _ => Err(self.unexpected()),
+        }
+    }
+
+    // Whether the first token is of this kind.
+    fn begins(&self, kind: Kind) -> bool
+        ensures { result ≡ begins kind (lexemes self.now.rest.now) }
+    {
+        match self.rest {
+            [token, ..] => token.is(kind),
+            [] => false,
+        }
+    }
+
+    // The first token does not go on with any file.
+    fn unexpected(&self) -> ReadError
+        ensures { result ≡ ReadError.Stop (Stop.Unexpected (length self.now.rest.now)) }
+    {
+        ReadError::Stop(Stop::Unexpected(self.rest.len()))
+    }
+
+    #[tactic(auto, unfolding(crate::specs::Reading::name_at))]
+    fn name(&mut self) -> Result<Expression<'a>, ReadError>
+        ensures read { Gives expression_of result (lexemes self.new.rest.now) (name_at (lexemes self.old.rest.now)) }
+        ensures shorter { OnOk result (length self.new.rest.now < length self.old.rest.now) }
+    {
+        let token = self.take(Kind::Name)?;
+        Ok(Expression::Name {
+            name: token.text,
+            line: token.line,
+        })
+    }
+
+    // The text of a string.
+    #[tactic(auto, unfolding(crate::specs::Reading::text_at))]
+    fn text(&mut self) -> Result<Expression<'a>, ReadError>
+        ensures read { Gives expression_of result (lexemes self.new.rest.now) (text_at (lexemes self.old.rest.now)) }
+        ensures shorter { OnOk result (length self.new.rest.now < length self.old.rest.now) }
+    {
+        let token = self.take(Kind::String)?;
+        Ok(Expression::Text {
+            text: unquoted(token.text),
+            line: token.line,
+        })
+    }
+
+    // An expression, where so many levels may still be opened.
+    #[cycle(expression)]
+    #[tactic(auto, using(crate::proofs::Tails::expr_name, crate::proofs::Tails::expr_text, crate::proofs::Tails::expr_group, crate::proofs::Tails::expr_deep, crate::proofs::Tails::expr_unexpected, crate::proofs::Tails::fails_at))]
+    fn expression(&mut self, levels: u32) -> Result<Expression<'a>, ReadError>
+        ensures read { Gives expression_of result (lexemes self.new.rest.now) (expr_at levels (lexemes self.old.rest.now)) }
+        ensures shorter { OnOk result (length self.new.rest.now < length self.old.rest.now) }
+    {
+        if self.begins(Kind::Name) {
+            self.name()
+        } else if self.begins(Kind::String) {
+            self.text()
+        } else if levels > 0 {
+            self.group(levels - 1)
+        } else if self.begins(Kind::OpenParenthesis) {
+            Err(ReadError::Stop(Stop::TooDeep(self.rest.len())))
+        } else {
+            Err(self.unexpected())
+        }
+    }
+
+    // An expression in parentheses.
+    #[cycle(expression)]
+    #[tactic(auto, unfolding(crate::specs::Reading::group_at))]
+    fn group(&mut self, levels: u32) -> Result<Expression<'a>, ReadError>
+        ensures read { Gives expression_of result (lexemes self.new.rest.now) (group_at (expr_at levels) (lexemes self.old.rest.now)) }
+        ensures shorter { OnOk result (length self.new.rest.now < length self.old.rest.now) }
+    {
+        self.take(Kind::OpenParenthesis)?;
+        let inner = self.expression(levels)?;
+        self.take(Kind::CloseParenthesis)?;
+        Ok(inner)
+    }
+
+    // The expressions up to a closing parenthesis, with commas between them and perhaps after the last.
+    fn items(&mut self, alloc: Global, levels: u32) -> Result<Vec<Expression<'a>>, ReadError>
+        ensures read { Gives (λ v. map expression_of v.items) result (lexemes self.new.rest.now) (items_of levels (lexemes self.old.rest.now)) }
+        ensures shorter { OnOk result (length self.new.rest.now ≤ length self.old.rest.now) }
+    {
+        let mut items = Vec::new(alloc);
+        while !self.begins(Kind::CloseParenthesis) {
+            items.push(self.expression(levels)?)?;
+            if !self.begins(Kind::Comma) {
+                return Ok(items);
+            }
+            self.take(Kind::Comma)?;
+        }
+        Ok(items)
+    }
+
+    // The arguments of a call, in their parentheses.
+    #[tactic(auto, using(crate::proofs::Tails::arguments_group, crate::proofs::Tails::arguments_deep, crate::proofs::Tails::arguments_unexpected, crate::proofs::Tails::fails_at), unfolding(crate::specs::Reading::group_at))]
+    fn arguments(&mut self, alloc: Global, levels: u32) -> Result<Vec<Expression<'a>>, ReadError>
+        ensures read { Gives (λ v. map expression_of v.items) result (lexemes self.new.rest.now) (arguments_at levels (lexemes self.old.rest.now)) }
+        ensures shorter { OnOk result (length self.new.rest.now < length self.old.rest.now) }
+    {
+        if levels > 0 {
+            self.take(Kind::OpenParenthesis)?;
+            let items = self.items(alloc, levels - 1)?;
+            self.take(Kind::CloseParenthesis)?;
+            Ok(items)
+        } else if self.begins(Kind::OpenParenthesis) {
+            Err(ReadError::Stop(Stop::TooDeep(self.rest.len())))
+        } else {
+            Err(self.unexpected())
+        }
+    }
+
+    // An assignment.
+    #[tactic(auto, unfolding(crate::specs::Reading::assign_at))]
+    fn assign(&mut self, levels: u32) -> Result<Statement<'a>, ReadError>
+        ensures read { Gives statement_of result (lexemes self.new.rest.now) (assign_at levels (lexemes self.old.rest.now)) }
+        ensures shorter { OnOk result (length self.new.rest.now < length self.old.rest.now) }
+    {
+        let name = self.take(Kind::Name)?;
+        self.take(Kind::Assign)?;
+        let value = self.expression(levels)?;
+        Ok(Statement::Assign {
+            name: name.text,
+            line: name.line,
+            value,
+        })
+    }
+
+    // A call.
+    #[tactic(auto, unfolding(crate::specs::Reading::call_at))]
+    fn call(&mut self, alloc: Global, levels: u32) -> Result<Statement<'a>, ReadError>
+        ensures read { Gives statement_of result (lexemes self.new.rest.now) (call_at levels (lexemes self.old.rest.now)) }
+        ensures shorter { OnOk result (length self.new.rest.now < length self.old.rest.now) }
+    {
+        let name = self.take(Kind::Name)?;
+        let arguments = self.arguments(alloc, levels)?;
+        Ok(Statement::Call {
+            name: name.text,
+            line: name.line,
+            arguments,
+        })
+    }
+
+    // Whether an assignment comes.
+    fn begins_assign(&self) -> bool
+        ensures { result ≡ two_begin Kind.Name Kind.Assign (lexemes self.now.rest.now) }
+    {
+        match self.rest {
+            [first, second, ..] => first.is(Kind::Name) && second.is(Kind::Assign),
+            _ => false,
+        }
+    }
+
+    // A statement.
+    #[tactic(auto, using(crate::proofs::Tails::stmt_assign, crate::proofs::Tails::stmt_call))]
+    fn statement(&mut self, alloc: Global, levels: u32) -> Result<Statement<'a>, ReadError>
+        ensures read { Gives statement_of result (lexemes self.new.rest.now) (stmt_at levels (lexemes self.old.rest.now)) }
+        ensures shorter { OnOk result (length self.new.rest.now < length self.old.rest.now) }
+    {
+        if self.begins_assign() {
+            self.assign(levels)
+        } else {
+            self.call(alloc, levels)
+        }
+    }
+
+    // The statement of a line, if there is one.
+    #[tactic(auto, using(crate::proofs::Tails::line_some, crate::proofs::Tails::line_none, crate::proofs::Tails::line_fails))]
+    fn line(&mut self, alloc: Global, levels: u32) -> Result<Option<Statement<'a>>, ReadError>
+        ensures read { Gives (option_map statement_of) result (lexemes self.new.rest.now) (line_at levels (lexemes self.old.rest.now)) }
+        ensures shorter { OnOk result (length self.new.rest.now ≤ length self.old.rest.now) }
+    {
+        if self.begins(Kind::Name) {
+            Ok(Some(self.statement(alloc, levels)?))
+        } else {
+            Ok(None)
+        }
+    }
+
+    // The statements of the lines.
+    fn lines(&mut self, alloc: Global, levels: u32) -> Result<Vec<Statement<'a>>, ReadError>
+        ensures read { Gives (λ v. map statement_of v.items) result (lexemes self.new.rest.now) (file_at levels (lexemes self.old.rest.now)) }
+    {
+        let mut statements = Vec::new(alloc);
+        if let Some(first) = self.line(alloc, levels)? {
+            statements.push(first)?;
+        }
+        while self.begins(Kind::Newline) {
+            self.take(Kind::Newline)?;
+            if let Some(next) = self.line(alloc, levels)? {
+                statements.push(next)?;
+            }
+        }
+        Ok(statements)
+    }
+
+    // The file that all tokens spell.
+    #[tactic(auto, using(crate::proofs::Tails::all_read, crate::proofs::Tails::all_more, crate::proofs::Tails::all_fails, crate::proofs::Tails::fails_at))]
+    fn file(&mut self, alloc: Global, levels: u32) -> Result<File<'a>, ReadError>
+        ensures { GivesAll file_of result (all_of (file_at levels) (lexemes self.old.rest.now)) }
+    {
+        let statements = self.lines(alloc, levels)?;
+        if !self.rest.is_empty() {
+            return Err(self.unexpected());
+        }
+        Ok(File { statements })
+    }
+}
+
+// The line of the token from which on so many are left, or of the source's end.
+fn line_of(source: &str, tokens: &[Token<'_>], left: usize) -> usize
+    requires { left ≤ length tokens.now }
+    ensures { result ≡ line_of source.now (lexemes tokens.now) (length tokens.now - left) }
+{
+    if left > 0 {
+        tokens[tokens.len() - left].line
+    } else {
+        1 + newlines(source.as_bytes())
+    }
+}
+
+// The fault of a source whose tokens cannot be read on.
+fn located(source: &str, tokens: &[Token<'_>], stop: Stop) -> SyntaxFault
+    requires { tokens_left stop ≤ length tokens.now }
+    ensures { result ≡ located source.now (lexemes tokens.now) stop }
+{
+    match stop {
+        Stop::Unexpected(left) => SyntaxFault {
+            kind: FaultKind::Grammar,
+            line: line_of(source, tokens, left),
+        },
+        Stop::TooDeep(left) => SyntaxFault {
+            kind: FaultKind::Nesting,
+            line: line_of(source, tokens, left),
+        },
+    }
+}
+
+/// The file that a source spells.
+///
+/// A file is lines with a statement each, or none: an assignment `name = expression`, or a call `name(expression, ..)`;
+/// an expression is a name, a string, or an expression in parentheses. What is no file has a fault at the line of a
+/// token, where the end counts as one: E2 where the source has no tokens; E3 at the first token up to which the tokens
+/// begin no file; E4 at the first that opens level 65, where that comes before.
+pub fn parse(alloc: Global, source: &str) -> Result<File<'_>, SyntaxError>
+    // Unless memory runs out, it is this function of the source.
+    ensures reads { Answers file_of result (parsed source.now) }
+
+    // The file is spelled by the tokens of the source, and no other is, however many levels may be open.
+    ensures spelled { IfOk result (λ f. Spells LEVELS source.now (file_of f)) }
+    ensures complete { (f : FileTree) → Spells LEVELS source.now f
+        → MatchResult result (λ x. file_of x ≡ f) (λ e. e ≡ SyntaxError.Memory) }
+    ensures only { (n : ℕ) (f : FileTree) → Spells n source.now f → IfOk result (λ x. file_of x ≡ f) }
+
+    // Which fault the source has.
+    ensures refused { (f : SyntaxFault) → result ≡ Err (SyntaxError.Fault f) → HasFault source.now f }
+{
+    let tokens = tokens(alloc, source)?;
+    let mut parser = Parser { rest: &tokens };
+    match parser.file(alloc, LEVELS) {
+        Ok(file) => Ok(file),
+        Err(ReadError::Memory) => Err(SyntaxError::Memory),
+        Err(ReadError::Stop(stop)) => Err(SyntaxError::Fault(located(source, &tokens, stop))),
+    }
+}
