@@ -1,0 +1,3 @@
+pub mod PathLists
+pub mod PathTexts
+pub mod Adding
