@@ -1,0 +1,201 @@
+//! The words of a command, quoted for a POSIX shell.
+ghost use Rattle.std.specs.Prelude.{◌≡◌, ◌+◌, ◌^◌, ◌<◌, true, string_bytes, ◌++◌, is_ok, IsSome, if◌then◌else◌, ◌&&◌, not, option_map};
+ghost use Rattle.std.specs.List.{flat_map};
+ghost use Rattle.ports.specs.Outputs.{OutputState, Sends, puts};
+ghost use Rattle.build.specs.Texts.{texts};
+ghost use Rattle.ninja.specs.Shell.{is_bare_byte, is_reserved, has_equals, is_no_first_word};
+ghost use Rattle.ninja.specs.Escapes.{value_rest_text, value_text};
+ghost use Rattle.ninja.specs.Words.{is_all_bare, is_bare, word_text, first_word_text, words_text};
+ghost use Rattle.ninja.specs.Runs.{quoted_run, later_word_run, redirect_run, lone_redirect_run};
+
+use crate::escapes::{Place, put_escaped};
+use ports::{DeviceFault, Outputs, put_all};
+
+fn is_bare_word_byte(byte: u8) -> bool
+    ensures { result ≡ is_bare_byte byte }
+{
+    matches!(byte, b'a'..=b'z' | b'A'..=b'Z' | b'-'..=b':' | b'_' | b'@' | b'%' | b'+' | b'=' | b',')
+}
+
+fn are_bare_bytes(word: &str) -> bool
+    ensures { result ≡ is_all_bare word.now }
+{
+    word.as_bytes().iter().all(|byte| is_bare_word_byte(*byte))
+}
+
+fn is_bare_word(word: &str) -> bool
+    ensures { result ≡ is_bare word.now }
+{
+    !word.is_empty() && are_bare_bytes(word)
+}
+
+fn has_equals_sign(word: &str) -> bool
+    ensures { result ≡ has_equals word.now }
+{
+    word.as_bytes().iter().any(|byte| *byte == b'=')
+}
+
+fn is_reserved_word(word: &str) -> bool
+    ensures { result ≡ is_reserved word.now }
+{
+    matches!(
+        word.as_bytes(),
+        b"case"
+            | b"do"
+            | b"done"
+            | b"elif"
+            | b"else"
+            | b"esac"
+            | b"fi"
+            | b"for"
+            | b"if"
+            | b"in"
+            | b"then"
+            | b"until"
+            | b"while"
+    )
+}
+
+fn is_bare_first_word(word: &str) -> bool
+    ensures { result ≡ (is_bare word.now && not (is_no_first_word word.now)) }
+{
+    is_bare_word(word) && !has_equals_sign(word) && !is_reserved_word(word)
+}
+
+#[tactic(auto, using(ports::proofs::Sending::sending))]
+fn put_quoted<O: Outputs>(word: &str, out: &mut O) -> Result<(), DeviceFault>
+    requires room { (O.seen out.old).failures + 1 < 2 ^ 64 }
+    requires is_open { IsSome (O.seen out.old).open_name }
+    ensures events { Sends (O.seen out.old) (O.seen out.new) (quoted_run word.now) (is_ok result) }
+    ensures name { (O.seen out.new).open_name ≡ (O.seen out.old).open_name }
+    ensures failures { (O.seen out.new).failures ≡ (if is_ok result then (O.seen out.old).failures else (O.seen out.old).failures + 1) }
+{
+    put_all(out, b"'")?;
+    put_escaped(Place::InQuotes, word.as_bytes(), out)?;
+    put_all(out, b"'")
+}
+
+fn put_bare<O: Outputs>(word: &str, out: &mut O) -> Result<(), DeviceFault>
+    requires bare { is_bare word.now ≡ true }
+    requires room { (O.seen out.old).failures + 1 < 2 ^ 64 }
+    requires is_open { IsSome (O.seen out.old).open_name }
+    ensures events { Sends (O.seen out.old) (O.seen out.new) (puts (value_rest_text word.now)) (is_ok result) }
+    ensures name { (O.seen out.new).open_name ≡ (O.seen out.old).open_name }
+    ensures failures { (O.seen out.new).failures ≡ (if is_ok result then (O.seen out.old).failures else (O.seen out.old).failures + 1) }
+{
+    put_all(out, word.as_bytes())
+}
+
+fn put_word<O: Outputs>(word: &str, out: &mut O) -> Result<(), DeviceFault>
+    requires room { (O.seen out.old).failures + 1 < 2 ^ 64 }
+    requires is_open { IsSome (O.seen out.old).open_name }
+    ensures events { Sends (O.seen out.old) (O.seen out.new) (puts (value_rest_text (word_text word.now))) (is_ok result) }
+    ensures name { (O.seen out.new).open_name ≡ (O.seen out.old).open_name }
+    ensures failures { (O.seen out.new).failures ≡ (if is_ok result then (O.seen out.old).failures else (O.seen out.old).failures + 1) }
+{
+    if is_bare_word(word) {
+        put_bare(word, out)
+    } else {
+        put_quoted(word, out)
+    }
+}
+
+fn put_first_word<O: Outputs>(word: &str, out: &mut O) -> Result<(), DeviceFault>
+    requires room { (O.seen out.old).failures + 1 < 2 ^ 64 }
+    requires is_open { IsSome (O.seen out.old).open_name }
+    ensures events { Sends (O.seen out.old) (O.seen out.new) (puts (value_rest_text (first_word_text word.now))) (is_ok result) }
+    ensures name { (O.seen out.new).open_name ≡ (O.seen out.old).open_name }
+    ensures failures { (O.seen out.new).failures ≡ (if is_ok result then (O.seen out.old).failures else (O.seen out.old).failures + 1) }
+{
+    if is_bare_first_word(word) {
+        put_bare(word, out)
+    } else {
+        put_quoted(word, out)
+    }
+}
+
+#[tactic(auto, using(ports::proofs::Sending::sending))]
+fn put_later_words<O: Outputs>(words: &[String], out: &mut O) -> Result<(), DeviceFault>
+    requires room { (O.seen out.old).failures + 1 < 2 ^ 64 }
+    requires is_open { IsSome (O.seen out.old).open_name }
+    ensures events { Sends (O.seen out.old) (O.seen out.new) (flat_map (λ s. later_word_run (string_bytes s)) words.now) (is_ok result) }
+    ensures name { (O.seen out.new).open_name ≡ (O.seen out.old).open_name }
+    ensures failures { (O.seen out.new).failures ≡ (if is_ok result then (O.seen out.old).failures else (O.seen out.old).failures + 1) }
+{
+    for word in words {
+        put_all(out, b" ")?;
+        put_word(word.as_str(), out)?;
+    }
+    Ok(())
+}
+
+#[tactic(auto, using(ports::proofs::Sending::sending))]
+fn put_redirect<O: Outputs>(redirect: Option<&str>, out: &mut O) -> Result<(), DeviceFault>
+    requires room { (O.seen out.old).failures + 1 < 2 ^ 64 }
+    requires is_open { IsSome (O.seen out.old).open_name }
+    ensures events { Sends (O.seen out.old) (O.seen out.new) (redirect_run (option_map (λ s. s.now) redirect.entry)) (is_ok result) }
+    ensures name { (O.seen out.new).open_name ≡ (O.seen out.old).open_name }
+    ensures failures { (O.seen out.new).failures ≡ (if is_ok result then (O.seen out.old).failures else (O.seen out.old).failures + 1) }
+{
+    match redirect {
+        None => Ok(()),
+        Some(name) => {
+            put_all(out, b" > ")?;
+            put_word(name, out)
+        }
+    }
+}
+
+#[tactic(auto, using(ports::proofs::Sending::sending))]
+fn put_lone_redirect<O: Outputs>(redirect: Option<&str>, out: &mut O) -> Result<(), DeviceFault>
+    requires room { (O.seen out.old).failures + 1 < 2 ^ 64 }
+    requires is_open { IsSome (O.seen out.old).open_name }
+    ensures events { Sends (O.seen out.old) (O.seen out.new) (lone_redirect_run (option_map (λ s. s.now) redirect.entry)) (is_ok result) }
+    ensures name { (O.seen out.new).open_name ≡ (O.seen out.old).open_name }
+    ensures failures { (O.seen out.new).failures ≡ (if is_ok result then (O.seen out.old).failures else (O.seen out.old).failures + 1) }
+{
+    match redirect {
+        None => Ok(()),
+        Some(name) => {
+            put_all(out, b"> ")?;
+            put_word(name, out)
+        }
+    }
+}
+
+#[tactic(auto, using(ports::proofs::Sending::sending))]
+fn put_words_from<O: Outputs>(
+    first: &str,
+    later: &[String],
+    redirect: Option<&str>,
+    out: &mut O,
+) -> Result<(), DeviceFault>
+    requires room { (O.seen out.old).failures + 1 < 2 ^ 64 }
+    requires is_open { IsSome (O.seen out.old).open_name }
+    ensures events { Sends (O.seen out.old) (O.seen out.new) (puts (value_rest_text (first_word_text first.now)) ++ (flat_map (λ s. later_word_run (string_bytes s)) later.now ++ redirect_run (option_map (λ s. s.now) redirect.entry))) (is_ok result) }
+    ensures name { (O.seen out.new).open_name ≡ (O.seen out.old).open_name }
+    ensures failures { (O.seen out.new).failures ≡ (if is_ok result then (O.seen out.old).failures else (O.seen out.old).failures + 1) }
+{
+    put_first_word(first, out)?;
+    put_later_words(later, out)?;
+    put_redirect(redirect, out)
+}
+
+/// Writes a command's words as a value, each quoted where a shell would read it otherwise, and the file that the command's
+/// output goes to.
+pub fn write_words<O: Outputs>(
+    words: &[String],
+    redirect: Option<&str>,
+    out: &mut O,
+) -> Result<(), DeviceFault>
+    requires room { (O.seen out.old).failures + 1 < 2 ^ 64 }
+    requires is_open { IsSome (O.seen out.old).open_name }
+    ensures events { Sends (O.seen out.old) (O.seen out.new) (puts (value_text (words_text (texts words.now) (option_map (λ s. s.now) redirect.entry)))) (is_ok result) }
+    ensures name { (O.seen out.new).open_name ≡ (O.seen out.old).open_name }
+    ensures failures { (O.seen out.new).failures ≡ (if is_ok result then (O.seen out.old).failures else (O.seen out.old).failures + 1) }
+{
+    match words {
+        [] => put_lone_redirect(redirect, out),
+        [first, later @ ..] => put_words_from(first.as_str(), later, redirect, out),
+    }
+}
