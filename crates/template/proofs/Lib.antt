@@ -1,0 +1,5 @@
+pub mod Settings
+pub mod Define
+pub mod Passing
+pub mod Scan
+pub mod Words

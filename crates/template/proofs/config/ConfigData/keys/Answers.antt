@@ -1,0 +1,16 @@
+use Rattle.std.proofs.Common.{ap, subst}
+use Rattle.std.specs.List.Sorted.{IsStrictlySortedBy}
+use Rattle.std.specs.Cmp.Lexicographic.{slice_cmp}
+use Rattle.std.specs.Ordering.{nat_cmp}
+use Rattle.template.specs.Config.{names}
+use Rattle.template.proofs.Settings.{names_ascend}
+use Rattle.template.proofs.config.ConfigData.keys.Goals as goal
+
+pub returns-in_err-keys-clause-ascending : goal.returns-in_err-keys-clause-ascending
+returns-in_err-keys-clause-ascending c = subst (λ n. IsStrictlySortedBy (slice_cmp nat_cmp) (names n)) (ap (λ v. v.entries) c.self.view_is) (names_ascend _ c.len.ensures.ordered)
+
+pub returns-in_err-push-clause-ascending : goal.returns-in_err-push-clause-ascending
+returns-in_err-push-clause-ascending c = subst (λ n. IsStrictlySortedBy (slice_cmp nat_cmp) (names n)) (ap (λ v. v.entries) c.self.view_is) (names_ascend _ c.len.ensures.ordered)
+
+pub returns-clause-ascending : goal.returns-clause-ascending
+returns-clause-ascending c = subst (λ n. IsStrictlySortedBy (slice_cmp nat_cmp) (names n)) (ap (λ v. v.entries) c.self.view_is) (names_ascend _ c.len.ensures.ordered)

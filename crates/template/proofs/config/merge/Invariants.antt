@@ -1,0 +1,7 @@
+use Rattle.std.proofs.Common.{◌≡◌}
+use Rattle.template.specs.Config.{merged}
+use Rattle.template.specs.ConfigData.{entries_of}
+use Rattle.template.proofs.config.merge.Given as goal
+
+abbrev pub invariant-loop-name : goal.invariant-loop-name
+invariant-loop-name l = merged (entries_of l.all.entries) (entries_of l.name-iterator) ≡ merged (entries_of l.entries.entries) (entries_of l.others.entries)

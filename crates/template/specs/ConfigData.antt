@@ -1,0 +1,14 @@
+-- What configuration data is seen as.
+use Rattle.std.specs.Prelude.{List, map, String, string_bytes}
+use Rattle.std.specs.declared.alloc.Global.{Global}
+use Rattle.template.specs.declared.config.ConfigValue.{ConfigValue}
+use Rattle.template.specs.declared.config.ConfigValue.TheVariants.{Truth, Integer, Text}
+use Rattle.template.specs.Config.{Content, Flag, Number, Bytes, Entries}
+
+abbrev pub content_of : ConfigValue → Content
+content_of (Truth b) = Flag b
+content_of (Integer z) = Number z
+content_of (Text text) = Bytes (string_bytes text)
+
+abbrev pub entries_of : List (String Global × ConfigValue) → Entries
+entries_of entries = map (λ entry. (string_bytes entry.0, content_of entry.1)) entries

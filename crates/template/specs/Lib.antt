@@ -1,0 +1,6 @@
+pub mod Config
+pub mod ConfigData
+pub mod Header
+pub mod Line
+pub mod Scan
+pub mod Template

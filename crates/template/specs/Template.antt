@@ -1,0 +1,77 @@
+-- What a whole template writes.
+use Rattle.std.specs.Prelude.{◌≡◌, ℕ, ◌+◌, Bool, true, false, ◌==◌, List, [], ◌∷◌, ◌++◌, Option, Some, None, Result, Ok, Err, is_some, ◌⊎◌, if◌then◌else◌}
+use Rattle.ports.specs.Outputs.{Step}
+use Rattle.template.specs.Config.{Entries}
+use Rattle.template.specs.declared.stop.PassStop.{PassStop}
+use Rattle.template.specs.declared.stop.PassStop.TheVariants.{Template, Limit, Device}
+use Rattle.template.specs.Line.{Refusal, BadDefine, LongLine, line_fault, line_steps}
+
+-- a byte in front of the first line
+unfoldable pub onto : ℕ → List (List ℕ) → List (List ℕ)
+onto b [] = (b ∷ []) ∷ []
+onto b (line ∷ lines) = (b ∷ line) ∷ lines
+
+-- a template cut after each newline
+unfoldable pub lines_of : List ℕ → List (List ℕ)
+lines_of [] = []
+lines_of (b ∷ bytes) = if b == 10 then (b ∷ []) ∷ lines_of bytes else onto b (lines_of bytes)
+
+-- what the lines write from this number on, up to the first fault
+unfoldable pub steps_from : Entries → List ℕ → ℕ → List (List ℕ) → List Step
+steps_from entries path number [] = []
+steps_from entries path number (line ∷ lines) =
+    line_steps entries path number line ++ (if is_some (line_fault line) then [] else steps_from entries path (number + 1) lines)
+
+unfoldable pub first_fault : ℕ → Option Refusal → Option (ℕ × Refusal) → Option (ℕ × Refusal)
+first_fault number (Some fault) later = Some (number, fault)
+first_fault number None later = later
+
+-- the first line with a fault
+unfoldable pub fault_from : ℕ → List (List ℕ) → Option (ℕ × Refusal)
+fault_from number [] = None
+fault_from number (line ∷ lines) = first_fault number (line_fault line) (fault_from (number + 1) lines)
+
+-- what a template of this path writes with these entries
+abbrev pub template_steps : Entries → List ℕ → List ℕ → List Step
+template_steps entries path bytes = steps_from entries path 1 (lines_of bytes)
+
+-- the line and the number of a template's fault, if it has one
+abbrev pub template_fault : List ℕ → Option (ℕ × Refusal)
+template_fault bytes = fault_from 1 (lines_of bytes)
+
+-- whether all of a run stands: not where a device failed
+abbrev pub is_whole : {T : Type 0} → Result T PassStop → Bool
+is_whole (Ok x) = true
+is_whole (Err (Template line)) = true
+is_whole (Err (Limit line)) = true
+is_whole (Err Device) = false
+
+-- the answer is that of the first fault, or a device's
+abbrev pub Agrees : {T : Type 0} → Result T PassStop → Option (ℕ × Refusal) → Type 0
+Agrees (Ok x) found = found ≡ None
+Agrees (Err (Template line)) found = found ≡ Some (line, BadDefine)
+Agrees (Err (Limit line)) found = found ≡ Some (line, LongLine)
+Agrees (Err Device) found = Unit {0}
+
+-- whether a device failed
+abbrev pub is_device : {T : Type 0} → Result T PassStop → Bool
+is_device (Ok x) = false
+is_device (Err (Template line)) = false
+is_device (Err (Limit line)) = false
+is_device (Err Device) = true
+
+-- one of two counts is one more, the other as it was
+abbrev pub OneMore : ℕ → ℕ → ℕ → ℕ → Type 0
+OneMore tree_old tree_new out_old out_new = ((tree_new ≡ tree_old + 1) × (out_new ≡ out_old)) ⊎ ((tree_new ≡ tree_old) × (out_new ≡ out_old + 1))
+
+-- a device fault is told by one of the two counts, any other answer by none
+abbrev pub PassFailures : {T : Type 0} → ℕ → ℕ → ℕ → ℕ → Result T PassStop → Type 0
+PassFailures tree_old tree_new out_old out_new (Ok x) = (tree_new ≡ tree_old) × (out_new ≡ out_old)
+PassFailures tree_old tree_new out_old out_new (Err (Template line)) = (tree_new ≡ tree_old) × (out_new ≡ out_old)
+PassFailures tree_old tree_new out_old out_new (Err (Limit line)) = (tree_new ≡ tree_old) × (out_new ≡ out_old)
+PassFailures tree_old tree_new out_old out_new (Err Device) = OneMore tree_old tree_new out_old out_new
+
+-- a byte stands nowhere in these
+abbrev pub Lacks : ℕ → List ℕ → Type 0
+Lacks a [] = Unit {0}
+Lacks a (b ∷ bytes) = ((b == a) ≡ false) × Lacks a bytes

@@ -1,0 +1,255 @@
+ghost use Rattle.std.specs.Prelude.{◌≡◌, ◌↔◌, ℕ, List, [], true, false, pos, IsTrue, IsErrOf, OnOk, OnErr, IfOk, Some, is_some, map, string_bytes, if◌then◌else◌};
+ghost use Rattle.std.specs.Option.{option_map, option_or};
+ghost use Rattle.std.specs.List.{AllPass};
+ghost use Rattle.std.specs.List.Sorted.{IsStrictlySortedBy};
+ghost use Rattle.std.specs.Cmp.Lexicographic.{slice_cmp};
+ghost use Rattle.std.specs.Ordering.{nat_cmp};
+ghost use Rattle.std.specs.Str.{bytes_eq};
+ghost use Rattle.template.specs.Config.{Flag, Number, Bytes, merged, names, quoted, value_of, with_value};
+ghost use Rattle.template.specs.ConfigData.{content_of, entries_of};
+ghost use Rattle.template.specs.Line.{is_name_byte};
+
+use std::alloc::{AllocError, AllocFailed, Global};
+use std::collections::BTreeMap;
+use std::marker::Model;
+use thiserror::Error;
+
+/// What a name of configuration data stands for.
+#[derive(Debug, Drop)]
+pub enum ConfigValue {
+    Truth(bool),
+    Integer(i128),
+    Text(String),
+}
+
+impl Clone for ConfigValue {
+    ghost use Rattle.std.specs.Prelude.{◌≡◌};
+    ghost use Rattle.template.specs.ConfigData.{content_of};
+
+    ghost is_clone = { λ value clone. content_of clone ≡ content_of value };
+
+    fn clone(&self) -> Result<ConfigValue, AllocError> {
+        match self {
+            ConfigValue::Truth(truth) => Ok(ConfigValue::Truth(*truth)),
+            ConfigValue::Integer(number) => Ok(ConfigValue::Integer(*number)),
+            ConfigValue::Text(text) => Ok(ConfigValue::Text(text.clone()?)),
+        }
+    }
+}
+
+/// Why configuration data was not changed.
+#[derive(Clone, Copy, Debug, PartialEq, Eq, Error)]
+pub enum SetStop {
+    /// E20: the data is frozen, since an output was made with it.
+    #[error("frozen configuration data")]
+    Frozen,
+    #[error("out of memory")]
+    Memory,
+}
+
+impl<T: Drop> From<AllocFailed<T>> for SetStop {
+    ghost use Rattle.std.specs.Prelude.{◌≡◌};
+    ghost use Rattle.template.specs.declared.config.SetStop.TheVariants.{Memory};
+
+    ghost from_gives = { λ _ e. e ≡ Memory };
+
+    fn from(_error: AllocFailed<T>) -> SetStop {
+        SetStop::Memory
+    }
+}
+
+impl From<AllocError> for SetStop {
+    ghost use Rattle.std.specs.Prelude.{◌≡◌};
+    ghost use Rattle.template.specs.declared.config.SetStop.TheVariants.{Memory};
+
+    ghost from_gives = { λ _ e. e ≡ Memory };
+
+    fn from(_error: AllocError) -> SetStop {
+        SetStop::Memory
+    }
+}
+
+/// Values by their names, in the order of the names' bytes: the object that `configuration_data()` of the Meson
+/// Reference manual gives. Its calls take memory from the allocator that it was made with.
+#[derive(Drop)]
+pub struct ConfigData {
+    alloc: Global,
+    pub(crate) entries: BTreeMap<String, ConfigValue>,
+    frozen: bool,
+}
+
+impl Model for ConfigData {
+    ghost use Rattle.template.specs.Config.{Configuration};
+
+    ghost Value = { Configuration };
+
+    ghost use Rattle.template.specs.ConfigData.{entries_of};
+
+    ghost view = { λ config. record { entries = entries_of config.entries.entries; frozen = config.frozen } };
+}
+
+impl ConfigData {
+    /// No values.
+    pub fn new(alloc: Global) -> ConfigData
+        ensures { result ≡ record { entries = []; frozen = false } }
+    {
+        ConfigData {
+            alloc,
+            entries: BTreeMap::new(alloc),
+            frozen: false,
+        }
+    }
+
+    /// The same values, not frozen.
+    pub fn copy(&self) -> Result<ConfigData, AllocError>
+        ensures { IfOk result (λ copy. copy ≡ record { entries = self.now.entries; frozen = false }) }
+    {
+        Ok(ConfigData {
+            alloc: self.alloc,
+            entries: self.entries.clone()?,
+            frozen: false,
+        })
+    }
+
+    /// What this name stands for.
+    pub fn get(&self, name: &str) -> Option<&ConfigValue>
+        ensures { option_map (λ value. content_of value.now) result ≡ value_of self.now.entries name.now }
+    {
+        self.entries.get(name)
+    }
+
+    /// The same for a name of which each byte may stand in a name, and which therefore is text.
+    pub(crate) fn value_at(&self, name: &[u8]) -> Option<&ConfigValue>
+        requires { AllPass is_name_byte name.now }
+        ensures { option_map (λ value. content_of value.now) result ≡ value_of self.now.entries name.now }
+    {
+        match str::from_utf8(name) {
+            Ok(text) => self.get(text),
+            Err(_) => None,
+        }
+    }
+
+    /// Whether this name stands for anything.
+    pub fn has(&self, name: &str) -> bool
+        ensures { result ≡ is_some (value_of self.now.entries name.now) }
+    {
+        self.entries.contains_key(name)
+    }
+
+    /// The names, by the order of their bytes.
+    pub fn keys(&self) -> Result<Vec<&str>, AllocError>
+        ensures names { IfOk result (λ keys. map (λ key. key.now) keys.items ≡ names self.now.entries) }
+        ensures ascending { IsStrictlySortedBy (slice_cmp nat_cmp) (names self.now.entries) }
+    {
+        let mut keys = Vec::with_capacity(self.alloc, self.entries.len())?;
+        for (name, _) in &self.entries {
+            keys.push(name.as_str())?;
+        }
+        Ok(keys)
+    }
+
+    /// Lets no call change the values from now on.
+    pub fn freeze(&mut self)
+        ensures { self.new ≡ record self.old { frozen = true } }
+    {
+        self.frozen = true;
+    }
+
+    /// Gives this name a value.
+    pub fn set(&mut self, name: &str, value: ConfigValue) -> Result<(), SetStop>
+        ensures ok { OnOk result (self.new ≡ record self.old { entries = with_value self.old.entries name.now (content_of value) }) }
+        ensures found { OnOk result ((q : List ℕ) → value_of self.new.entries q ≡ (if bytes_eq q name.now then Some (content_of value) else value_of self.old.entries q)) }
+        ensures frozen { IsErrOf result SetStop.Frozen ↔ IsTrue self.old.frozen }
+        ensures err { OnErr result (self.new ≡ self.old) }
+    {
+        if self.frozen {
+            return Err(SetStop::Frozen);
+        }
+        let key = String::from_str(self.alloc, name)?;
+        put(&mut self.entries, key, value)?;
+        Ok(())
+    }
+
+    /// Gives this name the value 1 for true and 0 for false.
+    pub fn set10(&mut self, name: &str, truth: bool) -> Result<(), SetStop>
+        ensures ok { OnOk result (self.new ≡ record self.old { entries = with_value self.old.entries name.now (Number (pos (if truth then 1 else 0))) }) }
+        ensures frozen { IsErrOf result SetStop.Frozen ↔ IsTrue self.old.frozen }
+        ensures err { OnErr result (self.new ≡ self.old) }
+    {
+        self.set(name, ConfigValue::Integer(if truth { 1 } else { 0 }))
+    }
+
+    /// Gives this name the text in quotes, with a backslash before each quote inside.
+    pub fn set_quoted(&mut self, name: &str, text: &str) -> Result<(), SetStop>
+        ensures ok { OnOk result (self.new ≡ record self.old { entries = with_value self.old.entries name.now (Bytes (quoted text.now)) }) }
+        ensures frozen { IsErrOf result SetStop.Frozen ↔ IsTrue self.old.frozen }
+        ensures err { OnErr result (self.new ≡ self.old) }
+    {
+        if self.frozen {
+            return Err(SetStop::Frozen);
+        }
+        let value = make_quoted(self.alloc, text)?;
+        self.set(name, ConfigValue::Text(value))
+    }
+
+    /// Gives each name of the other data the value that it has there.
+    pub fn merge_from(&mut self, other: &ConfigData) -> Result<(), SetStop>
+        ensures ok { OnOk result (self.new ≡ record self.old { entries = merged self.old.entries other.now.entries }) }
+        ensures found { OnOk result ((q : List ℕ) → value_of self.new.entries q ≡ option_or (value_of other.now.entries q) (value_of self.old.entries q)) }
+        ensures frozen { IsErrOf result SetStop.Frozen ↔ IsTrue self.old.frozen }
+        ensures err { OnErr result (self.new ≡ self.old) }
+    {
+        if self.frozen {
+            return Err(SetStop::Frozen);
+        }
+        self.entries = merge(&self.entries, &other.entries)?;
+        Ok(())
+    }
+}
+
+// Sets a value in the place of what stood there.
+#[tactic(auto, using(crate::proofs::Settings::entries_of_insert))]
+fn put(
+    entries: &mut BTreeMap<String, ConfigValue>,
+    key: String,
+    value: ConfigValue,
+) -> Result<(), AllocError>
+    ensures ok { OnOk result (entries_of entries.new.entries ≡ with_value (entries_of entries.old.entries) (string_bytes key) (content_of value)) }
+    ensures err { OnErr result (entries.new.entries ≡ entries.old.entries) }
+{
+    entries.insert(key, value)?;
+    Ok(())
+}
+
+// The text in quotes, with a backslash before each quote inside.
+#[tactic(auto, unfolding(crate::specs::Config::quoted, crate::specs::Config::escaped))]
+fn make_quoted(alloc: Global, text: &str) -> Result<String, AllocError>
+    ensures { IfOk result (λ made. string_bytes made ≡ quoted text.now) }
+{
+    let mut made = String::from_str(alloc, "\"")?;
+    for c in text.chars() {
+        if c == '"' {
+            made.push_str("\\\"")?;
+        } else {
+            made.push(c)?;
+        }
+    }
+    made.push('"')?;
+    Ok(made)
+}
+
+// The entries with each of the others set in turn.
+#[tactic(auto, unfolding(crate::specs::Config::merged))]
+fn merge(
+    entries: &BTreeMap<String, ConfigValue>,
+    others: &BTreeMap<String, ConfigValue>,
+) -> Result<BTreeMap<String, ConfigValue>, AllocError>
+    ensures entries { IfOk result (λ all. entries_of all.entries ≡ merged (entries_of entries.now.entries) (entries_of others.now.entries)) }
+    ensures ascending { OnOk result (IsStrictlySortedBy (slice_cmp nat_cmp) (names (entries_of others.now.entries))) }
+{
+    let mut all = entries.clone()?;
+    for (name, value) in others {
+        put(&mut all, name.clone()?, value.clone()?)?;
+    }
+    Ok(all)
+}

@@ -1,0 +1,352 @@
+ghost use Rattle.std.specs.Prelude.{MatchOption, length, None, ◌≡◌, ◌+◌, ◌^◌, ◌<◌, ◌≤◌, [], is_ok, IsSome, IfSome, if◌then◌else◌};
+ghost use Rattle.ports.specs.Outputs.{OutputState, Sends, puts, logs};
+ghost use Rattle.std.specs.List.{prefix_len, list_all, AllPass};
+ghost use Rattle.template.specs.Config.{value_of, printed};
+ghost use Rattle.template.specs.ConfigData.{content_of};
+ghost use Rattle.template.specs.Template.{Agrees, first_fault, is_device, is_whole};
+ghost use Rattle.template.specs.Line.{Defines, Malformed, body_length, defined_in, definition, definition_or_comment, ended, is_blank, is_name, line_fault, line_steps, in_place, name_length, replaced, warning, words, is_name_byte};
+ghost use Rattle.template.specs.Scan.{is_word_byte, IsFirstWord, IsPlain, IsSign, slashes_at};
+
+use crate::{ConfigData, ConfigValue, PassStop};
+use itoa::Buffer;
+use memchr::memchr;
+use ports::{DeviceFault, Outputs, log_all, put_all};
+
+/// Whether a byte can stand in a name.
+fn is_name_byte(b: u8) -> bool
+    ensures { result ≡ is_name_byte b }
+{
+    b.is_ascii_alphanumeric() || b == b'-' || b == b'_'
+}
+
+/// How many bytes from the front on can stand in a name.
+fn name_prefix(bytes: &[u8]) -> usize
+    ensures same { result ≡ prefix_len is_name_byte bytes.now }
+    ensures within { result ≤ length bytes.now }
+{
+    for (n, b) in bytes.iter().enumerate() {
+        if !is_name_byte(*b) {
+            return n;
+        }
+    }
+    bytes.len()
+}
+
+/// How long the name is that begins here and ends with an `@`, 0 where none does.
+#[tactic(auto, unfolding(crate::specs::Line::name_length))]
+fn name_length(bytes: &[u8]) -> usize
+    ensures { result ≡ name_length bytes.now }
+{
+    let n = name_prefix(bytes);
+    if n < bytes.len() && bytes[n] == b'@' {
+        n
+    } else {
+        0
+    }
+}
+
+/// How many backslashes stand at the end.
+fn count_slashes(bytes: &[u8]) -> usize
+    ensures { result ≡ slashes_at 0 bytes.now }
+{
+    let mut slashes = 0;
+    for b in bytes {
+        if *b == b'\\' {
+            slashes += 1;
+        } else {
+            slashes = 0;
+        }
+    }
+    slashes
+}
+
+/// Where the first `@` of some bytes stands.
+#[derive(Clone, Copy)]
+struct Sign {
+    /// How many bytes before it are written.
+    text: usize,
+    at: usize,
+    /// How long the name is that it begins, 0 where it begins none.
+    name: usize,
+}
+
+/// Finds the first `@`.
+fn find_sign(rest: &[u8]) -> Option<Sign>
+    ensures { MatchOption result (IsPlain rest.now) (λ s. IsSign rest.now s.text s.at s.name) }
+{
+    let Some(at) = memchr(b'@', rest) else {
+        return None;
+    };
+    let slashes = count_slashes(&rest[..at]);
+    let text = at - (slashes - slashes / 2);
+    let name = if slashes % 2 == 0 {
+        name_length(&rest[at + 1..])
+    } else {
+        0
+    };
+    Some(Sign { text, at, name })
+}
+
+/// Puts the line with its names replaced.
+#[tactic(auto, using(ports::proofs::Going::going))]
+fn put_replaced<O: Outputs>(
+    config: &ConfigData,
+    path: &str,
+    number: u64,
+    line: &[u8],
+    out: &mut O,
+) -> Result<(), DeviceFault>
+    requires room { (O.seen out.old).failures + 1 < 2 ^ 64 }
+    requires is_open { IsSome (O.seen out.old).open_name }
+    ensures events { Sends (O.seen out.old) (O.seen out.new) (replaced config.now.entries path.now number 0 0 line.now) (is_ok result) }
+    ensures name { (O.seen out.new).open_name ≡ (O.seen out.old).open_name }
+    ensures failures { (O.seen out.new).failures ≡ (if is_ok result then (O.seen out.old).failures else (O.seen out.old).failures + 1) }
+{
+    let mut from = 0;
+    while let Some(sign) = find_sign(&line[from..]) {
+        put_all(out, &line[from..from + sign.text])?;
+        from += sign.at + 1;
+        if sign.name > 0 {
+            put_in_place(config, path, number, &line[from..from + sign.name], out)?;
+            from += sign.name + 1;
+        } else {
+            put_all(out, b"@")?;
+        }
+    }
+    put_all(out, &line[from..])
+}
+
+/// Puts the value of a name, or logs that it has none.
+#[tactic(auto, unfolding(crate::specs::Line::in_place, crate::specs::Line::value_or_warning))]
+fn put_in_place<O: Outputs>(
+    config: &ConfigData,
+    path: &str,
+    number: u64,
+    name: &[u8],
+    out: &mut O,
+) -> Result<(), DeviceFault>
+    requires room { (O.seen out.old).failures + 1 < 2 ^ 64 }
+    requires is_open { IsSome (O.seen out.old).open_name }
+    requires named { AllPass is_name_byte name.now }
+    ensures events { Sends (O.seen out.old) (O.seen out.new) (in_place config.now.entries path.now number name.now) (is_ok result) }
+    ensures name { (O.seen out.new).open_name ≡ (O.seen out.old).open_name }
+    ensures failures { (O.seen out.new).failures ≡ (if is_ok result then (O.seen out.old).failures else (O.seen out.old).failures + 1) }
+{
+    match config.value_at(name) {
+        Some(value) => put_value(value, out),
+        None => log_warning(path, number, name, out),
+    }
+}
+
+/// Puts a value as it is printed.
+#[tactic(auto, using(ports::proofs::Sending::sending), unfolding(crate::specs::Config::printed))]
+fn put_value<O: Outputs>(value: &ConfigValue, out: &mut O) -> Result<(), DeviceFault>
+    requires room { (O.seen out.old).failures + 1 < 2 ^ 64 }
+    requires is_open { IsSome (O.seen out.old).open_name }
+    ensures events { Sends (O.seen out.old) (O.seen out.new) (puts (printed (content_of value.now))) (is_ok result) }
+    ensures name { (O.seen out.new).open_name ≡ (O.seen out.old).open_name }
+    ensures failures { (O.seen out.new).failures ≡ (if is_ok result then (O.seen out.old).failures else (O.seen out.old).failures + 1) }
+{
+    match value {
+        ConfigValue::Truth(true) => put_all(out, b"true"),
+        ConfigValue::Truth(false) => put_all(out, b"false"),
+        ConfigValue::Integer(number) => put_all(out, Buffer::new().format(*number).as_bytes()),
+        ConfigValue::Text(text) => put_all(out, text.as_bytes()),
+    }
+}
+
+/// Logs that a name has no value.
+#[tactic(auto, using(ports::proofs::Sending::sending), unfolding(crate::specs::Line::warning))]
+fn log_warning<O: Outputs>(
+    path: &str,
+    number: u64,
+    name: &[u8],
+    out: &mut O,
+) -> Result<(), DeviceFault>
+    requires room { (O.seen out.old).failures + 1 < 2 ^ 64 }
+    ensures events { Sends (O.seen out.old) (O.seen out.new) (warning path.now number name.now) (is_ok result) }
+    ensures name { (O.seen out.new).open_name ≡ (O.seen out.old).open_name }
+    ensures failures { (O.seen out.new).failures ≡ (if is_ok result then (O.seen out.old).failures else (O.seen out.old).failures + 1) }
+{
+    let mut buffer = Buffer::new();
+    log_all(out, b"WARNING: ")?;
+    log_all(out, path.as_bytes())?;
+    log_all(out, b":")?;
+    log_all(out, buffer.format(number).as_bytes())?;
+    log_all(out, b": no value for ")?;
+    log_all(out, name)?;
+    log_all(out, b"\n")
+}
+
+/// How many bytes stand before a line's end.
+#[tactic(auto, unfolding(crate::specs::Line::body_length))]
+fn body_length(line: &[u8]) -> usize
+    ensures same { result ≡ body_length line.now }
+    ensures within { result ≤ length line.now }
+{
+    let n = line.len();
+    if n > 0 && line[n - 1] == b'\n' {
+        if n > 1 && line[n - 2] == b'\r' {
+            n - 2
+        } else {
+            n - 1
+        }
+    } else {
+        n
+    }
+}
+
+/// How many blanks stand in front.
+fn blank_prefix(bytes: &[u8]) -> usize
+    ensures same { result ≡ prefix_len is_blank bytes.now }
+    ensures within { result ≤ length bytes.now }
+{
+    for (n, b) in bytes.iter().enumerate() {
+        if *b != b' ' && *b != b'\t' && *b != b'\r' {
+            return n;
+        }
+    }
+    bytes.len()
+}
+
+/// How many bytes from the front on are no blanks.
+fn word_prefix(bytes: &[u8]) -> usize
+    ensures same { result ≡ prefix_len is_word_byte bytes.now }
+    ensures within { result ≤ length bytes.now }
+{
+    for (n, b) in bytes.iter().enumerate() {
+        if *b == b' ' || *b == b'\t' || *b == b'\r' {
+            return n;
+        }
+    }
+    bytes.len()
+}
+
+/// The first word of some bytes, empty where there is none, and what stands behind it.
+#[derive(Clone, Copy)]
+struct FirstWord<'a> {
+    word: &'a [u8],
+    rest: &'a [u8],
+}
+
+/// Cuts the first word off.
+fn first_word(bytes: &[u8]) -> FirstWord<'_>
+    ensures { IsFirstWord bytes.now result.word.now result.rest.now }
+{
+    let text = &bytes[blank_prefix(bytes)..];
+    let len = word_prefix(text);
+    FirstWord {
+        word: &text[..len],
+        rest: &text[len..],
+    }
+}
+
+/// Whether each of these bytes can stand in a name.
+fn are_name_bytes(bytes: &[u8]) -> bool
+    ensures { result ≡ list_all is_name_byte bytes.now }
+{
+    bytes.iter().all(|b| is_name_byte(*b))
+}
+
+/// Whether these bytes are a name.
+#[tactic(auto, unfolding(crate::specs::Line::is_name))]
+fn is_name(bytes: &[u8]) -> bool
+    ensures { result ≡ is_name bytes.now }
+{
+    !bytes.is_empty() && are_name_bytes(bytes)
+}
+
+/// The one name behind the word `#mesondefine`, where nothing else stands in the line.
+fn defined_name<'a>(word: &[u8], rest: &'a [u8]) -> Option<&'a [u8]>
+    ensures read { MatchOption result (defined_in word.now (words rest.now) ≡ Malformed) (λ name. defined_in word.now (words rest.now) ≡ Defines name.now) }
+    ensures named { IfSome result (λ name. AllPass is_name_byte name.now) }
+{
+    let second = first_word(rest);
+    let third = first_word(second.rest);
+    if word == b"#mesondefine".as_slice() && is_name(second.word) && third.word.is_empty() {
+        Some(second.word)
+    } else {
+        None
+    }
+}
+
+/// Puts the line of a key, without its end.
+#[tactic(auto, using(ports::proofs::Sending::sending), unfolding(crate::specs::Line::definition_or_comment, crate::specs::Line::definition))]
+fn put_define<O: Outputs>(config: &ConfigData, name: &[u8], out: &mut O) -> Result<(), DeviceFault>
+    requires room { (O.seen out.old).failures + 1 < 2 ^ 64 }
+    requires is_open { IsSome (O.seen out.old).open_name }
+    requires named { AllPass is_name_byte name.now }
+    ensures events { Sends (O.seen out.old) (O.seen out.new) (definition_or_comment name.now (value_of config.now.entries name.now)) (is_ok result) }
+    ensures name { (O.seen out.new).open_name ≡ (O.seen out.old).open_name }
+    ensures failures { (O.seen out.new).failures ≡ (if is_ok result then (O.seen out.old).failures else (O.seen out.old).failures + 1) }
+{
+    match config.value_at(name) {
+        None => {
+            put_all(out, b"/* undef ")?;
+            put_all(out, name)?;
+            put_all(out, b" */")
+        }
+        Some(value) => put_key(name, value, out),
+    }
+}
+
+/// Puts the line of a key that has a value, without its end.
+#[tactic(auto, using(ports::proofs::Sending::sending), unfolding(crate::specs::Line::definition))]
+pub(crate) fn put_key<O: Outputs>(
+    name: &[u8],
+    value: &ConfigValue,
+    out: &mut O,
+) -> Result<(), DeviceFault>
+    requires room { (O.seen out.old).failures + 1 < 2 ^ 64 }
+    requires is_open { IsSome (O.seen out.old).open_name }
+    ensures events { Sends (O.seen out.old) (O.seen out.new) (definition name.now (content_of value.now)) (is_ok result) }
+    ensures name { (O.seen out.new).open_name ≡ (O.seen out.old).open_name }
+    ensures failures { (O.seen out.new).failures ≡ (if is_ok result then (O.seen out.old).failures else (O.seen out.old).failures + 1) }
+{
+    match value {
+        ConfigValue::Truth(true) => {
+            put_all(out, b"#define ")?;
+            put_all(out, name)
+        }
+        ConfigValue::Truth(false) => {
+            put_all(out, b"#undef ")?;
+            put_all(out, name)
+        }
+        ConfigValue::Integer(_) | ConfigValue::Text(_) => {
+            put_all(out, b"#define ")?;
+            put_all(out, name)?;
+            put_all(out, b" ")?;
+            put_value(value, out)
+        }
+    }
+}
+
+/// Writes one line of a template.
+pub(crate) fn replace_line<O: Outputs>(
+    config: &ConfigData,
+    path: &str,
+    number: u64,
+    line: &[u8],
+    out: &mut O,
+) -> Result<(), PassStop>
+    requires room { (O.seen out.old).failures + 1 < 2 ^ 64 }
+    requires is_open { IsSome (O.seen out.old).open_name }
+    requires len { length line.now ≤ 65536 }
+    ensures events { Sends (O.seen out.old) (O.seen out.new) (line_steps config.now.entries path.now number line.now) (is_whole result) }
+    ensures fault { Agrees result (first_fault number (line_fault line.now) None) }
+    ensures name { (O.seen out.new).open_name ≡ (O.seen out.old).open_name }
+    ensures failures { (O.seen out.new).failures ≡ (if is_device result then (O.seen out.old).failures + 1 else (O.seen out.old).failures) }
+{
+    let len = body_length(line);
+    let first = first_word(&line[..len]);
+    if first.word.starts_with(b"#mesondefine") {
+        let Some(name) = defined_name(first.word, first.rest) else {
+            return Err(PassStop::Template(number));
+        };
+        put_define(config, name, out)?;
+        put_all(out, &line[len..])?;
+    } else {
+        put_replaced(config, path, number, line, out)?;
+    }
+    Ok(())
+}
