@@ -1,0 +1,3 @@
+mod Examples
+pub mod Lines
+pub mod Paths

@@ -1,0 +1,2 @@
+pub mod BuildFolder
+pub mod CommandLine

@@ -1,0 +1,67 @@
+//! The command line, as `clap` is told of it.
+ghost use Rattle.std.specs.Prelude.{◌≡◌, IfOk, false};
+ghost use Rattle.clap.specs.Words.{app_of, rule_of};
+ghost use Rattle.command.specs.CommandLine.{folder_rule, has_globals, machine_file_rule, meson_app, option_rule, setup_app};
+
+use clap::{Arg, ArgAction, Command};
+use std::alloc::{AllocError, Global};
+
+/// `meson`, with its one subcommand.
+pub(crate) fn command<'a>(alloc: Global) -> Result<Command<'a>, AllocError>
+    ensures { IfOk result (λ command. app_of command ≡ meson_app) }
+{
+    let bare = Command::new(alloc, "meson")
+        .about("Configures a C project for Ninja.")
+        .disable_help_subcommand(true)
+        .subcommand_required(true);
+    let named = bare.bin_name("meson")?;
+    named.subcommand(setup(alloc)?)
+}
+
+// `-D NAME=VALUE`, as often as wanted.
+fn option<'a>(alloc: Global) -> Arg<'a>
+    ensures rule { rule_of result ≡ option_rule }
+    ensures local { result.global ≡ false }
+{
+    Arg::new(alloc, "option")
+        .short('D')
+        .value_name("NAME=VALUE")
+        .help("Sets the option NAME to VALUE; may stand several times")
+        .action(ArgAction::Append)
+}
+
+// `--native-file FILE`, once.
+fn machine_file<'a>(alloc: Global) -> Arg<'a>
+    ensures rule { rule_of result ≡ machine_file_rule }
+    ensures local { result.global ≡ false }
+{
+    Arg::new(alloc, "native-file")
+        .long("native-file")
+        .value_name("FILE")
+        .help("Reads what is known of the machine from FILE")
+        .action(ArgAction::Set)
+}
+
+// `BUILDDIR`, which is needed.
+fn folder<'a>(alloc: Global) -> Arg<'a>
+    ensures rule { rule_of result ≡ folder_rule }
+    ensures local { result.global ≡ false }
+{
+    Arg::new(alloc, "folder")
+        .value_name("BUILDDIR")
+        .help("The folder of the build, below the folder of the sources")
+        .required(true)
+        .action(ArgAction::Set)
+}
+
+// `setup`, which configures a build.
+fn setup<'a>(alloc: Global) -> Result<Command<'a>, AllocError>
+    ensures app { IfOk result (λ command. app_of command ≡ setup_app) }
+    ensures local { IfOk result (λ command. has_globals command ≡ false) }
+{
+    Command::new(alloc, "setup")
+        .about("Configures a build of the project in this folder.")
+        .arg(option(alloc))?
+        .arg(machine_file(alloc))?
+        .arg(folder(alloc))
+}

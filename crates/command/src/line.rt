@@ -1,0 +1,27 @@
+//! What a command line asks for.
+ghost use Rattle.std.specs.Prelude.{IsTrue, ◌≡◌, ◌≤◌, length, string_bytes};
+ghost use Rattle.command.specs.BuildFolder.{is_tidy_folder, pieces_of};
+
+/// What a command line asks for.
+#[derive(Debug, Drop)]
+pub struct Line {
+    /// The values of `-D`, in their order.
+    pub words: Vec<String>,
+    /// The machine file, as it was named.
+    pub machine_file: Option<String>,
+    /// The folder of the build, relative to the source root: 1 to 64 parts divided by `/`, none of
+    /// them empty, `.` or `..`.
+    pub folder: String,
+    pub ghost tidy: { IsTrue (is_tidy_folder (string_bytes folder)) },
+}
+
+impl Line {
+    /// How many folders deep the folder of the build lies below the source root.
+    pub fn depth(&self) -> usize
+        ensures value { result ≡ length (pieces_of (string_bytes self.now.folder)) }
+        ensures some { 1 ≤ result }
+        ensures limit { result ≤ 64 }
+    {
+        self.folder.as_str().split('/').count()
+    }
+}

@@ -1,0 +1,115 @@
+//! From words to a line.
+ghost use Rattle.std.specs.Prelude.{◌≡◌, [], Err, IfOk, MatchResult, codes, map, option_map, string_bytes, unwrap_or};
+ghost use Rattle.clap.specs.Words.{all_of, first_of, found_of, kind_of, rows_of, subcommand_of, subcommand_rows_of};
+ghost use Rattle.command.specs.CommandLine.{Answers, FaultOfKind, Gives, faults_of, meson_app};
+
+use crate::definition::command;
+use crate::folder::build_folder;
+use crate::{Line, LineFault};
+use clap::error::ErrorKind;
+use clap::{ArgMatches, Error};
+use std::alloc::{AllocError, Global};
+
+// What a parse answers in place of matches, as this crate tells it.
+fn fault_of(alloc: Global, error: &Error) -> LineFault
+    ensures { FaultOfKind (kind_of error.now) result }
+{
+    let kind = error.kind();
+    if kind == ErrorKind::OutOfMemory {
+        return LineFault::Memory(AllocError);
+    }
+    match error.to_string(alloc) {
+        Ok(text) if kind == ErrorKind::DisplayHelp => LineFault::Help(text),
+        Ok(text) => LineFault::Usage(text),
+        Err(error) => LineFault::Memory(error),
+    }
+}
+
+// The text for a folder in which nothing can be built.
+fn folder_fault(alloc: Global, path: &str) -> Result<String, AllocError> {
+    format!(in alloc;
+        "error: '{path}' cannot be the folder of a build: it has to be a relative path of 1 to 64 parts, none of them '..'\n\nFor more information, try 'meson setup --help'.\n"
+    )
+}
+
+fn parse<'a>(alloc: Global, words: &'a [String]) -> Result<ArgMatches<'a>, LineFault>
+    ensures { MatchResult result
+        (λ found. (faults_of (map string_bytes words.entry.now) ≡ [])
+        × (subcommand_rows_of found ≡ subcommand_of meson_app (map string_bytes words.entry.now)))
+        (λ fault. Answers (map string_bytes words.entry.now) (Err fault)) }
+{
+    let command = command(alloc)?;
+    match command.try_get_matches_from(words) {
+        Ok(found) => Ok(found),
+        Err(error) => Err(fault_of(alloc, &error)),
+    }
+}
+
+fn texts_of(alloc: Global, texts: &[&str]) -> Result<Vec<String>, AllocError>
+    ensures { IfOk result (λ copies. map string_bytes copies.items ≡ map (λ s. s.now) texts.now) }
+{
+    let mut copies = Vec::new(alloc);
+    for text in texts {
+        copies.push(String::from_str(alloc, text)?)?;
+    }
+    Ok(copies)
+}
+
+// The values of `-D`, in order.
+fn words_in(alloc: Global, found: &ArgMatches<'_>) -> Result<Vec<String>, AllocError>
+    ensures { IfOk result (λ words. map string_bytes words.items
+        ≡ unwrap_or (all_of (codes "option") (rows_of (found_of found.now))) []) }
+{
+    match found.get_strs("option") {
+        Some(words) => texts_of(alloc, words),
+        None => Ok(Vec::new(alloc)),
+    }
+}
+
+fn machine_file_in(alloc: Global, found: &ArgMatches<'_>) -> Result<Option<String>, AllocError>
+    ensures { IfOk result (λ file. option_map string_bytes file
+        ≡ first_of (codes "native-file") (rows_of (found_of found.now))) }
+{
+    match found.get_str("native-file") {
+        Some(file) => Ok(Some(String::from_str(alloc, file)?)),
+        None => Ok(None),
+    }
+}
+
+// The folder as it was given.
+fn path_in<'a>(found: &ArgMatches<'a>) -> &'a str
+    ensures { result.now ≡ unwrap_or (first_of (codes "folder") (rows_of (found_of found.now))) [] }
+{
+    match found.get_str("folder") {
+        Some(path) => path,
+        None => "",
+    }
+}
+
+// The line that the parse of the words after `setup` gives.
+fn line_of(alloc: Global, found: &ArgMatches<'_>) -> Result<Line, LineFault>
+    ensures { Gives (rows_of (found_of found.now)) result }
+{
+    let path = path_in(found);
+    let words = words_in(alloc, found)?;
+    let machine_file = machine_file_in(alloc, found)?;
+    match build_folder(alloc, path)? {
+        Some(folder) => Ok(Line {
+            words,
+            machine_file,
+            folder,
+        }),
+        None => Err(LineFault::Usage(folder_fault(alloc, path)?)),
+    }
+}
+
+/// Reads a command line, of which the first word is the program's name, as in `env::args`.
+pub fn command_line(alloc: Global, words: &[String]) -> Result<Line, LineFault>
+    ensures { Answers (map string_bytes words.now) result }
+{
+    let found = parse(alloc, words)?;
+    match found.subcommand() {
+        Some((_, setup)) => line_of(alloc, setup),
+        None => Err(LineFault::Usage(folder_fault(alloc, "")?)),
+    }
+}
