@@ -1,0 +1,10 @@
+pub mod FaultLines
+pub mod Marks
+pub mod Follow
+pub mod Items
+pub mod Tests
+pub mod Holding
+pub mod PathTexts
+pub mod Reading
+pub mod BuildFile
+pub mod Runs

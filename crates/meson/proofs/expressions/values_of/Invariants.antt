@@ -1,0 +1,14 @@
+use Rattle.std.proofs.Common.{[], drop, map}
+use Rattle.ports.specs.Outputs.{OutputState}
+use Rattle.syntax.specs.Tree.{expression_of}
+use Rattle.meson.specs.Evaluation.{values_of}
+use Rattle.meson.specs.ValueView.{view}
+use Rattle.meson.specs.Store.{world_of}
+use Rattle.meson.specs.Gives.{Continues}
+use Rattle.meson.specs.Trace.{seen}
+use Rattle.meson.proofs.expressions.values_of.Given as goal
+
+-- what was done, and the rest, are all
+abbrev pub invariant-loop-expression : goal.invariant-loop-expression
+invariant-loop-expression g l = (out : OutputState) →
+    Continues (values_of l.file [] (map expression_of l.expressions) (world_of l.store)) (values_of l.file (map view l.values.items) (map expression_of (drop l.expression-index l.expressions)) (world_of l.store)) (seen out l.fn.steps) (seen out l.steps)

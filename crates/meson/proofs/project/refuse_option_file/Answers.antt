@@ -1,0 +1,30 @@
+use Rattle.std.proofs.Common.{refl, subst}
+use Rattle.meson.specs.Evaluation.{is_there, no_option_file, no_option_file_there, plain_fault}
+use Rattle.meson.specs.Gives.{Continues}
+use Rattle.meson.specs.Store.{world_of}
+use Rattle.meson.specs.declared.refusal.Refusal.TheVariants as refusals
+use Rattle.meson.proofs.Follow.{stopped_later, refused_later, ended_later, begun, done}
+use Rattle.meson.proofs.project.refuse_option_file.Goals as goal
+
+pub returns-in_err-found-clause-gives : goal.returns-in_err-found-clause-gives
+returns-in_err-found-clause-gives g c = λ files holds old.
+    let w = world_of c.is_there.new.store in
+    stopped_later (λ b. b) (λ u. u) (is_there files c.args.path.now (world_of c.args.store.now)) (no_option_file_there c.args.path.now) c.in_err-found.field-0.0 w w _ _
+    (begun _ old) c.from_residual.ensures.1 (c.in_err-found.ensures.gives files holds old)
+
+pub returns-then-found-clause-gives : goal.returns-then-found-clause-gives
+returns-then-found-clause-gives g c = λ files holds old.
+    let w = world_of c.is_there.new.store in
+    let next = no_option_file_there c.args.path.now in
+    refused_later (λ u. u) (plain_fault c.args.path.now 1 refusals.LeftOut) c.refused_here.result w w old
+    (subst (λ b. Continues (no_option_file files c.args.path.now (world_of c.args.store.now)) (next b w) old old) c.if-found.true
+    (done (is_there files c.args.path.now (world_of c.args.store.now)) next _ (c.in_ok-found.ensures.gives files holds old)))
+    c.refused_here.ensures
+
+pub returns-else-found-clause-gives : goal.returns-else-found-clause-gives
+returns-else-found-clause-gives g c = λ files holds old.
+    let w = world_of c.is_there.new.store in
+    let next = no_option_file_there c.args.path.now in
+    ended_later (λ u. u) tt tt w old refl
+    (subst (λ b. Continues (no_option_file files c.args.path.now (world_of c.args.store.now)) (next b w) old old) c.if-found.false
+    (done (is_there files c.args.path.now (world_of c.args.store.now)) next _ (c.in_ok-found.ensures.gives files holds old)))

@@ -1,0 +1,17 @@
+pub mod Trace
+pub mod Data
+pub mod Fault
+pub mod FaultView
+pub mod FaultSteps
+pub mod Run
+pub mod Gives
+pub mod Settings
+pub mod Paths
+pub mod Folder
+pub mod Names
+pub mod ValueView
+pub mod Evaluation
+pub mod Store
+pub mod SettingsView
+pub mod Reading
+pub mod Setup

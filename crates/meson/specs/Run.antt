@@ -1,0 +1,61 @@
+-- Runs: how they end, the world after them, and the marks that they leave.
+use Rattle.std.specs.Prelude.{ℕ, List, [], ◌∷◌, ◌++◌, Option}
+use Rattle.meson.specs.Data.{Data}
+use Rattle.meson.specs.Fault.{FaultData}
+use Rattle.meson.specs.Trace.{Mark, Ended}
+use Rattle.build.specs.Data.{ProjectData}
+
+-- the variables by their names, the project so far, and the paths looked at, in order
+pub record World : Type 0 where
+  pub variables : List ℕ → Option Data
+  pub project : ProjectData
+  pub looked : List (List ℕ)
+
+-- a result, or the fault that ends all
+pub data Outcome (A : Type 0) : Type 0 where
+  Done : A → Outcome A
+  Faulted : FaultData → Outcome A
+
+-- a run: its outcome, the world after it, and the marks that it adds
+pub data Run (A : Type 0) : Type 0 where
+  ran : Outcome A → World → List Mark → Run A
+
+-- what is run in a world
+abbrev pub Act : Type 0 → Type 0
+Act A = World → Run A
+
+abbrev pub pure : {A : Type 0} → A → Act A
+pure a w = ran (Done a) w []
+
+abbrev pub refuse : {A : Type 0} → FaultData → Act A
+refuse f w = ran (Faulted f) w []
+
+-- after these marks
+abbrev pub after : {A : Type 0} → List Mark → Run A → Run A
+after ms (ran o w ns) = ran o w (ms ++ ns)
+
+-- one run after another, unless it faults
+abbrev pub follow : {A B : Type 0} → Run A → (A → Act B) → Run B
+follow (ran (Done a) w ms) next = after ms (next a w)
+follow (ran (Faulted f) w ms) next = ran (Faulted f) w ms
+
+infixl 10 ◌>>=◌
+abbrev pub ◌>>=◌ : {A B : Type 0} → Act A → (A → Act B) → Act B
+(first >>= next) w = follow (first w) next
+
+-- the end of the rule of a node
+abbrev pub with_end : {A : Type 0} → Run A → Run A
+with_end (ran o w ms) = ran o w (ms ++ Ended ∷ [])
+
+abbrev pub rule : {A : Type 0} → Act A → Act A
+rule act w = with_end (act w)
+
+-- what a run leaves
+abbrev pub marks_of : {A : Type 0} → Run A → List Mark
+marks_of (ran o w ms) = ms
+
+abbrev pub outcome_of : {A : Type 0} → Run A → Outcome A
+outcome_of (ran o w ms) = o
+
+abbrev pub world_after : {A : Type 0} → Run A → World
+world_after (ran o w ms) = w

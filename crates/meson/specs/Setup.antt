@@ -1,0 +1,92 @@
+-- One run: what the outputs are asked to take, and how the run ends.
+use Rattle.std.specs.Prelude.{◌≡◌, ℕ, ◌+◌, Bool, true, false, IsTrue, List, [], ◌++◌, None, Result, Ok, Err, codes}
+use Rattle.ports.specs.Outputs.{OutputState, Step, Sends, opening, closing, puts, faults}
+use Rattle.build.specs.Data.{TargetData, ProjectData}
+use Rattle.build.specs.Edges.{edges_of, default_outputs}
+use Rattle.ninja.specs.Writing.{build_file, edges_text, head_text, tail_text}
+use Rattle.meson.specs.Fault.{fault_line}
+use Rattle.meson.specs.Settings.{SettingsData}
+use Rattle.meson.specs.Trace.{steps_of}
+use Rattle.meson.specs.Run.{World, Run, ran, Done, Faulted, marks_of, outcome_of}
+use Rattle.meson.specs.Evaluation.{Files, evaluation}
+use Rattle.meson.specs.FaultView.{fault_view}
+use Rattle.meson.specs.declared.stop.Stop.{Stop}
+use Rattle.meson.specs.declared.stop.Stop.TheVariants as stops
+use Rattle.meson.specs.declared.running.Status.{Status}
+use Rattle.meson.specs.declared.running.Status.TheVariants as statuses
+
+-- before the first statement: no variable, no target, nothing looked at
+abbrev pub first_world : SettingsData → World
+first_world s = record { variables = λ _. None; project = record { depth = s.depth; targets = [] }; looked = [] }
+
+-- the output `build.ninja`, whole
+abbrev pub build_steps : ProjectData → List Step
+build_steps p = opening (codes "build.ninja") ++ (puts (build_file p) ++ closing)
+
+-- the same in parts: what stands before the edges, the edges of each target, and what stands behind them
+unfoldable pub head_steps : List Step
+head_steps = puts head_text
+
+unfoldable pub target_steps : ℕ → TargetData → List Step
+target_steps depth t = puts (edges_text (edges_of depth t))
+
+unfoldable pub tail_steps : ProjectData → List Step
+tail_steps p = puts (tail_text (default_outputs p))
+
+abbrev pub parts_steps : ProjectData → List Step → List Step
+parts_steps p targets = opening (codes "build.ninja") ++ (head_steps ++ (targets ++ (tail_steps p ++ closing)))
+
+-- what a run asks the outputs to take, in order, and its status
+pub record Whole : Type 0 where
+  pub steps : List Step
+  pub status : Status
+
+-- all outputs on success; on a fault what was told before it, and its line
+abbrev pub whole_of : Run (Unit {0}) → Whole
+whole_of (ran (Done x) w ms) = record { steps = steps_of ms ++ build_steps w.project; status = statuses.Done }
+whole_of (ran (Faulted f) w ms) = record { steps = steps_of ms ++ faults (fault_line f); status = statuses.Fault }
+
+-- the run of these files, settings and bytes of a machine file
+abbrev pub run_of : Files → SettingsData → List ℕ → Whole
+run_of files s machine = whole_of (evaluation files s machine (first_world s))
+
+-- whether a status is one with which a run comes to its end
+abbrev pub is_finished : Status → Bool
+is_finished statuses.Done = true
+is_finished statuses.Fault = true
+is_finished statuses.Device = false
+is_finished statuses.Memory = false
+
+-- the status is the run's, and the outputs took all of it; or they took a beginning
+pub record Agrees (run : Whole) (ended : Status) (old new : OutputState) : Type 0 where
+  pub status : IsTrue (is_finished ended) → ended ≡ run.status
+  pub events : Sends old new run.steps (is_finished ended)
+
+-- how many of the devices' failures a status tells of
+abbrev pub failed_devices : Status → ℕ
+failed_devices statuses.Done = 0
+failed_devices statuses.Fault = 0
+failed_devices statuses.Device = 1
+failed_devices statuses.Memory = 0
+
+-- what a configuration came to: the outputs took what the run tells and the file, or a beginning of these; a refusal is the run's
+abbrev pub Configures : Run (Unit {0}) → Result (Unit {0}) Stop → OutputState → OutputState → Type 0
+Configures run (Ok x) old new = (w : World) × (run ≡ ran (Done tt) w (marks_of run)) × Sends old new (steps_of (marks_of run) ++ build_steps w.project) true
+Configures run (Err (stops.Refused fault)) old new = (outcome_of run ≡ Faulted (fault_view fault)) × Sends old new (steps_of (marks_of run)) true
+Configures run (Err stops.Device) old new = Sends old new (whole_of run).steps false
+Configures run (Err stops.Memory) old new = Sends old new (whole_of run).steps false
+
+abbrev pub OnRefusal : Stop → Type 0 → Type 0
+OnRefusal (stops.Refused fault) p = p
+OnRefusal stops.Device p = Unit {0}
+OnRefusal stops.Memory p = Unit {0}
+
+-- what the status says of an answer
+abbrev pub Settles : Result (Unit {0}) Stop → Status → OutputState → OutputState → Type 0
+Settles (Ok x) status old new = (status ≡ statuses.Done) × (new ≡ old)
+Settles (Err (stops.Refused fault)) statuses.Done old new = ⊥
+Settles (Err (stops.Refused fault)) statuses.Fault old new = Sends old new (faults (fault_line (fault_view fault))) true × (new.failures ≡ old.failures)
+Settles (Err (stops.Refused fault)) statuses.Device old new = Sends old new (faults (fault_line (fault_view fault))) false × (new.failures ≡ old.failures + 1)
+Settles (Err (stops.Refused fault)) statuses.Memory old new = ⊥
+Settles (Err stops.Device) status old new = (status ≡ statuses.Device) × (new ≡ old)
+Settles (Err stops.Memory) status old new = (status ≡ statuses.Memory) × (new ≡ old)

@@ -1,0 +1,89 @@
+//! Expressions: their values, from left to right.
+ghost use Rattle.std.specs.Prelude.{◌≡◌, ℕ, [], map};
+ghost use Rattle.ports.specs.Outputs.{OutputState};
+ghost use Rattle.syntax.specs.Tree.{expression_of};
+ghost use Rattle.meson.specs.Evaluation.{value_of, values_of, variable};
+ghost use Rattle.meson.specs.Gives.{Gives, failures_after};
+ghost use Rattle.meson.specs.Run.{rule};
+ghost use Rattle.meson.specs.Store.{world_of};
+ghost use Rattle.meson.specs.Trace.{Seen, seen};
+ghost use Rattle.meson.specs.ValueView.{view, values_view};
+
+use crate::function::is_predefined;
+use crate::refusal::Refusal;
+use crate::refuse::{refused, refused_here};
+use crate::steps::{Steps, ended};
+use crate::stop::Stop;
+use crate::store::{Store, look_up};
+use crate::value::Value;
+use std::alloc::Global;
+use std::sync::ledger::Ledger;
+use syntax::tree::Expression;
+
+fn variable(
+    alloc: Global,
+    file: &str,
+    line: usize,
+    name: &str,
+    store: &Store,
+) -> Result<Value, Stop>
+    ensures gives { (old : Seen) → Gives view (variable file.now line name.now (world_of store.now)) result (world_of store.now) old old }
+    ensures quiet { (n : ℕ) → failures_after n result ≡ n }
+{
+    if is_predefined(name) {
+        return Err(refused_here(alloc, file, line, Refusal::LeftOut));
+    }
+    match look_up(store, name)? {
+        Some(value) => Ok(value),
+        None => Err(refused(alloc, file, line, Refusal::UndefinedName, name)),
+    }
+}
+
+fn form_value(
+    alloc: Global,
+    file: &str,
+    expression: &Expression<'_>,
+    store: &Store,
+) -> Result<Value, Stop>
+    ensures gives { (old : Seen) → Gives view (value_of file.now (expression_of expression.now) (world_of store.now)) result (world_of store.now) old old }
+    ensures quiet { (n : ℕ) → failures_after n result ≡ n }
+{
+    match expression {
+        Expression::Text { text, line: _ } => Ok(Value::text(alloc, text)?),
+        Expression::Name { name, line } => variable(alloc, file, *line, name, store),
+    }
+}
+
+/// The value of an expression.
+pub fn value_of<L: Ledger>(
+    alloc: Global,
+    file: &str,
+    expression: &Expression<'_>,
+    store: &Store,
+    steps: &mut Steps<L>,
+) -> Result<Value, Stop>
+    ensures gives { (out : OutputState) → Gives view (rule (value_of file.now (expression_of expression.now)) (world_of store.now)) result (world_of store.now) (seen out steps.old) (seen out steps.new) }
+    ensures quiet { (n : ℕ) → failures_after n result ≡ n }
+{
+    let answer = form_value(alloc, file, expression, store);
+    ended(answer, steps)
+}
+
+/// The values of all expressions.
+pub fn values_of<L: Ledger>(
+    alloc: Global,
+    file: &str,
+    expressions: &[Expression<'_>],
+    store: &Store,
+    steps: &mut Steps<L>,
+) -> Result<Vec<Value>, Stop>
+    ensures gives { (out : OutputState) → Gives values_view (values_of file.now [] (map expression_of expressions.now) (world_of store.now)) result (world_of store.now) (seen out steps.old) (seen out steps.new) }
+    ensures quiet { (n : ℕ) → failures_after n result ≡ n }
+{
+    let mut values = Vec::new(alloc);
+    for expression in expressions {
+        let value = value_of(alloc, file, expression, store, steps)?;
+        values.push(value)?;
+    }
+    Ok(values)
+}

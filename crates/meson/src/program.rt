@@ -1,0 +1,130 @@
+//! A run of the program, over a folder of a disk.
+ghost use Rattle.std.specs.Prelude.{◌≡◌, ◌≤◌, map, string_bytes};
+ghost use Rattle.command.specs.CommandLine.{IsRefused};
+
+use crate::running::{Status, setup};
+use crate::settings::Settings;
+use command::{Line, LineFault, command_line};
+use ports::{DiskOutputs, DiskTree};
+use std::alloc::{AllocError, Global};
+use std::io::{ErrorKind, Write};
+use std::rt::Files;
+use std::{fs, io};
+
+// The exit status for words that are no command line.
+const BAD_LINE: u8 = 4;
+
+/// Configures the project in the folder `root` as the words say, of which the first is the program's
+/// name. The log goes to `log`, fault lines and the program's own texts to `faults`, outputs to the
+/// folder that the words name, below `root`.
+///
+/// Answers the exit status: 0 done, 1 a fault of the sources, 2 a device failed, 3 memory ran out,
+/// 4 the words are no command line.
+pub fn run<R: Files + AllocGlobal, L: Write + Drop, F: Write + Drop>(
+    rt: &R,
+    words: &[String],
+    root: &str,
+    mut log: L,
+    mut faults: F,
+) -> u8
+    ensures known { result ≤ 4 }
+    ensures bad_line { result ≡ 4 → IsRefused (map string_bytes words.now) }
+{
+    match command_line(rt.alloc(), words) {
+        Ok(line) => {
+            let status = match configure(rt, line, root, &mut log, &mut faults) {
+                Ok(status) => status,
+                Err(error) => status_of(&error),
+            };
+            ended(status, &mut faults)
+        }
+        Err(LineFault::Help(text)) => match log.write_all(text.as_str().as_bytes()) {
+            Ok(()) => ended(Status::Done, &mut faults),
+            Err(_) => ended(Status::Device, &mut faults),
+        },
+        Err(LineFault::Usage(text)) => {
+            let _ = faults.write_all(text.as_str().as_bytes());
+            BAD_LINE
+        }
+        Err(LineFault::Memory(_)) => ended(Status::Memory, &mut faults),
+    }
+}
+
+// Configures as the line says.
+fn configure<R: Files + AllocGlobal, L: Write + Drop, F: Write + Drop>(
+    rt: &R,
+    line: Line,
+    root: &str,
+    log: L,
+    faults: F,
+) -> io::Result<Status> {
+    let alloc = rt.alloc();
+    let depth = line.depth();
+    let Line {
+        words,
+        machine_file,
+        folder,
+    } = line;
+    let machine = machine_bytes(rt, root, &machine_file)?;
+    let build_root = path_below(alloc, root, folder.as_str())?;
+    let mut tree = DiskTree::new(rt, alloc, String::from_str(alloc, root)?);
+    let mut out = DiskOutputs::new(rt, alloc, build_root.clone()?, log, faults)?;
+    let settings = Settings {
+        words,
+        depth,
+        source_root: String::from_str(alloc, root)?,
+        build_root,
+    };
+    Ok(setup(alloc, &mut tree, &settings, machine.as_slice(), &mut out))
+}
+
+// The bytes of the machine file; none where none is named.
+fn machine_bytes<R: Files + AllocGlobal>(
+    rt: &R,
+    root: &str,
+    machine_file: &Option<String>,
+) -> io::Result<Vec<u8>> {
+    match machine_file {
+        Some(file) => fs::read(rt, path_below(rt.alloc(), root, file.as_str())?),
+        None => Ok(Vec::new(rt.alloc())),
+    }
+}
+
+// The path, seen from this folder.
+fn path_below(alloc: Global, folder: &str, path: &str) -> Result<String, AllocError> {
+    if path.starts_with('/') {
+        return String::from_str(alloc, path);
+    }
+    let mut whole = String::from_str(alloc, folder)?;
+    if !folder.ends_with('/') {
+        whole.push('/')?;
+    }
+    whole.push_str(path)?;
+    Ok(whole)
+}
+
+fn status_of(error: &io::Error) -> Status {
+    if error.kind() == ErrorKind::OutOfMemory {
+        Status::Memory
+    } else {
+        Status::Device
+    }
+}
+
+// Says why a run ended early, and gives its exit status.
+fn ended<F: Write>(status: Status, faults: &mut F) -> u8
+    ensures { result ≤ 3 }
+{
+    match status {
+        Status::Done => 0,
+        Status::Fault => 1,
+        Status::Device => {
+            let _ = faults.write_all(b"meson: device fault\n");
+            2
+        }
+        Status::Memory => {
+            let _ = faults.write_all(b"meson: out of memory\n");
+            3
+        }
+    }
+}

@@ -1,0 +1,56 @@
+//! The bytes of a definition file.
+ghost use Rattle.std.specs.Prelude.{◌≡◌, ℕ, ◌+◌, ◌^◌, ◌<◌, ◌≤◌, List, length, is_ok, IfOk, if◌then◌else◌};
+ghost use Rattle.ports.specs.Tree.{bytes_at, Stays};
+ghost use Rattle.meson.specs.Evaluation.{line_at};
+ghost use Rattle.meson.specs.Gives.{Holds, failures_after};
+ghost use Rattle.meson.specs.Reading.{IsNoFault};
+
+use crate::stop::Stop;
+use ports::{DeviceFault, Tree};
+use std::alloc::Global;
+
+// Reads until the buffer is full or the file ends, and says how many bytes it read.
+fn fill<T: Tree>(tree: &mut T, path: &str, buffer: &mut [u8]) -> Result<usize, DeviceFault>
+    requires { (T.seen tree.old).failures + 1 < 2 ^ 64 }
+    ensures within { IfOk result (λ n. n ≤ length buffer.old) }
+    ensures bytes { (files : List (List ℕ × List ℕ)) → Holds (T.seen tree.old) files → length buffer.old ≡ length (bytes_at files path.now) → IfOk result (λ n. (n ≡ length buffer.old) × (buffer.new ≡ bytes_at files path.now)) }
+    ensures stays { Stays (T.seen tree.old) (T.seen tree.new) }
+    ensures failures { (T.seen tree.new).failures ≡ (if is_ok result then (T.seen tree.old).failures else (T.seen tree.old).failures + 1) }
+{
+    let mut at = 0;
+    while at < buffer.len() {
+        let count = tree.read_at(path, at as u64, &mut buffer[at..])?;
+        if count == 0 {
+            break;
+        }
+        at += count;
+    }
+    Ok(at)
+}
+
+/// The first bytes of the file at this path, at most `size` of them.
+pub fn read_file<T: Tree>(
+    alloc: Global,
+    tree: &mut T,
+    path: &str,
+    size: usize,
+) -> Result<Vec<u8>, Stop>
+    requires { (T.seen tree.old).failures + 1 < 2 ^ 64 }
+    ensures bytes { (files : List (List ℕ × List ℕ)) → Holds (T.seen tree.old) files → size ≡ length (bytes_at files path.now) → IfOk result (λ bytes. bytes.items ≡ bytes_at files path.now) }
+    ensures no_fault { IsNoFault result }
+    ensures stays { Stays (T.seen tree.old) (T.seen tree.new) }
+    ensures failures { (T.seen tree.new).failures ≡ failures_after (T.seen tree.old).failures result }
+{
+    let mut buffer = vec![in alloc; 0; size]?;
+    let count = fill(tree, path, &mut buffer)?;
+    buffer.truncate(count);
+    Ok(buffer)
+}
+
+/// The line of the byte at a place, from 1.
+pub fn line_at(bytes: &[u8], at: usize) -> usize
+    requires { at ≤ length bytes.now }
+    ensures { result ≡ line_at bytes.now at }
+{
+    1 + bytes[..at].iter().filter(|b| b'\n' == **b).count()
+}

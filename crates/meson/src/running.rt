@@ -1,0 +1,225 @@
+//! One run, from the bytes of a tree to the events of the outputs.
+ghost use Rattle.std.specs.Prelude.{◌≡◌, ◌+◌, ◌^◌, ◌<◌, IfErr, IsSome, None, OnOk, [], flat_map, is_ok, map, if◌then◌else◌};
+ghost use Rattle.std.specs.Result.{ForErr};
+ghost use Rattle.ports.specs.Outputs.{Sends, puts};
+ghost use Rattle.ports.specs.Tree.{Stays};
+ghost use Rattle.build.specs.Edges.{edges_of};
+ghost use Rattle.build.specs.View.{edge_view, target_view};
+ghost use Rattle.ninja.specs.Writing.{edge_text, edges_text};
+ghost use Rattle.meson.specs.Evaluation.{Files, evaluation};
+ghost use Rattle.meson.specs.Gives.{Holds, failures_after};
+ghost use Rattle.meson.specs.Reading.{IsNoFault};
+ghost use Rattle.meson.specs.SettingsView.{settings_view};
+ghost use Rattle.meson.specs.Setup.{Agrees, Configures, OnRefusal, Settles, build_steps, failed_devices, first_world, head_steps, is_finished, parts_steps, run_of, tail_steps, target_steps};
+
+use crate::definitions::evaluate;
+use crate::fault::write_fault;
+use crate::settings::Settings;
+use crate::steps::{Steps, new_steps};
+use crate::stop::Stop;
+use crate::store::{Store, new_store, project};
+use build::{Edge, Project, Target, edges};
+use ninja::{write_edge, write_head, write_tail};
+use ports::{DeviceFault, Outputs, Tree};
+use std::alloc::Global;
+use std::marker::Brand;
+use std::sync::ledger::{Blank, Ledger};
+
+/// How a run ended.
+#[derive(Clone, Copy, Debug, PartialEq, Eq)]
+pub enum Status {
+    /// All outputs are written.
+    Done,
+    /// The definitions are refused, and the fault line is written.
+    Fault,
+    /// A device failed.
+    Device,
+    /// No memory was left.
+    Memory,
+}
+
+#[tactic(auto, using(ports::proofs::Sending::sending))]
+fn write_edges<O: Outputs>(edges: &[Edge], out: &mut O) -> Result<(), DeviceFault>
+    requires room { (O.seen out.old).failures + 1 < 2 ^ 64 }
+    requires is_open { IsSome (O.seen out.old).open_name }
+    ensures events { Sends (O.seen out.old) (O.seen out.new) (flat_map (λ e. puts (edge_text (edge_view e))) edges.now) (is_ok result) }
+    ensures name { (O.seen out.new).open_name ≡ (O.seen out.old).open_name }
+    ensures failures { (O.seen out.new).failures ≡ (if is_ok result then (O.seen out.old).failures else (O.seen out.old).failures + 1) }
+{
+    for edge in edges {
+        write_edge(edge, out)?;
+    }
+    Ok(())
+}
+
+#[tactic(auto, unfolding(crate::specs::Setup::head_steps))]
+fn put_head<O: Outputs>(out: &mut O) -> Result<(), DeviceFault>
+    requires room { (O.seen out.old).failures + 1 < 2 ^ 64 }
+    requires is_open { IsSome (O.seen out.old).open_name }
+    ensures events { Sends (O.seen out.old) (O.seen out.new) head_steps (is_ok result) }
+    ensures name { (O.seen out.new).open_name ≡ (O.seen out.old).open_name }
+    ensures failures { (O.seen out.new).failures ≡ (if is_ok result then (O.seen out.old).failures else (O.seen out.old).failures + 1) }
+{
+    write_head(out)
+}
+
+#[tactic(auto, unfolding(crate::specs::Setup::tail_steps))]
+fn put_tail<O: Outputs>(project: &Project, out: &mut O) -> Result<(), DeviceFault>
+    requires room { (O.seen out.old).failures + 1 < 2 ^ 64 }
+    requires is_open { IsSome (O.seen out.old).open_name }
+    ensures events { Sends (O.seen out.old) (O.seen out.new) (tail_steps project.now) (is_ok result) }
+    ensures name { (O.seen out.new).open_name ≡ (O.seen out.old).open_name }
+    ensures failures { (O.seen out.new).failures ≡ (if is_ok result then (O.seen out.old).failures else (O.seen out.old).failures + 1) }
+{
+    write_tail(project, out)
+}
+
+// The edges of one target. No more than these are held at a time.
+fn write_target<O: Outputs>(
+    alloc: Global,
+    depth: usize,
+    target: &Target,
+    out: &mut O,
+) -> Result<(), Stop>
+    requires room { (O.seen out.old).failures + 1 < 2 ^ 64 }
+    requires is_open { IsSome (O.seen out.old).open_name }
+    ensures events { Sends (O.seen out.old) (O.seen out.new) (target_steps depth (target_view target.now)) (is_ok result) }
+    ensures name { (O.seen out.new).open_name ≡ (O.seen out.old).open_name }
+    ensures failures { (O.seen out.new).failures ≡ failures_after (O.seen out.old).failures result }
+    ensures no_fault { IsNoFault result }
+{
+    let edges = edges(alloc, depth, target)?;
+    write_edges(&edges, out)?;
+    Ok(())
+}
+
+#[tactic(auto, using(ports::proofs::Sending::sending))]
+fn write_targets<O: Outputs>(
+    alloc: Global,
+    depth: usize,
+    targets: &[Target],
+    out: &mut O,
+) -> Result<(), Stop>
+    requires room { (O.seen out.old).failures + 1 < 2 ^ 64 }
+    requires is_open { IsSome (O.seen out.old).open_name }
+    ensures events { Sends (O.seen out.old) (O.seen out.new) (flat_map (λ t. target_steps depth (target_view t)) targets.now) (is_ok result) }
+    ensures name { (O.seen out.new).open_name ≡ (O.seen out.old).open_name }
+    ensures failures { (O.seen out.new).failures ≡ failures_after (O.seen out.old).failures result }
+    ensures no_fault { IsNoFault result }
+{
+    for target in targets {
+        write_target(alloc, depth, target, out)?;
+    }
+    Ok(())
+}
+
+#[tactic(auto, using(ports::proofs::Sending::sending))]
+fn write_parts<O: Outputs>(
+    alloc: Global,
+    project: &Project,
+    targets: &[Target],
+    out: &mut O,
+) -> Result<(), Stop>
+    requires { (O.seen out.old).failures + 1 < 2 ^ 64 }
+    ensures events { Sends (O.seen out.old) (O.seen out.new) (parts_steps project.now (flat_map (λ t. target_steps project.now.depth (target_view t)) targets.now)) (is_ok result) }
+    ensures failures { (O.seen out.new).failures ≡ failures_after (O.seen out.old).failures result }
+    ensures no_fault { IsNoFault result }
+{
+    out.open("build.ninja")?;
+    put_head(out)?;
+    write_targets(alloc, project.depth(), targets, out)?;
+    put_tail(project, out)?;
+    out.close()?;
+    Ok(())
+}
+
+// Writes `build.ninja`.
+fn write_build_file<O: Outputs>(alloc: Global, project: &Project, out: &mut O) -> Result<(), Stop>
+    requires { (O.seen out.old).failures + 1 < 2 ^ 64 }
+    ensures events { Sends (O.seen out.old) (O.seen out.new) (build_steps project.now) (is_ok result) }
+    ensures failures { (O.seen out.new).failures ≡ failures_after (O.seen out.old).failures result }
+    ensures no_fault { IsNoFault result }
+{
+    write_parts(alloc, project, project.targets(), out)
+}
+
+// Evaluates the definitions and writes what they come to.
+fn configure<T: Tree, O: Outputs, L: Ledger>(
+    alloc: Global,
+    tree: &mut T,
+    settings: &Settings,
+    machine: &[u8],
+    out: &mut O,
+    steps: &mut Steps<L>,
+) -> Result<(), Stop>
+    requires tree_room { (T.seen tree.old).failures + 1 < 2 ^ 64 }
+    requires out_room { (O.seen out.old).failures + 1 < 2 ^ 64 }
+    ensures run { (files : Files) → Holds (T.seen tree.old) files → Configures (evaluation files (settings_view settings.now) machine.now (first_world (settings_view settings.now))) result (O.seen out.old) (O.seen out.new) }
+    ensures failures { (T.seen tree.new).failures + (O.seen out.new).failures ≡ failures_after ((T.seen tree.old).failures + (O.seen out.old).failures) result }
+    ensures room { IfErr result (λ stop. OnRefusal stop ((O.seen out.new).failures ≡ (O.seen out.old).failures)) }
+{
+    let mut store = new_store(alloc, settings.depth)?;
+    evaluate(alloc, settings, machine, &mut store, tree, steps)?;
+    write_build_file(alloc, project(&store), out)
+}
+
+// The status of a run that came to this answer. Of a refusal the line is written first.
+fn settle<O: Outputs>(answer: Result<(), Stop>, out: &mut O) -> Status
+    requires { ForErr answer (λ stop. OnRefusal stop ((O.seen out.old).failures + 1 < 2 ^ 64)) }
+    ensures { Settles answer result (O.seen out.old) (O.seen out.new) }
+{
+    match answer {
+        Ok(()) => Status::Done,
+        Err(Stop::Refused(fault)) => match write_fault(&fault, out) {
+            Ok(()) => Status::Fault,
+            Err(_) => Status::Device,
+        },
+        Err(Stop::Device) => Status::Device,
+        Err(Stop::Memory) => Status::Memory,
+    }
+}
+
+fn run_with<T: Tree, O: Outputs, L: Ledger>(
+    alloc: Global,
+    tree: &mut T,
+    settings: &Settings,
+    machine: &[u8],
+    out: &mut O,
+    blank: Blank,
+) -> Status
+    requires tree_room { (T.seen tree.old).failures + 1 < 2 ^ 64 }
+    requires out_room { (O.seen out.old).failures + 1 < 2 ^ 64 }
+    requires name { blank.name ≡ L.name }
+    requires parts { blank.parts ≡ L.parts }
+    requires some { 0 < blank.parts }
+    ensures run { (files : Files) → Holds (T.seen tree.old) files → Agrees (run_of files (settings_view settings.now) machine.now) result (O.seen out.old) (O.seen out.new) }
+    ensures device { (T.seen tree.new).failures + (O.seen out.new).failures ≡ (T.seen tree.old).failures + (O.seen out.old).failures + failed_devices result }
+{
+    let mut steps = new_steps::<L>(blank);
+    let answer = configure(alloc, tree, settings, machine, out, &mut steps);
+    settle(answer, out)
+}
+
+/// Configures a build folder: reads the definitions of the tree and writes `build.ninja` to the outputs.
+///
+/// The files, the settings and the bytes of the machine file determine a run: what the outputs are asked to take, in order and
+/// byte for byte, and the status.
+pub fn setup<T: Tree, O: Outputs>(
+    alloc: Global,
+    tree: &mut T,
+    settings: &Settings,
+    machine: &[u8],
+    out: &mut O,
+) -> Status
+    requires tree_room { (T.seen tree.old).failures + 1 < 2 ^ 64 }
+    requires out_room { (O.seen out.old).failures + 1 < 2 ^ 64 }
+
+    // Over a steady tree, status `Done` or `Fault` is that of the run, and outputs that tell took all of its steps. With status
+    // `Device` or `Memory` they took a beginning.
+    ensures run { (files : Files) → Holds (T.seen tree.old) files → Agrees (run_of files (settings_view settings.now) machine.now) result (O.seen out.old) (O.seen out.new) }
+
+    // Of any devices: one of them failed once where the status is `Device`, and else none did.
+    ensures device { (T.seen tree.new).failures + (O.seen out.new).failures ≡ (T.seen tree.old).failures + (O.seen out.old).failures + failed_devices result }
+{
+    run_with::<T, O, Brand>(alloc, tree, settings, machine, out, Blank::new(1))
+}

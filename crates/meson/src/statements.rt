@@ -1,0 +1,241 @@
+//! Statements, one after another, and the root file as a whole.
+ghost use Rattle.std.specs.Prelude.{◌≡◌, ℕ, ◌+◌, ◌^◌, ◌<◌, map};
+ghost use Rattle.ports.specs.Outputs.{OutputState};
+ghost use Rattle.ports.specs.Tree.{Stays};
+ghost use Rattle.syntax.specs.Tree.{expression_of, file_of, statement_of};
+ghost use Rattle.meson.specs.Evaluation.{Files, assignment, begins, called, do_all, does, project_call, root};
+ghost use Rattle.meson.specs.Gives.{Gives, Holds, failures_after};
+ghost use Rattle.meson.specs.Names.{function_named};
+ghost use Rattle.meson.specs.Run.{rule};
+ghost use Rattle.meson.specs.SettingsView.{settings_view};
+ghost use Rattle.meson.specs.Store.{world_of};
+ghost use Rattle.meson.specs.Trace.{seen};
+
+use crate::executable::call_executable;
+use crate::expressions::value_of;
+use crate::function::{Function, function_named, is_predefined};
+use crate::project::{call_project, call_project_again};
+use crate::refusal::Refusal;
+use crate::refuse::{refused, refused_here};
+use crate::settings::Settings;
+use crate::steps::{Steps, ended};
+use crate::stop::Stop;
+use crate::store::{Store, set_variable};
+use ports::Tree;
+use std::alloc::Global;
+use std::sync::ledger::Ledger;
+use syntax::tree::{Expression, File, Statement};
+
+fn assign<L: Ledger>(
+    alloc: Global,
+    file: &str,
+    name: &str,
+    line: usize,
+    value: &Expression<'_>,
+    store: &mut Store,
+    steps: &mut Steps<L>,
+) -> Result<(), Stop>
+    ensures gives { (out : OutputState) → Gives (λ u. u) (assignment file.now name.now line (expression_of value.now) (world_of store.old)) result (world_of store.new) (seen out steps.old) (seen out steps.new) }
+    ensures quiet { (n : ℕ) → failures_after n result ≡ n }
+{
+    let value = value_of(alloc, file, value, store, steps)?;
+    if is_predefined(name) {
+        return Err(refused_here(alloc, file, line, Refusal::Arguments));
+    }
+    set_variable(alloc, store, name, value)?;
+    Ok(())
+}
+
+fn call<T: Tree, L: Ledger>(
+    alloc: Global,
+    settings: &Settings,
+    file: &str,
+    name: &str,
+    line: usize,
+    arguments: &[Expression<'_>],
+    store: &mut Store,
+    tree: &mut T,
+    steps: &mut Steps<L>,
+) -> Result<(), Stop>
+    requires { (T.seen tree.old).failures + 1 < 2 ^ 64 }
+    ensures gives { (files : Files) → Holds (T.seen tree.old) files → (out : OutputState) → Gives (λ u. u) (called files (settings_view settings.now) file.now line name.now (map expression_of arguments.now) (function_named name.now) (world_of store.old)) result (world_of store.new) (seen out steps.old) (seen out steps.new) }
+    ensures stays { Stays (T.seen tree.old) (T.seen tree.new) }
+    ensures failures { (T.seen tree.new).failures ≡ failures_after (T.seen tree.old).failures result }
+{
+    match function_named(name) {
+        Function::Project => call_project_again(alloc, file, line, arguments, store, steps),
+        Function::Executable => {
+            call_executable(alloc, settings, file, line, arguments, store, tree, steps)
+        }
+        Function::LeftOut => Err(refused_here(alloc, file, line, Refusal::LeftOut)),
+        Function::Unknown => Err(refused(alloc, file, line, Refusal::UnknownFunction, name)),
+    }
+}
+
+fn carry_out<T: Tree, L: Ledger>(
+    alloc: Global,
+    settings: &Settings,
+    file: &str,
+    statement: &Statement<'_>,
+    store: &mut Store,
+    tree: &mut T,
+    steps: &mut Steps<L>,
+) -> Result<(), Stop>
+    requires { (T.seen tree.old).failures + 1 < 2 ^ 64 }
+    ensures gives { (files : Files) → Holds (T.seen tree.old) files → (out : OutputState) → Gives (λ u. u) (does files (settings_view settings.now) file.now (statement_of statement.now) (world_of store.old)) result (world_of store.new) (seen out steps.old) (seen out steps.new) }
+    ensures stays { Stays (T.seen tree.old) (T.seen tree.new) }
+    ensures failures { (T.seen tree.new).failures ≡ failures_after (T.seen tree.old).failures result }
+{
+    match statement {
+        Statement::Assign { name, line, value } => {
+            assign(alloc, file, name, *line, value, store, steps)
+        }
+        Statement::Call {
+            name,
+            line,
+            arguments,
+        } => call(
+            alloc, settings, file, name, *line, arguments, store, tree, steps,
+        ),
+    }
+}
+
+fn statement<T: Tree, L: Ledger>(
+    alloc: Global,
+    settings: &Settings,
+    file: &str,
+    statement: &Statement<'_>,
+    store: &mut Store,
+    tree: &mut T,
+    steps: &mut Steps<L>,
+) -> Result<(), Stop>
+    requires { (T.seen tree.old).failures + 1 < 2 ^ 64 }
+    ensures gives { (files : Files) → Holds (T.seen tree.old) files → (out : OutputState) → Gives (λ u. u) (rule (does files (settings_view settings.now) file.now (statement_of statement.now)) (world_of store.old)) result (world_of store.new) (seen out steps.old) (seen out steps.new) }
+    ensures stays { Stays (T.seen tree.old) (T.seen tree.new) }
+    ensures failures { (T.seen tree.new).failures ≡ failures_after (T.seen tree.old).failures result }
+{
+    let answer = carry_out(alloc, settings, file, statement, store, tree, steps);
+    ended(answer, steps)
+}
+
+fn statements<T: Tree, L: Ledger>(
+    alloc: Global,
+    settings: &Settings,
+    file: &str,
+    statements: &[Statement<'_>],
+    store: &mut Store,
+    tree: &mut T,
+    steps: &mut Steps<L>,
+) -> Result<(), Stop>
+    requires { (T.seen tree.old).failures + 1 < 2 ^ 64 }
+    ensures gives { (files : Files) → Holds (T.seen tree.old) files → (out : OutputState) → Gives (λ u. u) (do_all files (settings_view settings.now) file.now (map statement_of statements.now) (world_of store.old)) result (world_of store.new) (seen out steps.old) (seen out steps.new) }
+    ensures stays { Stays (T.seen tree.old) (T.seen tree.new) }
+    ensures failures { (T.seen tree.new).failures ≡ failures_after (T.seen tree.old).failures result }
+{
+    for next in statements {
+        statement(alloc, settings, file, next, store, tree, steps)?;
+    }
+    Ok(())
+}
+
+// The rule of the first call.
+fn first_call<T: Tree, L: Ledger>(
+    alloc: Global,
+    settings: &Settings,
+    file: &str,
+    line: usize,
+    arguments: &[Expression<'_>],
+    store: &mut Store,
+    tree: &mut T,
+    steps: &mut Steps<L>,
+) -> Result<(), Stop>
+    requires { (T.seen tree.old).failures + 1 < 2 ^ 64 }
+    ensures gives { (files : Files) → Holds (T.seen tree.old) files → (out : OutputState) → Gives (λ u. u) (rule (project_call files (settings_view settings.now) file.now line (map expression_of arguments.now)) (world_of store.old)) result (world_of store.new) (seen out steps.old) (seen out steps.new) }
+    ensures stays { Stays (T.seen tree.old) (T.seen tree.new) }
+    ensures failures { (T.seen tree.new).failures ≡ failures_after (T.seen tree.old).failures result }
+{
+    let answer = call_project(alloc, settings, file, line, arguments, store, tree, steps);
+    ended(answer, steps)
+}
+
+// The first statement, which is a call of `project`.
+fn begin<T: Tree, L: Ledger>(
+    alloc: Global,
+    settings: &Settings,
+    file: &str,
+    statement: &Statement<'_>,
+    store: &mut Store,
+    tree: &mut T,
+    steps: &mut Steps<L>,
+) -> Result<(), Stop>
+    requires { (T.seen tree.old).failures + 1 < 2 ^ 64 }
+    ensures gives { (files : Files) → Holds (T.seen tree.old) files → (out : OutputState) → Gives (λ u. u) (begins files (settings_view settings.now) file.now (statement_of statement.now) (world_of store.old)) result (world_of store.new) (seen out steps.old) (seen out steps.new) }
+    ensures stays { Stays (T.seen tree.old) (T.seen tree.new) }
+    ensures failures { (T.seen tree.new).failures ≡ failures_after (T.seen tree.old).failures result }
+{
+    match statement {
+        Statement::Assign { line, .. } => {
+            Err(refused_here(alloc, file, *line, Refusal::ProjectCall))
+        }
+        Statement::Call {
+            name,
+            line,
+            arguments,
+        } => {
+            let first = *name == "project";
+            if first {
+                first_call(alloc, settings, file, *line, arguments, store, tree, steps)
+            } else {
+                Err(refused_here(alloc, file, *line, Refusal::ProjectCall))
+            }
+        }
+    }
+}
+
+fn root_statements<T: Tree, L: Ledger>(
+    alloc: Global,
+    settings: &Settings,
+    file: &str,
+    all: &[Statement<'_>],
+    store: &mut Store,
+    tree: &mut T,
+    steps: &mut Steps<L>,
+) -> Result<(), Stop>
+    requires { (T.seen tree.old).failures + 1 < 2 ^ 64 }
+    ensures gives { (files : Files) → Holds (T.seen tree.old) files → (out : OutputState) → Gives (λ u. u) (root files (settings_view settings.now) file.now (map statement_of all.now) (world_of store.old)) result (world_of store.new) (seen out steps.old) (seen out steps.new) }
+    ensures stays { Stays (T.seen tree.old) (T.seen tree.new) }
+    ensures failures { (T.seen tree.new).failures ≡ failures_after (T.seen tree.old).failures result }
+{
+    if all.is_empty() {
+        return Err(refused_here(alloc, file, 1, Refusal::ProjectCall));
+    }
+    begin(alloc, settings, file, &all[0], store, tree, steps)?;
+    statements(alloc, settings, file, &all[1..], store, tree, steps)
+}
+
+/// The root file, once it is read: a call of `project`, then the other statements.
+pub fn root<T: Tree, L: Ledger>(
+    alloc: Global,
+    settings: &Settings,
+    file: &str,
+    tree_of_file: &File<'_>,
+    store: &mut Store,
+    tree: &mut T,
+    steps: &mut Steps<L>,
+) -> Result<(), Stop>
+    requires { (T.seen tree.old).failures + 1 < 2 ^ 64 }
+    ensures gives { (files : Files) → Holds (T.seen tree.old) files → (out : OutputState) → Gives (λ u. u) (rule (root files (settings_view settings.now) file.now (file_of tree_of_file.now)) (world_of store.old)) result (world_of store.new) (seen out steps.old) (seen out steps.new) }
+    ensures stays { Stays (T.seen tree.old) (T.seen tree.new) }
+    ensures failures { (T.seen tree.new).failures ≡ failures_after (T.seen tree.old).failures result }
+{
+    let answer = root_statements(
+        alloc,
+        settings,
+        file,
+        &tree_of_file.statements,
+        store,
+        tree,
+        steps,
+    );
+    ended(answer, steps)
+}
