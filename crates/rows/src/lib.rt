@@ -1,0 +1,21 @@
+//! Tests of whole runs, by examples whose results stand outside the program: `setup` over devices in memory, and the program's `run`
+//! over folders of a disk.
+//!
+//! What `setup` writes is proved, and so are its answers. These tests say that the proved statement is the one that was meant, and
+//! what no statement says: that a run comes to its end where memory is ample, and what the program prints.
+#![tactic(auto)]
+
+#[cfg(test)]
+mod build_files;
+#[cfg(test)]
+mod device_failures;
+#[cfg(test)]
+mod expected;
+#[cfg(test)]
+mod faults;
+#[cfg(test)]
+mod given;
+#[cfg(test)]
+mod memory;
+#[cfg(test)]
+mod program;
