@@ -3,11 +3,7 @@ use Rattle.std.proofs.Common.{◌≡◌, ℕ, ◌+◌, ◌≤◌, List, ◌++◌
 use Rattle.std.proofs.Math.Seq.{take-add}
 use Rattle.std.proofs.lemmas.List.{drop_at, take-append-le, length-take}
 use Rattle.std.proofs.lemmas.Slice.{take-put_mid_below}
-use Rattle.ports.specs.Tree.{TreeState, Stays}
 use borrow.Rule.Slice.PartMut.{put_mid, post_of}
-
-pub stays_on : {a b c : TreeState} → Stays a b → Stays b c → Stays a c
-stays_on p q = record { steady = λ s. q.steady (p.steady s); files = λ s. q.files (p.steady s) ∙ p.files s }
 
 -- one piece more of the file
 pub read_more : (buffer piece file : List ℕ) (at k n : ℕ) → at ≤ length buffer → n ≤ length piece → take at buffer ≡ take at file → take n piece ≡ take n (drop at file)

@@ -1,5 +1,5 @@
 //! `project`: what it takes, and the options.
-ghost use Rattle.std.specs.Prelude.{◌≡◌, ℕ, ◌+◌, ◌^◌, ◌<◌, [], map, string_bytes};
+ghost use Rattle.std.specs.Prelude.{◌≡◌, ℕ, ◌+◌, ◌^◌, ◌<◌, map, string_bytes};
 ghost use Rattle.std.specs.List.{list_all};
 ghost use Rattle.ports.specs.Outputs.{OutputState};
 ghost use Rattle.ports.specs.Tree.{Stays};

@@ -1,23 +1,21 @@
 //! One run, from the bytes of a tree to the events of the outputs.
-ghost use Rattle.std.specs.Prelude.{◌≡◌, ◌+◌, ◌^◌, ◌<◌, IfErr, IsSome, None, OnOk, [], flat_map, is_ok, map, if◌then◌else◌};
+ghost use Rattle.std.specs.Prelude.{◌≡◌, ◌+◌, ◌^◌, ◌<◌, IfErr, IsSome, flat_map, is_ok, if◌then◌else◌};
 ghost use Rattle.std.specs.Result.{ForErr};
 ghost use Rattle.ports.specs.Outputs.{Sends, puts};
-ghost use Rattle.ports.specs.Tree.{Stays};
-ghost use Rattle.build.specs.Edges.{edges_of};
 ghost use Rattle.build.specs.View.{edge_view, target_view};
-ghost use Rattle.ninja.specs.Writing.{edge_text, edges_text};
+ghost use Rattle.ninja.specs.Writing.{edge_text};
 ghost use Rattle.meson.specs.Evaluation.{Files, evaluation};
 ghost use Rattle.meson.specs.Gives.{Holds, failures_after};
 ghost use Rattle.meson.specs.Reading.{IsNoFault};
 ghost use Rattle.meson.specs.SettingsView.{settings_view};
-ghost use Rattle.meson.specs.Setup.{Agrees, Configures, OnRefusal, Settles, build_steps, failed_devices, first_world, head_steps, is_finished, parts_steps, run_of, tail_steps, target_steps};
+ghost use Rattle.meson.specs.Setup.{Agrees, Configures, OnRefusal, Settles, build_steps, failed_devices, first_world, head_steps, parts_steps, run_of, tail_steps, target_steps};
 
 use crate::definitions::evaluate;
 use crate::fault::write_fault;
 use crate::settings::Settings;
 use crate::steps::{Steps, new_steps};
 use crate::stop::Stop;
-use crate::store::{Store, new_store, project};
+use crate::store::{new_store, project};
 use build::{Edge, Project, Target, edges};
 use ninja::{write_edge, write_head, write_tail};
 use ports::{DeviceFault, Outputs, Tree};

@@ -3,14 +3,13 @@ ghost use Rattle.std.specs.Prelude.{◌≡◌, ◌==◌, not, length, is_ok, IfO
 ghost use Rattle.build.specs.Outputs.{is_free, with_target};
 ghost use Rattle.build.specs.View.{target_view};
 ghost use Rattle.meson.specs.Evaluation.{looking, setting, with_project};
-ghost use Rattle.meson.specs.Run.{World};
 ghost use Rattle.meson.specs.Store.{world_of};
 ghost use Rattle.meson.specs.ValueView.{view};
 
 use crate::value::Value;
 use build::{Duplicate, Project, Target};
 use indexmap::IndexMap;
-use std::alloc::{AllocError, AllocFailed, Global};
+use std::alloc::{AllocError, Global};
 
 /// The world of an evaluation.
 #[derive(Drop)]

@@ -183,6 +183,7 @@ fn each_call_of_the_tree_fails(rt: HostRuntime) -> Result<(), Fail> {
     Ok(())
 }
 
+// The bytes that are taken end in `rule c_co`.
 #[test]
 fn the_fortieth_byte_is_not_taken(rt: HostRuntime) -> Result<(), Fail> {
     let mut tree = tree_of(rt.alloc(), &smallest())?;
@@ -191,7 +192,6 @@ fn the_fortieth_byte_is_not_taken(rt: HostRuntime) -> Result<(), Fail> {
     assert_eq!(rt; status, Status::Device);
     assert_eq!(rt; out.event_count(), 40);
     assert!(rt; SMALLEST.is_begun(&out));
-    assert!(rt; SMALLEST_BUILD_FILE.starts_with("ninja_required_version = 1.3\n\nrule c_co"));
     Ok(())
 }
 

@@ -178,7 +178,7 @@ fn names_and_functions(rt: HostRuntime) -> Result<(), Fail> {
 }
 
 #[test]
-fn calls_of_executable(rt: HostRuntime) -> Result<(), Fail> {
+fn sources_of_executable(rt: HostRuntime) -> Result<(), Fail> {
     let others = ["main.c", "a.h", "a#b.c", "all"];
     for row in [
         ("executable()\n", "2: ERROR: E9 arguments"),
@@ -201,12 +201,32 @@ fn calls_of_executable(rt: HostRuntime) -> Result<(), Fail> {
             "executable('prog','/s/../main.c')\n",
             "2: ERROR: E9 arguments",
         ),
+    ] {
+        assert!(rt; is_right(rt.alloc(), row, &others)?, "at {row:?}");
+    }
+    Ok(())
+}
+
+#[test]
+fn names_of_executable(rt: HostRuntime) -> Result<(), Fail> {
+    let others = ["main.c", "a.h", "a#b.c", "all"];
+    for row in [
         ("executable('','main.c')\n", "2: ERROR: E9 arguments"),
         ("executable('a/b','main.c')\n", "2: ERROR: E9 arguments"),
         ("executable('-x','main.c')\n", "2: ERROR: E9 arguments"),
         ("executable('.','main.c')\n", "2: ERROR: E9 arguments"),
         ("executable('..','main.c')\n", "2: ERROR: E9 arguments"),
         ("executable('a|b','no.h')\n", "2: ERROR: E9 arguments"),
+    ] {
+        assert!(rt; is_right(rt.alloc(), row, &others)?, "at {row:?}");
+    }
+    Ok(())
+}
+
+#[test]
+fn targets_that_cannot_be(rt: HostRuntime) -> Result<(), Fail> {
+    let others = ["main.c", "a.h", "a#b.c", "all"];
+    for row in [
         (
             "executable('prog','no.c')\n",
             "2: ERROR: E14 file missing: no.c",

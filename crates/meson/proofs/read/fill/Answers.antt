@@ -1,7 +1,8 @@
 use Rattle.std.proofs.Common.{◌≤◌, ◌∙◌, length, take, drop, ap, arith}
 use Rattle.std.proofs.lemmas.Grind.{common_steps}
 use Rattle.ports.specs.Tree.{bytes_at}
-use Rattle.meson.proofs.Reading.{stays_on, read_more}
+use Rattle.meson.proofs.Holding.{stays_on}
+use Rattle.meson.proofs.Reading.{read_more}
 use Rattle.meson.proofs.read.fill.Goals as goal
 
 pub loop-at-preserved : goal.loop-at-preserved
