@@ -1,0 +1,5 @@
+pub mod ItemsLemmas
+pub mod EntriesLemmas
+pub mod ListLemmas
+pub mod SameLemmas
+pub mod BuilderLemmas

@@ -1,0 +1,10 @@
+pub mod Refusal
+pub mod Data
+pub mod Coding
+pub mod Weight
+pub mod Limits
+pub mod View
+pub mod Falls
+pub mod Tables
+pub mod Same
+pub mod Builder

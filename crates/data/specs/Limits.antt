@@ -1,0 +1,29 @@
+-- How large a value may be: 65,536 items, 64 levels and a weight of 33,554,432; a text 16,777,216 bytes.
+use Rattle.std.specs.Prelude.{◌+◌, ℕ, Bool, true, ◌&&◌, nat_le, length, Result, Ok, Err, if◌then◌else◌}
+use Rattle.data.specs.declared.refusal.Refusal.{Refusal}
+use Rattle.data.specs.declared.refusal.Refusal.TheVariants as refusal
+use Rattle.data.specs.Data.{Data, truth, integer, text, list, dictionary, object, Items, Entries, count, entry_count}
+use Rattle.data.specs.Weight.{items_weight, items_depth, entries_weight, entries_depth}
+
+-- a list or a dictionary of this many items, this weight and this many levels is within the limits
+abbrev pub is_within : ℕ → ℕ → ℕ → Bool
+is_within items weight levels = nat_le items 65536 && (nat_le weight 33554432 && nat_le levels 64)
+
+abbrev pub items_fit : Items → Bool
+items_fit ds = is_within (count ds) (items_weight ds + 1) (items_depth ds + 1)
+
+abbrev pub entries_fit : Entries → Bool
+entries_fit es = is_within (entry_count es) (entries_weight es + 1) (entries_depth es + 1)
+
+-- whether a value is within the limits
+abbrev pub fits : Data → Bool
+fits (truth b) = true
+fits (integer z) = true
+fits (text t) = nat_le (length t) 16777216
+fits (list ds) = items_fit ds
+fits (dictionary es) = entries_fit es
+fits (object o) = true
+
+-- a value within the limits, or the refusal
+abbrev pub within : Data → Result Data Refusal
+within d = if fits d then Ok d else Err refusal.Limit

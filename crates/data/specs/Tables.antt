@@ -1,0 +1,11 @@
+-- An answer of an operation beside what its definition gives.
+use Rattle.std.specs.Prelude.{◌≡◌, Result, Ok, Err}
+use Rattle.data.specs.declared.refusal.Refusal.{Refusal}
+use Rattle.data.specs.Data.{Data}
+use Rattle.data.specs.View.{data_of}
+use Rattle.data.specs.declared.value.Value.{Value}
+
+-- the call answers what is given: a value that stands for it, or its refusal
+abbrev pub Answers : Result Data Refusal → Result Value Refusal → Type 0
+Answers given (Ok v) = given ≡ Ok (data_of v)
+Answers given (Err r) = given ≡ Err r

@@ -1,0 +1,241 @@
+//! Equality by structure.
+
+ghost use Rattle.std.specs.Prelude.{◌≡◌, ◌↔◌, IsTrue};
+ghost use Rattle.data.specs.Data.{keys_in, entry_values};
+ghost use Rattle.data.specs.Same.{same};
+ghost use Rattle.data.specs.View.{data_of, items_of};
+
+use crate::object::{Dependency, Machine, Object, Program, Source};
+use crate::text::Text;
+use crate::value::{Dictionary, Value};
+
+/// Whether two values are equal by structure. Dictionaries are equal where their entries are, in the same order.
+pub fn is_equal(value: &Value, other: &Value) -> bool
+    ensures equal { IsTrue result ↔ (data_of value.now ≡ data_of other.now) }
+    ensures test { result ≡ same (data_of value.now) (data_of other.now) }
+{
+    are_equal(value, other)
+}
+
+#[cycle(equal)]
+fn are_equal(value: &Value, other: &Value) -> bool
+    ensures { IsTrue result ↔ (data_of value.now ≡ data_of other.now) }
+{
+    match value {
+        Value::Truth(truth) => match other {
+            Value::Truth(other) => truth == other,
+            _ => false,
+        },
+        Value::Integer(integer) => match other {
+            Value::Integer(other) => integer == other,
+            _ => false,
+        },
+        Value::Text(text) => match other {
+            Value::Text(other) => text.as_str() == other.as_str(),
+            _ => false,
+        },
+        Value::List(list) => match other {
+            Value::List(other) => equal_items(list.items(), other.items()),
+            _ => false,
+        },
+        Value::Dictionary(dictionary) => match other {
+            Value::Dictionary(other) => {
+                equal_keys(dictionary, other) && equal_items(dictionary.values(), other.values())
+            }
+            _ => false,
+        },
+        Value::Object(object) => match other {
+            Value::Object(other) => equal_objects(object, other),
+            _ => false,
+        },
+    }
+}
+
+#[cycle(equal)]
+fn equal_items(items: &[Value], others: &[Value]) -> bool
+    ensures { IsTrue result ↔ (items_of items.now ≡ items_of others.now) }
+{
+    if items.len() != others.len() {
+        return false;
+    }
+    for (i, item) in items.iter().enumerate() {
+        if !are_equal(item, &others[i]) {
+            return false;
+        }
+    }
+    true
+}
+
+fn equal_keys(dictionary: &Dictionary, other: &Dictionary) -> bool
+    ensures { IsTrue result ↔ (keys_in dictionary.now ≡ keys_in other.now) }
+{
+    if dictionary.len() != other.len() {
+        return false;
+    }
+    for i in 0..dictionary.len() {
+        if dictionary.key(i) != other.key(i) {
+            return false;
+        }
+    }
+    true
+}
+
+/// Whether two objects are of one kind and equal by structure.
+pub fn equal_objects(object: &Object, other: &Object) -> bool
+    ensures { IsTrue result ↔ (object.now ≡ other.now) }
+{
+    match object {
+        Object::Feature(feature) => match other {
+            Object::Feature(other) => feature == other,
+            _ => false,
+        },
+        Object::Dependency(dependency) => match other {
+            Object::Dependency(other) => equal_dependencies(dependency, other),
+            _ => false,
+        },
+        Object::Program(program) => match other {
+            Object::Program(other) => equal_programs(program, other),
+            _ => false,
+        },
+        Object::BuildTarget(number) => match other {
+            Object::BuildTarget(other) => number == other,
+            _ => false,
+        },
+        Object::CustomTarget { number, outputs } => match other {
+            Object::CustomTarget {
+                number: other_number,
+                outputs: other_outputs,
+            } => number == other_number && outputs == other_outputs,
+            _ => false,
+        },
+        Object::CustomOutput { target, output } => match other {
+            Object::CustomOutput {
+                target: other_target,
+                output: other_output,
+            } => target == other_target && output == other_output,
+            _ => false,
+        },
+        Object::File { path, is_built } => match other {
+            Object::File {
+                path: other_path,
+                is_built: other_is_built,
+            } => path.as_str() == other_path.as_str() && is_built == other_is_built,
+            _ => false,
+        },
+        Object::IncludeDirectories(paths) => match other {
+            Object::IncludeDirectories(other) => equal_texts(paths.as_slice(), other.as_slice()),
+            _ => false,
+        },
+        Object::Machine(machine) => match other {
+            Object::Machine(other) => equal_machines(machine, other),
+            _ => false,
+        },
+        Object::Meson => matches!(other, Object::Meson),
+        Object::Compiler => matches!(other, Object::Compiler),
+        Object::ConfigurationData(number) => match other {
+            Object::ConfigurationData(other) => number == other,
+            _ => false,
+        },
+        Object::Disabler => matches!(other, Object::Disabler),
+    }
+}
+
+fn equal_dependencies(dependency: &Dependency, other: &Dependency) -> bool
+    ensures { IsTrue result ↔ (dependency.now ≡ other.now) }
+{
+    dependency.is_found == other.is_found
+        && dependency.name.as_str() == other.name.as_str()
+        && dependency.version.as_str() == other.version.as_str()
+        && equal_texts(
+            dependency.include_directories.as_slice(),
+            other.include_directories.as_slice(),
+        )
+        && equal_texts(
+            dependency.compile_args.as_slice(),
+            other.compile_args.as_slice(),
+        )
+        && equal_texts(dependency.link_args.as_slice(), other.link_args.as_slice())
+        && dependency.link_with.as_slice() == other.link_with.as_slice()
+        && equal_sources(dependency.sources.as_slice(), other.sources.as_slice())
+}
+
+fn equal_programs(program: &Program, other: &Program) -> bool
+    ensures { IsTrue result ↔ (program.now ≡ other.now) }
+{
+    match program {
+        Program::NotFound => matches!(other, Program::NotFound),
+        Program::Words(words) => match other {
+            Program::Words(other) => equal_texts(words.as_slice(), other.as_slice()),
+            _ => false,
+        },
+        Program::File(path) => match other {
+            Program::File(other) => path.as_str() == other.as_str(),
+            _ => false,
+        },
+    }
+}
+
+fn equal_machines(machine: &Machine, other: &Machine) -> bool
+    ensures { IsTrue result ↔ (machine.now ≡ other.now) }
+{
+    machine.system.as_str() == other.system.as_str()
+        && machine.cpu_family.as_str() == other.cpu_family.as_str()
+        && machine.cpu.as_str() == other.cpu.as_str()
+        && machine.endian.as_str() == other.endian.as_str()
+}
+
+fn equal_texts(texts: &[Text], others: &[Text]) -> bool
+    ensures { IsTrue result ↔ (texts.now ≡ others.now) }
+{
+    if texts.len() != others.len() {
+        return false;
+    }
+    for (i, text) in texts.iter().enumerate() {
+        if text.as_str() != others[i].as_str() {
+            return false;
+        }
+    }
+    true
+}
+
+fn equal_sources(sources: &[Source], others: &[Source]) -> bool
+    ensures { IsTrue result ↔ (sources.now ≡ others.now) }
+{
+    if sources.len() != others.len() {
+        return false;
+    }
+    for (i, source) in sources.iter().enumerate() {
+        if !is_same_source(source, &others[i]) {
+            return false;
+        }
+    }
+    true
+}
+
+fn is_same_source(source: &Source, other: &Source) -> bool
+    ensures { IsTrue result ↔ (source.now ≡ other.now) }
+{
+    match source {
+        Source::File { path, is_built } => match other {
+            Source::File {
+                path: other_path,
+                is_built: other_is_built,
+            } => path.as_str() == other_path.as_str() && is_built == other_is_built,
+            _ => false,
+        },
+        Source::CustomTarget { number, outputs } => match other {
+            Source::CustomTarget {
+                number: other_number,
+                outputs: other_outputs,
+            } => number == other_number && outputs == other_outputs,
+            _ => false,
+        },
+        Source::CustomOutput { target, output } => match other {
+            Source::CustomOutput {
+                target: other_target,
+                output: other_output,
+            } => target == other_target && output == other_output,
+            _ => false,
+        },
+    }
+}

@@ -1,0 +1,423 @@
+//! Values, lists and dictionaries.
+
+ghost use Rattle.std.specs.Prelude.{◌≡◌, ◌↔◌, ◌<◌, ◌≤◌, ◌∷◌, ◌+◌, [], length, OnOk, OnErr, IfOk, IfSome, IsTrue, ◌==◌, option_map, string_bytes, slice_get, Some};
+ghost use Rattle.data.specs.Data.{no_items, item, items_append, count, no_entries, entry_count, entry_values, AreDistinct, keys_in, find, truth_in, integer_in, text_in, items_in, entries_in, object_in, is_disabler, text, list as list_data, dictionary as dictionary_data, object as object_data};
+ghost use Rattle.data.specs.Tables.{Answers};
+ghost use Rattle.data.specs.Weight.{weight, depth, items_weight, items_depth, entries_weight, entries_depth};
+ghost use Rattle.data.specs.Limits.{is_within as is_within_limits, items_fit, within as within_limits};
+ghost use Rattle.data.specs.View.{data_of, items_of, entries_of};
+
+mod builder;
+
+use crate::object::Object;
+use crate::refusal::Refusal;
+use crate::text::Text;
+pub use builder::DictionaryBuilder;
+use indexmap::IndexSet;
+use std::alloc::{AllocError, Global};
+use std::marker::Model;
+use std::rc::Rc;
+
+/// A value.
+#[cycle(value)]
+#[derive(Drop)]
+pub enum Value {
+    Truth(bool),
+    Integer(i128),
+    Text(Rc<Text>),
+    List(Rc<List>),
+    Dictionary(Rc<Dictionary>),
+    Object(Rc<Object>),
+}
+
+/// A list of at most 65,536 items, 64 levels and weight 33,554,432.
+#[cycle(value)]
+#[derive(Drop)]
+pub struct List {
+    items: Vec<Value>,
+    // of the items alone
+    weight: u64,
+    // of the deepest item
+    depth: u32,
+}
+
+/// A dictionary, in order of insertion, of at most 65,536 entries, 64 levels and weight 33,554,432.
+#[cycle(value)]
+#[derive(Drop)]
+pub struct Dictionary {
+    keys: IndexSet<String>,
+    // the value of each key, at the key's index
+    values: Vec<Value>,
+    weight: u64,
+    depth: u32,
+}
+
+impl Model for List {
+    ghost use Rattle.data.specs.Data.{Items};
+    ghost use Rattle.data.specs.Coding.{items_code};
+    ghost use Rattle.data.specs.Weight.{items_weight};
+    ghost use Rattle.std.proofs.Common.{arith};
+
+    ghost Value = { Items };
+
+    ghost coded = { items_code };
+
+    ghost use Rattle.data.specs.View.{items_of, IsList};
+
+    ghost view = { λ a. items_of a.items.items };
+
+    ghost invariant = { IsList };
+
+    ghost size = { items_weight };
+
+    ghost use Rattle.data.specs.Falls.{most-le-items_weight};
+
+    ghost size_decreases = { λ a h. omega (arith, most-le-items_weight a.items.items) };
+}
+
+impl Model for Dictionary {
+    ghost use Rattle.data.specs.Data.{Entries};
+    ghost use Rattle.data.specs.Coding.{entries_code};
+    ghost use Rattle.data.specs.Weight.{entries_weight};
+    ghost use Rattle.std.proofs.Common.{arith};
+
+    ghost Value = { Entries };
+
+    ghost coded = { entries_code };
+
+    ghost use Rattle.data.specs.View.{entries_of, IsDictionary};
+
+    ghost view = { λ a. entries_of a.keys.keys a.values.items };
+
+    ghost invariant = { IsDictionary };
+
+    ghost size = { entries_weight };
+
+    ghost use Rattle.data.specs.Falls.{most-le-entries_weight};
+
+    ghost size_decreases = { λ a h. omega (arith, most-le-entries_weight a.keys.keys a.values.items h.pairs) };
+}
+
+impl Clone for Value {
+    ghost use Rattle.std.specs.Prelude.{◌≡◌};
+    ghost use Rattle.data.specs.View.{data_of};
+
+    ghost is_clone = { λ v w. data_of w ≡ data_of v };
+
+    fn clone(&self) -> Result<Value, AllocError> {
+        match self {
+            Value::Truth(truth) => Ok(Value::Truth(*truth)),
+            Value::Integer(integer) => Ok(Value::Integer(*integer)),
+            Value::Text(text) => Ok(Value::Text(text.clone()?)),
+            Value::List(list) => Ok(Value::List(list.clone()?)),
+            Value::Dictionary(dictionary) => Ok(Value::Dictionary(dictionary.clone()?)),
+            Value::Object(object) => Ok(Value::Object(object.clone()?)),
+        }
+    }
+}
+
+impl Value {
+    /// The truth value that it is.
+    pub fn as_truth(&self) -> Option<bool>
+        ensures { result ≡ truth_in (data_of self.now) }
+    {
+        match self {
+            Value::Truth(truth) => Some(*truth),
+            _ => None,
+        }
+    }
+
+    /// The integer that it is.
+    pub fn as_integer(&self) -> Option<i128>
+        ensures { result ≡ integer_in (data_of self.now) }
+    {
+        match self {
+            Value::Integer(integer) => Some(*integer),
+            _ => None,
+        }
+    }
+
+    /// The text that it is.
+    pub fn as_text(&self) -> Option<&str>
+        ensures text { option_map (λ t. t.now) result ≡ text_in (data_of self.now) }
+        ensures within { IfSome result (λ t. length t.now ≤ 16777216) }
+    {
+        match self {
+            Value::Text(text) => Some(text.as_str()),
+            _ => None,
+        }
+    }
+
+    /// The list that it is.
+    pub fn as_list(&self) -> Option<&List>
+        ensures { option_map (λ l. l.now) result ≡ items_in (data_of self.now) }
+    {
+        match self {
+            Value::List(list) => Some(list),
+            _ => None,
+        }
+    }
+
+    /// The dictionary that it is.
+    pub fn as_dictionary(&self) -> Option<&Dictionary>
+        ensures { option_map (λ d. d.now) result ≡ entries_in (data_of self.now) }
+    {
+        match self {
+            Value::Dictionary(dictionary) => Some(dictionary),
+            _ => None,
+        }
+    }
+
+    /// The object that it is.
+    pub fn as_object(&self) -> Option<&Object>
+        ensures { option_map (λ o. o.now) result ≡ object_in (data_of self.now) }
+    {
+        match self {
+            Value::Object(object) => Some(object),
+            _ => None,
+        }
+    }
+
+    /// Whether it is a disabler itself.
+    pub fn is_disabler(&self) -> bool
+        ensures { result ≡ is_disabler (data_of self.now) }
+    {
+        match self.as_object() {
+            Some(object) => matches!(object, Object::Disabler),
+            None => false,
+        }
+    }
+
+    /// The value of a text, or `Refusal::Limit` where it is longer than 16,777,216 bytes.
+    pub fn of_string(alloc: Global, string: String) -> Result<Result<Value, Refusal>, AllocError>
+        ensures { IfOk result (λ r. Answers (within_limits (text (string_bytes string))) r) }
+    {
+        match Text::new(string) {
+            Ok(text) => Ok(Ok(Value::Text(Rc::new(alloc, text)?))),
+            Err(refusal) => Ok(Err(refusal)),
+        }
+    }
+
+    /// The value of a list.
+    pub fn of_list(alloc: Global, list: List) -> Result<Value, AllocError>
+        ensures { IfOk result (λ v. data_of v ≡ list_data list) }
+    {
+        Ok(Value::List(Rc::new(alloc, list)?))
+    }
+
+    /// The value of a dictionary.
+    pub fn of_dictionary(alloc: Global, dictionary: Dictionary) -> Result<Value, AllocError>
+        ensures { IfOk result (λ v. data_of v ≡ dictionary_data dictionary) }
+    {
+        Ok(Value::Dictionary(Rc::new(alloc, dictionary)?))
+    }
+
+    /// The value of an object.
+    pub fn of_object(alloc: Global, object: Object) -> Result<Value, AllocError>
+        ensures { IfOk result (λ v. data_of v ≡ object_data object) }
+    {
+        Ok(Value::Object(Rc::new(alloc, object)?))
+    }
+
+    /// A text weighs its bytes and one, a list or a dictionary one and its items and keys, anything else one.
+    pub fn weight(&self) -> u64
+        ensures weight { result ≡ weight (data_of self.now) }
+        ensures within { result ≤ 33554432 }
+    {
+        match self {
+            Value::Text(text) => text.as_str().len() as u64 + 1,
+            Value::List(list) => list.weight() + 1,
+            Value::Dictionary(dictionary) => dictionary.weight() + 1,
+            Value::Truth(_) | Value::Integer(_) | Value::Object(_) => 1,
+        }
+    }
+
+    /// How many levels of lists and dictionaries it has.
+    pub fn depth(&self) -> u32
+        ensures depth { result ≡ depth (data_of self.now) }
+        ensures within { result ≤ 64 }
+    {
+        match self {
+            Value::List(list) => list.depth() + 1,
+            Value::Dictionary(dictionary) => dictionary.depth() + 1,
+            Value::Truth(_) | Value::Integer(_) | Value::Text(_) | Value::Object(_) => 0,
+        }
+    }
+}
+
+// Whether a list or a dictionary of so many items, this weight and so many levels is within the limits.
+fn is_within(items: usize, weight: u64, levels: u32) -> bool
+    ensures { result ≡ is_within_limits items weight levels }
+{
+    items <= 65_536 && weight <= 33_554_432 && levels <= 64
+}
+
+impl List {
+    pub fn new(alloc: Global) -> List
+        ensures { result ≡ no_items }
+    {
+        List {
+            items: Vec::new(alloc),
+            weight: 0,
+            depth: 0,
+        }
+    }
+
+    pub fn items(&self) -> &[Value]
+        ensures items { items_of result.now ≡ self.now }
+        ensures within { IsTrue (items_fit self.now) }
+    {
+        &self.items
+    }
+
+    /// A list of the same items.
+    pub fn copy_of(alloc: Global, list: &List) -> Result<List, AllocError>
+        ensures { IfOk result (λ l. l ≡ list.now) }
+    {
+        let _items = list.items();
+        let mut copy = List::new(alloc);
+        copy.extend(list)?;
+        Ok(copy)
+    }
+
+    /// The weight of the items.
+    pub fn weight(&self) -> u64
+        ensures weight { result ≡ items_weight self.now }
+        ensures within { result + 1 ≤ 33554432 }
+    {
+        self.weight
+    }
+
+    /// The levels of the deepest item.
+    pub fn depth(&self) -> u32
+        ensures depth { result ≡ items_depth self.now }
+        ensures within { result + 1 ≤ 64 }
+    {
+        self.depth
+    }
+
+    pub fn len(&self) -> usize
+        ensures len { result ≡ count self.now }
+        ensures within { result ≤ 65536 }
+    {
+        self.items.len()
+    }
+
+    pub fn is_empty(&self) -> bool
+        ensures { result ≡ (count self.now == 0) }
+    {
+        self.len() == 0
+    }
+
+    /// Whether one more item leaves it within the limits.
+    pub fn has_room(&self, value: &Value) -> bool
+        ensures { result ≡ items_fit (items_append self.now (item (data_of value.now) no_items)) }
+    {
+        is_within(
+            self.len() + 1,
+            self.weight() + value.weight() + 1,
+            self.depth().max(value.depth()) + 1,
+        )
+    }
+
+    /// Whether the items of another list leave it within the limits.
+    pub fn has_room_for(&self, other: &List) -> bool
+        ensures { result ≡ items_fit (items_append self.now other.now) }
+    {
+        is_within(
+            self.len() + other.len(),
+            self.weight() + other.weight() + 1,
+            self.depth().max(other.depth()) + 1,
+        )
+    }
+
+    /// Puts an item at the end. After an `Err` the list is as it was.
+    pub fn push(&mut self, value: Value) -> Result<(), AllocError>
+        requires { IsTrue (items_fit (items_append self.old (item (data_of value) no_items))) }
+        ensures ok { OnOk result (self.new ≡ items_append self.old (item (data_of value) no_items)) }
+        ensures err { OnErr result (self.new ≡ self.old) }
+    {
+        let weight = value.weight();
+        let depth = value.depth();
+        self.items.push(value)?;
+        self.weight += weight;
+        self.depth = self.depth.max(depth);
+        Ok(())
+    }
+
+    /// Puts the items of another list at the end.
+    pub fn extend(&mut self, other: &List) -> Result<(), AllocError>
+        requires { IsTrue (items_fit (items_append self.old other.now)) }
+        ensures { OnOk result (self.new ≡ items_append self.old other.now) }
+    {
+        let items = other.items();
+        for item in items {
+            self.push(item.clone()?)?;
+        }
+        Ok(())
+    }
+}
+
+impl Dictionary {
+    pub fn new(alloc: Global) -> Dictionary
+        ensures { result ≡ no_entries }
+    {
+        Dictionary {
+            keys: IndexSet::new(alloc),
+            values: Vec::new(alloc),
+            weight: 0,
+            depth: 0,
+        }
+    }
+
+    /// The weight of the keys and values.
+    pub fn weight(&self) -> u64
+        ensures weight { result ≡ entries_weight self.now }
+        ensures within { result + 1 ≤ 33554432 }
+    {
+        self.weight
+    }
+
+    /// The levels of the deepest value.
+    pub fn depth(&self) -> u32
+        ensures depth { result ≡ entries_depth self.now }
+        ensures within { result + 1 ≤ 64 }
+    {
+        self.depth
+    }
+
+    pub fn len(&self) -> usize
+        ensures len { result ≡ entry_count self.now }
+        ensures within { result ≤ 65536 }
+    {
+        self.values.len()
+    }
+
+    /// The value at a key.
+    pub fn get(&self, key: &str) -> Option<&Value>
+        ensures { option_map (λ v. data_of v.now) result ≡ find key.now self.now }
+    {
+        let index = self.keys.get_index_of(key)?;
+        self.values.get(index)
+    }
+
+    /// The values, in order of insertion.
+    pub fn values(&self) -> &[Value]
+        ensures values { items_of result.now ≡ entry_values self.now }
+        ensures distinct { AreDistinct self.now }
+        ensures within { entries_weight self.now + 1 ≤ 33554432 }
+    {
+        &self.values
+    }
+
+    /// The key of the value at an index.
+    pub fn key(&self, index: usize) -> &str
+        requires { index < entry_count self.now }
+        ensures { slice_get (keys_in self.now) index ≡ Some result.now }
+    {
+        match self.keys.get_index(index) {
+            Some(key) => key.as_str(),
+            None => unreachable!(),
+        }
+    }
+}

@@ -1,0 +1,158 @@
+//! Dictionaries as they are made.
+
+ghost use Rattle.std.specs.Prelude.{◌≡◌, ◌<◌, ◌≤◌, ◌+◌, ◌^◌, length, OnOk, IfOk, string_bytes, Ok, Err, if◌then◌else◌};
+ghost use Rattle.data.specs.Data.{no_entries, entry_count, put, merged, entry_values};
+ghost use Rattle.data.specs.Weight.{weight, depth, items_depth, entries_weight};
+ghost use Rattle.data.specs.Limits.{entries_fit};
+ghost use Rattle.data.specs.View.{data_of, items_of};
+ghost use Rattle.data.specs.declared.refusal.Refusal.TheVariants as refusal;
+
+use super::{Dictionary, Value, is_within};
+use crate::refusal::Refusal;
+use indexmap::IndexSet;
+use std::alloc::{AllocError, Global};
+use std::marker::Model;
+
+/// A dictionary that may pass the limits while it is made; `finish` looks at them once.
+#[derive(Drop)]
+pub struct DictionaryBuilder {
+    keys: IndexSet<String>,
+    values: Vec<Value>,
+    weight: u64,
+    depth: u32,
+}
+
+impl Model for DictionaryBuilder {
+    ghost use Rattle.data.specs.Data.{Entries};
+    ghost use Rattle.data.specs.Coding.{entries_code};
+
+    ghost Value = { Entries };
+
+    ghost coded = { entries_code };
+
+    ghost use Rattle.data.specs.View.{entries_of};
+    ghost use Rattle.data.specs.Builder.{IsBuilder};
+
+    ghost view = { λ a. entries_of a.keys.keys a.values.items };
+
+    ghost invariant = { IsBuilder };
+}
+
+impl DictionaryBuilder {
+    pub fn new(alloc: Global) -> DictionaryBuilder
+        ensures { result ≡ no_entries }
+    {
+        DictionaryBuilder {
+            keys: IndexSet::new(alloc),
+            values: Vec::new(alloc),
+            weight: 0,
+            depth: 0,
+        }
+    }
+
+    /// Goes on with a dictionary that is there.
+    pub fn of_dictionary(dictionary: Dictionary) -> DictionaryBuilder
+        ensures same { result ≡ dictionary }
+        ensures within { entries_weight result < 2 ^ 61 }
+    {
+        let Dictionary {
+            keys,
+            values,
+            weight,
+            depth,
+        } = dictionary;
+        DictionaryBuilder {
+            keys,
+            values,
+            weight,
+            depth,
+        }
+    }
+
+    /// Goes on with a copy of a dictionary.
+    pub fn copy_of(alloc: Global, dictionary: &Dictionary) -> Result<DictionaryBuilder, AllocError>
+        ensures same { IfOk result (λ b. b ≡ dictionary.now) }
+        ensures within { IfOk result (λ b. entries_weight b < 2 ^ 61) }
+    {
+        let mut copy = DictionaryBuilder::new(alloc);
+        copy.put_all(alloc, dictionary)?;
+        Ok(copy)
+    }
+
+    /// Puts a value at a key: a key that is there keeps its place, another goes last.
+    pub fn put(&mut self, key: String, value: Value) -> Result<(), AllocError>
+        requires { entries_weight self.old + (length (string_bytes key) + 1) + weight (data_of value) < 2 ^ 62 }
+        ensures { OnOk result (self.new ≡ put (string_bytes key) (data_of value) self.old) }
+    {
+        match self.keys.get_index_of(key.as_str()) {
+            Some(index) => {
+                let old_weight = self.values[index].weight();
+                let weight = value.weight();
+                self.values[index] = value;
+                self.weight = self.weight - old_weight + weight;
+                self.depth = deepest(&self.values);
+            }
+            None => {
+                let key_weight = key.len() as u64 + 1;
+                let weight = value.weight();
+                let depth = value.depth();
+                self.keys.reserve(1)?;
+                self.values.push(value)?;
+                let Ok(_) = self.keys.insert(key) else {
+                    unreachable!()
+                };
+                self.weight += key_weight + weight;
+                self.depth = self.depth.max(depth);
+            }
+        }
+        Ok(())
+    }
+
+    /// Puts the entries of a dictionary, in their order.
+    pub fn put_all(&mut self, alloc: Global, dictionary: &Dictionary) -> Result<(), AllocError>
+        requires { entries_weight self.old < 2 ^ 61 }
+        ensures merged { OnOk result (self.new ≡ merged self.old dictionary.now) }
+        ensures within { OnOk result (entries_weight dictionary.now + 1 ≤ 33554432) }
+        ensures copied { OnOk result (self.old ≡ no_entries → self.new ≡ dictionary.now) }
+    {
+        let values = dictionary.values();
+        for (i, value) in values.iter().enumerate() {
+            let key = String::from_str(alloc, dictionary.key(i))?;
+            self.put(key, value.clone()?)?;
+        }
+        Ok(())
+    }
+
+    /// The dictionary, or `Refusal::Limit` where it is too large.
+    pub fn finish(self) -> Result<Dictionary, Refusal>
+        ensures { result ≡ (if entries_fit self then Ok self else Err refusal.Limit) }
+    {
+        let DictionaryBuilder {
+            keys,
+            values,
+            weight,
+            depth,
+        } = self;
+        if !is_within(values.len(), weight + 1, depth + 1) {
+            return Err(Refusal::Limit);
+        }
+        Ok(Dictionary {
+            keys,
+            values,
+            weight,
+            depth,
+        })
+    }
+}
+
+// The levels of the deepest of some values.
+fn deepest(values: &[Value]) -> u32
+    ensures deepest { result ≡ items_depth (items_of values.now) }
+    ensures within { result ≤ 64 }
+{
+    let mut depth = 0;
+    for value in values {
+        depth = depth.max(value.depth());
+    }
+    depth
+}
