@@ -6,9 +6,9 @@ use Rattle.std.specs.Str.Lossy.{utf8_valid_len}
 use Rattle.ports.specs.Tree.{file_at}
 use Rattle.syntax.specs.Tree.{ExpressionTree, NameTree, TextTree, StatementTree, AssignTree, CallTree, FileTree}
 use Rattle.syntax.specs.Parsed.{parsed}
-use Rattle.syntax.specs.declared.fault.SyntaxFault.{SyntaxFault}
-use Rattle.syntax.specs.declared.fault.FaultKind.{FaultKind}
-use Rattle.syntax.specs.declared.fault.FaultKind.TheVariants as kinds
+use Rattle.lexer.specs.declared.fault.SyntaxFault.{SyntaxFault}
+use Rattle.lexer.specs.declared.fault.FaultKind.{FaultKind}
+use Rattle.lexer.specs.declared.fault.FaultKind.TheVariants as kinds
 use Rattle.build.specs.Data.{TargetData, ProjectData}
 use Rattle.build.specs.Edges.{edges_of}
 use Rattle.build.specs.Outputs.{is_free, with_target}

@@ -1,8 +1,8 @@
 -- What comes after a spelling or a front is the end of the list.
 use Rattle.std.proofs.Common.{◌≡◌, ◌-◌, List, [], ◌∷◌, ◌++◌, length, drop, refl, sym, ap, ◌∙◌, inl, inr, arith, append_assoc, length-append}
 use Rattle.std.proofs.lemmas.List.{drop_at}
-use Rattle.syntax.specs.Lexeme.{Lexeme}
-use Rattle.syntax.specs.declared.token.Kind.{Kind}
+use Rattle.lexer.specs.Lexeme.{Lexeme}
+use Rattle.lexer.specs.declared.token.Kind.{Kind}
 use Rattle.syntax.specs.Form.{Form, token, give, ◌>>=◌, ◌or◌, never, many, Repeats}
 
 pub record IsEnd (rest ts : List Lexeme) : Type 0 where

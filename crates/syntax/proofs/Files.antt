@@ -1,13 +1,13 @@
 -- The lines of the grammar, and whole files.
 use Rattle.std.proofs.Common.{◌≡◌, ℕ, zero, suc, Bool, true, false, cond, List, [], ◌∷◌, length, refl, sym, ap, subst, ◌∙◌, ◌⊎◌, inl, inr, arith, Option, Some, None}
 use Rattle.std.specs.Prelude.{◌&&◌}
-use Rattle.syntax.specs.Lexeme.{Lexeme}
-use Rattle.syntax.specs.declared.token.Kind.{Kind}
-use Rattle.syntax.specs.declared.token.Kind.TheVariants as Kinds
+use Rattle.lexer.specs.Lexeme.{Lexeme}
+use Rattle.lexer.specs.declared.token.Kind.{Kind}
+use Rattle.lexer.specs.declared.token.Kind.TheVariants as Kinds
 use Rattle.syntax.specs.Tree.{ExpressionTree, NameTree, TextTree, StatementTree, AssignTree, CallTree, FileTree}
 use Rattle.syntax.specs.Form.{Form, token, give, many, optional, Repeats, listed, ◌>>=◌, ◌or◌}
 use Rattle.syntax.specs.Grammar.{name, text, unquoted, nested, expr, arguments, assign, call, stmt, given}
-use Rattle.syntax.specs.Kinds.{is}
+use Rattle.lexer.specs.Kinds.{is}
 use Rattle.syntax.specs.Reading.{Reader, arguments_at, assign_at, begins, call_at, expr_at, file_at, items_of, line_at, many_at, name_at, nested_at, next_line_at, optional_at, or_at, stmt_at, text_at, token_at, two_begin}
 use Rattle.syntax.proofs.Ends.{ends-bind, ends-give, ends-many, ends-or}
 use Rattle.syntax.proofs.Laws.{IsForm-many, IsForm-optional, IsForm-or, bind_at, give_at, reads-many, reads-optional, reads-or}

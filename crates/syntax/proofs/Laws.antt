@@ -1,12 +1,12 @@
 -- When a reader reads a form, and how the readers of parts make a reader of the whole.
 use Rattle.std.proofs.Common.{◌≡◌, ℕ, zero, suc, ◌+◌, ◌≤◌, ◌<◌, Bool, true, false, List, [], ◌∷◌, length, Result, Ok, Err, refl, sym, ap, subst, ◌∙◌, ◌⊎◌, inl, inr, arith, Option, Some, None}
-use Rattle.syntax.specs.Lexeme.{Lexeme}
-use Rattle.syntax.specs.declared.token.Kind.{Kind}
+use Rattle.lexer.specs.Lexeme.{Lexeme}
+use Rattle.lexer.specs.declared.token.Kind.{Kind}
 use Rattle.syntax.specs.declared.stop.Stop.{Stop}
 use Rattle.syntax.specs.declared.stop.Stop.TheVariants.{Unexpected}
 use Rattle.syntax.specs.Form.{◌>>=◌ as ◌then◌}
 use Rattle.syntax.specs.Form.{Form, token, give, ◌or◌, many, Repeats, optional}
-use Rattle.syntax.specs.Kinds.{is}
+use Rattle.lexer.specs.Kinds.{is}
 use Rattle.syntax.specs.Reading.{Reader, ◌>>=◌, tokens_left, token_at, many_at, or_at, optional_at}
 use Rattle.syntax.proofs.Numbers.{is-true, eq-is}
 

@@ -1,9 +1,4 @@
-pub mod Boundaries
-pub mod Cuts
-pub mod Cutting
 pub mod Ends
-pub mod Gaps
-pub mod Lexemes
 pub mod Files
 pub mod Laws
 pub mod Line
@@ -13,7 +8,6 @@ pub mod Lists
 pub mod Numbers
 pub mod Parses
 pub mod Raises
-pub mod Spans
 pub mod Starts
 pub mod Tails
 pub mod Whole

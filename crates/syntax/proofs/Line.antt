@@ -2,12 +2,12 @@
 use Rattle.std.proofs.Common.{◌≡◌, ℕ, suc, ◌+◌, ◌≤◌, Bool, true, false, List, [], ◌∷◌, length, Ok, Err, refl, sym, ap, subst, ◌∙◌, ◌⊎◌, inl, inr, arith}
 use Rattle.syntax.specs.Form.{Form, token, give, never, ◌>>=◌, ◌or◌}
 use Rattle.syntax.specs.Grammar.{group}
-use Rattle.syntax.specs.Kinds.{is}
-use Rattle.syntax.specs.Lexeme.{Lexeme}
+use Rattle.lexer.specs.Kinds.{is}
+use Rattle.lexer.specs.Lexeme.{Lexeme}
 use Rattle.syntax.specs.Reading.{Reader, begins, deep_at, group_at, or_at, token_at}
 use Rattle.syntax.specs.declared.stop.Stop.TheVariants.{Unexpected, TooDeep}
-use Rattle.syntax.specs.declared.token.Kind.TheVariants as Kinds
-use Rattle.syntax.specs.declared.token.Kind.{Kind}
+use Rattle.lexer.specs.declared.token.Kind.TheVariants as Kinds
+use Rattle.lexer.specs.declared.token.Kind.{Kind}
 use Rattle.syntax.proofs.Ends.{Ends, ends-bind, ends-give, ends-never, ends-or, ends-token}
 use Rattle.syntax.proofs.Laws.{bind_at, cases_bool, give_at, left_of, IsForm, IsForm-bind, IsForm-give, IsForm-or, IsForm-token, reads-bind, reads-give, reads-or, reads-stops, reads-token, Reads}
 use Rattle.syntax.proofs.Raises.{Raises, Opens, raises-bind, raises-flat, raises-or}

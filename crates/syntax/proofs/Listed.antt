@@ -1,7 +1,7 @@
 -- A list with commas, and perhaps one after the last.
 use Rattle.std.proofs.Common.{◌≡◌, ℕ, zero, suc, ◌+◌, ◌≤◌, ◌<◌, Bool, true, false, List, [], ◌∷◌, length, Result, Ok, Err, refl, sym, ap, subst, ◌∙◌, ◌⊎◌, inl, inr, arith, Option, Some, None}
-use Rattle.syntax.specs.Lexeme.{Lexeme}
-use Rattle.syntax.specs.declared.token.Kind.TheVariants as Kinds
+use Rattle.lexer.specs.Lexeme.{Lexeme}
+use Rattle.lexer.specs.declared.token.Kind.TheVariants as Kinds
 use Rattle.syntax.specs.declared.stop.Stop.{Stop}
 use Rattle.syntax.specs.Form.{Form, token, many, Repeats, optional, comma_then, listed}
 use Rattle.syntax.specs.Reading.{Reader, ◌>>=◌, begins, token_at, tail_at, items_at, tokens_left}

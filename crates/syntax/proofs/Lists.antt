@@ -1,13 +1,13 @@
 -- A list with commas, with one more level.
 use Rattle.std.proofs.Common.{◌≡◌, ℕ, zero, suc, ◌+◌, Bool, true, false, List, [], ◌∷◌, length, Result, Ok, Err, refl, sym, ap, subst, ◌∙◌, ◌⊎◌, inl, inr, arith, Some, None}
-use Rattle.syntax.specs.Lexeme.{Lexeme}
-use Rattle.syntax.specs.declared.token.Kind.{Kind}
-use Rattle.syntax.specs.declared.token.Kind.TheVariants as Kinds
+use Rattle.lexer.specs.Lexeme.{Lexeme}
+use Rattle.lexer.specs.declared.token.Kind.{Kind}
+use Rattle.lexer.specs.declared.token.Kind.TheVariants as Kinds
 use Rattle.syntax.specs.declared.stop.Stop.{Stop}
 use Rattle.syntax.specs.declared.stop.Stop.TheVariants.{TooDeep}
 use Rattle.syntax.specs.Form.{Form, token, give, many, Repeats, optional, comma_then, some_listed, listed}
 use Rattle.syntax.specs.Form.{◌>>=◌ as ◌then◌}
-use Rattle.syntax.specs.Kinds.{is}
+use Rattle.lexer.specs.Kinds.{is}
 use Rattle.syntax.specs.Reading.{Reader, ◌>>=◌, begins, token_at, tail_at, items_at}
 use Rattle.syntax.proofs.Ends.{Ends, ends-bind, ends-give, ends-many, ends-or, ends-token}
 use Rattle.syntax.proofs.Laws.{IsForm, IsForm-bind, IsForm-give, IsForm-many, IsForm-optional, IsForm-or, IsForm-token, bind_err, cases_bool, reads-token}

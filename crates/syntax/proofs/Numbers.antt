@@ -2,9 +2,9 @@
 use Rattle.std.proofs.Common.{◌≡◌, ℕ, true, refl, ap, sym, ◌∙◌, nat_eq}
 use Rattle.std.specs.Prelude.{if◌then◌else◌}
 use Rattle.std.proofs.lemmas.Bool.{eq-eqb, eqb-true}
-use Rattle.syntax.specs.declared.token.Kind.{Kind}
-use Rattle.syntax.specs.declared.token.Kind.TheVariants as Kinds
-use Rattle.syntax.specs.Kinds.{number, is}
+use Rattle.lexer.specs.declared.token.Kind.{Kind}
+use Rattle.lexer.specs.declared.token.Kind.TheVariants as Kinds
+use Rattle.lexer.specs.Kinds.{number, is}
 
 abbrev numbered : ℕ → Kind
 numbered n =
@@ -47,7 +47,11 @@ numbered n =
     else (if nat_eq n 36 then Kinds.Times
     else (if nat_eq n 37 then Kinds.Divide
     else (if nat_eq n 38 then Kinds.Remainder
-    else Kinds.Newline))))))))))))))))))))))))))))))))))))))
+    else (if nat_eq n 39 then Kinds.Newline
+    else (if nat_eq n 40 then Kinds.Number
+    else (if nat_eq n 41 then Kinds.RawString
+    else (if nat_eq n 42 then Kinds.FormatString
+    else Kinds.RawFormatString))))))))))))))))))))))))))))))))))))))))))
 
 numbered-number : (k : Kind) → numbered (number k) ≡ k
 numbered-number Kinds.Name = refl
@@ -90,6 +94,10 @@ numbered-number Kinds.Times = refl
 numbered-number Kinds.Divide = refl
 numbered-number Kinds.Remainder = refl
 numbered-number Kinds.Newline = refl
+numbered-number Kinds.Number = refl
+numbered-number Kinds.RawString = refl
+numbered-number Kinds.FormatString = refl
+numbered-number Kinds.RawFormatString = refl
 
 pub is-true : (a b : Kind) → is a b ≡ true → a ≡ b
 is-true a b e = sym (numbered-number a) ∙ ap numbered (eqb-true (number a) (number b) e) ∙ numbered-number b

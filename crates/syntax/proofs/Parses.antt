@@ -1,25 +1,26 @@
 -- What a source reads as is what its tokens spell, and its fault is the one that it has.
 use Rattle.std.proofs.Common.{◌≡◌, ℕ, ◌-◌, ◌≤◌, List, [], length, refl, sym, ap, subst, ◌∙◌, ◌⊎◌, inl, inr, Result, Ok, Err}
 use Rattle.std.specs.Prelude.{IfOk, MatchResult}
-use Rattle.syntax.specs.Lexeme.{Lexeme, lexemes}
-use Rattle.syntax.specs.Lexing.{lexed}
-use Rattle.syntax.specs.Tokens.{AreTokens}
+use Rattle.lexer.specs.Lexeme.{Lexeme, lexemes}
+use Rattle.lexer.specs.Lexing.{lexed}
+use Rattle.lexer.specs.Tokens.{AreTokens}
 use Rattle.syntax.specs.Tree.{FileTree, file_of}
 use Rattle.syntax.specs.Grammar.{file, most_levels}
 use Rattle.syntax.specs.Reading.{Fails, all_of, file_at, tokens_left}
-use Rattle.syntax.specs.Parsed.{Answers, Refuses, Spells, HasFault, located, in_source, parsed}
-use Rattle.syntax.specs.declared.fault.SyntaxFault.{SyntaxFault}
-use Rattle.syntax.specs.declared.fault.SyntaxError.{SyntaxError}
-use Rattle.syntax.specs.declared.fault.SyntaxError.TheVariants as errors
+use Rattle.lexer.specs.Answers.{Answers, Refuses}
+use Rattle.syntax.specs.Parsed.{Spells, HasFault, located, in_source, parsed}
+use Rattle.lexer.specs.declared.fault.SyntaxFault.{SyntaxFault}
+use Rattle.lexer.specs.declared.fault.SyntaxError.{SyntaxError}
+use Rattle.lexer.specs.declared.fault.SyntaxError.TheVariants as errors
 use Rattle.syntax.specs.declared.stop.Stop.{Stop}
 use Rattle.syntax.specs.declared.stop.Stop.TheVariants.{Unexpected, TooDeep}
 use Rattle.syntax.specs.declared.stop.ReadError.{ReadError}
 use Rattle.syntax.specs.declared.stop.ReadError.TheVariants as reads
-use Rattle.syntax.specs.declared.token.Token.{Token}
+use Rattle.lexer.specs.declared.token.Token.{Token}
 use Rattle.syntax.specs.declared.tree.File.{File}
 use Rattle.syntax.proofs.Literal.{file_ok, file_complete, file_only, file_unexpected, file_too_deep, file_left}
 use Rattle.syntax.proofs.Tails.{length_lexemes}
-use Rattle.syntax.proofs.Spans.{lexed_sound, lexed_complete, lexed_fault, lexed_only}
+use Rattle.lexer.proofs.Spans.{lexed_sound, lexed_complete, lexed_fault, lexed_only}
 
 pub parsed_ok_tokens : (source : List ℕ) (ts : List Lexeme) → lexed source ≡ Ok ts → parsed source ≡ in_source source ts (all_of (file_at most_levels) ts)
 unfolding parsed

@@ -1,9 +1,9 @@
 -- What a form begins with, and that it takes a token.
 use Rattle.std.proofs.Common.{◌≡◌, ℕ, ◌+◌, ◌≤◌, Bool, true, false, List, [], ◌∷◌, length, refl, sym, ap, ◌⊎◌, inl, inr, arith}
-use Rattle.syntax.specs.Lexeme.{Lexeme}
-use Rattle.syntax.specs.declared.token.Kind.{Kind}
+use Rattle.lexer.specs.Lexeme.{Lexeme}
+use Rattle.lexer.specs.declared.token.Kind.{Kind}
 use Rattle.syntax.specs.Form.{Form, token, give, ◌>>=◌, ◌or◌, never, many, Repeats}
-use Rattle.syntax.specs.Kinds.{is}
+use Rattle.lexer.specs.Kinds.{is}
 use Rattle.syntax.specs.Reading.{begins}
 use Rattle.syntax.proofs.Numbers.{eq-is}
 

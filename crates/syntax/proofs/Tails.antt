@@ -2,16 +2,16 @@
 use Rattle.std.proofs.Common.{◌≡◌, ℕ, zero, suc, ◌+◌, ◌-◌, ◌≤◌, ◌<◌, true, false, List, [], ◌∷◌, ◌++◌, length, get_or, take, drop, Result, Ok, Err, refl, sym, ap, ◌∙◌, arith, sub-one, rules, append_assoc, Option, Some, None}
 use Rattle.std.proofs.lemmas.Grind.{common_steps}
 use Rattle.std.proofs.lemmas.List.{append-nil}
-use Rattle.syntax.specs.declared.token.Token.{Token}
-use Rattle.syntax.specs.declared.token.Kind.{Kind}
-use Rattle.syntax.specs.declared.token.Kind.TheVariants as Kinds
+use Rattle.lexer.specs.declared.token.Token.{Token}
+use Rattle.lexer.specs.declared.token.Kind.{Kind}
+use Rattle.lexer.specs.declared.token.Kind.TheVariants as Kinds
 use Rattle.syntax.specs.declared.stop.Stop.{Stop}
 use Rattle.syntax.specs.declared.stop.Stop.TheVariants.{Unexpected, TooDeep}
 use Rattle.syntax.specs.declared.stop.ReadError.{ReadError}
 use Rattle.syntax.specs.declared.stop.ReadError.TheVariants as errors
 use Rattle.syntax.specs.Grammar.{given}
-use Rattle.syntax.specs.Kinds.{is}
-use Rattle.syntax.specs.Lexeme.{Lexeme, lexeme_of, lexemes}
+use Rattle.lexer.specs.Kinds.{is}
+use Rattle.lexer.specs.Lexeme.{Lexeme, lexeme_of, lexemes}
 use Rattle.syntax.specs.Tree.{ExpressionTree, StatementTree, FileTree}
 use Rattle.syntax.specs.Reading.{Reader, ◌>>=◌, Fails, arguments_at, assign_at, begins, call_at, deep_at, expr_at, file_at, group_at, items_at, items_of, line_at, many_at, name_at, nested_at, next_line_at, optional_at, or_at, stmt_at, tail_at, text_at, token_at, two_begin, all_of}
 use Rattle.syntax.specs.Parsed.{line_of}

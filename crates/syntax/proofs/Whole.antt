@@ -1,6 +1,6 @@
 -- What reading all tokens says, from what is said of the reader at each level.
 use Rattle.std.proofs.Common.{◌≡◌, ℕ, zero, suc, ◌+◌, ◌-◌, ◌≤◌, ◌<◌, List, [], ◌∷◌, length, drop, Result, Ok, Err, refl, sym, ap, subst, ◌∙◌, inl, inr, arith, length-drop, length-append}
-use Rattle.syntax.specs.Lexeme.{Lexeme}
+use Rattle.lexer.specs.Lexeme.{Lexeme}
 use Rattle.syntax.specs.declared.stop.Stop.{Stop}
 use Rattle.syntax.specs.declared.stop.Stop.TheVariants.{Unexpected, TooDeep}
 use Rattle.syntax.specs.Form.{Form}

@@ -1,9 +1,9 @@
 -- What the lines of a grammar are made of. `spells a ts rest`: ts is a spelling of a, and then rest.
 -- `front ts more`: ts is a front of the form, and then more.
 use Rattle.std.specs.Prelude.{◌≡◌, List, [], ◌∷◌, ◌⊎◌, Option, Some, None}
-use Rattle.syntax.specs.Lexeme.{Lexeme}
-use Rattle.syntax.specs.declared.token.Kind.{Kind}
-use Rattle.syntax.specs.declared.token.Kind.TheVariants as Kinds
+use Rattle.lexer.specs.Lexeme.{Lexeme}
+use Rattle.lexer.specs.declared.token.Kind.{Kind}
+use Rattle.lexer.specs.declared.token.Kind.TheVariants as Kinds
 
 pub record Form (A : Type 0) : Type 1 where
   pub spells : A → List Lexeme → List Lexeme → Type 0

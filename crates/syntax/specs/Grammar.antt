@@ -1,7 +1,7 @@
 -- The grammar, a form for each line. The number is that of the levels that may still be opened.
 use Rattle.std.specs.Prelude.{ℕ, zero, suc, ◌-◌, ◌==◌, ◌&&◌, nat_le, if◌then◌else◌, List, [], ◌∷◌, ◌++◌, length, take, drop, slice_index, Option, Some, None}
-use Rattle.syntax.specs.Bytes.{quote}
-use Rattle.syntax.specs.declared.token.Kind.TheVariants.{Name, String, Assign, OpenParenthesis, CloseParenthesis, Newline}
+use Rattle.lexer.specs.Bytes.{quote}
+use Rattle.lexer.specs.declared.token.Kind.TheVariants.{Name, String, Assign, OpenParenthesis, CloseParenthesis, Newline}
 use Rattle.syntax.specs.Tree.{ExpressionTree, NameTree, TextTree, StatementTree, AssignTree, CallTree, FileTree}
 use Rattle.syntax.specs.Form.{Form, token, give, ◌>>=◌, ◌or◌, never, many, optional, listed}
 

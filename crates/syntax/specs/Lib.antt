@@ -1,12 +1,6 @@
-pub mod Bytes
-pub mod Fault
 pub mod Form
 pub mod Grammar
-pub mod Kinds
-pub mod Lexeme
-pub mod Lexing
 pub mod Outcome
 pub mod Parsed
 pub mod Reading
-pub mod Tokens
 pub mod Tree

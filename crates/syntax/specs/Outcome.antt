@@ -1,6 +1,6 @@
 -- What reading all tokens by a form says, where the form is given for each number of levels.
 use Rattle.std.specs.Prelude.{◌≡◌, ℕ, ◌+◌, ◌<◌, ◌≤◌, List, [], length, drop}
-use Rattle.syntax.specs.Lexeme.{Lexeme}
+use Rattle.lexer.specs.Lexeme.{Lexeme}
 use Rattle.syntax.specs.Form.{Form}
 
 -- the first k tokens begin the form

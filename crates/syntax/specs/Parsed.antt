@@ -1,20 +1,18 @@
 -- What a source reads as.
 use Rattle.std.specs.Prelude.{◌≡◌, ℕ, ◌+◌, ◌-◌, List, [], ◌∷◌, length, drop, Result, Ok, Err}
-use Rattle.syntax.specs.Bytes.{newlines}
-use Rattle.syntax.specs.Lexeme.{Lexeme}
+use Rattle.lexer.specs.Bytes.{newlines}
+use Rattle.lexer.specs.Lexeme.{Lexeme}
 use Rattle.syntax.specs.Tree.{FileTree}
-use Rattle.syntax.specs.Tokens.{AreTokens, IsUnreadable}
-use Rattle.syntax.specs.Lexing.{lexed}
+use Rattle.lexer.specs.Tokens.{AreTokens, IsUnreadable}
+use Rattle.lexer.specs.Lexing.{lexed}
 use Rattle.syntax.specs.Grammar.{file, most_levels}
 use Rattle.syntax.specs.Outcome.{IsUnexpected, IsTooDeep}
 use Rattle.syntax.specs.Reading.{all_of, file_at}
 use Rattle.syntax.specs.declared.stop.Stop.{Stop}
 use Rattle.syntax.specs.declared.stop.Stop.TheVariants.{Unexpected, TooDeep}
-use Rattle.syntax.specs.declared.fault.SyntaxFault.{SyntaxFault}
-use Rattle.syntax.specs.declared.fault.FaultKind.{FaultKind}
-use Rattle.syntax.specs.declared.fault.FaultKind.TheVariants as Faults
-use Rattle.syntax.specs.declared.fault.SyntaxError.{SyntaxError}
-use Rattle.syntax.specs.declared.fault.SyntaxError.TheVariants as errors
+use Rattle.lexer.specs.declared.fault.SyntaxFault.{SyntaxFault}
+use Rattle.lexer.specs.declared.fault.FaultKind.{FaultKind}
+use Rattle.lexer.specs.declared.fault.FaultKind.TheVariants as Faults
 
 -- ---- as a function of the source
 
@@ -42,15 +40,6 @@ parsed_tokens source (Err e) = Err e
 -- the file that a source spells, or its fault
 unfoldable pub parsed : List ℕ → Result FileTree SyntaxFault
 parsed source = parsed_tokens source (lexed source)
-
--- what a function returned, seen by view, is this, unless memory ran out
-abbrev pub Refuses : {Y : Type 0} → SyntaxError → Result Y SyntaxFault → Type 0
-Refuses errors.Memory read = Unit {0}
-Refuses (errors.Fault f) read = read ≡ Err f
-
-abbrev pub Answers : {X Y : Type 0} → (X → Y) → Result X SyntaxError → Result Y SyntaxFault → Type 0
-Answers view (Ok x) read = read ≡ Ok (view x)
-Answers view (Err e) read = Refuses e read
 
 -- ---- as relations
 

@@ -1,11 +1,11 @@
 -- Reading tokens by the grammar, as functions: a value and the tokens after it, or where reading stops.
 use Rattle.std.specs.Prelude.{◌≡◌, ℕ, zero, suc, ◌+◌, List, [], ◌∷◌, length, Result, Ok, Err, Bool, false, if◌then◌else◌, ◌&&◌, Option, Some, None}
-use Rattle.syntax.specs.Lexeme.{Lexeme}
-use Rattle.syntax.specs.Kinds.{is}
+use Rattle.lexer.specs.Lexeme.{Lexeme}
+use Rattle.lexer.specs.Kinds.{is}
 use Rattle.syntax.specs.Tree.{ExpressionTree, NameTree, TextTree, StatementTree, AssignTree, CallTree, FileTree}
 use Rattle.syntax.specs.Grammar.{unquoted, given}
-use Rattle.syntax.specs.declared.token.Kind.{Kind}
-use Rattle.syntax.specs.declared.token.Kind.TheVariants as Kinds
+use Rattle.lexer.specs.declared.token.Kind.{Kind}
+use Rattle.lexer.specs.declared.token.Kind.TheVariants as Kinds
 use Rattle.syntax.specs.declared.stop.Stop.{Stop}
 use Rattle.syntax.specs.declared.stop.Stop.TheVariants.{Unexpected, TooDeep}
 use Rattle.syntax.specs.declared.stop.ReadError.{ReadError}

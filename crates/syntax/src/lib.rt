@@ -5,14 +5,11 @@
 //! "Syntax"; nothing here knows what a name or a call means.
 #![tactic(auto)]
 
-pub mod fault;
-mod lexer;
 mod parser;
 mod stop;
 #[cfg(test)]
 mod tests;
-pub mod token;
 pub mod tree;
 
-pub use lexer::tokens;
+pub use lexer::{fault, token, tokens};
 pub use parser::{LEVELS, parse};

@@ -3,17 +3,18 @@
 ghost use Rattle.std.specs.Prelude.{◌≡◌, ℕ, ◌+◌, ◌-◌, ◌<◌, ◌≤◌, length, map, OnOk, [], ◌∷◌, List, IfOk, MatchResult};
 ghost use Rattle.std.specs.Option.{option_map};
 ghost use Rattle.syntax.specs.Grammar.{most_levels, unquoted};
-ghost use Rattle.syntax.specs.Kinds.{is};
-ghost use Rattle.syntax.specs.Lexeme.{Lexeme, lexeme_of, lexemes};
-ghost use Rattle.syntax.specs.Parsed.{Answers, HasFault, Spells, line_of, located, parsed};
+ghost use Rattle.lexer.specs.Kinds.{is};
+ghost use Rattle.lexer.specs.Lexeme.{Lexeme, lexeme_of, lexemes};
+ghost use Rattle.lexer.specs.Answers.{Answers};
+ghost use Rattle.syntax.specs.Parsed.{HasFault, Spells, line_of, located, parsed};
 ghost use Rattle.syntax.specs.Reading.{Gives, GivesAll, all_of, arguments_at, assign_at, begins, call_at, expr_at, file_at, group_at, items_of, tokens_left, line_at, name_at, stmt_at, text_at, token_at, two_begin};
 ghost use Rattle.syntax.specs.Tree.{FileTree, expression_of, file_of, statement_of};
 
-use crate::fault::{FaultKind, SyntaxError, SyntaxFault};
-use crate::lexer::{newlines, tokens};
 use crate::stop::{ReadError, Stop};
-use crate::token::{Kind, Token};
 use crate::tree::{Expression, File, Statement};
+use lexer::fault::{FaultKind, SyntaxError, SyntaxFault};
+use lexer::token::{Kind, Token};
+use lexer::{newlines, tokens};
 use std::alloc::Global;
 
 /// How many levels may be open: brackets, blocks and prefix operators, one inside another.

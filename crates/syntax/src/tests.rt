@@ -1,8 +1,8 @@
 // Small sources, their trees and their faults.
-use crate::fault::{FaultKind, SyntaxError, SyntaxFault};
-use crate::token::Kind;
 use crate::tree::{Expression, Statement};
 use crate::{parse, tokens};
+use lexer::fault::{FaultKind, SyntaxError, SyntaxFault};
+use lexer::token::Kind;
 use std::test::Fail;
 
 fn fault(kind: FaultKind, line: usize) -> SyntaxError {

@@ -1,7 +1,8 @@
 use Rattle.std.proofs.Common.{◌≡◌, Result, Err, refl, sym, ap, subst, ◌∙◌}
-use Rattle.syntax.specs.Parsed.{parsed, Refuses}
+use Rattle.lexer.specs.Answers.{Refuses}
+use Rattle.syntax.specs.Parsed.{parsed}
 use Rattle.syntax.specs.Tree.{FileTree, file_of}
-use Rattle.syntax.specs.declared.fault.SyntaxFault.{SyntaxFault}
+use Rattle.lexer.specs.declared.fault.SyntaxFault.{SyntaxFault}
 use Rattle.meson.specs.Evaluation.{tree_or_fault, plain_fault}
 use Rattle.meson.specs.Run.{refuse}
 use Rattle.meson.proofs.Follow.{same_run, wants, refused_later, ended_later}

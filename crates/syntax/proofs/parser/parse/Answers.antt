@@ -1,11 +1,12 @@
 use Rattle.std.proofs.Common.{◌≡◌, ◌≤◌, ◌∙◌, sym, ap, subst, List, length, Ok, Err}
 use Rattle.std.proofs.lemmas.Result.{err_from_is_err_and}
-use Rattle.syntax.specs.declared.fault.SyntaxFault.{SyntaxFault}
-use Rattle.syntax.specs.declared.fault.SyntaxError.TheVariants as errors
-use Rattle.syntax.specs.declared.token.Token.{Token}
+use Rattle.lexer.specs.declared.fault.SyntaxFault.{SyntaxFault}
+use Rattle.lexer.specs.declared.fault.SyntaxError.TheVariants as errors
+use Rattle.lexer.specs.declared.token.Token.{Token}
 use Rattle.syntax.specs.Grammar.{most_levels}
-use Rattle.syntax.specs.Lexeme.{lexemes}
-use Rattle.syntax.specs.Parsed.{Answers, located, parsed}
+use Rattle.lexer.specs.Lexeme.{lexemes}
+use Rattle.lexer.specs.Answers.{Answers}
+use Rattle.syntax.specs.Parsed.{located, parsed}
 use Rattle.syntax.specs.Reading.{all_of, file_at, tokens_left}
 use Rattle.syntax.specs.Tree.{file_of}
 use Rattle.syntax.proofs.Parses.{complete_all, no_tokens, only_all, read_all, refused_all, spelled_all, stop_is, stop_within, stopped}

@@ -2,7 +2,7 @@ use Rattle.std.proofs.Common.{◌≡◌, map, [], ◌∷◌, ◌++◌, sym, ◌�
 use Rattle.std.proofs.lemmas.Result.{err_from_is_err_and}
 use Rattle.std.proofs.lemmas.List.{map_push}
 use Rattle.syntax.specs.declared.tree.Expression.{Expression}
-use Rattle.syntax.specs.Lexeme.{lexeme_of, lexemes}
+use Rattle.lexer.specs.Lexeme.{lexeme_of, lexemes}
 use Rattle.syntax.specs.Reading.{items_of}
 use Rattle.syntax.specs.Tree.{expression_of}
 use Rattle.syntax.proofs.Tails.{StillItems, items_first, items_closed, items_fails, items_last, items_more, items_comma_fails, length_lexemes}

@@ -1,5 +1,5 @@
 use Rattle.std.proofs.Common.{length, map, ◌≤◌}
-use Rattle.syntax.specs.Lexeme.{lexemes}
+use Rattle.lexer.specs.Lexeme.{lexemes}
 use Rattle.syntax.specs.Reading.{items_of}
 use Rattle.syntax.specs.Tree.{expression_of}
 use Rattle.syntax.proofs.Tails.{StillItems}

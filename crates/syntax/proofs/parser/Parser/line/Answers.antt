@@ -1,6 +1,6 @@
 use Rattle.std.proofs.Common.{sym, ◌∙◌}
 use Rattle.std.proofs.lemmas.Result.{err_from_is_err_and}
-use Rattle.syntax.specs.Lexeme.{lexemes}
+use Rattle.lexer.specs.Lexeme.{lexemes}
 use Rattle.syntax.proofs.Tails.{line_fails}
 use Rattle.syntax.proofs.parser.Parser.line.Goals as goal
 

@@ -2,7 +2,7 @@ use Rattle.std.proofs.Common.{sym, ◌∙◌, ◌≡◌, map, ap, [], ◌∷◌,
 use Rattle.std.specs.Option.{option_map}
 use Rattle.std.proofs.lemmas.Result.{err_from_is_err_and}
 use Rattle.std.proofs.lemmas.List.{map_push}
-use Rattle.syntax.specs.Lexeme.{lexeme_of, lexemes}
+use Rattle.lexer.specs.Lexeme.{lexeme_of, lexemes}
 use Rattle.syntax.specs.Tree.{StatementTree, statement_of}
 use Rattle.syntax.specs.Reading.{file_at}
 use Rattle.syntax.proofs.Tails.{file_fails, still_lines_first, still_lines_more, still_lines_fails, next_line_reads, next_line_fails, next_line_then_fails, StillLines, with_line, length_lexemes}

@@ -1,5 +1,5 @@
 use Rattle.std.proofs.Common.{length, map}
-use Rattle.syntax.specs.Lexeme.{lexemes}
+use Rattle.lexer.specs.Lexeme.{lexemes}
 use Rattle.syntax.specs.Reading.{file_at}
 use Rattle.syntax.specs.Tree.{statement_of}
 use Rattle.syntax.proofs.Tails.{StillLines}

@@ -1,0 +1,107 @@
+-- Cutting a source into tokens, as a function.
+use Rattle.std.specs.Prelude.{ℕ, zero, suc, ◌+◌, Bool, false, ◌||◌, ◌==◌, nat_lt, if◌then◌else◌, List, [], ◌∷◌, length, take, drop, Option, Some, None, Result, Ok, Err}
+use Rattle.lexer.specs.declared.token.Kind.{Kind}
+use Rattle.lexer.specs.declared.token.Kind.TheVariants as Kinds
+use Rattle.lexer.specs.declared.fault.SyntaxFault.{SyntaxFault}
+use Rattle.lexer.specs.declared.fault.FaultKind.TheVariants as Faults
+use Rattle.lexer.specs.Bytes.{quote, hash, newline, equals, is_letter, continues_word, is_plain, is_blank, newlines, opens_raw, opens_format}
+use Rattle.lexer.specs.Kinds.{word_kind, single_kind, with_equals_kind, depth_after}
+use Rattle.lexer.specs.Lexeme.{Lexeme}
+use Rattle.lexer.specs.Tokens.{Place, start}
+
+-- how many bytes at the front pass the test
+abbrev pub run : (ℕ → Bool) → List ℕ → ℕ
+run p [] = 0
+run p (b ∷ bs) = if p b then suc (run p bs) else 0
+
+-- whether the byte belongs to a gap, inside a comment or outside
+abbrev pub in_gap : ℕ → Bool → ℕ → Bool
+in_gap depth commented b = if b == newline then nat_lt 0 depth else (commented || (is_blank depth b || (b == hash)))
+
+-- whether the byte after this one is inside a comment
+abbrev pub commented_after : Bool → ℕ → Bool
+commented_after commented b = if b == newline then false else (commented || (b == hash))
+
+-- how many bytes the gap at the front has
+abbrev pub gap : ℕ → Bool → List ℕ → ℕ
+gap depth commented [] = 0
+gap depth commented (b ∷ bs) = if in_gap depth commented b then suc (gap depth (commented_after commented b) bs) else 0
+
+-- the kind and length of the word at the front
+unfoldable pub word_at : List ℕ → Option (Kind × ℕ)
+word_at bs = if opens_format bs then None else Some (word_kind (take (run continues_word bs) bs), run continues_word bs)
+
+-- what follows the characters of a string, of which there are n
+abbrev pub closed_at : ℕ → List ℕ → Option (Kind × ℕ)
+closed_at n [] = None
+closed_at n (b ∷ bs) = if b == quote then Some (Kinds.String, n + 2) else None
+
+-- the string at the front, of which bs is what follows its first quote
+unfoldable pub string_at : List ℕ → Option (Kind × ℕ)
+string_at bs = closed_at (run is_plain bs) (drop (run is_plain bs) bs)
+
+-- a symbol of so many bytes
+abbrev pub sized : ℕ → Option Kind → Option (Kind × ℕ)
+sized n None = None
+sized n (Some k) = Some (k, n)
+
+abbrev pub or_else : Option (Kind × ℕ) → Option (Kind × ℕ) → Option (Kind × ℕ)
+or_else None o = o
+or_else (Some x) o = Some x
+
+-- the symbol of two bytes that begins with this byte
+abbrev pub double_kind : ℕ → List ℕ → Option Kind
+double_kind a [] = None
+double_kind a (b ∷ bs) = if b == equals then with_equals_kind a else None
+
+-- the kind and length of the symbol at the front, which begins with this byte
+unfoldable pub symbol_at : ℕ → List ℕ → Option (Kind × ℕ)
+symbol_at a bs = or_else (sized 2 (double_kind a bs)) (sized 1 (single_kind a))
+
+-- the kind and length of the longest token at the front
+unfoldable pub token_at : List ℕ → Option (Kind × ℕ)
+token_at [] = None
+token_at (a ∷ bs) =
+    if is_letter a then word_at (a ∷ bs)
+    else (if a == quote then (if opens_raw (a ∷ bs) then None else string_at bs)
+    else symbol_at a bs)
+
+-- so many bytes further on
+abbrev pub past : ℕ → Place → Place
+past n p = record { rest = drop n p.rest; line = p.line + newlines (take n p.rest); depth = p.depth }
+
+-- where the gap from a place on ends
+abbrev pub skipped : Place → Place
+skipped p = past (gap p.depth false p.rest) p
+
+abbrev pub fault_at : ℕ → SyntaxFault
+fault_at line = record { kind = Faults.Token; line = line }
+
+abbrev pub with_first : Lexeme → Result (List Lexeme) SyntaxFault → Result (List Lexeme) SyntaxFault
+with_first t (Ok ts) = Ok (t ∷ ts)
+with_first t (Err e) = Err e
+
+-- the token of this kind and length at a place, and the place behind it
+abbrev pub lexeme_at : Place → Kind × ℕ → Lexeme
+lexeme_at p (k, n) = record { kind = k; text = take n p.rest; line = p.line }
+
+abbrev pub after_lexeme : Place → Kind × ℕ → Place
+after_lexeme p (k, n) = record { rest = drop n p.rest; line = p.line + newlines (take n p.rest); depth = depth_after k p.depth }
+
+-- the tokens from a place on, at most so many
+-- the tokens from a place on, which is no gap; `go` gives those behind the first
+abbrev pub lex_found : (Place → Result (List Lexeme) SyntaxFault) → Place → Option (Kind × ℕ) → Result (List Lexeme) SyntaxFault
+lex_found go at None = Err (fault_at at.line)
+lex_found go at (Some x) = with_first (lexeme_at at x) (go (after_lexeme at x))
+
+abbrev pub lex_here : (Place → Result (List Lexeme) SyntaxFault) → Place → List ℕ → Result (List Lexeme) SyntaxFault
+lex_here go at [] = Ok []
+lex_here go at (b ∷ bs) = lex_found go at (token_at (b ∷ bs))
+
+-- the tokens from a place on, where there are fewer than so many
+unfoldable pub lex : ℕ → Place → Result (List Lexeme) SyntaxFault
+lex zero p = Ok []
+lex (suc n) p = lex_here (lex n) (skipped p) (skipped p).rest
+
+unfoldable pub lexed : List ℕ → Result (List Lexeme) SyntaxFault
+lexed source = lex (length source + 1) (start source)

@@ -1,0 +1,7 @@
+pub mod Bytes
+pub mod Fault
+pub mod Kinds
+pub mod Lexeme
+pub mod Lexing
+pub mod Tokens
+pub mod Answers

@@ -1,0 +1,96 @@
+-- The tokens of a source.
+use Rattle.std.specs.Prelude.{◌≡◌, ◌≢◌, ℕ, ◌+◌, ◌≤◌, if◌then◌else◌, Bool, true, false, ◌||◌, ◌==◌, not, List, [], ◌∷◌, ◌++◌, length, Some}
+use Rattle.std.specs.List.{list_all}
+use Rattle.lexer.specs.declared.token.Kind.{Kind}
+use Rattle.lexer.specs.declared.token.Kind.TheVariants as Kinds
+use Rattle.lexer.specs.Bytes.{quote, hash, newline, is_letter, continues_word, is_plain, is_blank, in_line, newlines, opens_raw, opens_format}
+use Rattle.lexer.specs.Kinds.{word_kind, symbol_kind, depth_after}
+use Rattle.lexer.specs.Lexeme.{Lexeme}
+
+-- ---- one token
+
+-- letters, digits and underscores, no digit first
+abbrev pub is_word : List ℕ → Bool
+is_word [] = false
+is_word (a ∷ others) = if is_letter a then list_all continues_word others else false
+
+-- The text is a token of the kind, where `rest` comes directly after it. Where an f-string opens there is no name `f`,
+-- and where a raw string opens no empty string.
+pub data IsToken : Kind → List ℕ → List ℕ → Type 0 where
+  word : (text rest : List ℕ) → is_word text ≡ true → opens_format (text ++ rest) ≡ false → IsToken (word_kind text) text rest
+  quoted : (inside : List ℕ) (rest : List ℕ) → list_all is_plain inside ≡ true → opens_raw (quote ∷ (inside ++ quote ∷ rest)) ≡ false
+      → IsToken Kinds.String (quote ∷ (inside ++ quote ∷ [])) rest
+  symbol : (k : Kind) (text rest : List ℕ) → symbol_kind text ≡ Some k → IsToken k text rest
+
+-- no token begins the source
+abbrev pub NoToken : List ℕ → Type 0
+NoToken source = (k : Kind) (text rest : List ℕ) → source ≡ text ++ rest → IsToken k text rest → ⊥
+
+-- ---- between two tokens
+
+-- the line ends here
+abbrev pub ends_line : List ℕ → Bool
+ends_line [] = true
+ends_line (b ∷ rest) = b == newline
+
+-- The text is blanks and comments, where so many brackets are open and `rest` comes after it. A comment goes up to
+-- its line's end.
+pub data IsGap (depth : ℕ) (rest : List ℕ) : List ℕ → Type 0 where
+  nothing : IsGap depth rest []
+  blank : (b : ℕ) (text : List ℕ) → is_blank depth b ≡ true → IsGap depth rest text → IsGap depth rest (b ∷ text)
+  comment : (inside text : List ℕ) → list_all in_line inside ≡ true → ends_line (text ++ rest) ≡ true → IsGap depth rest text
+      → IsGap depth rest (hash ∷ (inside ++ text))
+
+-- neither a blank nor a comment begins here
+abbrev pub begins_no_gap : ℕ → List ℕ → Bool
+begins_no_gap depth [] = true
+begins_no_gap depth (b ∷ rest) = not (is_blank depth b || (b == hash))
+
+-- ---- the tokens of a source
+
+-- a place in a source: what is left from there on, its line, and how many brackets are open
+pub record Place : Type 0 where
+  pub rest : List ℕ
+  pub line : ℕ
+  pub depth : ℕ
+
+abbrev pub start : List ℕ → Place
+start source = record { rest = source; line = 1; depth = 0 }
+
+-- `to` is where the blanks and comments from a place on end
+pub record Skips (from to : Place) : Type 0 where
+  pub gap : List ℕ
+  pub parts : from.rest ≡ gap ++ to.rest
+  pub between : IsGap from.depth to.rest gap
+  pub ends : begins_no_gap from.depth to.rest ≡ true
+  pub line : to.line ≡ from.line + newlines gap
+  pub depth : to.depth ≡ from.depth
+
+-- `t` is the longest token that begins at a place, and `after` the place behind it
+pub record IsNext (at : Place) (t : Lexeme) (after : Place) : Type 0 where
+  pub parts : at.rest ≡ t.text ++ after.rest
+  pub token : IsToken t.kind t.text after.rest
+  pub longest : (k : Kind) (text rest : List ℕ) → at.rest ≡ text ++ rest → IsToken k text rest → length text ≤ length t.text
+  pub here : t.line ≡ at.line
+  pub line : after.line ≡ at.line + newlines t.text
+  pub depth : after.depth ≡ depth_after t.kind at.depth
+
+-- the tokens stand in order from one place on, and up to another, which is no gap, nothing else but gaps lies between
+abbrev pub Spans : Place → List Lexeme → Place → Type 0
+Spans from [] to = Skips from to
+Spans from (t ∷ ts) to = (at : Place) × (after : Place) × Skips from at × IsNext at t after × Spans after ts to
+
+-- the source is these tokens
+pub record AreTokens (source : List ℕ) (ts : List Lexeme) : Type 0 where
+  pub end : Place
+  pub spans : Spans (start source) ts end
+  pub all : end.rest ≡ []
+
+-- at the place behind the first tokens, on this line, there is something and no token begins
+pub record IsUnreadable (source : List ℕ) (line : ℕ) : Type 0 where
+  pub before : List Lexeme
+  pub at : Place
+  pub spans : Spans (start source) before at
+  pub more : at.rest ≢ []
+  pub none : NoToken at.rest
+  pub here : at.line ≡ line

@@ -1,0 +1,61 @@
+//! Why a source has no tokens, or its tokens no tree.
+
+ghost use Rattle.std.specs.Prelude.{◌≡◌};
+ghost use Rattle.lexer.specs.declared.fault.SyntaxError.TheVariants.{Memory};
+ghost use Rattle.lexer.specs.Fault.{number_of};
+
+use std::alloc::{AllocError, AllocFailed};
+
+/// What is wrong with a source.
+#[derive(Clone, Copy, PartialEq, Eq, Debug)]
+pub enum FaultKind {
+    /// No token begins here.
+    Token,
+    /// The tokens up to here begin no file.
+    Grammar,
+    /// More than 64 levels would be open here.
+    Nesting,
+}
+
+impl FaultKind {
+    /// The number of the fault: E2, E3 or E4.
+    pub fn number(self) -> u8
+        ensures { result ≡ number_of self }
+    {
+        match self {
+            FaultKind::Token => 2,
+            FaultKind::Grammar => 3,
+            FaultKind::Nesting => 4,
+        }
+    }
+}
+
+/// A fault, and the line, from 1, of the token that it is at.
+#[derive(Clone, Copy, PartialEq, Eq, Debug)]
+pub struct SyntaxFault {
+    pub kind: FaultKind,
+    pub line: usize,
+}
+
+/// A fault of the source, or want of memory.
+#[derive(Clone, Copy, PartialEq, Eq, Debug)]
+pub enum SyntaxError {
+    Memory,
+    Fault(SyntaxFault),
+}
+
+impl From<AllocError> for SyntaxError {
+    ghost from_gives = { λ _ e. e ≡ Memory };
+
+    fn from(_: AllocError) -> Self {
+        SyntaxError::Memory
+    }
+}
+
+impl<T: Drop> From<AllocFailed<T>> for SyntaxError {
+    ghost from_gives = { λ _ e. e ≡ Memory };
+
+    fn from(_: AllocFailed<T>) -> Self {
+        SyntaxError::Memory
+    }
+}
