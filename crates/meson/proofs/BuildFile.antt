@@ -1,20 +1,17 @@
 -- The text of `build.ninja` is its parts, target by target.
 use Rattle.std.proofs.Common.{◌≡◌, ℕ, List, [], ◌∷◌, ◌++◌, map, refl, sym, ap, ◌∙◌, append_assoc, codes}
 use Rattle.std.specs.List.{flat_map}
-use Rattle.std.proofs.lemmas.List.{map-append}
+use Rattle.std.proofs.lemmas.List.Folds.{flat_map-map}
 use Rattle.std.proofs.lemmas.Grind.{flat_map-append}
-use Rattle.ports.specs.Outputs.{Step, Puts, opening, closing, puts}
+use Rattle.ports.specs.Outputs.{Step, opening, closing, puts}
 use Rattle.build.specs.Data.{TargetData, ProjectData}
 use Rattle.build.specs.Edges.{edges_of, all_edges, default_outputs}
 use Rattle.build.specs.View.{target_view, edge_view}
 use Rattle.build.specs.declared.target.Target.{Target}
 use Rattle.build.specs.declared.edge.Edge.{Edge}
+use Rattle.ninja.proofs.Puts.{puts-append}
 use Rattle.ninja.specs.Writing.{edge_text, edges_text, head_text, tail_text}
 use Rattle.meson.specs.Setup.{build_steps, parts_steps, head_steps, tail_steps, target_steps}
-
-puts-append : (a b : List ℕ) → puts (a ++ b) ≡ puts a ++ puts b
-unfolding puts
-puts-append a b = map-append (λ b. Puts b) a b
 
 puts-nil : puts [] ≡ []
 unfolding puts
@@ -31,10 +28,6 @@ targets_text depth [] = puts-nil
 targets_text depth (t ∷ ts) =
     ap puts (flat_map-append edge_text (edges_of depth t) (flat_map (edges_of depth) ts)) ∙ puts-append (edges_text (edges_of depth t)) (edges_text (flat_map (edges_of depth) ts))
     ∙ ap (λ r. puts (edges_text (edges_of depth t)) ++ r) (targets_text depth ts)
-
-flat_map-map : {A B C : Type 0} (f : B → List C) (h : A → B) (xs : List A) → flat_map f (map h xs) ≡ flat_map (λ x. f (h x)) xs
-flat_map-map f h [] = refl
-flat_map-map f h (x ∷ xs) = ap (λ r. f (h x) ++ r) (flat_map-map f h xs)
 
 four_parts : (a : List Step) (h t e : List ℕ) (c : List Step) → a ++ (puts h ++ (puts e ++ (puts t ++ c))) ≡ a ++ (puts (h ++ (e ++ t)) ++ c)
 four_parts a h t e c =

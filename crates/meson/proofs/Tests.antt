@@ -1,7 +1,6 @@
 -- What tests of lists say.
-use Rattle.std.proofs.Common.{◌≡◌, ◌==◌, List, [], ◌∷◌, Bool, true, false, map, length, refl, sym, ◌∙◌, arith}
+use Rattle.std.proofs.Common.{◌≡◌, ◌==◌, List, [], ◌∷◌, Bool, true, false, length, refl, sym, ◌∙◌, arith}
 use Rattle.std.proofs.lemmas.Bool.{false≢true, eqb-true}
-use Rattle.std.specs.List.{list_all}
 
 -- an empty list
 pub is_empty_nil : {X : Type 0} (xs : List X) (b : Bool) → b ≡ (length xs == 0) → b ≡ true → xs ≡ []
@@ -12,8 +11,3 @@ is_empty_nil (x ∷ xs) b e t = let none : length (x ∷ xs) ≡ 0 = eqb-true (l
 pub is_not_empty : {X : Type 0} (xs : List X) (b : Bool) → b ≡ (length xs == 0) → b ≡ false → (x : X) × (rest : List X) × (xs ≡ x ∷ rest)
 is_not_empty [] b e f = absurd (false≢true (sym f ∙ e))
 is_not_empty (x ∷ xs) b e f = (x, xs, refl)
-
--- a test of what the items stand for
-pub list_all-map : {X Y : Type 0} (p : Y → Bool) (h : X → Y) (xs : List X) → list_all p (map h xs) ≡ list_all (λ x. p (h x)) xs
-list_all-map p h [] = refl
-list_all-map p h (x ∷ xs) = rw (list_all-map p h xs) refl
