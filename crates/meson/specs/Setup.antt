@@ -50,6 +50,13 @@ whole_of (ran (Faulted f) w ms) = record { steps = steps_of ms ++ faults (fault_
 abbrev pub run_of : Files → SettingsData → List ℕ → Whole
 run_of files s machine = whole_of (evaluation files s machine (first_world s))
 
+-- the exit status of a program that ends so
+abbrev pub exit_status : Status → ℕ
+exit_status statuses.Done = 0
+exit_status statuses.Fault = 1
+exit_status statuses.Device = 2
+exit_status statuses.Memory = 3
+
 -- whether a status is one with which a run comes to its end
 abbrev pub is_finished : Status → Bool
 is_finished statuses.Done = true

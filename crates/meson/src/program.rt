@@ -1,6 +1,7 @@
 //! A run of the program, over a folder of a disk.
-ghost use Rattle.std.specs.Prelude.{◌≡◌, ◌≤◌, map, string_bytes};
-ghost use Rattle.command.specs.CommandLine.{IsRefused};
+ghost use Rattle.std.specs.Prelude.{◌≡◌, ◌<◌, ◌≤◌, map, string_bytes};
+ghost use Rattle.command.specs.CommandLine.{IsRefused, IsTaken};
+ghost use Rattle.meson.specs.Setup.{exit_status};
 
 use crate::running::{Status, setup};
 use crate::settings::Settings;
@@ -28,6 +29,7 @@ pub fn run<R: Files + AllocGlobal, L: Write + Drop, F: Write + Drop>(
     mut faults: F,
 ) -> u8
     ensures known { result ≤ 4 }
+    ensures taken { result < 3 → IsTaken (map string_bytes words.now) }
     ensures bad_line { result ≡ 4 → IsRefused (map string_bytes words.now) }
 {
     match command_line(rt.alloc(), words) {
@@ -113,7 +115,7 @@ fn status_of(error: &io::Error) -> Status {
 
 // Says why a run ended early, and gives its exit status.
 fn ended<F: Write>(status: Status, faults: &mut F) -> u8
-    ensures { result ≤ 3 }
+    ensures { result ≡ exit_status status }
 {
     match status {
         Status::Done => 0,

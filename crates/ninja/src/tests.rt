@@ -94,27 +94,8 @@ fn an_edge_with_blanks_and_quotes(rt: HostRuntime) -> Result<(), Fail> {
     Ok(())
 }
 
-#[test]
-fn the_file_of_a_program(rt: HostRuntime) -> Result<(), Fail> {
-    let alloc = rt.alloc();
-    let mut project = Project::new(alloc, 1)?;
-    let target = Target {
-        name: String::from_str(alloc, "prog")?,
-        source: String::from_str(alloc, "main.c")?,
-    };
-    let edges = edges(alloc, 1, &target)?;
-    assert!(rt; can_hold_edges(&edges));
-    assert_eq!(rt; edges.len(), 2);
-    assert_eq!(rt; project.add_target(target)?, Ok(()));
-    let mut out = MemOutputs::new(alloc, 2000)?;
-    out.open("build.ninja")?;
-    write_head(&mut out)?;
-    write_edge(&edges[0], &mut out)?;
-    write_edge(&edges[1], &mut out)?;
-    write_tail(&project, &mut out)?;
-    assert_eq!(rt;
-        written(alloc, &out)?.as_slice(),
-        b"ninja_required_version = 1.3
+// The file of a program `prog` with the source `main.c`.
+const PROGRAM: &str = "ninja_required_version = 1.3
 
 rule c_compile
  command = $COMMAND
@@ -155,8 +136,26 @@ build prog: c_link prog.p/main.c.o
 build all: phony prog
 
 default all
-"
-            .as_slice()
-    );
+";
+
+#[test]
+fn the_file_of_a_program(rt: HostRuntime) -> Result<(), Fail> {
+    let alloc = rt.alloc();
+    let mut project = Project::new(alloc, 1)?;
+    let target = Target {
+        name: String::from_str(alloc, "prog")?,
+        source: String::from_str(alloc, "main.c")?,
+    };
+    let edges = edges(alloc, 1, &target)?;
+    assert!(rt; can_hold_edges(&edges));
+    assert_eq!(rt; edges.len(), 2);
+    assert_eq!(rt; project.add_target(target)?, Ok(()));
+    let mut out = MemOutputs::new(alloc, 2000)?;
+    out.open("build.ninja")?;
+    write_head(&mut out)?;
+    write_edge(&edges[0], &mut out)?;
+    write_edge(&edges[1], &mut out)?;
+    write_tail(&project, &mut out)?;
+    assert_eq!(rt; written(alloc, &out)?.as_slice(), PROGRAM.as_bytes());
     Ok(())
 }

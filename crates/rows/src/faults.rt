@@ -224,8 +224,8 @@ fn names_of_executable(rt: HostRuntime) -> Result<(), Fail> {
 }
 
 #[test]
-fn targets_that_cannot_be(rt: HostRuntime) -> Result<(), Fail> {
-    let others = ["main.c", "a.h", "a#b.c", "all"];
+fn sources_that_are_missing(rt: HostRuntime) -> Result<(), Fail> {
+    let others = ["main.c", "all"];
     for row in [
         (
             "executable('prog','no.c')\n",
@@ -251,6 +251,16 @@ fn targets_that_cannot_be(rt: HostRuntime) -> Result<(), Fail> {
             "executable('all','no.c')\n",
             "2: ERROR: E14 file missing: no.c",
         ),
+    ] {
+        assert!(rt; is_right(rt.alloc(), row, &others)?, "at {row:?}");
+    }
+    Ok(())
+}
+
+#[test]
+fn targets_that_cannot_be(rt: HostRuntime) -> Result<(), Fail> {
+    let others = ["main.c", "a#b.c", "all"];
+    for row in [
         (
             "executable('a|b','main.c')\n",
             "2: ERROR: E21 a name Ninja can't hold",
