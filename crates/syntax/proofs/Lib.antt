@@ -1,10 +1,12 @@
 pub mod Ends
+pub mod ExpressionTails
+pub mod Expressions
 pub mod Files
 pub mod Laws
 pub mod Line
 pub mod Listed
-pub mod Literal
 pub mod Lists
+pub mod Literal
 pub mod Numbers
 pub mod Parses
 pub mod Raises

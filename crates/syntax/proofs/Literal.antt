@@ -8,7 +8,8 @@ use Rattle.syntax.specs.Tree.{StatementTree, FileTree}
 use Rattle.syntax.specs.Form.{Form, token, Repeats}
 use Rattle.syntax.specs.Grammar.{line, given, file}
 use Rattle.syntax.specs.Outcome.{IsUnexpected, IsTooDeep}
-use Rattle.syntax.specs.Reading.{Reader, all_of, file_at, tokens_left}
+use Rattle.syntax.specs.Reading.{Reader, all_of, tokens_left}
+use Rattle.syntax.specs.ReadingStatements.{file_at}
 use Rattle.syntax.proofs.Files.{lines, line-lines, line-maybe, others, next, maybe, AfterLines}
 use Rattle.syntax.proofs.Line.{Line}
 use Rattle.syntax.proofs.Whole as whole
