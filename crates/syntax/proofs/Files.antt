@@ -12,9 +12,10 @@ use Rattle.lexer.specs.Kinds.{is}
 use Rattle.syntax.specs.Reading.{Reader, begins, many_at, optional_at, or_at, token_at, two_begin}
 use Rattle.syntax.specs.ReadingExpressions.{arguments_at, expr_at}
 use Rattle.syntax.specs.ReadingStatements.{assign_at, call_at, file_at, line_at, next_line_at, stmt_at}
+use Rattle.syntax.proofs.Binding.{AfterExpression, after_kind}
 use Rattle.syntax.proofs.Ends.{ends-bind, ends-give, ends-many, ends-or}
 use Rattle.syntax.proofs.Laws.{IsForm-many, IsForm-optional, IsForm-or, bind_at, give_at, reads-many, reads-optional, reads-or}
-use Rattle.syntax.proofs.Line.{Line, Any, line-token, line-give, line-bind, line-then, begins_token, begun_token, raises-give}
+use Rattle.syntax.proofs.Line.{Line, line-token, line-give, line-bind, line-then, begins_token, begun_token, raises-give}
 use Rattle.syntax.proofs.Expressions.{opens_group, line-arguments, line-expr, starts-arguments}
 use Rattle.syntax.proofs.Numbers.{eq-is, is-true}
 use Rattle.syntax.proofs.Raises.{raises-bind, raises-many, raises-or}
@@ -28,9 +29,9 @@ value n t = expr n >>= λ e. give (AssignTree t.text t.line e)
 abbrev value_at : ℕ → Lexeme → Reader StatementTree
 value_at n t = bind_at (expr_at n) (λ e. give_at (AssignTree t.text t.line e))
 
-line-value : (n : ℕ) (t : Lexeme) → Line (value n t) (value (suc n) t) (value_at n t) (value_at (suc n) t) Any 1
-line-value n t = line-then (expr n) (expr (suc n)) (λ e. give (AssignTree t.text t.line e)) (λ e. give (AssignTree t.text t.line e)) (expr_at n) (expr_at (suc n)) (λ e. give_at (AssignTree t.text t.line e)) (λ e. give_at (AssignTree t.text t.line e)) Any 1 0
-    (line-expr n) (λ e. line-give (AssignTree t.text t.line e) Any)
+line-value : (n : ℕ) (t : Lexeme) → Line (value n t) (value (suc n) t) (value_at n t) (value_at (suc n) t) AfterExpression 1
+line-value n t = line-bind (expr n) (expr (suc n)) (λ e. give (AssignTree t.text t.line e)) (λ e. give (AssignTree t.text t.line e)) (expr_at n) (expr_at (suc n)) (λ e. give_at (AssignTree t.text t.line e)) (λ e. give_at (AssignTree t.text t.line e)) AfterExpression AfterExpression 1 0
+    (line-expr n) (λ e. line-give (AssignTree t.text t.line e) AfterExpression) (λ a b ts rest h st. subst AfterExpression (sym h.1) st) (λ a ts more h. inl (sym h))
 
 abbrev assigned : ℕ → Lexeme → Form StatementTree
 assigned n t = token Kinds.Assign >>= λ q. value n t
@@ -38,12 +39,12 @@ assigned n t = token Kinds.Assign >>= λ q. value n t
 abbrev assigned_at : ℕ → Lexeme → Reader StatementTree
 assigned_at n t = bind_at (token_at Kinds.Assign) (λ q. value_at n t)
 
-line-assigned : (n : ℕ) (t : Lexeme) → Line (assigned n t) (assigned (suc n) t) (assigned_at n t) (assigned_at (suc n) t) Any 2
-line-assigned n t = line-then (token Kinds.Assign) (token Kinds.Assign) (λ q. value n t) (λ q. value (suc n) t) (token_at Kinds.Assign) (token_at Kinds.Assign) (λ q. value_at n t) (λ q. value_at (suc n) t) Any 1 1 (line-token Kinds.Assign) (λ q. line-value n t)
+line-assigned : (n : ℕ) (t : Lexeme) → Line (assigned n t) (assigned (suc n) t) (assigned_at n t) (assigned_at (suc n) t) AfterExpression 2
+line-assigned n t = line-then (token Kinds.Assign) (token Kinds.Assign) (λ q. value n t) (λ q. value (suc n) t) (token_at Kinds.Assign) (token_at Kinds.Assign) (λ q. value_at n t) (λ q. value_at (suc n) t) AfterExpression 1 1 (line-token Kinds.Assign) (λ q. line-value n t)
 
-line-assign : (n : ℕ) → Line (assign n) (assign (suc n)) (assign_at n) (assign_at (suc n)) Any 3
+line-assign : (n : ℕ) → Line (assign n) (assign (suc n)) (assign_at n) (assign_at (suc n)) AfterExpression 3
 unfolding assign_at
-line-assign n = line-then (token Kinds.Name) (token Kinds.Name) (assigned n) (assigned (suc n)) (token_at Kinds.Name) (token_at Kinds.Name) (assigned_at n) (assigned_at (suc n)) Any 1 2 (line-token Kinds.Name) (line-assigned n)
+line-assign n = line-then (token Kinds.Name) (token Kinds.Name) (assigned n) (assigned (suc n)) (token_at Kinds.Name) (token_at Kinds.Name) (assigned_at n) (assigned_at (suc n)) AfterExpression 1 2 (line-token Kinds.Name) (line-assigned n)
 
 abbrev called : ℕ → Lexeme → Form StatementTree
 called n t = arguments n >>= λ xs. give (CallTree t.text t.line xs)
@@ -51,13 +52,13 @@ called n t = arguments n >>= λ xs. give (CallTree t.text t.line xs)
 abbrev called_at : ℕ → Lexeme → Reader StatementTree
 called_at n t = bind_at (arguments_at n) (λ xs. give_at (CallTree t.text t.line xs))
 
-line-called : (n : ℕ) (t : Lexeme) → Line (called n t) (called (suc n) t) (called_at n t) (called_at (suc n) t) Any 1
-line-called n t = line-then (arguments n) (arguments (suc n)) (λ xs. give (CallTree t.text t.line xs)) (λ xs. give (CallTree t.text t.line xs)) (arguments_at n) (arguments_at (suc n)) (λ xs. give_at (CallTree t.text t.line xs)) (λ xs. give_at (CallTree t.text t.line xs)) Any 1 0
-    (line-arguments n) (λ xs. line-give (CallTree t.text t.line xs) Any)
+line-called : (n : ℕ) (t : Lexeme) → Line (called n t) (called (suc n) t) (called_at n t) (called_at (suc n) t) AfterExpression 1
+line-called n t = line-then (arguments n) (arguments (suc n)) (λ xs. give (CallTree t.text t.line xs)) (λ xs. give (CallTree t.text t.line xs)) (arguments_at n) (arguments_at (suc n)) (λ xs. give_at (CallTree t.text t.line xs)) (λ xs. give_at (CallTree t.text t.line xs)) AfterExpression 1 0
+    (line-arguments n) (λ xs. line-give (CallTree t.text t.line xs) AfterExpression)
 
-line-call : (n : ℕ) → Line (call n) (call (suc n)) (call_at n) (call_at (suc n)) Any 2
+line-call : (n : ℕ) → Line (call n) (call (suc n)) (call_at n) (call_at (suc n)) AfterExpression 2
 unfolding call_at
-line-call n = line-then (token Kinds.Name) (token Kinds.Name) (called n) (called (suc n)) (token_at Kinds.Name) (token_at Kinds.Name) (called_at n) (called_at (suc n)) Any 1 1 (line-token Kinds.Name) (line-called n)
+line-call n = line-then (token Kinds.Name) (token Kinds.Name) (called n) (called (suc n)) (token_at Kinds.Name) (token_at Kinds.Name) (called_at n) (called_at (suc n)) AfterExpression 1 1 (line-token Kinds.Name) (line-called n)
 
 -- ---- which of the two statements
 
@@ -110,14 +111,14 @@ assign_front_call n ts more e (inr (t, m, h, q)) = elim (begun_token Kinds.Assig
   | inr b ↦ absurd (let y = name_assign ts t m h.0 h.1 b in cc)
 ]
 
-line-stmt : (n : ℕ) → Line (stmt n) (stmt (suc n)) (stmt_at n) (stmt_at (suc n)) Any 1
+line-stmt : (n : ℕ) → Line (stmt n) (stmt (suc n)) (stmt_at n) (stmt_at (suc n)) AfterExpression 1
 unfolding stmt_at
 line-stmt n =
     let a = line-assign n in
     let c = line-call n in
     record {
       form = IsForm-or (assign n) (call n) a.form c.form;
-      reads = reads-or (assign n) (call n) (assign_at n) (call_at n) assigns Any a.reads c.reads (assign_comes n) (λ x ts rest h st. call_comes n x ts rest h) (call_front_assign n) (assign_front_call n);
+      reads = reads-or (assign n) (call n) (assign_at n) (call_at n) assigns AfterExpression a.reads c.reads (assign_comes n) (λ x ts rest h st. call_comes n x ts rest h) (call_front_assign n) (assign_front_call n);
       raises = raises-or (assign n) (assign (suc n)) (call n) (call (suc n)) (assign_at n) (assign_at (suc n)) (call_at n) (call_at (suc n)) assigns a.raises c.raises;
       ends = ends-or (assign n) (call n) a.ends c.ends;
       takes = takes-or (assign n) (call n) 1 (takes-less (assign n) 3 1 (omega arith) a.takes) (takes-less (call n) 2 1 (omega arith) c.takes);
@@ -132,7 +133,7 @@ abbrev pub maybe : ℕ → Form (Option StatementTree)
 maybe n = optional (stmt n)
 
 abbrev pub AfterLine : List Lexeme → Type 0
-AfterLine ts = (begins Kinds.Name ts ≡ false) × Unit {0}
+AfterLine ts = (begins Kinds.Name ts ≡ false) × AfterExpression ts
 
 pub line-maybe : (n : ℕ) → Line (maybe n) (maybe (suc n)) (line_at n) (line_at (suc n)) AfterLine 0
 unfolding line_at optional_at or_at
@@ -140,7 +141,7 @@ line-maybe n =
     let s = line-stmt n in
     record {
       form = IsForm-optional (stmt n) s.form;
-      reads = reads-optional (stmt n) (stmt_at n) (begins Kinds.Name) Any s.form s.reads
+      reads = reads-optional (stmt n) (stmt_at n) (begins Kinds.Name) AfterExpression s.form s.reads
           (λ a ts rest h. begins-head Kinds.Name ts ∙ (starts-stmt n).spelled a ts rest h)
           (λ ts more h b. elim ((starts-stmt n).begun ts more h) [ inl same ↦ same | inr head ↦ let e = begins-head Kinds.Name ts in absurd cc ]);
       raises = raises-or (stmt n >>= λ a. give (Some a)) (stmt (suc n) >>= λ a. give (Some a)) (give None) (give None) (bind_at (stmt_at n) (λ a. give_at (Some a))) (bind_at (stmt_at (suc n)) (λ a. give_at (Some a))) (give_at None) (give_at None) (begins Kinds.Name)
@@ -165,7 +166,7 @@ starts-next : (n : ℕ) → Starts (next n) is_newline
 starts-next n = starts-bind (token Kinds.Newline) (λ t. maybe n) is_newline (starts-token Kinds.Newline)
 
 newline_after : (ts : List Lexeme) → head_is is_newline ts ≡ true → AfterLine ts
-newline_after ts h = (begins-head Kinds.Name ts ∙ head_not is_newline (λ l. is l Kinds.Name) (λ k e. subst (λ (l : Kind). is l Kinds.Name ≡ false) (sym (is-true k Kinds.Newline e)) refl) ts h, tt)
+newline_after ts h = (begins-head Kinds.Name ts ∙ head_not is_newline (λ l. is l Kinds.Name) (λ k e. subst (λ (l : Kind). is l Kinds.Name ≡ false) (sym (is-true k Kinds.Newline e)) refl) ts h, after_kind Kinds.Newline 7 ts (omega arith) (begins-head Kinds.Newline ts ∙ h))
 
 abbrev pub AfterLines : List Lexeme → Type 0
 AfterLines ts = (begins Kinds.Newline ts ≡ false) × AfterLine ts

@@ -1,3 +1,4 @@
+pub mod Binding
 pub mod Ends
 pub mod ExpressionTails
 pub mod Expressions
