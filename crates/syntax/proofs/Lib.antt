@@ -1,4 +1,5 @@
 pub mod Binding
+pub mod Chains
 pub mod Ends
 pub mod ExpressionTails
 pub mod Expressions
@@ -8,9 +9,13 @@ pub mod Line
 pub mod Listed
 pub mod Lists
 pub mod Literal
+pub mod Loops
 pub mod Numbers
+pub mod Operators
 pub mod Parses
 pub mod Raises
 pub mod Starts
+pub mod Steps
 pub mod Tails
+pub mod Views
 pub mod Whole

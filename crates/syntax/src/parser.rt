@@ -7,10 +7,10 @@ ghost use Rattle.lexer.specs.Kinds.{is};
 ghost use Rattle.lexer.specs.Lexeme.{Lexeme, lexeme_of, lexemes};
 ghost use Rattle.lexer.specs.Answers.{Answers};
 ghost use Rattle.syntax.specs.Parsed.{HasFault, Spells, line_of, located, parsed};
-ghost use Rattle.syntax.specs.Reading.{Gives, GivesAll, all_of, begins, group_at, tokens_left, token_at, two_begin};
-ghost use Rattle.syntax.specs.ReadingExpressions.{arguments_at, expr_at, items_of, name_at, text_at};
+ghost use Rattle.syntax.specs.Reading.{Gives, GivesAll, all_of, begins, tokens_left, token_at, two_begin};
+ghost use Rattle.syntax.specs.ReadingExpressions.{arguments_at, expr_at};
 ghost use Rattle.syntax.specs.ReadingStatements.{assign_at, call_at, file_at, line_at, stmt_at};
-ghost use Rattle.syntax.specs.Tree.{FileTree, expression_of, file_of, statement_of};
+ghost use Rattle.syntax.specs.Tree.{FileTree, file_of, statement_of};
 
 mod expression;
 
@@ -65,13 +65,13 @@ impl<'t, 'a> Parser<'t, 'a> {
 
     // An assignment.
     #[tactic(auto, unfolding(crate::specs::ReadingStatements::assign_at))]
-    fn assign(&mut self, levels: u32) -> Result<Statement<'a>, ReadError>
+    fn assign(&mut self, alloc: Global, levels: u32) -> Result<Statement<'a>, ReadError>
         ensures read { Gives statement_of result (lexemes self.new.rest.now) (assign_at levels (lexemes self.old.rest.now)) }
         ensures shorter { OnOk result (length self.new.rest.now < length self.old.rest.now) }
     {
         let name = self.take(Kind::Name)?;
         self.take(Kind::Assign)?;
-        let value = self.expression(levels)?;
+        let value = self.expression(alloc, levels)?;
         Ok(Statement::Assign {
             name: name.text,
             line: name.line,
@@ -111,7 +111,7 @@ impl<'t, 'a> Parser<'t, 'a> {
         ensures shorter { OnOk result (length self.new.rest.now < length self.old.rest.now) }
     {
         if self.begins_assign() {
-            self.assign(levels)
+            self.assign(alloc, levels)
         } else {
             self.call(alloc, levels)
         }
