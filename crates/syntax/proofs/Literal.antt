@@ -1,5 +1,5 @@
 -- The lines of a file, each ended by a newline but the last, are the lines, each begun by one but the first.
-use Rattle.std.proofs.Common.{◌≡◌, ℕ, suc, List, [], ◌∷◌, ◌++◌, refl, sym, ap, subst, ◌∙◌, inl, inr, Option, Ok, Err, ◌-◌, ◌≤◌, length}
+use Rattle.std.proofs.Common.{lit≤, ◌≡◌, ℕ, suc, List, [], ◌∷◌, ◌++◌, refl, sym, ap, subst, ◌∙◌, inl, inr, Option, Ok, Err, ◌-◌, ◌≤◌, length}
 use Rattle.lexer.specs.Lexeme.{Lexeme}
 use Rattle.lexer.specs.declared.token.Kind.TheVariants as Kinds
 use Rattle.syntax.specs.declared.stop.Stop.{Stop}
@@ -8,7 +8,8 @@ use Rattle.syntax.specs.Tree.{StatementTree, FileTree}
 use Rattle.syntax.specs.Form.{Form, token, Repeats}
 use Rattle.syntax.specs.Grammar.{line, given, file}
 use Rattle.syntax.specs.Outcome.{IsUnexpected, IsTooDeep}
-use Rattle.syntax.specs.Reading.{Reader, all_of, file_at, tokens_left}
+use Rattle.syntax.specs.Reading.{Reader, all_of, tokens_left}
+use Rattle.syntax.specs.ReadingStatements.{file_at}
 use Rattle.syntax.proofs.Files.{lines, line-lines, line-maybe, others, next, maybe, AfterLines}
 use Rattle.syntax.proofs.Line.{Line}
 use Rattle.syntax.proofs.Whole as whole
@@ -150,7 +151,7 @@ line-file n = line-same (lines n) (lines (suc n)) (file n) (file (suc n)) (file_
 -- ---- all tokens
 
 at_end : AfterLines []
-at_end = (refl, (refl, tt))
+at_end = (refl, (refl, lit≤ tt))
 
 pub file_ok : (n : ℕ) (ts : List Lexeme) (f : FileTree) → all_of (file_at n) ts ≡ Ok f → (file n).spells f ts []
 file_ok = whole.all_ok file file_at AfterLines (λ n. (line-file n).form) (λ n. (line-file n).reads) (λ n. (line-file n).raises) (λ n. (line-file n).ends) at_end

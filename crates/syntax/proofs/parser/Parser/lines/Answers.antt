@@ -4,7 +4,7 @@ use Rattle.std.proofs.lemmas.Result.{err_from_is_err_and}
 use Rattle.std.proofs.lemmas.List.{map_push}
 use Rattle.lexer.specs.Lexeme.{lexeme_of, lexemes}
 use Rattle.syntax.specs.Tree.{StatementTree, statement_of}
-use Rattle.syntax.specs.Reading.{file_at}
+use Rattle.syntax.specs.ReadingStatements.{file_at}
 use Rattle.syntax.proofs.Tails.{file_fails, still_lines_first, still_lines_more, still_lines_fails, next_line_reads, next_line_fails, next_line_then_fails, StillLines, with_line, length_lexemes}
 use Rattle.syntax.proofs.parser.Parser.lines.Goals as goal
 use Rattle.syntax.proofs.parser.Parser.lines.Goals.{in-Some+in_ok-push, in_default}
