@@ -6,6 +6,7 @@
 
 mod bytes;
 mod cut;
+mod escape;
 pub mod fault;
 mod gap;
 mod number;
