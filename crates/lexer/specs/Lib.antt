@@ -1,7 +1,9 @@
 pub mod Bytes
+pub mod Escapes
 pub mod Fault
 pub mod Kinds
 pub mod Lexeme
 pub mod Lexing
+pub mod Numbers
 pub mod Tokens
 pub mod Answers
