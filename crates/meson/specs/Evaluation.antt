@@ -4,7 +4,12 @@ use Rattle.std.specs.List.{list_any, list_all, ends_with, starts_with}
 use Rattle.std.specs.Str.{bytes_eq, is_utf8}
 use Rattle.std.specs.Str.Lossy.{utf8_valid_len}
 use Rattle.ports.specs.Tree.{file_at}
-use Rattle.syntax.specs.Tree.{ExpressionTree, NameTree, TextTree, StatementTree, AssignTree, CallTree, FileTree}
+use Rattle.syntax.specs.declared.tree.Literal.{Literal}
+use Rattle.syntax.specs.declared.tree.Literal.TheVariants as literals
+use Rattle.syntax.specs.ExpressionTree.{ExpressionTree, NameTree, LiteralTree, line_of}
+use Rattle.syntax.specs.Tree.{StatementTree, AssignTree, CallTree, FileTree}
+use Rattle.lexer.specs.Texts.{text_of}
+use Rattle.lexer.specs.declared.token.Kind.TheVariants as Kinds
 use Rattle.syntax.specs.Parsed.{parsed}
 use Rattle.lexer.specs.declared.fault.SyntaxFault.{SyntaxFault}
 use Rattle.lexer.specs.declared.fault.FaultKind.{FaultKind}
@@ -44,9 +49,24 @@ known file line name None = refuse (fault_at file line refusals.UndefinedName na
 abbrev pub variable : List ℕ → ℕ → List ℕ → Act Data
 variable file line name w = if is_predefined name then refuse (plain_fault file line refusals.LeftOut) w else known file line name (w.variables name) w
 
+-- what is not there yet
+abbrev pub left_out : {A : Type 0} → List ℕ → ℕ → Act A
+left_out file line = refuse (plain_fault file line refusals.LeftOut)
+
+-- a string stands for its text; other literals are left out so far
+abbrev pub literal_value : List ℕ → ℕ → Literal → List ℕ → Act Data
+literal_value file line literals.String t = pure (text (text_of Kinds.String t))
+literal_value file line literals.RawString t = pure (text (text_of Kinds.RawString t))
+literal_value file line literals.True t = left_out file line
+literal_value file line literals.False t = left_out file line
+literal_value file line literals.Number t = left_out file line
+literal_value file line literals.FormatString t = left_out file line
+literal_value file line literals.RawFormatString t = left_out file line
+
 abbrev pub value_of : List ℕ → ExpressionTree → Act Data
-value_of file (TextTree s line) = pure (text s)
 value_of file (NameTree name line) = variable file line name
+value_of file (LiteralTree literal t line) = literal_value file line literal t
+value_of file e = left_out file (line_of e)
 
 -- the values so far, and those of the rest, from left to right
 abbrev pub values_of : List ℕ → List Data → List ExpressionTree → Act (List Data)

@@ -4,7 +4,7 @@ ghost use Rattle.std.specs.List.{ends_with};
 ghost use Rattle.ports.specs.Outputs.{OutputState};
 ghost use Rattle.ports.specs.Tree.{Stays};
 ghost use Rattle.build.specs.View.{target_view};
-ghost use Rattle.syntax.specs.Tree.{expression_of};
+ghost use Rattle.syntax.specs.ExpressionTree.{expression_of};
 ghost use Rattle.meson.specs.Evaluation.{Files, checked_target, count_fault, declared, executable_call, first_target, held, is_target_name, target_at, target_from, target_named, target_of};
 ghost use Rattle.meson.specs.Data.{text_in};
 ghost use Rattle.meson.specs.Paths.{tree_path};

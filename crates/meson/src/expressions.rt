@@ -1,10 +1,12 @@
 //! Expressions: their values, from left to right.
-ghost use Rattle.std.specs.Prelude.{◌≡◌, ℕ, [], map};
+ghost use Rattle.std.specs.Prelude.{◌≡◌, ℕ, [], map, IfOk};
 ghost use Rattle.ports.specs.Outputs.{OutputState};
-ghost use Rattle.syntax.specs.Tree.{expression_of};
-ghost use Rattle.meson.specs.Evaluation.{value_of, values_of, variable};
+ghost use Rattle.syntax.specs.ExpressionTree.{expression_of};
+ghost use Rattle.lexer.specs.Texts.{text_of};
+ghost use Rattle.meson.specs.Evaluation.{literal_value, value_of, values_of, variable};
 ghost use Rattle.meson.specs.Gives.{Gives, failures_after};
-ghost use Rattle.meson.specs.Run.{rule};
+ghost use Rattle.meson.specs.Data.{text};
+ghost use Rattle.meson.specs.Run.{World, rule};
 ghost use Rattle.meson.specs.Store.{world_of};
 ghost use Rattle.meson.specs.Trace.{Seen, seen};
 ghost use Rattle.meson.specs.ValueView.{view, values_view};
@@ -16,9 +18,11 @@ use crate::steps::{Steps, ended};
 use crate::stop::Stop;
 use crate::store::{Store, look_up};
 use crate::value::Value;
-use std::alloc::Global;
+use lexer::text_of;
+use lexer::token::{Kind, Token};
+use std::alloc::{AllocError, Global};
 use std::sync::ledger::Ledger;
-use syntax::tree::Expression;
+use syntax::tree::{Expression, Literal};
 
 fn variable(
     alloc: Global,
@@ -39,6 +43,35 @@ fn variable(
     }
 }
 
+// The text of a string of this kind.
+fn string_value(alloc: Global, kind: Kind, text: &str, line: usize) -> Result<Value, AllocError>
+    ensures { IfOk result (λ v. view v ≡ text (text_of kind text.now)) }
+{
+    let token = Token { kind, text, line };
+    Value::of_string(alloc, text_of(alloc, &token)?)
+}
+
+fn literal_value(
+    alloc: Global,
+    file: &str,
+    literal: Literal,
+    text: &str,
+    line: usize,
+) -> Result<Value, Stop>
+    ensures gives { (w : World) (old : Seen) → Gives view (literal_value file.now line literal text.now w) result w old old }
+    ensures quiet { (n : ℕ) → failures_after n result ≡ n }
+{
+    match literal {
+        Literal::String => Ok(string_value(alloc, Kind::String, text, line)?),
+        Literal::RawString => Ok(string_value(alloc, Kind::RawString, text, line)?),
+        Literal::True
+        | Literal::False
+        | Literal::Number
+        | Literal::FormatString
+        | Literal::RawFormatString => Err(refused_here(alloc, file, line, Refusal::LeftOut)),
+    }
+}
+
 fn form_value(
     alloc: Global,
     file: &str,
@@ -49,8 +82,15 @@ fn form_value(
     ensures quiet { (n : ℕ) → failures_after n result ≡ n }
 {
     match expression {
-        Expression::Text { text, line: _ } => Ok(Value::text(alloc, text)?),
         Expression::Name { name, line } => variable(alloc, file, *line, name, store),
+        Expression::Literal {
+            literal,
+            text,
+            line,
+        } => literal_value(alloc, file, *literal, text, *line),
+        Expression::Chain { line, .. } | Expression::Choice { line, .. } => {
+            Err(refused_here(alloc, file, *line, Refusal::LeftOut))
+        }
     }
 }
 

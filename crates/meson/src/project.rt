@@ -3,7 +3,7 @@ ghost use Rattle.std.specs.Prelude.{◌≡◌, ℕ, ◌+◌, ◌^◌, ◌<◌, m
 ghost use Rattle.std.specs.List.{list_all};
 ghost use Rattle.ports.specs.Outputs.{OutputState};
 ghost use Rattle.ports.specs.Tree.{Stays};
-ghost use Rattle.syntax.specs.Tree.{expression_of};
+ghost use Rattle.syntax.specs.ExpressionTree.{expression_of};
 ghost use Rattle.meson.specs.Evaluation.{Files, is_c, languages_taken, no_option_file, no_option_words, again_called, options_read, project_again_fault, project_call, project_taken};
 ghost use Rattle.meson.specs.Gives.{Gives, Holds, IsRefusal, failures_after};
 ghost use Rattle.meson.specs.Run.{World};

@@ -1,4 +1,4 @@
-ghost use Rattle.std.specs.Prelude.{◌≡◌, IfOk, option_map};
+ghost use Rattle.std.specs.Prelude.{◌≡◌, IfOk, option_map, string_bytes};
 ghost use Rattle.meson.specs.Data.{text, text_in};
 ghost use Rattle.meson.specs.ValueView.{view};
 
@@ -24,12 +24,11 @@ impl Clone for Value {
 }
 
 impl Value {
-    /// A text of these bytes.
-    pub fn text(alloc: Global, content: &str) -> Result<Value, AllocError>
-        ensures { IfOk result (λ v. view v ≡ text content.now) }
+    /// The text that a string holds.
+    pub fn of_string(alloc: Global, string: String) -> Result<Value, AllocError>
+        ensures { IfOk result (λ v. view v ≡ text (string_bytes string)) }
     {
-        let owned = String::from_str(alloc, content)?;
-        Ok(Value::Text(Rc::new(alloc, owned)?))
+        Ok(Value::Text(Rc::new(alloc, string)?))
     }
 
     /// What a text holds.

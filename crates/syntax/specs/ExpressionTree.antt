@@ -43,3 +43,10 @@ expression_of = fold-Expression ExpressionTree OperandTree expression_step opera
 
 abbrev pub operand_of : Operand → OperandTree
 operand_of = fold-Operand ExpressionTree OperandTree expression_step operand_step
+
+-- the line of the first token
+abbrev pub line_of : ExpressionTree → ℕ
+line_of (NameTree name line) = line
+line_of (LiteralTree literal text line) = line
+line_of (ChainTree first others line) = line
+line_of (ChoiceTree test one other line) = line

@@ -1,6 +1,8 @@
 //! The tree of a definition file. Each node has the line of its first token, where a chain of
 //! operators begins with the bracket that its first value stands in; brackets leave no node of their own.
 
+ghost use Rattle.std.specs.Prelude.{◌≡◌};
+
 /// A definition file.
 #[derive(Debug, Drop)]
 pub struct File<'a> {
@@ -52,6 +54,22 @@ pub enum Expression<'a> {
         no: Box<Expression<'a>>,
         line: usize,
     },
+}
+
+impl Expression<'_> {
+    ghost use Rattle.syntax.specs.ExpressionTree.{expression_of, line_of};
+
+    /// The line of its first token.
+    pub fn line(&self) -> usize
+        ensures { result ≡ line_of (expression_of self.now) }
+    {
+        match self {
+            Expression::Name { line, .. } => *line,
+            Expression::Literal { line, .. } => *line,
+            Expression::Chain { line, .. } => *line,
+            Expression::Choice { line, .. } => *line,
+        }
+    }
 }
 
 /// What a literal is.

@@ -1,5 +1,5 @@
 use Rattle.std.proofs.Common.{List, [], map, Err, subst}
-use Rattle.syntax.specs.Tree.{expression_of}
+use Rattle.syntax.specs.ExpressionTree.{expression_of}
 use Rattle.build.specs.View.{target_view}
 use Rattle.meson.specs.Evaluation.{first_target, values_of, target_of, checked_target, described_target, executable_call}
 use Rattle.meson.specs.Gives.{Gives, Ends}

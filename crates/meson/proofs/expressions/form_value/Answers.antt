@@ -1,5 +1,5 @@
 use Rattle.std.proofs.Common.{ap}
-use Rattle.syntax.specs.Tree.{expression_of}
+use Rattle.syntax.specs.ExpressionTree.{expression_of}
 use Rattle.meson.specs.Data.{text}
 use Rattle.meson.specs.Evaluation.{value_of}
 use Rattle.meson.specs.Store.{world_of}

@@ -1,6 +1,6 @@
 use Rattle.std.proofs.Common.{◌+◌, [], ◌∷◌, ◌++◌, map, drop, get_or, refl, ap, ◌∙◌}
 use Rattle.std.proofs.lemmas.List.{map-append}
-use Rattle.syntax.specs.Tree.{expression_of}
+use Rattle.syntax.specs.ExpressionTree.{expression_of}
 use Rattle.syntax.specs.declared.tree.Expression.{Expression}
 use Rattle.syntax.specs.declared.tree.Expression.TheVariants.{Name}
 use Rattle.meson.specs.Evaluation.{value_of, values_of}

@@ -1,6 +1,6 @@
 use Rattle.std.proofs.Common.{[], drop, map}
 use Rattle.ports.specs.Outputs.{OutputState}
-use Rattle.syntax.specs.Tree.{expression_of}
+use Rattle.syntax.specs.ExpressionTree.{expression_of}
 use Rattle.meson.specs.Evaluation.{values_of}
 use Rattle.meson.specs.ValueView.{view}
 use Rattle.meson.specs.Store.{world_of}

@@ -1,5 +1,5 @@
 use Rattle.std.proofs.Common.{List, Err, [], map, subst}
-use Rattle.syntax.specs.Tree.{expression_of}
+use Rattle.syntax.specs.ExpressionTree.{expression_of}
 use Rattle.meson.specs.Evaluation.{values_of, project_taken, options_read, project_call}
 use Rattle.meson.specs.Gives.{Gives}
 use Rattle.meson.specs.Run.{follow}

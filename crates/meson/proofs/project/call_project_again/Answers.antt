@@ -1,5 +1,5 @@
 use Rattle.std.proofs.Common.{[], map}
-use Rattle.syntax.specs.Tree.{expression_of}
+use Rattle.syntax.specs.ExpressionTree.{expression_of}
 use Rattle.meson.specs.Evaluation.{values_of, project_again_fault, again_called}
 use Rattle.meson.specs.Run.{refuse}
 use Rattle.meson.specs.Store.{world_of}

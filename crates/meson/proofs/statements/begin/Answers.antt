@@ -1,5 +1,6 @@
 use Rattle.std.proofs.Common.{◌≡◌, ℕ, List, true, false, map, codes, refl, sym, ap, subst, ◌∙◌, bytes_eq}
-use Rattle.syntax.specs.Tree.{ExpressionTree, CallTree, expression_of, statement_of}
+use Rattle.syntax.specs.ExpressionTree.{ExpressionTree, expression_of}
+use Rattle.syntax.specs.Tree.{CallTree, statement_of}
 use Rattle.syntax.specs.declared.tree.Statement.{Statement}
 use Rattle.syntax.specs.declared.tree.Expression.{Expression}
 use Rattle.meson.specs.Evaluation.{Files, begins, project_call, plain_fault}

@@ -1,5 +1,6 @@
 use Rattle.std.proofs.Common.{List, map, sym, subst}
-use Rattle.syntax.specs.Tree.{expression_of, statement_of}
+use Rattle.syntax.specs.ExpressionTree.{expression_of}
+use Rattle.syntax.specs.Tree.{statement_of}
 use Rattle.syntax.specs.declared.tree.Statement.{Statement}
 use Rattle.syntax.specs.declared.tree.Expression.{Expression}
 use Rattle.meson.specs.Evaluation.{called, does}
