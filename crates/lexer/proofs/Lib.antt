@@ -3,6 +3,7 @@ pub mod Cuts
 pub mod Cutting
 pub mod Digits
 pub mod Escapes
+pub mod Frames
 pub mod Gaps
 pub mod Lexemes
 pub mod Runs
@@ -10,3 +11,4 @@ pub mod Spans
 pub mod Strings
 pub mod Symbols
 pub mod Tests
+pub mod Texts

@@ -5,5 +5,6 @@ pub mod Kinds
 pub mod Lexeme
 pub mod Lexing
 pub mod Numbers
+pub mod Texts
 pub mod Tokens
 pub mod Answers

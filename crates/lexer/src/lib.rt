@@ -12,8 +12,10 @@ mod gap;
 mod number;
 mod string;
 mod symbol;
+mod text;
 pub mod token;
 mod word;
 
 pub use bytes::newlines;
 pub use cut::tokens;
+pub use text::text_of;
