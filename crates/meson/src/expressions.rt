@@ -1,12 +1,12 @@
 //! Expressions: their values, from left to right.
-ghost use Rattle.std.specs.Prelude.{◌≡◌, ℕ, [], map, IfOk};
+ghost use Rattle.std.specs.Prelude.{◌≡◌, ℕ, [], map};
 ghost use Rattle.ports.specs.Outputs.{OutputState};
 ghost use Rattle.syntax.specs.ExpressionTree.{expression_of};
 ghost use Rattle.lexer.specs.Texts.{text_of};
-ghost use Rattle.meson.specs.Evaluation.{literal_value, value_of, values_of, variable};
+ghost use Rattle.meson.specs.Evaluation.{left_out, literal_value, value_of, values_of, variable};
 ghost use Rattle.meson.specs.Gives.{Gives, failures_after};
 ghost use Rattle.meson.specs.Data.{text};
-ghost use Rattle.meson.specs.Run.{World, rule};
+ghost use Rattle.meson.specs.Run.{World, pure, rule};
 ghost use Rattle.meson.specs.Store.{world_of};
 ghost use Rattle.meson.specs.Trace.{Seen, seen};
 ghost use Rattle.meson.specs.ValueView.{view, values_view};
@@ -20,7 +20,7 @@ use crate::store::{Store, look_up};
 use crate::value::Value;
 use lexer::text_of;
 use lexer::token::{Kind, Token};
-use std::alloc::{AllocError, Global};
+use std::alloc::Global;
 use std::sync::ledger::Ledger;
 use syntax::tree::{Expression, Literal};
 
@@ -43,12 +43,26 @@ fn variable(
     }
 }
 
-// The text of a string of this kind.
-fn string_value(alloc: Global, kind: Kind, text: &str, line: usize) -> Result<Value, AllocError>
-    ensures { IfOk result (λ v. view v ≡ text (text_of kind text.now)) }
+// Refuses a value that is not there yet.
+fn left_out(alloc: Global, file: &str, line: usize) -> Result<Value, Stop>
+    ensures gives { (w : World) (old : Seen) → Gives view (left_out file.now line w) result w old old }
+    ensures quiet { (n : ℕ) → failures_after n result ≡ n }
 {
-    let token = Token { kind, text, line };
-    Value::of_string(alloc, text_of(alloc, &token)?)
+    Err(refused_here(alloc, file, line, Refusal::LeftOut))
+}
+
+// The text of a string of this kind.
+fn string_value(alloc: Global, kind: Kind, slice: &str, line: usize) -> Result<Value, Stop>
+    ensures gives { (w : World) (old : Seen) → Gives view (pure (text (text_of kind slice.now)) w) result w old old }
+    ensures quiet { (n : ℕ) → failures_after n result ≡ n }
+{
+    let token = Token {
+        kind,
+        text: slice,
+        line,
+    };
+    let string = text_of(alloc, &token)?;
+    Ok(Value::of_string(alloc, string)?)
 }
 
 fn literal_value(
@@ -62,13 +76,13 @@ fn literal_value(
     ensures quiet { (n : ℕ) → failures_after n result ≡ n }
 {
     match literal {
-        Literal::String => Ok(string_value(alloc, Kind::String, text, line)?),
-        Literal::RawString => Ok(string_value(alloc, Kind::RawString, text, line)?),
-        Literal::True
-        | Literal::False
-        | Literal::Number
-        | Literal::FormatString
-        | Literal::RawFormatString => Err(refused_here(alloc, file, line, Refusal::LeftOut)),
+        Literal::String => string_value(alloc, Kind::String, text, line),
+        Literal::RawString => string_value(alloc, Kind::RawString, text, line),
+        Literal::True => left_out(alloc, file, line),
+        Literal::False => left_out(alloc, file, line),
+        Literal::Number => left_out(alloc, file, line),
+        Literal::FormatString => left_out(alloc, file, line),
+        Literal::RawFormatString => left_out(alloc, file, line),
     }
 }
 
@@ -88,9 +102,8 @@ fn form_value(
             text,
             line,
         } => literal_value(alloc, file, *literal, text, *line),
-        Expression::Chain { line, .. } | Expression::Choice { line, .. } => {
-            Err(refused_here(alloc, file, *line, Refusal::LeftOut))
-        }
+        Expression::Chain { line, .. } => left_out(alloc, file, *line),
+        Expression::Choice { line, .. } => left_out(alloc, file, *line),
     }
 }
 
