@@ -1,3 +1,4 @@
+pub mod Chain
 pub mod Ends
 pub mod Files
 pub mod Laws
