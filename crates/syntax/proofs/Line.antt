@@ -1,7 +1,7 @@
 -- All that is said of one line of the grammar, at one number of levels and at one more, in one record.
 use Rattle.std.proofs.Common.{◌≡◌, ℕ, suc, ◌+◌, ◌≤◌, Bool, true, false, List, [], ◌∷◌, length, Ok, Err, refl, sym, ap, subst, ◌∙◌, ◌⊎◌, inl, inr, arith}
 use Rattle.syntax.specs.Form.{Form, token, give, never, ◌>>=◌, ◌or◌}
-use Rattle.syntax.specs.Grammar.{group}
+use Rattle.syntax.specs.Expressions.{group}
 use Rattle.lexer.specs.Kinds.{is}
 use Rattle.lexer.specs.Lexeme.{Lexeme}
 use Rattle.syntax.specs.Reading.{Reader, begins, deep_at, group_at, or_at, token_at}

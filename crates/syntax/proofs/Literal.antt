@@ -1,43 +1,24 @@
 -- The lines of a file, each ended by a newline but the last, are the lines, each begun by one but the first.
-use Rattle.std.proofs.Common.{◌≡◌, ℕ, suc, List, [], ◌∷◌, ◌++◌, refl, sym, ap, subst, ◌∙◌, inl, inr, Option, Ok, Err, ◌-◌, ◌≤◌, length}
+use Rattle.std.proofs.Common.{◌≡◌, ℕ, suc, false, List, [], ◌∷◌, ◌++◌, refl, sym, ap, subst, ◌∙◌, inl, inr, Option, Ok, Err, ◌-◌, ◌≤◌, length}
 use Rattle.lexer.specs.Lexeme.{Lexeme}
 use Rattle.lexer.specs.declared.token.Kind.TheVariants as Kinds
 use Rattle.syntax.specs.declared.stop.Stop.{Stop}
 use Rattle.syntax.specs.declared.stop.Stop.TheVariants.{Unexpected, TooDeep}
 use Rattle.syntax.specs.Tree.{StatementTree, FileTree}
 use Rattle.syntax.specs.Form.{Form, token, Repeats}
-use Rattle.syntax.specs.Grammar.{line, given, file}
+use Rattle.syntax.specs.Grammar.{file}
+use Rattle.syntax.specs.Statements.{given, stmt, line as ended_line}
 use Rattle.syntax.specs.Outcome.{IsUnexpected, IsTooDeep}
-use Rattle.syntax.specs.Reading.{Reader, all_of, file_at, tokens_left}
-use Rattle.syntax.proofs.Files.{lines, line-lines, line-maybe, others, next, maybe, AfterLines}
+use Rattle.syntax.specs.Reading.{all_of, tokens_left}
+use Rattle.syntax.specs.ReadingStatements.{file_at}
+use Rattle.syntax.proofs.Files.{lines, line-lines, line-first, others, next, maybe, AfterLines}
+use Rattle.syntax.proofs.Chain.{AreSame, line-same}
 use Rattle.syntax.proofs.Line.{Line}
 use Rattle.syntax.proofs.Whole as whole
 
--- two forms with the same spellings and fronts
-pub record AreSame {A : Type 0} (F G : Form A) : Type 0 where
-  pub spells_to : (a : A) (ts rest : List Lexeme) → F.spells a ts rest → G.spells a ts rest
-  pub spells_from : (a : A) (ts rest : List Lexeme) → G.spells a ts rest → F.spells a ts rest
-  pub front_to : (ts more : List Lexeme) → F.front ts more → G.front ts more
-  pub front_from : (ts more : List Lexeme) → G.front ts more → F.front ts more
-
-pub line-same : {A : Type 0} (F F' G G' : Form A) (r r' : Reader A) (Stops : List Lexeme → Type 0) (i : ℕ) → AreSame F G → AreSame F' G' → Line F F' r r' Stops i → Line G G' r r' Stops i
-line-same F F' G G' r r' Stops i s t l = record {
-  form = record { nothing = λ ts. s.front_to ts ts (l.form.nothing ts); whole = λ a ts rest h. s.front_to ts rest (l.form.whole a ts rest (s.spells_from a ts rest h)) };
-  reads = record {
-    sound = λ ts a rest e. s.spells_to a ts rest (l.reads.sound ts a rest e);
-    complete = λ a ts rest h st. l.reads.complete a ts rest (s.spells_from a ts rest h) st;
-    faults = λ ts f e. let h = l.reads.faults ts f e in (h.0, h.1, s.front_to ts h.0 h.2);
-    reaches = λ ts more h. l.reads.reaches ts more (s.front_from ts more h);
-  };
-  raises = record {
-    spells = λ a ts rest h. t.spells_to a ts rest (l.raises.spells a ts rest (s.spells_from a ts rest h));
-    front = λ ts more h. t.front_to ts more (l.raises.front ts more (s.front_from ts more h));
-    deep = λ ts left e. let h = l.raises.deep ts left e in (h.0, h.1, t.front_to ts h.0 h.2);
-    same = l.raises.same;
-  };
-  ends = record { spelled = λ a ts rest h. l.ends.spelled a ts rest (s.spells_from a ts rest h); begun = λ ts more h. l.ends.begun ts more (s.front_from ts more h) };
-  takes = record { taken = λ a ts rest h. l.takes.taken a ts rest (s.spells_from a ts rest h) };
-}
+-- [stmt] NL
+abbrev line : ℕ → Form (Option StatementTree)
+line n = ended_line (stmt false n)
 
 -- ---- spellings
 
@@ -117,7 +98,7 @@ many_front n (l ∷ ls) ts mid more (m1, (s, m2, p, (t, m3, nl, same)), h) q =
 file_lines_front : (n : ℕ) (ts more : List Lexeme) → (file n).front ts more → (lines n).front ts more
 file_lines_front n ts more (inl (ls, mid, h, q)) = many_front n ls ts mid more h q
 file_lines_front n ts more (inr (ls, mid, h, inl q)) = last_front n ls ts mid more h q
-file_lines_front n ts more (inr (ls, mid, h, inr (last, m1, q, same))) = last_front n ls ts mid more h (subst (λ (l : List Lexeme). (maybe n).front mid l) same ((line-maybe n).form.whole last mid m1 q))
+file_lines_front n ts more (inr (ls, mid, h, inr (last, m1, q, same))) = last_front n ls ts mid more h (subst (λ (l : List Lexeme). (maybe n).front mid l) same ((line-first n).form.whole last mid m1 q))
 
 -- ---- the other way
 
@@ -150,7 +131,7 @@ line-file n = line-same (lines n) (lines (suc n)) (file n) (file (suc n)) (file_
 -- ---- all tokens
 
 at_end : AfterLines []
-at_end = (refl, (refl, tt))
+at_end = (refl, (refl, refl))
 
 pub file_ok : (n : ℕ) (ts : List Lexeme) (f : FileTree) → all_of (file_at n) ts ≡ Ok f → (file n).spells f ts []
 file_ok = whole.all_ok file file_at AfterLines (λ n. (line-file n).form) (λ n. (line-file n).reads) (λ n. (line-file n).raises) (λ n. (line-file n).ends) at_end

@@ -6,7 +6,8 @@ use Rattle.lexer.specs.Lexing.{lexed}
 use Rattle.lexer.specs.Tokens.{AreTokens}
 use Rattle.syntax.specs.Tree.{FileTree, file_of}
 use Rattle.syntax.specs.Grammar.{file, most_levels}
-use Rattle.syntax.specs.Reading.{Fails, all_of, file_at, tokens_left}
+use Rattle.syntax.specs.Reading.{Fails, all_of, tokens_left}
+use Rattle.syntax.specs.ReadingStatements.{file_at}
 use Rattle.lexer.specs.Answers.{Answers, Refuses}
 use Rattle.syntax.specs.Parsed.{Spells, HasFault, located, in_source, parsed}
 use Rattle.lexer.specs.declared.fault.SyntaxFault.{SyntaxFault}

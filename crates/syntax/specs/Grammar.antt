@@ -1,89 +1,16 @@
--- The grammar, a form for each line. The number is that of the levels that may still be opened.
-use Rattle.std.specs.Prelude.{ℕ, zero, suc, ◌-◌, ◌==◌, ◌&&◌, nat_le, if◌then◌else◌, List, [], ◌∷◌, ◌++◌, length, take, drop, slice_index, Option, Some, None}
-use Rattle.lexer.specs.Bytes.{quote}
-use Rattle.lexer.specs.declared.token.Kind.TheVariants.{Name, String, Assign, OpenParenthesis, CloseParenthesis, Newline}
-use Rattle.syntax.specs.Tree.{ExpressionTree, NameTree, TextTree, StatementTree, AssignTree, CallTree, FileTree}
-use Rattle.syntax.specs.Form.{Form, token, give, ◌>>=◌, ◌or◌, never, many, optional, listed}
+-- The grammar of files. The number is that of the levels that may still be opened.
+use Rattle.std.specs.Prelude.{ℕ, false, [], ◌∷◌, ◌++◌}
+use Rattle.syntax.specs.Tree.{FileTree}
+use Rattle.syntax.specs.Form.{Form, give, ◌>>=◌, many, optional}
+use Rattle.syntax.specs.Statements.{stmt, line, given}
 
 -- how many levels may be open
 abbrev pub most_levels : ℕ
 most_levels = 64
 
--- what stands between the quotes of a string
-abbrev pub unquoted : List ℕ → List ℕ
-unquoted text =
-    if nat_le 2 (length text) && ((slice_index text 0 == quote) && (slice_index text (length text - 1) == quote))
-    then take (length text - 2) (drop 1 text) else text
-
--- NAME
-abbrev pub name : Form ExpressionTree
-name = do
-  t ← token Name
-  give (NameTree t.text t.line)
-
--- STRING
-abbrev pub text : Form ExpressionTree
-text = do
-  t ← token String
-  give (TextTree (unquoted t.text) t.line)
-
--- "(" form ")"
-abbrev pub group : {A : Type 0} → Form A → Form A
-group form = do
-  o ← token OpenParenthesis
-  x ← form
-  c ← token CloseParenthesis
-  give x
-
--- "(" expr ")"
-unfoldable pub nested : ℕ → Form ExpressionTree
-nested zero = never
-nested (suc n) = group (name or (text or nested n))
-
--- expr = NAME | STRING | "(" expr ")"
-abbrev pub expr : ℕ → Form ExpressionTree
-expr n = name or (text or nested n)
-
--- "(" [expr {"," expr} [","]] ")"
-unfoldable pub arguments : ℕ → Form (List ExpressionTree)
-arguments zero = never
-arguments (suc n) = group (listed (expr n))
-
--- NAME "=" expr
-abbrev pub assign : ℕ → Form StatementTree
-assign n = do
-  t ← token Name
-  q ← token Assign
-  e ← expr n
-  give (AssignTree t.text t.line e)
-
--- NAME "(" [expr {"," expr} [","]] ")"
-abbrev pub call : ℕ → Form StatementTree
-call n = do
-  t ← token Name
-  xs ← arguments n
-  give (CallTree t.text t.line xs)
-
--- stmt = NAME "=" expr | NAME "(" [expr {"," expr} [","]] ")"
-abbrev pub stmt : ℕ → Form StatementTree
-stmt n = assign n or call n
-
--- [stmt] NL
-abbrev pub line : ℕ → Form (Option StatementTree)
-line n = do
-  s ← optional (stmt n)
-  t ← token Newline
-  give s
-
--- what the lines give, without the empty ones
-abbrev pub given : List (Option StatementTree) → FileTree
-given [] = []
-given (None ∷ os) = given os
-given (Some s ∷ os) = s ∷ given os
-
 -- file = { [stmt] NL } [stmt]
 abbrev pub file : ℕ → Form FileTree
 file n = do
-  lines ← many (line n)
-  last ← optional (stmt n)
+  lines ← many (line (stmt false n))
+  last ← optional (stmt false n)
   give (given (lines ++ last ∷ []))

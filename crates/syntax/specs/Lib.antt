@@ -1,8 +1,10 @@
+pub mod Expressions
 pub mod Form
 pub mod Grammar
 pub mod Outcome
 pub mod Parsed
 pub mod Reading
+pub mod ReadingExpressions
 pub mod ReadingStatements
 pub mod Statements
 pub mod Tree

@@ -7,7 +7,8 @@ use Rattle.lexer.specs.Tokens.{AreTokens, IsUnreadable}
 use Rattle.lexer.specs.Lexing.{lexed}
 use Rattle.syntax.specs.Grammar.{file, most_levels}
 use Rattle.syntax.specs.Outcome.{IsUnexpected, IsTooDeep}
-use Rattle.syntax.specs.Reading.{all_of, file_at}
+use Rattle.syntax.specs.Reading.{all_of}
+use Rattle.syntax.specs.ReadingStatements.{file_at}
 use Rattle.syntax.specs.declared.stop.Stop.{Stop}
 use Rattle.syntax.specs.declared.stop.Stop.TheVariants.{Unexpected, TooDeep}
 use Rattle.lexer.specs.declared.fault.SyntaxFault.{SyntaxFault}

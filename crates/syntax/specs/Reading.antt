@@ -2,8 +2,6 @@
 use Rattle.std.specs.Prelude.{◌≡◌, ℕ, zero, suc, ◌+◌, List, [], ◌∷◌, length, Result, Ok, Err, Bool, false, if◌then◌else◌, ◌&&◌, Option, Some, None}
 use Rattle.lexer.specs.Lexeme.{Lexeme}
 use Rattle.lexer.specs.Kinds.{is}
-use Rattle.syntax.specs.Tree.{ExpressionTree, NameTree, TextTree, StatementTree, AssignTree, CallTree, FileTree}
-use Rattle.syntax.specs.Grammar.{unquoted, given}
 use Rattle.lexer.specs.declared.token.Kind.{Kind}
 use Rattle.lexer.specs.declared.token.Kind.TheVariants as Kinds
 use Rattle.syntax.specs.declared.stop.Stop.{Stop}
@@ -67,25 +65,10 @@ unfoldable pub items_at : {A : Type 0} → (List Lexeme → Bool) → Reader A �
 items_at stop r zero ts = Ok ([], ts)
 items_at stop r (suc k) ts = if stop ts then Ok ([], ts) else (r ts >>= λ x. tail_at (items_at stop r k) x.1 >>= λ y. Ok (x.0 ∷ y.0, y.1))
 
--- all tokens
-abbrev pub ends_at : {A : Type 0} → A × List Lexeme → Result A Stop
-ends_at (a, []) = Ok a
-ends_at (a, t ∷ ts) = Err (Unexpected (length ts + 1))
-
-unfoldable pub all_of : {A : Type 0} → Reader A → List Lexeme → Result A Stop
-all_of r ts = r ts >>= λ x. ends_at x
-
--- ---- the lines of the grammar
-
-unfoldable pub name_at : Reader ExpressionTree
-name_at ts = do
-  t ← token_at Kinds.Name ts
-  Ok (NameTree t.0.text t.0.line, t.1)
-
-unfoldable pub text_at : Reader ExpressionTree
-text_at ts = do
-  t ← token_at Kinds.String ts
-  Ok (TextTree (unquoted t.0.text) t.0.line, t.1)
+-- the first two tokens are of these kinds
+abbrev pub two_begin : Kind → Kind → List Lexeme → Bool
+two_begin k l [] = false
+two_begin k l (t ∷ ts) = is t.kind k && begins l ts
 
 unfoldable pub group_at : {A : Type 0} → Reader A → Reader A
 group_at r ts = do
@@ -98,51 +81,10 @@ group_at r ts = do
 unfoldable pub deep_at : {A : Type 0} → Kind → Reader A
 deep_at k ts = if begins k ts then Err (TooDeep (length ts)) else Err (Unexpected (length ts))
 
-unfoldable pub nested_at : ℕ → Reader ExpressionTree
-nested_at zero ts = deep_at Kinds.OpenParenthesis ts
-nested_at (suc n) ts = group_at (or_at (begins Kinds.Name) name_at (or_at (begins Kinds.String) text_at (nested_at n))) ts
+-- all tokens
+abbrev pub ends_at : {A : Type 0} → A × List Lexeme → Result A Stop
+ends_at (a, []) = Ok a
+ends_at (a, t ∷ ts) = Err (Unexpected (length ts + 1))
 
-unfoldable pub expr_at : ℕ → Reader ExpressionTree
-expr_at n ts = or_at (begins Kinds.Name) name_at (or_at (begins Kinds.String) text_at (nested_at n)) ts
-
-unfoldable pub items_of : ℕ → Reader (List ExpressionTree)
-items_of n ts = items_at (begins Kinds.CloseParenthesis) (expr_at n) (length ts + 1) ts
-
-unfoldable pub arguments_at : ℕ → Reader (List ExpressionTree)
-arguments_at zero ts = deep_at Kinds.OpenParenthesis ts
-arguments_at (suc n) ts = group_at (items_of n) ts
-
-unfoldable pub assign_at : ℕ → Reader StatementTree
-assign_at n ts = do
-  t ← token_at Kinds.Name ts
-  q ← token_at Kinds.Assign t.1
-  e ← expr_at n q.1
-  Ok (AssignTree t.0.text t.0.line e.0, e.1)
-
-unfoldable pub call_at : ℕ → Reader StatementTree
-call_at n ts = do
-  t ← token_at Kinds.Name ts
-  xs ← arguments_at n t.1
-  Ok (CallTree t.0.text t.0.line xs.0, xs.1)
-
--- the first two tokens are of these kinds
-abbrev pub two_begin : Kind → Kind → List Lexeme → Bool
-two_begin k l [] = false
-two_begin k l (t ∷ ts) = is t.kind k && begins l ts
-
-unfoldable pub stmt_at : ℕ → Reader StatementTree
-stmt_at n ts = or_at (two_begin Kinds.Name Kinds.Assign) (assign_at n) (call_at n) ts
-
-unfoldable pub line_at : ℕ → Reader (Option StatementTree)
-line_at n ts = optional_at (begins Kinds.Name) (stmt_at n) ts
-
-unfoldable pub next_line_at : ℕ → Reader (Option StatementTree)
-next_line_at n ts = do
-  t ← token_at Kinds.Newline ts
-  line_at n t.1
-
-unfoldable pub file_at : ℕ → Reader FileTree
-file_at n ts = do
-  first ← line_at n ts
-  others ← many_at (begins Kinds.Newline) (next_line_at n) (length first.1) first.1
-  Ok (given (first.0 ∷ others.0), others.1)
+unfoldable pub all_of : {A : Type 0} → Reader A → List Lexeme → Result A Stop
+all_of r ts = r ts >>= λ x. ends_at x

@@ -1,15 +1,15 @@
 -- Reading statements by their grammar, as functions: a value and the tokens after it, or where reading stops.
-use Rattle.std.specs.Prelude.{ℕ, zero, suc, Bool, true, false, not, ◌||◌, List, [], ◌∷◌, length, Result, Ok, Err, Option, Some, None, unwrap_or}
-use Rattle.std.specs.Option.{option_map}
+use Rattle.std.specs.Prelude.{ℕ, zero, suc, Bool, true, false, not, ◌||◌, List, [], ◌∷◌, length, Ok, Err, Option, unwrap_or}
 use Rattle.lexer.specs.Lexeme.{Lexeme}
 use Rattle.lexer.specs.Kinds.{is}
 use Rattle.lexer.specs.declared.token.Kind.{Kind}
 use Rattle.lexer.specs.declared.token.Kind.TheVariants as Kinds
 use Rattle.syntax.specs.declared.stop.Stop.TheVariants.{Unexpected}
 use Rattle.syntax.specs.Form.{line_here}
-use Rattle.syntax.specs.Tree.{ExpressionTree, StatementTree, AssignTree, AppendTree, CallTree, BreakTree, ContinueTree, IfTree, ForeachTree, FileTree, Statements, NoStatement, statements, BranchTree, branches}
+use Rattle.syntax.specs.Tree.{ExpressionTree, StatementTree, AssignTree, AppendTree, CallTree, BreakTree, ContinueTree, IfTree, ForeachTree, FileTree, statements, BranchTree, branches}
 use Rattle.syntax.specs.Statements.{given}
-use Rattle.syntax.specs.Reading.{Reader, ◌>>=◌, begins, token_at, many_at, or_at, optional_at, deep_at, two_begin, expr_at, arguments_at}
+use Rattle.syntax.specs.Reading.{Reader, ◌>>=◌, begins, token_at, many_at, or_at, optional_at, deep_at, two_begin}
+use Rattle.syntax.specs.ReadingExpressions.{expr_at, arguments_at}
 
 -- what r reads, and the line of its first token
 abbrev pub lined_at : {A : Type 0} → Reader A → Reader (A × ℕ)
@@ -53,31 +53,36 @@ ends_line (t ∷ ts) = is t.kind Kinds.Newline
 abbrev pub in_line : List Lexeme → Bool
 in_line ts = not (ends_line ts)
 
--- the word of a further part, or the last of a block
+-- the word of a further part of a block, or its last word
 abbrev pub ends_body : Kind → Bool
 ends_body k = is k Kinds.EndForeach || (is k Kinds.EndIf || (is k Kinds.Elif || is k Kinds.Else))
 
 abbrev pub in_body : List Lexeme → Bool
-in_body [] = true
+in_body [] = false
 in_body (t ∷ ts) = not (ends_body t.kind)
+
+-- [stmt]
+abbrev pub maybe_at : Reader StatementTree → Reader (Option StatementTree)
+maybe_at r = optional_at in_line r
 
 -- [stmt] NL
 unfoldable pub ended_line_at : Reader StatementTree → Reader (Option StatementTree)
 ended_line_at r ts = do
-  s ← optional_at in_line r ts
+  s ← maybe_at r ts
   t ← token_at Kinds.Newline s.1
   Ok (s.0, t.1)
 
-unfoldable pub body_at : Reader StatementTree → Reader Statements
+unfoldable pub body_at : Reader StatementTree → Reader (List StatementTree)
 body_at r ts = do
   lines ← many_at in_body (ended_line_at r) (length ts) ts
-  Ok (statements (given lines.0), lines.1)
+  Ok (given lines.0, lines.1)
 
 -- "," NAME
-unfoldable pub second_at : Reader Lexeme
+unfoldable pub second_at : Reader (List ℕ)
 second_at ts = do
   c ← token_at Kinds.Comma ts
-  token_at Kinds.Name c.1
+  t ← token_at Kinds.Name c.1
+  Ok (t.0.text, t.1)
 
 unfoldable pub foreach_at : Reader ExpressionTree → Reader StatementTree → Reader StatementTree
 foreach_at expr stmt ts = do
@@ -89,38 +94,52 @@ foreach_at expr stmt ts = do
   t ← token_at Kinds.Newline e.1
   ss ← body_at stmt t.1
   end ← token_at Kinds.EndForeach ss.1
-  Ok (ForeachTree w.0.line a.0.text (option_map (λ (name : Lexeme). name.text) b.0) e.0.0 e.0.1 ss.0, end.1)
+  Ok (ForeachTree w.0.line a.0.text b.0 e.0.0 e.0.1 (statements ss.0), end.1)
 
 unfoldable pub branch_at : Reader ExpressionTree → Reader StatementTree → Reader BranchTree
 branch_at expr stmt ts = do
   e ← lined_at expr ts
   t ← token_at Kinds.Newline e.1
   ss ← body_at stmt t.1
-  Ok ((e.0.0, e.0.1, ss.0), ss.1)
+  Ok ((e.0.0, e.0.1, statements ss.0), ss.1)
 
 unfoldable pub elif_at : Reader ExpressionTree → Reader StatementTree → Reader BranchTree
 elif_at expr stmt ts = do
   w ← token_at Kinds.Elif ts
   branch_at expr stmt w.1
 
-unfoldable pub otherwise_at : Reader StatementTree → Reader Statements
-otherwise_at stmt ts = do
+unfoldable pub parts_at : Reader ExpressionTree → Reader StatementTree → Reader (List BranchTree)
+parts_at expr stmt ts = do
+  first ← branch_at expr stmt ts
+  others ← many_at (begins Kinds.Elif) (elif_at expr stmt) (length first.1) first.1
+  Ok (first.0 ∷ others.0, others.1)
+
+unfoldable pub last_part_at : Reader StatementTree → Reader (List StatementTree)
+last_part_at stmt ts = do
   w ← token_at Kinds.Else ts
   t ← token_at Kinds.Newline w.1
   body_at stmt t.1
 
+unfoldable pub otherwise_at : Reader StatementTree → Reader (List StatementTree)
+otherwise_at stmt ts = do
+  last ← optional_at (begins Kinds.Else) (last_part_at stmt) ts
+  Ok (unwrap_or last.0 [], last.1)
+
 unfoldable pub conditional_at : Reader ExpressionTree → Reader StatementTree → Reader StatementTree
 conditional_at expr stmt ts = do
   w ← token_at Kinds.If ts
-  first ← branch_at expr stmt w.1
-  others ← many_at (begins Kinds.Elif) (elif_at expr stmt) (length first.1) first.1
-  last ← optional_at (begins Kinds.Else) (otherwise_at stmt) others.1
-  end ← token_at Kinds.EndIf last.1
-  Ok (IfTree w.0.line (branches (first.0 ∷ others.0)) (unwrap_or last.0 NoStatement), end.1)
+  bs ← parts_at expr stmt w.1
+  ss ← otherwise_at stmt bs.1
+  end ← token_at Kinds.EndIf ss.1
+  Ok (IfTree w.0.line (branches bs.0) (statements ss.0), end.1)
 
--- the word of a block comes
+-- the word of a block
+abbrev pub opens_block : Kind → Bool
+opens_block k = is k Kinds.Foreach || is k Kinds.If
+
 abbrev pub begins_block : List Lexeme → Bool
-begins_block ts = begins Kinds.Foreach ts || begins Kinds.If ts
+begins_block [] = false
+begins_block (t ∷ ts) = opens_block t.kind
 
 unfoldable pub block_at : Bool → ℕ → Reader StatementTree
 block_at inside zero ts = or_at (begins Kinds.Foreach) (deep_at Kinds.Foreach) (deep_at Kinds.If) ts
@@ -130,3 +149,21 @@ block_at inside (suc n) ts =
 
 unfoldable pub stmt_at : Bool → ℕ → Reader StatementTree
 stmt_at inside n ts = or_at begins_block (block_at inside n) (simple_at inside n) ts
+
+-- ---- files
+
+-- [stmt]
+abbrev pub line_at : ℕ → Reader (Option StatementTree)
+line_at n = maybe_at (stmt_at false n)
+
+-- NL [stmt]
+unfoldable pub next_line_at : ℕ → Reader (Option StatementTree)
+next_line_at n ts = do
+  t ← token_at Kinds.Newline ts
+  line_at n t.1
+
+unfoldable pub file_at : ℕ → Reader FileTree
+file_at n ts = do
+  first ← line_at n ts
+  others ← many_at (begins Kinds.Newline) (next_line_at n) (length first.1) first.1
+  Ok (given (first.0 ∷ others.0), others.1)

@@ -1,13 +1,11 @@
 -- The grammar of statements, a form for each line. `inside` says whether a `foreach` of the same file is open, and the
 -- number is that of the levels that may still be opened.
 use Rattle.std.specs.Prelude.{ℕ, zero, suc, Bool, true, false, List, [], ◌∷◌, Option, Some, None, unwrap_or}
-use Rattle.std.specs.Option.{option_map}
-use Rattle.lexer.specs.Lexeme.{Lexeme}
 use Rattle.lexer.specs.declared.token.Kind.{Kind}
 use Rattle.lexer.specs.declared.token.Kind.TheVariants.{Name, Assign, PlusAssign, Newline, Comma, Colon, Break, Continue, If, Elif, Else, EndIf, Foreach, EndForeach}
-use Rattle.syntax.specs.Tree.{ExpressionTree, StatementTree, AssignTree, AppendTree, CallTree, BreakTree, ContinueTree, IfTree, ForeachTree, FileTree, Statements, NoStatement, statements, BranchTree, branches}
-use Rattle.syntax.specs.Form.{Form, token, give, ◌>>=◌, ◌or◌, never, many, optional, comma_then, lined}
-use Rattle.syntax.specs.Grammar.{expr, arguments}
+use Rattle.syntax.specs.Tree.{ExpressionTree, StatementTree, AssignTree, AppendTree, CallTree, BreakTree, ContinueTree, IfTree, ForeachTree, FileTree, statements, BranchTree, branches}
+use Rattle.syntax.specs.Form.{Form, token, give, ◌>>=◌, ◌or◌, never, many, optional, lined}
+use Rattle.syntax.specs.Expressions.{expr, arguments}
 
 -- ---- statements of one line
 
@@ -61,23 +59,30 @@ given (None ∷ os) = given os
 given (Some s ∷ os) = s ∷ given os
 
 -- body = { [stmt] NL }
-abbrev pub body : Form StatementTree → Form Statements
+abbrev pub body : Form StatementTree → Form (List StatementTree)
 body stmt = do
   lines ← many (line stmt)
-  give (statements (given lines))
+  give (given lines)
+
+-- "," NAME
+abbrev pub second : Form (List ℕ)
+second = do
+  c ← token Comma
+  t ← token Name
+  give t.text
 
 -- "foreach" NAME ["," NAME] ":" expr NL body "endforeach"
 abbrev pub foreach : Form ExpressionTree → Form StatementTree → Form StatementTree
 foreach expr stmt = do
   w ← token Foreach
   a ← token Name
-  b ← optional (comma_then (token Name))
+  b ← optional second
   c ← token Colon
   e ← lined expr
   t ← token Newline
   ss ← body stmt
   end ← token EndForeach
-  give (ForeachTree w.line a.text (option_map (λ (name : Lexeme). name.text) b) e.0 e.1 ss)
+  give (ForeachTree w.line a.text b e.0 e.1 (statements ss))
 
 -- expr NL body
 abbrev pub branch : Form ExpressionTree → Form StatementTree → Form BranchTree
@@ -85,7 +90,7 @@ branch expr stmt = do
   e ← lined expr
   t ← token Newline
   ss ← body stmt
-  give (e.0, e.1, ss)
+  give (e.0, e.1, statements ss)
 
 -- "elif" expr NL body
 abbrev pub elif : Form ExpressionTree → Form StatementTree → Form BranchTree
@@ -93,22 +98,34 @@ elif expr stmt = do
   w ← token Elif
   branch expr stmt
 
+-- expr NL body {"elif" expr NL body}
+abbrev pub parts : Form ExpressionTree → Form StatementTree → Form (List BranchTree)
+parts expr stmt = do
+  first ← branch expr stmt
+  others ← many (elif expr stmt)
+  give (first ∷ others)
+
 -- "else" NL body
-abbrev pub otherwise : Form StatementTree → Form Statements
-otherwise stmt = do
+abbrev pub last_part : Form StatementTree → Form (List StatementTree)
+last_part stmt = do
   w ← token Else
   t ← token Newline
   body stmt
+
+-- ["else" NL body]
+abbrev pub otherwise : Form StatementTree → Form (List StatementTree)
+otherwise stmt = do
+  last ← optional (last_part stmt)
+  give (unwrap_or last [])
 
 -- "if" expr NL body {"elif" expr NL body} ["else" NL body] "endif"
 abbrev pub conditional : Form ExpressionTree → Form StatementTree → Form StatementTree
 conditional expr stmt = do
   w ← token If
-  first ← branch expr stmt
-  others ← many (elif expr stmt)
-  last ← optional (otherwise stmt)
+  bs ← parts expr stmt
+  ss ← otherwise stmt
   end ← token EndIf
-  give (IfTree w.line (branches (first ∷ others)) (unwrap_or last NoStatement))
+  give (IfTree w.line (branches bs) (statements ss))
 
 -- What opens a level, at its word; the condition of an `if` and the list of a `foreach` stand inside.
 unfoldable pub block : Bool → ℕ → Form StatementTree

@@ -29,9 +29,11 @@ mutual
     IfTree : ℕ → Branches → Statements → StatementTree
     -- the line, the first name, the second, the list and its line, and the statements of a round
     ForeachTree : ℕ → List ℕ → Option (List ℕ) → ExpressionTree → ℕ → Statements → StatementTree
+
   pub data Statements : Type 0 where
     NoStatement : Statements
     MoreStatements : StatementTree → Statements → Statements
+
   -- parts of an `if`: a condition, its line, and the statements behind it
   pub data Branches : Type 0 where
     NoBranch : Branches

@@ -2,16 +2,20 @@
 
 ghost use Rattle.std.specs.Prelude.{◌≡◌, ℕ, ◌+◌, ◌-◌, ◌<◌, ◌≤◌, length, map, OnOk, [], ◌∷◌, List, IfOk, MatchResult};
 ghost use Rattle.std.specs.Option.{option_map};
-ghost use Rattle.syntax.specs.Grammar.{most_levels, unquoted};
+ghost use Rattle.syntax.specs.Grammar.{most_levels};
 ghost use Rattle.lexer.specs.Kinds.{is};
 ghost use Rattle.lexer.specs.Lexeme.{Lexeme, lexeme_of, lexemes};
 ghost use Rattle.lexer.specs.Answers.{Answers};
 ghost use Rattle.syntax.specs.Parsed.{HasFault, Spells, line_of, located, parsed};
-ghost use Rattle.syntax.specs.Reading.{Gives, GivesAll, all_of, arguments_at, assign_at, begins, call_at, expr_at, file_at, group_at, items_of, tokens_left, line_at, name_at, stmt_at, text_at, token_at, two_begin};
-ghost use Rattle.syntax.specs.Tree.{FileTree, expression_of, file_of, statement_of};
+ghost use Rattle.syntax.specs.Reading.{Gives, GivesAll, all_of, begins, tokens_left, token_at};
+ghost use Rattle.syntax.specs.ReadingStatements.{file_at, next_line_at};
+ghost use Rattle.syntax.specs.Tree.{FileTree, file_of, statement_of};
+
+mod expression;
+mod statement;
 
 use crate::stop::{ReadError, Stop};
-use crate::tree::{Expression, File, Statement};
+use crate::tree::{File, Statement};
 use lexer::fault::{FaultKind, SyntaxError, SyntaxFault};
 use lexer::token::{Kind, Token};
 use lexer::{newlines, tokens};
@@ -19,19 +23,6 @@ use std::alloc::Global;
 
 /// How many levels may be open: brackets, blocks and prefix operators, one inside another.
 pub const LEVELS: u32 = 64;
-
-// What stands between the quotes of a string.
-fn unquoted(text: &str) -> &str
-    ensures { result.now ≡ unquoted text.now }
-{
-    let bytes = text.as_bytes();
-    let length = bytes.len();
-    if length >= 2 && bytes[0] == b'\'' && bytes[length - 1] == b'\'' {
-        &text[1..length - 1]
-    } else {
-        text
-    }
-}
 
 // The tokens that are still to be read.
 #[derive(Drop)]
@@ -72,163 +63,14 @@ impl<'t, 'a> Parser<'t, 'a> {
         ReadError::Stop(Stop::Unexpected(self.rest.len()))
     }
 
-    #[tactic(auto, unfolding(crate::specs::Reading::name_at))]
-    fn name(&mut self) -> Result<Expression<'a>, ReadError>
-        ensures read { Gives expression_of result (lexemes self.new.rest.now) (name_at (lexemes self.old.rest.now)) }
+    // A newline, and the statement of the line behind it, if there is one.
+    #[tactic(auto, unfolding(crate::specs::ReadingStatements::next_line_at))]
+    fn next_line(&mut self, alloc: Global, levels: u32) -> Result<Option<Statement<'a>>, ReadError>
+        ensures read { Gives (option_map statement_of) result (lexemes self.new.rest.now) (next_line_at levels (lexemes self.old.rest.now)) }
         ensures shorter { OnOk result (length self.new.rest.now < length self.old.rest.now) }
     {
-        let token = self.take(Kind::Name)?;
-        Ok(Expression::Name {
-            name: token.text,
-            line: token.line,
-        })
-    }
-
-    // The text of a string.
-    #[tactic(auto, unfolding(crate::specs::Reading::text_at))]
-    fn text(&mut self) -> Result<Expression<'a>, ReadError>
-        ensures read { Gives expression_of result (lexemes self.new.rest.now) (text_at (lexemes self.old.rest.now)) }
-        ensures shorter { OnOk result (length self.new.rest.now < length self.old.rest.now) }
-    {
-        let token = self.take(Kind::String)?;
-        Ok(Expression::Text {
-            text: unquoted(token.text),
-            line: token.line,
-        })
-    }
-
-    // An expression, where so many levels may still be opened.
-    #[cycle(expression)]
-    #[tactic(auto, using(crate::proofs::Tails::expr_name, crate::proofs::Tails::expr_text, crate::proofs::Tails::expr_group, crate::proofs::Tails::expr_deep, crate::proofs::Tails::expr_unexpected, crate::proofs::Tails::fails_at))]
-    fn expression(&mut self, levels: u32) -> Result<Expression<'a>, ReadError>
-        ensures read { Gives expression_of result (lexemes self.new.rest.now) (expr_at levels (lexemes self.old.rest.now)) }
-        ensures shorter { OnOk result (length self.new.rest.now < length self.old.rest.now) }
-    {
-        if self.begins(Kind::Name) {
-            self.name()
-        } else if self.begins(Kind::String) {
-            self.text()
-        } else if levels > 0 {
-            self.group(levels - 1)
-        } else if self.begins(Kind::OpenParenthesis) {
-            Err(ReadError::Stop(Stop::TooDeep(self.rest.len())))
-        } else {
-            Err(self.unexpected())
-        }
-    }
-
-    // An expression in parentheses.
-    #[cycle(expression)]
-    #[tactic(auto, unfolding(crate::specs::Reading::group_at))]
-    fn group(&mut self, levels: u32) -> Result<Expression<'a>, ReadError>
-        ensures read { Gives expression_of result (lexemes self.new.rest.now) (group_at (expr_at levels) (lexemes self.old.rest.now)) }
-        ensures shorter { OnOk result (length self.new.rest.now < length self.old.rest.now) }
-    {
-        self.take(Kind::OpenParenthesis)?;
-        let inner = self.expression(levels)?;
-        self.take(Kind::CloseParenthesis)?;
-        Ok(inner)
-    }
-
-    // The expressions up to a closing parenthesis, with commas between them and perhaps after the last.
-    fn items(&mut self, alloc: Global, levels: u32) -> Result<Vec<Expression<'a>>, ReadError>
-        ensures read { Gives (λ v. map expression_of v.items) result (lexemes self.new.rest.now) (items_of levels (lexemes self.old.rest.now)) }
-        ensures shorter { OnOk result (length self.new.rest.now ≤ length self.old.rest.now) }
-    {
-        let mut items = Vec::new(alloc);
-        while !self.begins(Kind::CloseParenthesis) {
-            items.push(self.expression(levels)?)?;
-            if !self.begins(Kind::Comma) {
-                return Ok(items);
-            }
-            self.take(Kind::Comma)?;
-        }
-        Ok(items)
-    }
-
-    // The arguments of a call, in their parentheses.
-    #[tactic(auto, using(crate::proofs::Tails::arguments_group, crate::proofs::Tails::arguments_deep, crate::proofs::Tails::arguments_unexpected, crate::proofs::Tails::fails_at), unfolding(crate::specs::Reading::group_at))]
-    fn arguments(&mut self, alloc: Global, levels: u32) -> Result<Vec<Expression<'a>>, ReadError>
-        ensures read { Gives (λ v. map expression_of v.items) result (lexemes self.new.rest.now) (arguments_at levels (lexemes self.old.rest.now)) }
-        ensures shorter { OnOk result (length self.new.rest.now < length self.old.rest.now) }
-    {
-        if levels > 0 {
-            self.take(Kind::OpenParenthesis)?;
-            let items = self.items(alloc, levels - 1)?;
-            self.take(Kind::CloseParenthesis)?;
-            Ok(items)
-        } else if self.begins(Kind::OpenParenthesis) {
-            Err(ReadError::Stop(Stop::TooDeep(self.rest.len())))
-        } else {
-            Err(self.unexpected())
-        }
-    }
-
-    // An assignment.
-    #[tactic(auto, unfolding(crate::specs::Reading::assign_at))]
-    fn assign(&mut self, levels: u32) -> Result<Statement<'a>, ReadError>
-        ensures read { Gives statement_of result (lexemes self.new.rest.now) (assign_at levels (lexemes self.old.rest.now)) }
-        ensures shorter { OnOk result (length self.new.rest.now < length self.old.rest.now) }
-    {
-        let name = self.take(Kind::Name)?;
-        self.take(Kind::Assign)?;
-        let value = self.expression(levels)?;
-        Ok(Statement::Assign {
-            name: name.text,
-            line: name.line,
-            value,
-        })
-    }
-
-    // A call.
-    #[tactic(auto, unfolding(crate::specs::Reading::call_at))]
-    fn call(&mut self, alloc: Global, levels: u32) -> Result<Statement<'a>, ReadError>
-        ensures read { Gives statement_of result (lexemes self.new.rest.now) (call_at levels (lexemes self.old.rest.now)) }
-        ensures shorter { OnOk result (length self.new.rest.now < length self.old.rest.now) }
-    {
-        let name = self.take(Kind::Name)?;
-        let arguments = self.arguments(alloc, levels)?;
-        Ok(Statement::Call {
-            name: name.text,
-            line: name.line,
-            arguments,
-        })
-    }
-
-    // Whether an assignment comes.
-    fn begins_assign(&self) -> bool
-        ensures { result ≡ two_begin Kind.Name Kind.Assign (lexemes self.now.rest.now) }
-    {
-        match self.rest {
-            [first, second, ..] => first.is(Kind::Name) && second.is(Kind::Assign),
-            _ => false,
-        }
-    }
-
-    // A statement.
-    #[tactic(auto, using(crate::proofs::Tails::stmt_assign, crate::proofs::Tails::stmt_call))]
-    fn statement(&mut self, alloc: Global, levels: u32) -> Result<Statement<'a>, ReadError>
-        ensures read { Gives statement_of result (lexemes self.new.rest.now) (stmt_at levels (lexemes self.old.rest.now)) }
-        ensures shorter { OnOk result (length self.new.rest.now < length self.old.rest.now) }
-    {
-        if self.begins_assign() {
-            self.assign(levels)
-        } else {
-            self.call(alloc, levels)
-        }
-    }
-
-    // The statement of a line, if there is one.
-    #[tactic(auto, using(crate::proofs::Tails::line_some, crate::proofs::Tails::line_none, crate::proofs::Tails::line_fails))]
-    fn line(&mut self, alloc: Global, levels: u32) -> Result<Option<Statement<'a>>, ReadError>
-        ensures read { Gives (option_map statement_of) result (lexemes self.new.rest.now) (line_at levels (lexemes self.old.rest.now)) }
-        ensures shorter { OnOk result (length self.new.rest.now ≤ length self.old.rest.now) }
-    {
-        if self.begins(Kind::Name) {
-            Ok(Some(self.statement(alloc, levels)?))
-        } else {
-            Ok(None)
-        }
+        self.take(Kind::Newline)?;
+        self.line(alloc, false, levels)
     }
 
     // The statements of the lines.
@@ -236,12 +78,11 @@ impl<'t, 'a> Parser<'t, 'a> {
         ensures read { Gives (λ v. map statement_of v.items) result (lexemes self.new.rest.now) (file_at levels (lexemes self.old.rest.now)) }
     {
         let mut statements = Vec::new(alloc);
-        if let Some(first) = self.line(alloc, levels)? {
+        if let Some(first) = self.line(alloc, false, levels)? {
             statements.push(first)?;
         }
         while self.begins(Kind::Newline) {
-            self.take(Kind::Newline)?;
-            if let Some(next) = self.line(alloc, levels)? {
+            if let Some(next) = self.next_line(alloc, levels)? {
                 statements.push(next)?;
             }
         }

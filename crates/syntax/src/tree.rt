@@ -29,9 +29,13 @@ pub enum Statement<'a> {
         arguments: Vec<Expression<'a>>,
     },
     /// `break`, in the body of a `foreach`.
-    Break { line: usize },
+    Break {
+        line: usize,
+    },
     /// `continue`, in the body of a `foreach`.
-    Continue { line: usize },
+    Continue {
+        line: usize,
+    },
     /// `if`, with a part for each `elif`, up to `endif`.
     If {
         line: usize,

@@ -7,7 +7,8 @@ use Rattle.syntax.specs.Grammar.{most_levels}
 use Rattle.lexer.specs.Lexeme.{lexemes}
 use Rattle.lexer.specs.Answers.{Answers}
 use Rattle.syntax.specs.Parsed.{located, parsed}
-use Rattle.syntax.specs.Reading.{all_of, file_at, tokens_left}
+use Rattle.syntax.specs.Reading.{all_of, tokens_left}
+use Rattle.syntax.specs.ReadingStatements.{file_at}
 use Rattle.syntax.specs.Tree.{file_of}
 use Rattle.syntax.proofs.Parses.{complete_all, no_tokens, only_all, read_all, refused_all, spelled_all, stop_is, stop_within, stopped}
 use Rattle.syntax.proofs.parser.parse.Goals as goal

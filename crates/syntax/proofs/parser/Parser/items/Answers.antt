@@ -3,9 +3,10 @@ use Rattle.std.proofs.lemmas.Result.{err_from_is_err_and}
 use Rattle.std.proofs.lemmas.List.{map_push}
 use Rattle.syntax.specs.declared.tree.Expression.{Expression}
 use Rattle.lexer.specs.Lexeme.{lexeme_of, lexemes}
-use Rattle.syntax.specs.Reading.{items_of}
+use Rattle.syntax.specs.ReadingExpressions.{items_of}
 use Rattle.syntax.specs.Tree.{expression_of}
-use Rattle.syntax.proofs.Tails.{StillItems, items_first, items_closed, items_fails, items_last, items_more, items_comma_fails, length_lexemes}
+use Rattle.syntax.proofs.ExpressionTails.{StillItems, items_first, items_closed, items_fails, items_last, items_more, items_comma_fails}
+use Rattle.syntax.proofs.Tails.{length_lexemes}
 use Rattle.syntax.proofs.parser.Parser.items.Goals as goal
 
 pub loop-items-init : goal.loop-items-init

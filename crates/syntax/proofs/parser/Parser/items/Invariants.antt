@@ -1,8 +1,8 @@
 use Rattle.std.proofs.Common.{length, map, ◌≤◌}
 use Rattle.lexer.specs.Lexeme.{lexemes}
-use Rattle.syntax.specs.Reading.{items_of}
+use Rattle.syntax.specs.ReadingExpressions.{items_of}
 use Rattle.syntax.specs.Tree.{expression_of}
-use Rattle.syntax.proofs.Tails.{StillItems}
+use Rattle.syntax.proofs.ExpressionTails.{StillItems}
 use Rattle.syntax.proofs.parser.Parser.items.Given as goal
 
 abbrev pub invariant-loop-items : goal.invariant-loop-items

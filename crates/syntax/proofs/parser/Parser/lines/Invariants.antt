@@ -1,8 +1,8 @@
 use Rattle.std.proofs.Common.{length, map}
 use Rattle.lexer.specs.Lexeme.{lexemes}
-use Rattle.syntax.specs.Reading.{file_at}
+use Rattle.syntax.specs.ReadingStatements.{file_at}
 use Rattle.syntax.specs.Tree.{statement_of}
-use Rattle.syntax.proofs.Tails.{StillLines}
+use Rattle.syntax.proofs.StatementTails.{StillLines}
 use Rattle.syntax.proofs.parser.Parser.lines.Given as goal
 
 abbrev pub invariant-loop-alloc : goal.invariant-loop-alloc

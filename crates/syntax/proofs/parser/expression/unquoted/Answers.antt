@@ -1,7 +1,7 @@
 use Rattle.std.proofs.Common.{arith, subst, List, ℕ}
 use Rattle.std.specs.Str.{IsCharBoundary}
 use Rattle.std.proofs.lemmas.Str.{IsCharBoundary-after_ascii}
-use Rattle.syntax.proofs.parser.unquoted.Goals as goal
+use Rattle.syntax.proofs.parser.expression.unquoted.Goals as goal
 
 pub range-requires-clause-start_boundary : goal.range-requires-clause-start_boundary
 range-requires-clause-start_boundary c = λ lt.
