@@ -9,6 +9,7 @@ use Rattle.syntax.specs.Expressions.{name, text, unquoted, nested, expr, argumen
 use Rattle.lexer.specs.Kinds.{is}
 use Rattle.syntax.specs.Reading.{Reader, begins, or_at, token_at}
 use Rattle.syntax.specs.ReadingExpressions.{arguments_at, expr_at, items_of, name_at, nested_at, text_at}
+use Rattle.syntax.proofs.Binding.{AfterExpression}
 use Rattle.syntax.proofs.Laws.{give_at}
 use Rattle.syntax.proofs.Line.{Line, Any, line-token, line-give, line-then, line-choice, line-deep, line-group, line-stops, starts-group}
 use Rattle.syntax.proofs.Lists.{line-listed}
@@ -75,9 +76,12 @@ line-nested (suc n) =
     (line-stops (name or (text or nested n)) (name or (text or nested (suc n))) (or_at (begins Kinds.Name) name_at (or_at (begins Kinds.String) text_at (nested_at n))) (or_at (begins Kinds.Name) name_at (or_at (begins Kinds.String) text_at (nested_at (suc n)))) Any Any 1 0 (λ ts st. st) (omega arith)
     (line-atoms (nested n) (nested (suc n)) (nested_at n) (nested_at (suc n)) (starts-nested n) (line-nested n))) (λ ts b. tt)
 
-pub line-expr : (n : ℕ) → Line (expr n) (expr (suc n)) (expr_at n) (expr_at (suc n)) Any 1
+any-expr : (n : ℕ) → Line (expr n) (expr (suc n)) (expr_at n) (expr_at (suc n)) Any 1
 unfolding expr_at
-line-expr n = line-atoms (nested n) (nested (suc n)) (nested_at n) (nested_at (suc n)) (starts-nested n) (line-nested n)
+any-expr n = line-atoms (nested n) (nested (suc n)) (nested_at n) (nested_at (suc n)) (starts-nested n) (line-nested n)
+
+pub line-expr : (n : ℕ) → Line (expr n) (expr (suc n)) (expr_at n) (expr_at (suc n)) AfterExpression 1
+line-expr n = line-stops (expr n) (expr (suc n)) (expr_at n) (expr_at (suc n)) Any AfterExpression 1 1 (λ ts st. tt) (omega arith) (any-expr n)
 
 -- ---- arguments
 
@@ -86,7 +90,7 @@ Closes ts = begins Kinds.CloseParenthesis ts ≡ true
 
 line-items : (n : ℕ) → Line (listed (expr n)) (listed (expr (suc n))) (items_of n) (items_of (suc n)) Closes 0
 unfolding items_of
-line-items n = line-listed Kinds.CloseParenthesis opens_expr (expr n) (expr (suc n)) (expr_at n) (expr_at (suc n)) refl refl (starts-expr n) (line-expr n)
+line-items n = line-listed Kinds.CloseParenthesis opens_expr (expr n) (expr (suc n)) (expr_at n) (expr_at (suc n)) refl refl (starts-expr n) (any-expr n)
 
 pub line-arguments : (n : ℕ) → Line (arguments n) (arguments (suc n)) (arguments_at n) (arguments_at (suc n)) Any 1
 unfolding arguments arguments_at

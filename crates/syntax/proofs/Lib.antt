@@ -1,3 +1,4 @@
+pub mod Binding
 pub mod Blocks
 pub mod Chain
 pub mod Ends
@@ -10,6 +11,7 @@ pub mod Listed
 pub mod Lists
 pub mod Literal
 pub mod Loops
+pub mod Named
 pub mod Numbers
 pub mod Parses
 pub mod Raises

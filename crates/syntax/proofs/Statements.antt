@@ -1,5 +1,5 @@
 -- The lines of the grammar of statements.
-use Rattle.std.proofs.Common.{◌≡◌, ℕ, suc, Bool, true, false, cond, List, ◌∷◌, refl, sym, ap, subst, ◌∙◌, inl, inr, arith}
+use Rattle.std.proofs.Common.{lit≤, ◌≡◌, ℕ, suc, Bool, true, false, cond, List, ◌∷◌, refl, sym, ap, subst, ◌∙◌, inl, inr, arith, []}
 use Rattle.lexer.specs.Lexeme.{Lexeme}
 use Rattle.lexer.specs.Kinds.{is}
 use Rattle.lexer.specs.declared.token.Kind.{Kind}
@@ -11,9 +11,10 @@ use Rattle.syntax.specs.Statements.{assign, append, call, leave, simple}
 use Rattle.syntax.specs.Reading.{Reader, begins, or_at, two_begin}
 use Rattle.syntax.specs.ReadingExpressions.{arguments_at, expr_at}
 use Rattle.syntax.specs.ReadingStatements.{set_at, call_at, leave_at, simple_at, ends_line}
+use Rattle.syntax.proofs.Binding.{AfterExpression, after_kind}
 use Rattle.syntax.proofs.Chain.{then_line, at_kind, weaken, give_line, line-or, line-apart, line-none}
 use Rattle.syntax.proofs.Expressions.{opens_group, line-arguments, line-expr, starts-arguments}
-use Rattle.syntax.proofs.Line.{Line, Any, line-token, begun_token, begins_token}
+use Rattle.syntax.proofs.Line.{Line, line-token, begun_token, begins_token}
 use Rattle.syntax.proofs.Starts.{Starts, head_is, begins-head, starts-bind, starts-never, starts-or, starts-token}
 use Rattle.syntax.proofs.Words.{cond_true, not_in, newline_head, name_sign, AfterName, after-name, after-name-or}
 
@@ -29,12 +30,9 @@ at_newline ts h = newline_head ts (begins-head Kinds.Newline ts ∙ h)
 
 -- ---- expressions
 
--- where an expression may end
-abbrev pub AfterExpr : List Lexeme → Type 0
-AfterExpr = Any
-
-pub ended_expr : (ts : List Lexeme) → AtLineEnd ts → AfterExpr ts
-ended_expr ts st = tt
+pub ended_expr : (ts : List Lexeme) → AtLineEnd ts → AfterExpression ts
+ended_expr [] st = lit≤ tt
+ended_expr (t ∷ ts) st = after_kind Kinds.Newline 7 (t ∷ ts) (lit≤ tt) st
 
 -- ---- a name, a sign and an expression
 
