@@ -1,87 +1,255 @@
 -- The lines of the grammar of expressions.
-use Rattle.std.proofs.Common.{◌≡◌, ℕ, zero, suc, Bool, true, false, cond, List, refl, ap, ◌∙◌, arith}
+use Rattle.std.proofs.Common.{◌≡◌, ℕ, zero, suc, ◌+◌, ◌≤◌, ◌<◌, Bool, true, false, cond, List, Option, Some, None, refl, ap, ◌∙◌, inl, inr, lit≤, arith}
+use Rattle.std.specs.Option.{option_to_list}
 use Rattle.lexer.specs.Lexeme.{Lexeme}
+use Rattle.lexer.specs.Kinds.{is}
 use Rattle.lexer.specs.declared.token.Kind.{Kind}
 use Rattle.lexer.specs.declared.token.Kind.TheVariants as Kinds
-use Rattle.syntax.specs.Tree.{ExpressionTree, NameTree, TextTree}
-use Rattle.syntax.specs.Form.{Form, token, give, listed, ◌or◌}
-use Rattle.syntax.specs.Expressions.{name, text, unquoted, nested, expr, arguments}
-use Rattle.lexer.specs.Kinds.{is}
-use Rattle.syntax.specs.Reading.{Reader, begins, or_at, token_at}
-use Rattle.syntax.specs.ReadingExpressions.{arguments_at, expr_at, items_of, name_at, nested_at, text_at}
-use Rattle.syntax.proofs.Binding.{AfterExpression}
-use Rattle.syntax.proofs.Laws.{give_at}
-use Rattle.syntax.proofs.Line.{Line, Any, line-token, line-give, line-then, line-choice, line-deep, line-group, line-stops, starts-group}
+use Rattle.syntax.specs.declared.tree.Operator.{Operator}
+use Rattle.syntax.specs.declared.tree.Operator.TheVariants as operators
+use Rattle.syntax.specs.ExpressionTree.{ExpressionTree, NameTree, LiteralTree}
+use Rattle.syntax.specs.Form.{Form, token, give, listed, ◌>>=◌, ◌or◌}
+use Rattle.syntax.specs.Parts.{Inner, Closed, Inside, here, here_at, opened, opened_at, stands_for, token_as, token_as_at}
+use Rattle.syntax.specs.Expressions.{additive, comparative, conjunctive, disjunctive, literal_of, multiplicative, chain_tree, choice_tree, product, sum, comparison, conjunction, disjunction, compared, comparison_operator, not_in, branches, choice, name, literal, group, atom, unary, expr, arguments}
+use Rattle.syntax.specs.Reading.{Reader, begins, token_at}
+use Rattle.syntax.specs.ReadingExpressions.{arguments_at, arguments_in, asks, atom_at, branches_at, choice_at, compared_at, compares, comparison_at, comparison_operator_at, conjunction_at, disjunction_at, expr_at, group_at, items_of, literal_at, name_at, not_in_at, plain_comparison_at, product_at, sum_at, unary_at}
+use Rattle.syntax.proofs.Binding.{After, AfterExpression, after_kind, binding}
+use Rattle.syntax.proofs.Chains.{line-either, line-map, line-then-optional}
+use Rattle.syntax.proofs.Laws.{bind_at, give_at}
+use Rattle.syntax.proofs.Line.{Line, Any, line-token, line-give, line-then, line-choice, line-bind, line-stops, begins_token, begun_token}
 use Rattle.syntax.proofs.Lists.{line-listed}
 use Rattle.syntax.proofs.Numbers.{is-true}
-use Rattle.syntax.proofs.Starts.{Starts, starts-bind, starts-never, starts-or, starts-token}
+use Rattle.syntax.proofs.Operators.{after_less, head_binds, head_ends, line-chain, rank-additive, rank-conjunctive, rank-disjunctive, rank-multiplicative}
+use Rattle.syntax.proofs.Starts.{Starts, begins-head, starts-bind, starts-or, starts-never, starts-token}
+use Rattle.syntax.proofs.Steps.{IsInside, line-as, line-deep, line-here, line-opened, starts-as, starts-here, starts-opened}
 
--- ---- expressions
+-- ---- comparisons
+
+compares_ends : (k : Kind) → 4 < binding k → compares k ≡ false
+compares_ends Kinds.Equal lt = absurd (omega arith)
+compares_ends Kinds.NotEqual lt = absurd (omega arith)
+compares_ends Kinds.Less lt = absurd (omega arith)
+compares_ends Kinds.LessOrEqual lt = absurd (omega arith)
+compares_ends Kinds.Greater lt = absurd (omega arith)
+compares_ends Kinds.GreaterOrEqual lt = absurd (omega arith)
+compares_ends Kinds.In lt = absurd (omega arith)
+compares_ends Kinds.Not lt = absurd (omega arith)
+compares_ends _ lt = refl
+
+compares_binds : (k : Kind) → compares k ≡ true → 4 ≤ binding k
+compares_binds Kinds.Equal e = lit≤ tt
+compares_binds Kinds.NotEqual e = lit≤ tt
+compares_binds Kinds.Less e = lit≤ tt
+compares_binds Kinds.LessOrEqual e = lit≤ tt
+compares_binds Kinds.Greater e = lit≤ tt
+compares_binds Kinds.GreaterOrEqual e = lit≤ tt
+compares_binds Kinds.In e = lit≤ tt
+compares_binds Kinds.Not e = lit≤ tt
+compares_binds _ e = absurd cc
+
+plain_compares : (k : Kind) → stands_for comparative k ≡ true → compares k ≡ true
+plain_compares Kinds.Not e = refl
+plain_compares k e = e
+
+kind_is : (q : Kind → Bool) (k : Kind) (b : Bool) → q k ≡ b → (l : Kind) → is l k ≡ true → q l ≡ b
+kind_is q k b e l h = ap q (is-true l k h) ∙ e
+
+abbrev is_not : Kind → Bool
+is_not l = is l Kinds.Not
+
+abbrev plain_comparison : Form Operator
+plain_comparison = token_as comparative >>= λ o. give o.0
+
+line-plain-comparison : Line plain_comparison plain_comparison plain_comparison_at plain_comparison_at Any 1
+unfolding plain_comparison_at
+line-plain-comparison = line-map (token_as comparative) (token_as comparative) (λ o. o.0) (token_as_at comparative) (token_as_at comparative) Any 1 (line-as comparative)
+
+line-not-in : Line not_in not_in not_in_at not_in_at Any 1
+unfolding not_in_at
+line-not-in = line-then (token Kinds.Not) (token Kinds.Not) (λ n. token Kinds.In >>= λ i. give operators.NotIn) (λ n. token Kinds.In >>= λ i. give operators.NotIn) (token_at Kinds.Not) (token_at Kinds.Not) (λ n. bind_at (token_at Kinds.In) (λ i. give_at operators.NotIn)) (λ n. bind_at (token_at Kinds.In) (λ i. give_at operators.NotIn)) Any 1 0
+    (line-token Kinds.Not) (λ n. line-stops _ _ _ _ Any Any 1 0 (λ ts st. st) (omega arith) (line-map (token Kinds.In) (token Kinds.In) (λ i. operators.NotIn) (token_at Kinds.In) (token_at Kinds.In) Any 1 (line-token Kinds.In)))
+
+starts-plain : Starts plain_comparison (stands_for comparative)
+starts-plain = starts-bind (token_as comparative) _ (stands_for comparative) (starts-as comparative)
+
+starts-not-in : Starts not_in is_not
+starts-not-in = starts-bind (token Kinds.Not) _ is_not (starts-token Kinds.Not)
+
+line-comparison-operator : Line comparison_operator comparison_operator comparison_operator_at comparison_operator_at Any 1
+unfolding comparison_operator_at
+line-comparison-operator = line-either (stands_for comparative) is_not plain_comparison plain_comparison not_in not_in plain_comparison_at plain_comparison_at not_in_at not_in_at Any 1 starts-plain starts-not-in
+    (kind_is (stands_for comparative) Kinds.Not false refl) line-plain-comparison line-not-in
+
+starts-comparison-operator : Starts comparison_operator compares
+starts-comparison-operator = starts-or plain_comparison not_in (stands_for comparative) is_not compares starts-plain starts-not-in plain_compares (kind_is compares Kinds.Not true refl)
+
+-- ---- the lines over the unary expressions
+
+module _ (F F' : Form ExpressionTree) (r r' : Reader ExpressionTree) (u : Line F F' r r' (After 1) 1) where
+  line-product : Line (product F) (product F') (product_at r) (product_at r') (After 2) 1
+  unfolding product_at
+  line-product = line-chain multiplicative 2 1 rank-multiplicative (lit≤ tt) F F' r r' u
+
+  line-sum : Line (sum F) (sum F') (sum_at r) (sum_at r') (After 3) 1
+  unfolding sum_at
+  line-sum = line-chain additive 3 2 rank-additive (lit≤ tt) (product F) (product F') (product_at r) (product_at r') line-product
+
+  line-compared : Line (compared (sum F)) (compared (sum F')) (compared_at (sum_at r)) (compared_at (sum_at r')) (After 3) 1
+  unfolding compared_at
+  line-compared =
+      line-stops _ _ _ _ (After 3) (After 3) 2 1 (λ ts st. st) (omega arith)
+      (line-then comparison_operator comparison_operator (λ o. sum F >>= λ e. give (o, e)) (λ o. sum F' >>= λ e. give (o, e)) comparison_operator_at comparison_operator_at (λ o. bind_at (sum_at r) (λ e. give_at (o, e))) (λ o. bind_at (sum_at r') (λ e. give_at (o, e))) (After 3) 1 1 line-comparison-operator
+      (λ o. line-map (sum F) (sum F') (λ e. (o, e)) (sum_at r) (sum_at r') (After 3) 1 line-sum))
+
+  line-comparison : Line (comparison F) (comparison F') (comparison_at r) (comparison_at r') (After 4) 1
+  unfolding comparison_at
+  line-comparison =
+      line-stops _ _ _ _ (After 4) (After 4) (0 + 1) 1 (λ ts st. st) (omega arith)
+      (line-then here here _ _ here_at here_at _ _ (After 4) 0 1 line-here
+      (λ line. line-then-optional (compared (sum F)) (compared (sum F')) (compared_at (sum_at r)) (compared_at (sum_at r')) compares (After 3)
+      (starts-bind comparison_operator _ compares starts-comparison-operator) line-compared (sum F) (sum F') (sum_at r) (sum_at r') (After 3) (After 4) line-sum
+      (λ ts h. let a = head_binds compares 3 (λ k e. compares_binds k e) ts h in (a, a))
+      (λ ts st. (head_ends compares 4 compares_ends ts st, after_less 4 3 (lit≤ tt) ts st, after_less 4 3 (lit≤ tt) ts st))
+      (λ first o. chain_tree line first (option_to_list o))))
+
+  line-conjunction : Line (conjunction F) (conjunction F') (conjunction_at r) (conjunction_at r') (After 5) 1
+  unfolding conjunction_at
+  line-conjunction = line-chain conjunctive 5 4 rank-conjunctive (lit≤ tt) (comparison F) (comparison F') (comparison_at r) (comparison_at r') line-comparison
+
+  line-disjunction : Line (disjunction F) (disjunction F') (disjunction_at r) (disjunction_at r') (After 6) 1
+  unfolding disjunction_at
+  line-disjunction = line-chain disjunctive 6 5 rank-disjunctive (lit≤ tt) (conjunction F) (conjunction F') (conjunction_at r) (conjunction_at r') line-conjunction
+
+starts-disjunction : (F : Form ExpressionTree) (p : Kind → Bool) → Starts F p → Starts (disjunction F) p
+starts-disjunction F p s =
+    starts-here _ p (λ l. starts-bind (conjunction F) _ p (starts-here _ p (λ l. starts-bind (comparison F) _ p (starts-here _ p (λ l. starts-bind (sum F) _ p (starts-here _ p (λ l. starts-bind (product F) _ p (starts-here _ p (λ l. starts-bind F _ p s)))))))))
+
+-- ---- choices
+
+-- a part that ends where a token of this kind comes
+line-before : {A B : Type 0} (k : Kind) (rank : ℕ) (F F' : Form A) (G G' : A → Lexeme → Form B) (r r' : Reader A) (s s' : A → Lexeme → Reader B) (StopsG : List Lexeme → Type 0) → rank < binding k → Line F F' r r' (After rank) 1
+    → ((a : A) (t : Lexeme) → Line (G a t) (G' a t) (s a t) (s' a t) StopsG 0)
+    → Line (F >>= λ a. token k >>= G a) (F' >>= λ a. token k >>= G' a) (bind_at r (λ a. bind_at (token_at k) (s a))) (bind_at r' (λ a. bind_at (token_at k) (s' a))) StopsG 1
+line-before k rank F F' G G' r r' s s' StopsG lt f g =
+    line-stops _ _ _ _ StopsG StopsG 2 1 (λ ts st. st) (omega arith)
+    (line-bind F F' (λ a. token k >>= G a) (λ a. token k >>= G' a) r r' (λ a. bind_at (token_at k) (s a)) (λ a. bind_at (token_at k) (s' a)) (After rank) StopsG 1 1 f
+    (λ a. line-then (token k) (token k) (G a) (G' a) (token_at k) (token_at k) (s a) (s' a) StopsG 1 0 (line-token k) (g a))
+    (λ a b ts rest h st. after_kind k rank ts lt (begins_token k (G a) b ts rest h))
+    (λ a ts more h. elim (begun_token k (G a) ts more h) [ inl same ↦ inl same | inr head ↦ inr (after_kind k rank ts lt head) ]))
+
+module _ (P P' : Form ExpressionTree) (q q' : Reader ExpressionTree) (part : Line P P' q q' (After 6) 1) where
+  line-branches : Line (branches P) (branches P') (branches_at q) (branches_at q') (After 6) 1
+  unfolding branches_at
+  line-branches =
+      line-stops _ _ _ _ (After 6) (After 6) 2 1 (λ ts st. st) (omega arith)
+      (line-then (token Kinds.Question) (token Kinds.Question) _ _ (token_at Kinds.Question) (token_at Kinds.Question) _ _ (After 6) 1 1 (line-token Kinds.Question)
+      (λ t. line-before Kinds.Colon 6 P P' (λ one c. P >>= λ other. give (one, other)) (λ one c. P' >>= λ other. give (one, other)) q q' (λ one c. bind_at q (λ other. give_at (one, other))) (λ one c. bind_at q' (λ other. give_at (one, other))) (After 6) (lit≤ tt) part
+      (λ one c. line-stops _ _ _ _ (After 6) (After 6) 1 0 (λ ts st. st) (omega arith) (line-map P P' (λ other. (one, other)) q q' (After 6) 1 part))))
+
+asks_ends : (k : Kind) → 7 < binding k → asks k ≡ false
+asks_ends Kinds.Question lt = absurd (omega arith)
+asks_ends _ lt = refl
+
+module _ (U U' : Bool → Form ExpressionTree) (v v' : Bool → Reader ExpressionTree) (u : (b : Bool) → Line (U b) (U' b) (v b) (v' b) (After 1) 1) where
+  pub line-choice-of : (b : Bool) → Line (choice U b) (choice U' b) (choice_at v b) (choice_at v' b) (After 7) 1
+  unfolding choice_at
+  line-choice-of false = line-stops (disjunction (U false)) (disjunction (U' false)) (disjunction_at (v false)) (disjunction_at (v' false)) (After 6) (After 7) 1 1 (after_less 7 6 (lit≤ tt)) (omega arith) (line-disjunction (U false) (U' false) (v false) (v' false) (u false))
+  line-choice-of true =
+      let plain = line-disjunction (U false) (U' false) (v false) (v' false) (u false) in
+      line-stops _ _ _ _ (After 7) (After 7) (0 + 1) 1 (λ ts st. st) (omega arith)
+      (line-then here here _ _ here_at here_at _ _ (After 7) 0 1 line-here
+      (λ line. line-then-optional (branches (disjunction (U false))) (branches (disjunction (U' false))) (branches_at (disjunction_at (v false))) (branches_at (disjunction_at (v' false))) asks (After 6)
+      (starts-bind (token Kinds.Question) _ asks (starts-token Kinds.Question)) (line-branches _ _ _ _ plain) (disjunction (U true)) (disjunction (U' true)) (disjunction_at (v true)) (disjunction_at (v' true)) (After 6) (After 7)
+      (line-disjunction (U true) (U' true) (v true) (v' true) (u true))
+      (λ ts h. let a = after_kind Kinds.Question 6 ts (lit≤ tt) (begins-head Kinds.Question ts ∙ h) in (a, a))
+      (λ ts st. (head_ends asks 7 asks_ends ts st, after_less 7 6 (lit≤ tt) ts st, after_less 7 6 (lit≤ tt) ts st))
+      (choice_tree line)))
+
+starts-choice : (U : Bool → Form ExpressionTree) (p : Kind → Bool) → ((b : Bool) → Starts (U b) p) → (b : Bool) → Starts (choice U b) p
+starts-choice U p s false = starts-disjunction (U false) p (s false)
+starts-choice U p s true = starts-here _ p (λ l. starts-bind (disjunction (U true)) _ p (starts-disjunction (U true) p (s true)))
+
+-- ---- atoms
 
 line-name : Line name name name_at name_at Any 1
 unfolding name_at
-line-name = line-then (token Kinds.Name) (token Kinds.Name) (λ t. give (NameTree t.text t.line)) (λ t. give (NameTree t.text t.line)) (token_at Kinds.Name) (token_at Kinds.Name) (λ t. give_at (NameTree t.text t.line)) (λ t. give_at (NameTree t.text t.line)) Any 1 0
-    (line-token Kinds.Name) (λ t. line-give (NameTree t.text t.line) Any)
+line-name = line-map (token Kinds.Name) (token Kinds.Name) (λ t. NameTree t.text t.line) (token_at Kinds.Name) (token_at Kinds.Name) Any 1 (line-token Kinds.Name)
 
-line-text : Line text text text_at text_at Any 1
-unfolding text_at
-line-text = line-then (token Kinds.String) (token Kinds.String) (λ t. give (TextTree (unquoted t.text) t.line)) (λ t. give (TextTree (unquoted t.text) t.line)) (token_at Kinds.String) (token_at Kinds.String)
-    (λ t. give_at (TextTree (unquoted t.text) t.line)) (λ t. give_at (TextTree (unquoted t.text) t.line)) Any 1 0
-    (line-token Kinds.String) (λ t. line-give (TextTree (unquoted t.text) t.line) Any)
+line-literal : Line literal literal literal_at literal_at Any 1
+unfolding literal_at
+line-literal = line-map (token_as literal_of) (token_as literal_of) (λ t. LiteralTree t.0 t.1.text t.1.line) (token_as_at literal_of) (token_as_at literal_of) Any 1 (line-as literal_of)
 
-abbrev pub opens_group : Kind → Bool
-opens_group l = is l Kinds.OpenParenthesis
+line-group : (b : Bool) (G G' : Bool → Form ExpressionTree) (s s' : Bool → Reader ExpressionTree) → ((b : Bool) → Line (G b) (G' b) (s b) (s' b) (After 1) 1) → (o : Lexeme) → Line (group G b o) (group G' b o) (group_at s b o) (group_at s' b o) Any 0
+unfolding group_at
+line-group b G G' s s' h o =
+    line-stops _ _ _ _ Any Any 1 0 (λ ts st. st) (omega arith)
+    (line-before Kinds.CloseParenthesis 7 (choice G b) (choice G' b) (λ e c. give e) (λ e c. give e) (choice_at s b) (choice_at s' b) (λ e c. give_at e) (λ e c. give_at e) Any (lit≤ tt) (line-choice-of G G' s s' h b) (λ e c. line-give e Any))
+
+-- the kinds with which one of two forms begins
+abbrev either : (Kind → Bool) → (Kind → Bool) → Kind → Bool
+either p q k = cond (p k) true (q k)
+
+either_right : (a b : Bool) → b ≡ true → cond a true b ≡ true
+either_right true b e = refl
+either_right false b e = e
+
+starts-either : (p q : Kind → Bool) (F G : Form ExpressionTree) → Starts F p → Starts G q → Starts (F or G) (either p q)
+starts-either p q F G s t = starts-or F G p q (either p q) s t (λ k e. rw e refl) (λ k e. either_right (p k) (q k) e)
+
+abbrev pub of_kind : Kind → Kind → Bool
+of_kind k l = is l k
 
 abbrev opens_atom : Kind → Bool
-opens_atom l = cond (is l Kinds.String) true (is l Kinds.OpenParenthesis)
+opens_atom = either (of_kind Kinds.Name) (either (of_kind Kinds.OpenParenthesis) (stands_for literal_of))
 
+starts-name : Starts name (of_kind Kinds.Name)
+starts-name = starts-bind (token Kinds.Name) _ (of_kind Kinds.Name) (starts-token Kinds.Name)
+
+starts-literal : Starts literal (stands_for literal_of)
+starts-literal = starts-bind (token_as literal_of) _ (stands_for literal_of) (starts-as literal_of)
+
+module _ (u : Inner) (b : Bool) where
+  abbrev grouped : Form ExpressionTree
+  grouped = opened Kinds.OpenParenthesis u (λ e. group e b)
+
+  starts-grouped : Starts grouped (of_kind Kinds.OpenParenthesis)
+  starts-grouped = starts-opened Kinds.OpenParenthesis (λ e. group e b) u
+
+  starts-plain-atom : Starts (grouped or literal) (either (of_kind Kinds.OpenParenthesis) (stands_for literal_of))
+  starts-plain-atom = starts-either (of_kind Kinds.OpenParenthesis) (stands_for literal_of) grouped literal starts-grouped starts-literal
+
+  starts-atom : Starts (atom u b) opens_atom
+  starts-atom = starts-either (of_kind Kinds.Name) (either (of_kind Kinds.OpenParenthesis) (stands_for literal_of)) name (grouped or literal) starts-name starts-plain-atom
+
+line-atom : (u u' : Inner) (v v' : Option (Bool → Reader ExpressionTree)) → IsInside u u' v v' → (b : Bool) → Line (atom u b) (atom u' b) (atom_at v b) (atom_at v' b) (After 1) 1
+unfolding atom_at
+line-atom u u' v v' h b =
+    line-stops _ _ _ _ Any (After 1) 1 1 (λ ts st. tt) (omega arith)
+    (line-choice Kinds.Name (either (of_kind Kinds.OpenParenthesis) (stands_for literal_of)) name name (grouped u b or literal) (grouped u' b or literal) name_at name_at _ _ Any 1 starts-name (starts-plain-atom u b) refl line-name
+    (line-choice Kinds.OpenParenthesis (stands_for literal_of) (grouped u b) (grouped u' b) literal literal (opened_at Kinds.OpenParenthesis v (λ e. group_at e b)) (opened_at Kinds.OpenParenthesis v' (λ e. group_at e b)) literal_at literal_at Any 1 (starts-grouped u b) starts-literal refl
+    (line-opened Kinds.OpenParenthesis (λ e. group e b) (λ e. group_at e b) Any (line-group b) u u' v v' h) line-literal))
+
+line-unary : (n : ℕ) (b : Bool) → Line (unary n b) (unary (suc n) b) (unary_at n b) (unary_at (suc n) b) (After 1) 1
+unfolding unary unary_at
+line-unary zero b = line-atom Closed (Inside (unary 0)) None (Some (unary_at 0)) tt b
+line-unary (suc n) b = line-atom (Inside (unary n)) (Inside (unary (suc n))) (Some (unary_at n)) (Some (unary_at (suc n))) (line-unary n) b
+
+-- the kinds with which an expression begins
 abbrev pub opens_expr : Kind → Bool
-opens_expr l = cond (is l Kinds.Name) true (opens_atom l)
+opens_expr = opens_atom
 
-starts-nested : (n : ℕ) → Starts (nested n) opens_group
-unfolding nested
-starts-nested zero = starts-never opens_group
-starts-nested (suc n) = starts-group (name or (text or nested n))
-
-starts-name : Starts name (λ l. is l Kinds.Name)
-starts-name = starts-bind (token Kinds.Name) _ (λ l. is l Kinds.Name) (starts-token Kinds.Name)
-
-starts-text : Starts text (λ l. is l Kinds.String)
-starts-text = starts-bind (token Kinds.String) _ (λ l. is l Kinds.String) (starts-token Kinds.String)
-
-opens_is : (q : Kind → Bool) (k l : Kind) → q k ≡ true → is l k ≡ true → q l ≡ true
-opens_is q k l e h = ap q (is-true l k h) ∙ e
-
-starts-atom : (G : Form ExpressionTree) → Starts G opens_group → Starts (text or G) opens_atom
-starts-atom G g = starts-or text G (λ l. is l Kinds.String) opens_group opens_atom starts-text g (λ l h. opens_is opens_atom Kinds.String l refl h) (λ l h. opens_is opens_atom Kinds.OpenParenthesis l refl h)
-
-cond_true : (a b : Bool) → b ≡ true → cond a true b ≡ true
-cond_true true b e = refl
-cond_true false b e = e
-
-pub starts-expr : (n : ℕ) → Starts (expr n) opens_expr
-starts-expr n = starts-or name (text or nested n) (λ l. is l Kinds.Name) opens_atom opens_expr starts-name (starts-atom (nested n) (starts-nested n)) (λ l h. opens_is opens_expr Kinds.Name l refl h) (λ l h. cond_true (is l Kinds.Name) (opens_atom l) h)
-
--- an expression, from what is in parentheses
-line-atoms : (G G' : Form ExpressionTree) (s s' : Reader ExpressionTree) → Starts G opens_group → Line G G' s s' Any 1
-    → Line (name or (text or G)) (name or (text or G')) (or_at (begins Kinds.Name) name_at (or_at (begins Kinds.String) text_at s)) (or_at (begins Kinds.Name) name_at (or_at (begins Kinds.String) text_at s')) Any 1
-line-atoms G G' s s' starts g = line-choice Kinds.Name opens_atom name name (text or G) (text or G') name_at name_at (or_at (begins Kinds.String) text_at s) (or_at (begins Kinds.String) text_at s') Any 1 starts-name (starts-atom G starts) refl line-name
-    (line-choice Kinds.String opens_group text text G G' text_at text_at s s' Any 1 starts-text starts refl line-text g)
-
-line-nested : (n : ℕ) → Line (nested n) (nested (suc n)) (nested_at n) (nested_at (suc n)) Any 1
-unfolding nested nested_at
-line-nested zero = line-deep (name or (text or nested 0)) (or_at (begins Kinds.Name) name_at (or_at (begins Kinds.String) text_at (nested_at 0)))
-line-nested (suc n) =
-    line-group (name or (text or nested n)) (name or (text or nested (suc n))) (or_at (begins Kinds.Name) name_at (or_at (begins Kinds.String) text_at (nested_at n))) (or_at (begins Kinds.Name) name_at (or_at (begins Kinds.String) text_at (nested_at (suc n)))) Any
-    (line-stops (name or (text or nested n)) (name or (text or nested (suc n))) (or_at (begins Kinds.Name) name_at (or_at (begins Kinds.String) text_at (nested_at n))) (or_at (begins Kinds.Name) name_at (or_at (begins Kinds.String) text_at (nested_at (suc n)))) Any Any 1 0 (λ ts st. st) (omega arith)
-    (line-atoms (nested n) (nested (suc n)) (nested_at n) (nested_at (suc n)) (starts-nested n) (line-nested n))) (λ ts b. tt)
-
-any-expr : (n : ℕ) → Line (expr n) (expr (suc n)) (expr_at n) (expr_at (suc n)) Any 1
-unfolding expr_at
-any-expr n = line-atoms (nested n) (nested (suc n)) (nested_at n) (nested_at (suc n)) (starts-nested n) (line-nested n)
+starts-unary : (n : ℕ) (b : Bool) → Starts (unary n b) opens_expr
+unfolding unary
+starts-unary zero b = starts-atom Closed b
+starts-unary (suc n) b = starts-atom (Inside (unary n)) b
 
 pub line-expr : (n : ℕ) → Line (expr n) (expr (suc n)) (expr_at n) (expr_at (suc n)) AfterExpression 1
-line-expr n = line-stops (expr n) (expr (suc n)) (expr_at n) (expr_at (suc n)) Any AfterExpression 1 1 (λ ts st. tt) (omega arith) (any-expr n)
+unfolding expr expr_at
+line-expr n = line-choice-of (unary n) (unary (suc n)) (unary_at n) (unary_at (suc n)) (line-unary n) true
+
+pub starts-expr : (n : ℕ) → Starts (expr n) opens_expr
+unfolding expr
+starts-expr n = starts-choice (unary n) opens_expr (starts-unary n) true
 
 -- ---- arguments
 
@@ -90,14 +258,29 @@ Closes ts = begins Kinds.CloseParenthesis ts ≡ true
 
 line-items : (n : ℕ) → Line (listed (expr n)) (listed (expr (suc n))) (items_of n) (items_of (suc n)) Closes 0
 unfolding items_of
-line-items n = line-listed Kinds.CloseParenthesis opens_expr (expr n) (expr (suc n)) (expr_at n) (expr_at (suc n)) refl refl (starts-expr n) (any-expr n)
+line-items n = line-listed Kinds.CloseParenthesis opens_expr (expr n) (expr (suc n)) (expr_at n) (expr_at (suc n)) AfterExpression refl refl (starts-expr n) (λ ts b. after_kind Kinds.Comma 7 ts (lit≤ tt) b) (λ ts b. after_kind Kinds.CloseParenthesis 7 ts (lit≤ tt) b) (line-expr n)
+
+abbrev inside : ℕ → Lexeme → Form (List ExpressionTree)
+inside n o = listed (expr n) >>= λ xs. token Kinds.CloseParenthesis >>= λ c. give xs
+
+abbrev inside_at : ℕ → Lexeme → Reader (List ExpressionTree)
+inside_at n o = bind_at (items_of n) (λ xs. bind_at (token_at Kinds.CloseParenthesis) (λ c. give_at xs))
+
+line-inside : (n : ℕ) (o : Lexeme) → Line (inside n o) (inside (suc n) o) (inside_at n o) (inside_at (suc n) o) Any 0
+line-inside n o = line-bind (listed (expr n)) (listed (expr (suc n))) _ _ (items_of n) (items_of (suc n)) _ _ Closes Any 0 0 (line-items n)
+    (λ xs. line-stops _ _ _ _ Any Any 1 0 (λ ts st. st) (omega arith) (line-map (token Kinds.CloseParenthesis) (token Kinds.CloseParenthesis) (λ c. xs) (token_at Kinds.CloseParenthesis) (token_at Kinds.CloseParenthesis) Any 1 (line-token Kinds.CloseParenthesis)))
+    (λ xs b ts rest h st. begins_token Kinds.CloseParenthesis (λ c. give xs) b ts rest h)
+    (λ xs ts more h. begun_token Kinds.CloseParenthesis (λ c. give xs) ts more h)
 
 pub line-arguments : (n : ℕ) → Line (arguments n) (arguments (suc n)) (arguments_at n) (arguments_at (suc n)) Any 1
-unfolding arguments arguments_at
-line-arguments zero = line-deep (listed (expr 0)) (items_of 0)
-line-arguments (suc n) = line-group (listed (expr n)) (listed (expr (suc n))) (items_of n) (items_of (suc n)) Closes (line-items n) (λ ts b. b)
+unfolding arguments arguments_at arguments_in
+line-arguments zero = line-deep Kinds.OpenParenthesis (inside 0) (inside_at 0) Any
+line-arguments (suc n) = line-then (token Kinds.OpenParenthesis) (token Kinds.OpenParenthesis) (inside n) (inside (suc n)) (token_at Kinds.OpenParenthesis) (token_at Kinds.OpenParenthesis) (inside_at n) (inside_at (suc n)) Any 1 0 (line-token Kinds.OpenParenthesis) (line-inside n)
+
+abbrev pub opens_group : Kind → Bool
+opens_group = of_kind Kinds.OpenParenthesis
 
 pub starts-arguments : (n : ℕ) → Starts (arguments n) opens_group
 unfolding arguments
 starts-arguments zero = starts-never opens_group
-starts-arguments (suc n) = starts-group (listed (expr n))
+starts-arguments (suc n) = starts-bind (token Kinds.OpenParenthesis) (inside n) opens_group (starts-token Kinds.OpenParenthesis)

@@ -44,7 +44,8 @@ line-nexts : (n : ℕ) → Line (many (next n)) (many (next (suc n))) (nexts_at 
 line-nexts n = line-many (begins Kinds.Newline) (omega arith)
     (λ a ts rest h. begins-head Kinds.Newline ts ∙ (starts-next n).spelled a ts rest h)
     (λ ts e. after_newline ts (sym (begins-head Kinds.Newline ts) ∙ e))
-    (λ ts more h e. elim ((starts-next n).begun ts more h) [ inl same ↦ same | inr head ↦ let b = begins-head Kinds.Newline ts in absurd cc ])
+    (λ ts more h e. elim ((starts-next n).begun ts more h)
+    [ inl same ↦ same | inr head ↦ let b = begins-head Kinds.Newline ts in absurd cc ])
     (line-next n)
 
 -- ---- [stmt] {NL [stmt]}
@@ -55,7 +56,8 @@ others n first = many (next n) >>= λ os. give (given (first ∷ os))
 abbrev others_at : ℕ → Option StatementTree → Reader FileTree
 others_at n first = bind_at (nexts_at n) (λ os. give_at (given (first ∷ os)))
 
-line-others : (n : ℕ) (first : Option StatementTree) → Line (others n first) (others (suc n) first) (others_at n first) (others_at (suc n) first) AfterLines 0
+line-others : (n : ℕ) (first : Option StatementTree)
+    → Line (others n first) (others (suc n) first) (others_at n first) (others_at (suc n) first) AfterLines 0
 line-others n first = give_line (λ (os : List (Option StatementTree)). given (first ∷ os)) (line-nexts n)
 
 -- the lines, each but the first behind a newline
@@ -65,5 +67,6 @@ lines n = maybe n >>= others n
 pub line-lines : (n : ℕ) → Line (lines n) (lines (suc n)) (file_at n) (file_at (suc n)) AfterLines 0
 unfolding file_at
 line-lines n = before_leads is_newline after_newline (λ ts st. st.1)
-    (λ (first : Option StatementTree). leads-give (many (next n)) (λ (os : List (Option StatementTree)). given (first ∷ os)) is_newline (leads-many (next n) is_newline (starts-next n)))
+    (λ (first : Option StatementTree). leads-give (many (next n)) (λ (os : List (Option StatementTree)). given (first ∷ os)) is_newline
+    (leads-many (next n) is_newline (starts-next n)))
     (line-first n) (line-others n)

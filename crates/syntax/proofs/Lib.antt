@@ -1,10 +1,12 @@
 pub mod Binding
 pub mod Blocks
 pub mod Chain
+pub mod Chains
 pub mod Ends
 pub mod ExpressionTails
 pub mod Expressions
 pub mod Files
+pub mod Gathered
 pub mod Laws
 pub mod Line
 pub mod Listed
@@ -13,11 +15,14 @@ pub mod Literal
 pub mod Loops
 pub mod Named
 pub mod Numbers
+pub mod Operators
 pub mod Parses
 pub mod Raises
 pub mod Starts
 pub mod StatementTails
 pub mod Statements
+pub mod Steps
 pub mod Tails
+pub mod Views
 pub mod Whole
 pub mod Words

@@ -11,7 +11,7 @@ use Rattle.lexer.specs.Kinds.{is}
 use Rattle.syntax.specs.Reading.{Reader, ◌>>=◌, begins, token_at, tail_at, items_at}
 use Rattle.syntax.proofs.Ends.{Ends, ends-bind, ends-give, ends-many, ends-or, ends-token}
 use Rattle.syntax.proofs.Laws.{IsForm, IsForm-bind, IsForm-give, IsForm-many, IsForm-optional, IsForm-or, IsForm-token, bind_err, cases_bool, reads-token}
-use Rattle.syntax.proofs.Line.{Line, Any}
+use Rattle.syntax.proofs.Line.{Line}
 use Rattle.syntax.proofs.Listed.{reads-listed}
 use Rattle.syntax.proofs.Numbers.{is-true}
 use Rattle.syntax.proofs.Raises.{Raises, TooDeepAt}
@@ -170,16 +170,17 @@ takes-listed F f = takes-or (some_listed F) (give []) 0
     (takes-give [])
 
 -- the list stops at this kind, with which no element begins
-pub line-listed : {A : Type 0} (k : Kind) (q : Kind → Bool) (F F' : Form A) (r r' : Reader A) → q k ≡ false → is k Kinds.Comma ≡ false → Starts F q → Line F F' r r' Any 1
+pub line-listed : {A : Type 0} (k : Kind) (q : Kind → Bool) (F F' : Form A) (r r' : Reader A) → (Stops : List Lexeme → Type 0) → q k ≡ false → is k Kinds.Comma ≡ false → Starts F q
+    → ((ts : List Lexeme) → begins Kinds.Comma ts ≡ true → Stops ts) → ((ts : List Lexeme) → begins k ts ≡ true → Stops ts) → Line F F' r r' Stops 1
     → Line (listed F) (listed F') (λ ts. items_at (begins k) r (length ts + 1) ts) (λ ts. items_at (begins k) r' (length ts + 1) ts) (λ ts. begins k ts ≡ true) 0
-line-listed {A} k q F F' r r' apart comma s f = record {
+line-listed {A} k q F F' r r' Stops apart comma s at_comma at_end f = record {
   form = IsForm-listed F f.form;
-  reads = reads-listed F r (begins k) Any f.form f.reads
+  reads = reads-listed F r (begins k) Stops f.form f.reads
       (λ a ts rest h. other ts (s.spelled a ts rest h))
       (λ ts more h b. elim (s.begun ts more h) [ inl same ↦ same | inr head ↦ let o = other ts head in absurd cc ])
       (λ a ts rest h. omega (arith, f.takes.taken a ts rest h))
-      (λ ts b. tt)
-      (λ ts b. tt)
+      at_comma
+      at_end
       not_comma;
   raises = raises-listed F F' r r' (begins k) f.reads.sound f.raises;
   ends = ends-listed F f.ends;

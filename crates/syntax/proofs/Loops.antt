@@ -1,66 +1,47 @@
--- What a loop has read so far, and what it still reads, make what is read from its first token on.
-use Rattle.std.proofs.Common.{◌≡◌, ℕ, zero, suc, ◌≤◌, ◌<◌, Bool, true, false, List, [], ◌∷◌, ◌++◌, length, Result, Ok, Err, refl, sym, ap, ◌∙◌, arith, Option, Some, None, append_assoc}
+-- A loop that reads a form again and again.
+use Rattle.std.proofs.Common.{◌≡◌, ℕ, zero, suc, ◌≤◌, ◌<◌, Bool, true, false, List, [], ◌∷◌, ◌++◌, length, Result, Ok, Err, refl, sym, ap, ◌∙◌, arith, append_assoc}
+use Rattle.std.proofs.lemmas.List.{append-nil}
 use Rattle.lexer.specs.Lexeme.{Lexeme}
-use Rattle.lexer.specs.declared.token.Kind.{Kind}
 use Rattle.syntax.specs.declared.stop.Stop.{Stop}
 use Rattle.syntax.specs.declared.stop.ReadError.{ReadError}
 use Rattle.syntax.specs.declared.stop.ReadError.TheVariants as errors
-use Rattle.syntax.specs.Statements.{given}
-use Rattle.syntax.specs.Tree.{StatementTree}
-use Rattle.syntax.specs.Reading.{Reader, ◌>>=◌, Fails, begins, many_at}
+use Rattle.syntax.specs.Reading.{Reader, ◌>>=◌, Fails, many_at}
 
--- `gathered` makes of all that r reads what the loop gathers, `put` adds one more.
-module _ {A B : Type 0} (next : List Lexeme → Bool) (r : Reader A) (gathered : List A → List B) (put : List B → A → List B)
-    (nothing : (before : List B) → before ++ gathered [] ≡ before) (regroup : (before : List B) (a : A) (more : List A) → before ++ gathered (a ∷ more) ≡ put before a ++ gathered more)
-    (long : (ts : List Lexeme) → next ts ≡ true → 0 < length ts) where
-  abbrev pub with_more : List B → Result (List A × List Lexeme) Stop → Result (List B × List Lexeme) Stop
-  with_more before read = read >>= λ x. Ok (before ++ gathered x.0, x.1)
+-- what was read before, and what is still read
+abbrev pub with_front : {A : Type 0} → List A → Result (List A × List Lexeme) Stop → Result (List A × List Lexeme) Stop
+with_front front read = read >>= λ x. Ok (front ++ x.0, x.1)
 
-  abbrev pub StillReads : List B → List Lexeme → Result (List B × List Lexeme) Stop → Type 0
-  StillReads before ts total = (fuel : ℕ) × (length ts ≤ fuel) × (with_more before (many_at next r fuel ts) ≡ total)
+-- what is still to be read from ts on, and that together with what was read it is the whole
+abbrev pub StillReads : {A : Type 0} → (List Lexeme → Bool) → Reader A → List A → List Lexeme → Result (List A × List Lexeme) Stop → Type 0
+StillReads next r front ts total = (fuel : ℕ) × (length ts ≤ fuel) × (with_front front (many_at next r fuel ts) ≡ total)
 
-  none_more : (k : ℕ) (ts : List Lexeme) → next ts ≡ false → many_at next r k ts ≡ Ok ([], ts)
-  none_more zero ts stop = refl
-  none_more (suc k) ts stop = rw stop refl
+nothing_before : {A : Type 0} (read : Result (List A × List Lexeme) Stop) → with_front [] read ≡ read
+nothing_before (Ok x) = refl
+nothing_before (Err f) = refl
 
-  more_regroup : (before : List B) (a : A) (read : Result (List A × List Lexeme) Stop) → with_more before (read >>= λ x. Ok (a ∷ x.0, x.1)) ≡ with_more (put before a) read
-  more_regroup before a (Ok x) = ap (λ (bs : List B). Ok (bs, x.1)) (regroup before a x.0)
-  more_regroup before a (Err f) = refl
+pub still_first : {A : Type 0} (next : List Lexeme → Bool) (r : Reader A) (ts : List Lexeme) → StillReads next r [] ts (many_at next r (length ts) ts)
+still_first next r ts = (length ts, omega arith, nothing_before (many_at next r (length ts) ts))
 
-  pub still_more : (before : List B) (ts : List Lexeme) (total : Result (List B × List Lexeme) Stop) (a : A) (rest : List Lexeme)
-      → StillReads before ts total → next ts ≡ true → r ts ≡ Ok (a, rest) → length rest < length ts → StillReads (put before a) rest total
-  still_more before ts total a rest (zero, le, e) b h lt = absurd (omega arith)
-  still_more before ts total a rest (suc k, le, e) b h lt = (k, omega arith, sym (more_regroup before a (many_at next r k rest)) ∙ sym (rw (b, h) refl) ∙ e)
+regroup : {A : Type 0} (front : List A) (a : A) (read : Result (List A × List Lexeme) Stop) → with_front front (read >>= λ x. Ok (a ∷ x.0, x.1)) ≡ with_front (front ++ a ∷ []) read
+regroup {A} front a (Ok x) = ap (λ (ns : List A). Ok (ns, x.1)) (simp append_assoc)
+regroup front a (Err f) = refl
 
-  pub still_fails : (before : List B) (ts : List Lexeme) (total : Result (List B × List Lexeme) Stop) (e : ReadError) → StillReads before ts total → next ts ≡ true → Fails e (r ts) → Fails e total
-  still_fails before ts total errors.Memory s b h = tt
-  still_fails before ts total (errors.Stop f) (zero, le, e) b h = absurd (omega (arith, long ts b))
-  still_fails before ts total (errors.Stop f) (suc k, le, e) b h = sym e ∙ rw (b, h) refl
+pub still_more : {A : Type 0} (next : List Lexeme → Bool) (r : Reader A) (front : List A) (ts : List Lexeme) (total : Result (List A × List Lexeme) Stop) (a : A) (rest : List Lexeme)
+    → StillReads next r front ts total → next ts ≡ true → r ts ≡ Ok (a, rest) → length rest < length ts → StillReads next r (front ++ a ∷ []) rest total
+still_more next r front ts total a rest (zero, le, e) b h lt = absurd (omega arith)
+still_more next r front ts total a rest (suc k, le, e) b h lt =
+    (k, omega arith, sym (regroup front a (many_at next r k rest)) ∙ sym (rw (b, h) refl) ∙ e)
 
-  pub still_end : (before : List B) (ts : List Lexeme) (total : Result (List B × List Lexeme) Stop) → StillReads before ts total → next ts ≡ false → total ≡ Ok (before, ts)
-  still_end before ts total (k, le, e) b = sym e ∙ rw (none_more k ts b) (ap (λ (bs : List B). Ok (bs, ts)) (nothing before))
+pub still_fails : {A : Type 0} (next : List Lexeme → Bool) (r : Reader A) (front : List A) (ts : List Lexeme) (total : Result (List A × List Lexeme) Stop) (e : ReadError)
+    → StillReads next r front ts total → next ts ≡ true → 0 < length ts → Fails e (r ts) → Fails e total
+still_fails next r front ts total errors.Memory s b lt h = tt
+still_fails next r front ts total (errors.Stop f) (zero, le, e) b lt h = absurd (omega arith)
+still_fails next r front ts total (errors.Stop f) (suc k, le, e) b lt h = sym e ∙ rw (b, h) refl
 
-pub begins_long : (k : Kind) (ts : List Lexeme) → begins k ts ≡ true → 0 < length ts
-begins_long k [] b = absurd cc
-begins_long k (t ∷ ts) b = omega arith
+many_none : {A : Type 0} (next : List Lexeme → Bool) (r : Reader A) (k : ℕ) (rest : List Lexeme) → next rest ≡ false → many_at next r k rest ≡ Ok ([], rest)
+many_none next r zero rest stop = refl
+many_none next r (suc k) rest stop = rw stop
 
--- ---- values
-
-abbrev pub all : {A : Type 0} → List A → List A
-all xs = xs
-
-abbrev pub with_one : {A : Type 0} → List A → A → List A
-with_one before a = before ++ a ∷ []
-
-pub one_regroup : {A : Type 0} (before : List A) (a : A) (more : List A) → before ++ all (a ∷ more) ≡ with_one before a ++ all more
-one_regroup before a more = simp append_assoc
-
--- ---- lines, of which some are empty
-
-abbrev pub with_line : List StatementTree → Option StatementTree → List StatementTree
-with_line before None = before
-with_line before (Some s) = before ++ s ∷ []
-
-pub line_regroup : (before : List StatementTree) (o : Option StatementTree) (more : List (Option StatementTree)) → before ++ given (o ∷ more) ≡ with_line before o ++ given more
-line_regroup before None more = refl
-line_regroup before (Some s) more = simp append_assoc
+pub still_ends : {A : Type 0} (next : List Lexeme → Bool) (r : Reader A) (front : List A) (ts : List Lexeme) (total : Result (List A × List Lexeme) Stop)
+    → StillReads next r front ts total → next ts ≡ false → total ≡ Ok (front, ts)
+still_ends {A} next r front ts total (k, le, e) b = sym e ∙ rw (many_none next r k ts b) (ap (λ (ns : List A). Ok (ns, ts)) (append-nil front))

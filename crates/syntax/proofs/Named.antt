@@ -31,7 +31,8 @@ end_of_two t us more p le = go p.before p.parts
     go (s ∷ u ∷ vs) e = absurd (omega (arith, ap length (tail_same t s us (u ∷ vs ++ more) e), length-append vs more))
 
 -- a name alone is a spelling, and an expression ends before the sign
-module _ {A : Type 0} {F F' : Form A} {r r' : Reader A} {i : ℕ} (tree : Lexeme → A) (named : (t : Lexeme) (us : List Lexeme) → t.kind ≡ Kinds.Name → F.spells (tree t) (t ∷ us) us)
+module _ {A : Type 0} {F F' : Form A} {r r' : Reader A} {i : ℕ} (tree : Lexeme → A) (named : (t : Lexeme) (us : List Lexeme)
+    → t.kind ≡ Kinds.Name → F.spells (tree t) (t ∷ us) us)
     (k : Kind) (ends : 7 < binding k) (f : Line F F' r r' AfterExpression i) where
   sign_comes : (t : Lexeme) (us : List Lexeme) → two_begin Kinds.Name k (t ∷ us) ≡ true → (t.kind ≡ Kinds.Name) × (begins k us ≡ true)
   sign_comes t us two = let b = both_parts (is t.kind Kinds.Name) (begins k us) two in (is-true t.kind Kinds.Name b.0, b.1)
@@ -44,7 +45,8 @@ module _ {A : Type 0} {F F' : Form A} {r r' : Reader A} {i : ℕ} (tree : Lexeme
   same_rest a b us vs h = let p : ◌≡◌ {A = A × List Lexeme} (a, us) (b, vs) = cc in ap (λ (x : A × List Lexeme). x.1) p
 
   -- a whole expression that is followed by no sign does not begin so
-  pub no_sign_in : (a : A) (ts rest : List Lexeme) → F.spells a ts rest → AfterExpression rest → begins k rest ≡ false → two_begin Kinds.Name k ts ≡ false
+  pub no_sign_in : (a : A) (ts rest : List Lexeme) → F.spells a ts rest → AfterExpression rest → begins k rest ≡ false
+      → two_begin Kinds.Name k ts ≡ false
   no_sign_in a [] rest h st other = refl
   no_sign_in a (t ∷ us) rest h st other = elim (cases_bool (two_begin Kinds.Name k (t ∷ us))) [
     | inl two ↦
@@ -55,10 +57,12 @@ module _ {A : Type 0} {F F' : Form A} {r r' : Reader A} {i : ℕ} (tree : Lexeme
   ]
 
   -- before the sign nothing but the name is a front
-  pub name_front : (ts more : List Lexeme) → two_begin Kinds.Name k ts ≡ true → F.front ts more → (more ≡ ts) ⊎ ((t : Lexeme) × (ts ≡ t ∷ more) × (t.kind ≡ Kinds.Name))
+  pub name_front : (ts more : List Lexeme) → two_begin Kinds.Name k ts ≡ true → F.front ts more
+      → (more ≡ ts) ⊎ ((t : Lexeme) × (ts ≡ t ∷ more) × (t.kind ≡ Kinds.Name))
   name_front [] more two h = absurd cc
   name_front (t ∷ us) more two h =
-      elim (end_of_two t us more (f.ends.begun (t ∷ us) more h) (omega (arith, f.reads.reaches (t ∷ us) more h, ap left_of (name_read t us two)))) [
+      elim (end_of_two t us more (f.ends.begun (t ∷ us) more h)
+      (omega (arith, f.reads.reaches (t ∷ us) more h, ap left_of (name_read t us two)))) [
         | inl same ↦ inl same
         | inr same ↦ inr (t, ap (λ (l : List Lexeme). t ∷ l) (sym same), (sign_comes t us two).0)
       ]

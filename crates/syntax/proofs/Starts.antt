@@ -5,12 +5,8 @@ use Rattle.lexer.specs.declared.token.Kind.{Kind}
 use Rattle.syntax.specs.Form.{Form, token, give, ◌>>=◌, ◌or◌, never, many, Repeats}
 use Rattle.lexer.specs.Kinds.{is}
 use Rattle.syntax.specs.Reading.{begins}
+pub use Rattle.syntax.specs.Reading.{head_is}
 use Rattle.syntax.proofs.Numbers.{eq-is}
-
--- there is a first token, and its kind is one of these
-abbrev pub head_is : (Kind → Bool) → List Lexeme → Bool
-head_is p [] = false
-head_is p (t ∷ ts) = p t.kind
 
 pub record Starts {A : Type 0} (F : Form A) (p : Kind → Bool) : Type 0 where
   pub spelled : (a : A) (ts rest : List Lexeme) → F.spells a ts rest → head_is p ts ≡ true

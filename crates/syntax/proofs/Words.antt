@@ -34,19 +34,23 @@ pub no_block : (q : Kind → Bool) → q Kinds.Foreach ≡ false → q Kinds.If 
 no_block q f i l e = both_false (is l Kinds.Foreach) (is l Kinds.If) (not_in q Kinds.Foreach f l e) (not_in q Kinds.If i l e)
 
 -- a class without the words at which a body ends
-pub no_end : (q : Kind → Bool) → q Kinds.EndForeach ≡ false → q Kinds.EndIf ≡ false → q Kinds.Elif ≡ false → q Kinds.Else ≡ false → (l : Kind) → q l ≡ true → ends_body l ≡ false
+pub no_end : (q : Kind → Bool) → q Kinds.EndForeach ≡ false → q Kinds.EndIf ≡ false → q Kinds.Elif ≡ false → q Kinds.Else ≡ false
+    → (l : Kind) → q l ≡ true → ends_body l ≡ false
 no_end q f i e s l h = both_false (is l Kinds.EndForeach) _ (not_in q Kinds.EndForeach f l h)
-    (both_false (is l Kinds.EndIf) _ (not_in q Kinds.EndIf i l h) (both_false (is l Kinds.Elif) (is l Kinds.Else) (not_in q Kinds.Elif e l h) (not_in q Kinds.Else s l h)))
+    (both_false (is l Kinds.EndIf) _ (not_in q Kinds.EndIf i l h)
+    (both_false (is l Kinds.Elif) (is l Kinds.Else) (not_in q Kinds.Elif e l h) (not_in q Kinds.Else s l h)))
 
 pub block_head : (ts : List Lexeme) → begins_block ts ≡ head_is opens_block ts
 block_head [] = refl
 block_head (t ∷ ts) = refl
 
-pub in_body_head : (q : Kind → Bool) → ((l : Kind) → q l ≡ true → ends_body l ≡ false) → (ts : List Lexeme) → head_is q ts ≡ true → in_body ts ≡ true
+pub in_body_head : (q : Kind → Bool) → ((l : Kind) → q l ≡ true → ends_body l ≡ false) → (ts : List Lexeme) → head_is q ts ≡ true
+    → in_body ts ≡ true
 in_body_head q goes [] h = absurd cc
 in_body_head q goes (t ∷ ts) h = rw (goes t.kind h) refl
 
-pub end_head : (q : Kind → Bool) → ((l : Kind) → q l ≡ true → ends_body l ≡ true) → (ts : List Lexeme) → head_is q ts ≡ true → in_body ts ≡ false
+pub end_head : (q : Kind → Bool) → ((l : Kind) → q l ≡ true → ends_body l ≡ true) → (ts : List Lexeme) → head_is q ts ≡ true
+    → in_body ts ≡ false
 end_head q ended [] h = absurd cc
 end_head q ended (t ∷ ts) h = rw (ended t.kind h) refl
 
@@ -74,7 +78,8 @@ second_false : (a b : Bool) → b ≡ false → (a && b) ≡ false
 second_false true b e = e
 second_false false b e = refl
 
-pub name_sign : (k : Kind) (ts : List Lexeme) (t : Lexeme) (m : List Lexeme) → ts ≡ t ∷ m → t.kind ≡ Kinds.Name → begins k m ≡ true → two_begin Kinds.Name k ts ≡ true
+pub name_sign : (k : Kind) (ts : List Lexeme) (t : Lexeme) (m : List Lexeme) → ts ≡ t ∷ m → t.kind ≡ Kinds.Name → begins k m ≡ true
+    → two_begin Kinds.Name k ts ≡ true
 name_sign k ts t m e n b = rw e (both_true (is t.kind Kinds.Name) (begins k m) (eq-is t.kind Kinds.Name n) b)
 
 then_sign : (k : Kind) (ts : List Lexeme) (t : Lexeme) (m : List Lexeme) → ts ≡ t ∷ m → two_begin Kinds.Name k ts ≡ true → begins k m ≡ true
@@ -88,13 +93,15 @@ no_sign k ts t m e h = ap (two_begin Kinds.Name k) e ∙ second_false (is t.kind
 pub record AfterName {A : Type 0} (E : Form A) (Stops : List Lexeme → Type 0) (k : Kind) : Type 0 where
   pub name : (t : Lexeme) (us : List Lexeme) → t.kind ≡ Kinds.Name → E.front (t ∷ us) us
   pub apart : (a : A) (ts rest : List Lexeme) → E.spells a ts rest → Stops rest → two_begin Kinds.Name k ts ≡ false
-  pub begun : (ts more : List Lexeme) → two_begin Kinds.Name k ts ≡ true → E.front ts more → (more ≡ ts) ⊎ ((t : Lexeme) × (ts ≡ t ∷ more) × (t.kind ≡ Kinds.Name))
+  pub begun : (ts more : List Lexeme) → two_begin Kinds.Name k ts ≡ true → E.front ts more
+      → (more ≡ ts) ⊎ ((t : Lexeme) × (ts ≡ t ∷ more) × (t.kind ≡ Kinds.Name))
 
 head_other : (k : Kind) (p : Kind → Bool) → p k ≡ false → (m : List Lexeme) → head_is p m ≡ true → begins k m ≡ false
 head_other k p apart m h = begins-head k m ∙ head_not p (λ l. is l k) (not_in p k apart) m h
 
 -- a name, and then something else
-pub after-name : {A : Type 0} (G : Lexeme → Form A) (Stops : List Lexeme → Type 0) (k : Kind) (p : Kind → Bool) → p k ≡ false → ((t : Lexeme) → Starts (G t) p) → AfterName (token Kinds.Name >>= G) Stops k
+pub after-name : {A : Type 0} (G : Lexeme → Form A) (Stops : List Lexeme → Type 0) (k : Kind) (p : Kind → Bool) → p k ≡ false
+    → ((t : Lexeme) → Starts (G t) p) → AfterName (token Kinds.Name >>= G) Stops k
 after-name G Stops k p apart starts = record {
   name = λ t us n. inl (inr (t, refl, n));
   apart = λ a ts rest h st. no_sign k ts h.0 h.1 h.2.0 (head_other k p apart h.1 ((starts h.0).spelled a h.1 rest h.3));
@@ -107,7 +114,8 @@ after-name G Stops k p apart starts = record {
   ];
 }
 
-pub after-name-or : {A : Type 0} (F G : Form A) (Stops : List Lexeme → Type 0) (k : Kind) → AfterName F Stops k → AfterName G Stops k → AfterName (F or G) Stops k
+pub after-name-or : {A : Type 0} (F G : Form A) (Stops : List Lexeme → Type 0) (k : Kind) → AfterName F Stops k → AfterName G Stops k
+    → AfterName (F or G) Stops k
 after-name-or F G Stops k f g = record {
   name = λ t us n. inl (f.name t us n);
   apart = λ a ts rest h st. elim h [ inl p ↦ f.apart a ts rest p st | inr q ↦ g.apart a ts rest q st ];

@@ -1,46 +1,189 @@
--- The grammar of expressions, a form for each line. The number is that of the levels that may still be opened.
-use Rattle.std.specs.Prelude.{ℕ, zero, suc, ◌-◌, ◌==◌, ◌&&◌, nat_le, if◌then◌else◌, List, length, take, drop, slice_index}
-use Rattle.lexer.specs.Bytes.{quote}
-use Rattle.lexer.specs.declared.token.Kind.TheVariants.{Name, String, OpenParenthesis, CloseParenthesis}
-use Rattle.syntax.specs.Tree.{ExpressionTree, NameTree, TextTree}
-use Rattle.syntax.specs.Form.{Form, token, give, ◌>>=◌, ◌or◌, never, listed}
+-- The grammar of expressions, a form for each line, as the Meson manual's page "Syntax" has it. `b` says whether a
+-- choice (`test ? yes : no`) may stand in the expression, `u` what may stand behind a token that opens a level.
+use Rattle.std.specs.Prelude.{ℕ, zero, suc, Bool, true, false, List, [], ◌∷◌, Option, Some, None}
+use Rattle.std.specs.Option.{option_to_list}
+use Rattle.lexer.specs.Lexeme.{Lexeme}
+use Rattle.lexer.specs.declared.token.Kind.{Kind}
+use Rattle.lexer.specs.declared.token.Kind.TheVariants as Kinds
+use Rattle.syntax.specs.declared.tree.Literal.{Literal}
+use Rattle.syntax.specs.declared.tree.Literal.TheVariants as literals
+use Rattle.syntax.specs.declared.tree.Operator.{Operator}
+use Rattle.syntax.specs.declared.tree.Operator.TheVariants as operators
+use Rattle.syntax.specs.ExpressionTree.{ExpressionTree, NameTree, LiteralTree, ChainTree, ChoiceTree, OperandTree, operands}
+use Rattle.syntax.specs.Form.{Form, token, give, ◌>>=◌, ◌or◌, never, many, optional, listed}
+use Rattle.syntax.specs.Parts.{Inner, Closed, Inside, here, opened, token_as}
 
--- what stands between the quotes of a string
-abbrev pub unquoted : List ℕ → List ℕ
-unquoted text =
-    if nat_le 2 (length text) && ((slice_index text 0 == quote) && (slice_index text (length text - 1) == quote))
-    then take (length text - 2) (drop 1 text) else text
+-- ---- what tokens stand for
+
+-- NUMBER, STRING, "true" and "false"
+abbrev pub literal_of : Kind → Option Literal
+literal_of Kinds.True = Some literals.True
+literal_of Kinds.False = Some literals.False
+literal_of Kinds.Number = Some literals.Number
+literal_of Kinds.String = Some literals.String
+literal_of Kinds.RawString = Some literals.RawString
+literal_of Kinds.FormatString = Some literals.FormatString
+literal_of Kinds.RawFormatString = Some literals.RawFormatString
+literal_of _ = None
+
+abbrev pub disjunctive : Kind → Option Operator
+disjunctive Kinds.Or = Some operators.Or
+disjunctive _ = None
+
+abbrev pub conjunctive : Kind → Option Operator
+conjunctive Kinds.And = Some operators.And
+conjunctive _ = None
+
+abbrev pub comparative : Kind → Option Operator
+comparative Kinds.Equal = Some operators.Equal
+comparative Kinds.NotEqual = Some operators.NotEqual
+comparative Kinds.Less = Some operators.Less
+comparative Kinds.LessOrEqual = Some operators.LessOrEqual
+comparative Kinds.Greater = Some operators.Greater
+comparative Kinds.GreaterOrEqual = Some operators.GreaterOrEqual
+comparative Kinds.In = Some operators.In
+comparative _ = None
+
+abbrev pub additive : Kind → Option Operator
+additive Kinds.Plus = Some operators.Add
+additive Kinds.Minus = Some operators.Subtract
+additive _ = None
+
+abbrev pub multiplicative : Kind → Option Operator
+multiplicative Kinds.Times = Some operators.Multiply
+multiplicative Kinds.Divide = Some operators.Divide
+multiplicative Kinds.Remainder = Some operators.Remainder
+multiplicative _ = None
+
+-- ---- chains of operators
+
+-- a chain of one part is that part
+abbrev pub chain_tree : ℕ → ExpressionTree → List OperandTree → ExpressionTree
+chain_tree line first [] = first
+chain_tree line first (o ∷ os) = ChainTree first (operands (o ∷ os)) line
+
+-- OPERATOR part
+abbrev pub operand : (Kind → Option Operator) → Form ExpressionTree → Form OperandTree
+operand f part = do
+  o ← token_as f
+  e ← part
+  give (o.0, e)
+
+-- part {OPERATOR part}
+abbrev pub chain : (Kind → Option Operator) → Form ExpressionTree → Form ExpressionTree
+chain f part = do
+  line ← here
+  first ← part
+  others ← many (operand f part)
+  give (chain_tree line first others)
+
+-- "not" "in"
+abbrev pub not_in : Form Operator
+not_in = do
+  n ← token Kinds.Not
+  i ← token Kinds.In
+  give operators.NotIn
+
+-- CMPOP = "==" | "!=" | "<" | "<=" | ">" | ">=" | "in" | "not" "in"
+abbrev pub comparison_operator : Form Operator
+comparison_operator = (token_as comparative >>= λ o. give o.0) or not_in
+
+-- CMPOP part
+abbrev pub compared : Form ExpressionTree → Form OperandTree
+compared part = do
+  o ← comparison_operator
+  e ← part
+  give (o, e)
+
+-- ---- the lines of the grammar, over the unary expressions
+
+-- prod = unary {("*"|"/"|"%") unary}
+abbrev pub product : Form ExpressionTree → Form ExpressionTree
+product unary = chain multiplicative unary
+
+-- sum = prod {("+"|"-") prod}
+abbrev pub sum : Form ExpressionTree → Form ExpressionTree
+sum unary = chain additive (product unary)
+
+-- cmp = sum [CMPOP sum]
+abbrev pub comparison : Form ExpressionTree → Form ExpressionTree
+comparison unary = do
+  line ← here
+  first ← sum unary
+  second ← optional (compared (sum unary))
+  give (chain_tree line first (option_to_list second))
+
+-- and = cmp {"and" cmp}
+abbrev pub conjunction : Form ExpressionTree → Form ExpressionTree
+conjunction unary = chain conjunctive (comparison unary)
+
+-- or = and {"or" and}
+abbrev pub disjunction : Form ExpressionTree → Form ExpressionTree
+disjunction unary = chain disjunctive (conjunction unary)
+
+-- a choice without branches is its test
+abbrev pub choice_tree : ℕ → ExpressionTree → Option (ExpressionTree × ExpressionTree) → ExpressionTree
+choice_tree line test None = test
+choice_tree line test (Some x) = ChoiceTree test x.0 x.1 line
+
+-- "?" or ":" or
+abbrev pub branches : Form ExpressionTree → Form (ExpressionTree × ExpressionTree)
+branches part = do
+  q ← token Kinds.Question
+  one ← part
+  c ← token Kinds.Colon
+  other ← part
+  give (one, other)
+
+-- expr = or ["?" or ":" or], where no choice stands inside the branches, brackets or not
+abbrev pub choice : (Bool → Form ExpressionTree) → Bool → Form ExpressionTree
+choice unary false = disjunction (unary false)
+choice unary true = do
+  line ← here
+  test ← disjunction (unary true)
+  rest ← optional (branches (disjunction (unary false)))
+  give (choice_tree line test rest)
+
+-- ---- atoms
 
 -- NAME
 abbrev pub name : Form ExpressionTree
 name = do
-  t ← token Name
+  t ← token Kinds.Name
   give (NameTree t.text t.line)
 
--- STRING
-abbrev pub text : Form ExpressionTree
-text = do
-  t ← token String
-  give (TextTree (unquoted t.text) t.line)
+-- NUMBER | STRING | "true" | "false"
+abbrev pub literal : Form ExpressionTree
+literal = do
+  t ← token_as literal_of
+  give (LiteralTree t.0 t.1.text t.1.line)
 
--- "(" form ")"
-abbrev pub group : {A : Type 0} → Form A → Form A
-group form = do
-  o ← token OpenParenthesis
-  x ← form
-  c ← token CloseParenthesis
-  give x
+-- expr ")"
+abbrev pub group : (Bool → Form ExpressionTree) → Bool → Lexeme → Form ExpressionTree
+group unary b o = do
+  e ← choice unary b
+  c ← token Kinds.CloseParenthesis
+  give e
 
--- "(" expr ")"
-unfoldable pub nested : ℕ → Form ExpressionTree
-nested zero = never
-nested (suc n) = group (name or (text or nested n))
+-- atom = NAME | "(" expr ")" | NUMBER | STRING | "true" | "false"
+abbrev pub atom : Inner → Bool → Form ExpressionTree
+atom u b = name or (opened Kinds.OpenParenthesis u (λ e. group e b) or literal)
 
--- expr = NAME | STRING | "(" expr ")"
-abbrev pub expr : ℕ → Form ExpressionTree
-expr n = name or (text or nested n)
+unfoldable pub unary : ℕ → Bool → Form ExpressionTree
+unary zero b = atom Closed b
+unary (suc n) b = atom (Inside (unary n)) b
+
+-- expr
+unfoldable pub expr : ℕ → Form ExpressionTree
+expr n = choice (unary n) true
+
+-- ---- arguments
 
 -- "(" [expr {"," expr} [","]] ")"
 unfoldable pub arguments : ℕ → Form (List ExpressionTree)
 arguments zero = never
-arguments (suc n) = group (listed (expr n))
+arguments (suc n) = do
+  o ← token Kinds.OpenParenthesis
+  xs ← listed (expr n)
+  c ← token Kinds.CloseParenthesis
+  give xs

@@ -1,6 +1,6 @@
 -- What the lines of a grammar are made of. `spells a ts rest`: ts is a spelling of a, and then rest.
 -- `front ts more`: ts is a front of the form, and then more.
-use Rattle.std.specs.Prelude.{◌≡◌, ℕ, List, [], ◌∷◌, ◌⊎◌, Option, Some, None}
+use Rattle.std.specs.Prelude.{◌≡◌, List, [], ◌∷◌, ◌⊎◌, Option, Some, None}
 use Rattle.lexer.specs.Lexeme.{Lexeme}
 use Rattle.lexer.specs.declared.token.Kind.{Kind}
 use Rattle.lexer.specs.declared.token.Kind.TheVariants as Kinds
@@ -71,15 +71,3 @@ some_listed F = F >>= λ first. many (comma_then F) >>= λ others. optional (tok
 
 abbrev pub listed : {A : Type 0} → Form A → Form (List A)
 listed F = some_listed F or give []
-
--- the line of the first token
-abbrev pub line_here : List Lexeme → ℕ
-line_here [] = 0
-line_here (t ∷ ts) = t.line
-
--- a form, and the line of its first token
-abbrev pub lined : {A : Type 0} → Form A → Form (A × ℕ)
-lined F = record {
-  spells = λ x ts rest. F.spells x.0 ts rest × (x.1 ≡ line_here ts);
-  front = F.front;
-}

@@ -1,8 +1,10 @@
 pub mod Expressions
+pub mod ExpressionTree
 pub mod Form
 pub mod Grammar
 pub mod Outcome
 pub mod Parsed
+pub mod Parts
 pub mod Reading
 pub mod ReadingExpressions
 pub mod ReadingStatements

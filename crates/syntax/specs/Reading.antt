@@ -40,6 +40,11 @@ abbrev pub begins : Kind → List Lexeme → Bool
 begins k [] = false
 begins k (t ∷ ts) = is t.kind k
 
+-- there is a first token, and its kind is one of these
+abbrev pub head_is : (Kind → Bool) → List Lexeme → Bool
+head_is p [] = false
+head_is p (t ∷ ts) = p t.kind
+
 unfoldable pub token_at : Kind → Reader Lexeme
 token_at k [] = Err (Unexpected 0)
 token_at k (t ∷ ts) = if is t.kind k then Ok (t, ts) else Err (Unexpected (length ts + 1))
@@ -69,13 +74,6 @@ items_at stop r (suc k) ts = if stop ts then Ok ([], ts) else (r ts >>= λ x. ta
 abbrev pub two_begin : Kind → Kind → List Lexeme → Bool
 two_begin k l [] = false
 two_begin k l (t ∷ ts) = is t.kind k && begins l ts
-
-unfoldable pub group_at : {A : Type 0} → Reader A → Reader A
-group_at r ts = do
-  o ← token_at Kinds.OpenParenthesis ts
-  x ← r o.1
-  c ← token_at Kinds.CloseParenthesis x.1
-  Ok (x.0, c.1)
 
 -- where no level may be opened
 unfoldable pub deep_at : {A : Type 0} → Kind → Reader A

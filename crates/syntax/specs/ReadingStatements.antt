@@ -5,15 +5,12 @@ use Rattle.lexer.specs.Kinds.{is}
 use Rattle.lexer.specs.declared.token.Kind.{Kind}
 use Rattle.lexer.specs.declared.token.Kind.TheVariants as Kinds
 use Rattle.syntax.specs.declared.stop.Stop.TheVariants.{Unexpected}
-use Rattle.syntax.specs.Form.{line_here}
-use Rattle.syntax.specs.Tree.{ExpressionTree, StatementTree, AssignTree, AppendTree, CallTree, BreakTree, ContinueTree, IfTree, ForeachTree, FileTree, statements, BranchTree, branches}
+use Rattle.syntax.specs.Parts.{here_at}
+use Rattle.syntax.specs.ExpressionTree.{ExpressionTree}
+use Rattle.syntax.specs.Tree.{StatementTree, AssignTree, AppendTree, CallTree, BreakTree, ContinueTree, IfTree, ForeachTree, FileTree, statements, BranchTree, branches}
 use Rattle.syntax.specs.Statements.{given}
 use Rattle.syntax.specs.Reading.{Reader, ◌>>=◌, begins, token_at, many_at, or_at, optional_at, deep_at, two_begin}
 use Rattle.syntax.specs.ReadingExpressions.{expr_at, arguments_at}
-
--- what r reads, and the line of its first token
-abbrev pub lined_at : {A : Type 0} → Reader A → Reader (A × ℕ)
-lined_at r ts = r ts >>= λ x. Ok ((x.0, line_here ts), x.1)
 
 -- ---- statements of one line
 
@@ -90,18 +87,20 @@ foreach_at expr stmt ts = do
   a ← token_at Kinds.Name w.1
   b ← optional_at (begins Kinds.Comma) second_at a.1
   c ← token_at Kinds.Colon b.1
-  e ← lined_at expr c.1
+  line ← here_at c.1
+  e ← expr line.1
   t ← token_at Kinds.Newline e.1
   ss ← body_at stmt t.1
   end ← token_at Kinds.EndForeach ss.1
-  Ok (ForeachTree w.0.line a.0.text b.0 e.0.0 e.0.1 (statements ss.0), end.1)
+  Ok (ForeachTree w.0.line a.0.text b.0 e.0 line.0 (statements ss.0), end.1)
 
 unfoldable pub branch_at : Reader ExpressionTree → Reader StatementTree → Reader BranchTree
 branch_at expr stmt ts = do
-  e ← lined_at expr ts
+  line ← here_at ts
+  e ← expr line.1
   t ← token_at Kinds.Newline e.1
   ss ← body_at stmt t.1
-  Ok ((e.0.0, e.0.1, statements ss.0), ss.1)
+  Ok ((e.0, line.0, statements ss.0), ss.1)
 
 unfoldable pub elif_at : Reader ExpressionTree → Reader StatementTree → Reader BranchTree
 elif_at expr stmt ts = do

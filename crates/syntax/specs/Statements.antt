@@ -3,8 +3,10 @@
 use Rattle.std.specs.Prelude.{ℕ, zero, suc, Bool, true, false, List, [], ◌∷◌, Option, Some, None, unwrap_or}
 use Rattle.lexer.specs.declared.token.Kind.{Kind}
 use Rattle.lexer.specs.declared.token.Kind.TheVariants.{Name, Assign, PlusAssign, Newline, Comma, Colon, Break, Continue, If, Elif, Else, EndIf, Foreach, EndForeach}
-use Rattle.syntax.specs.Tree.{ExpressionTree, StatementTree, AssignTree, AppendTree, CallTree, BreakTree, ContinueTree, IfTree, ForeachTree, FileTree, statements, BranchTree, branches}
-use Rattle.syntax.specs.Form.{Form, token, give, ◌>>=◌, ◌or◌, never, many, optional, lined}
+use Rattle.syntax.specs.ExpressionTree.{ExpressionTree}
+use Rattle.syntax.specs.Tree.{StatementTree, AssignTree, AppendTree, CallTree, BreakTree, ContinueTree, IfTree, ForeachTree, FileTree, statements, BranchTree, branches}
+use Rattle.syntax.specs.Form.{Form, token, give, ◌>>=◌, ◌or◌, never, many, optional}
+use Rattle.syntax.specs.Parts.{here}
 use Rattle.syntax.specs.Expressions.{expr, arguments}
 
 -- ---- statements of one line
@@ -41,7 +43,8 @@ leave k tree false = never
 
 -- NAME ("="|"+=") expr | NAME "(" [expr {"," expr} [","]] ")" | "break" | "continue"
 abbrev pub simple : Bool → ℕ → Form StatementTree
-simple inside n = leave Break BreakTree inside or (leave Continue ContinueTree inside or (assign (expr n) or (append (expr n) or call (arguments n))))
+simple inside n = leave Break BreakTree inside or
+    (leave Continue ContinueTree inside or (assign (expr n) or (append (expr n) or call (arguments n))))
 
 -- ---- blocks
 
@@ -78,19 +81,21 @@ foreach expr stmt = do
   a ← token Name
   b ← optional second
   c ← token Colon
-  e ← lined expr
+  line ← here
+  e ← expr
   t ← token Newline
   ss ← body stmt
   end ← token EndForeach
-  give (ForeachTree w.line a.text b e.0 e.1 (statements ss))
+  give (ForeachTree w.line a.text b e line (statements ss))
 
 -- expr NL body
 abbrev pub branch : Form ExpressionTree → Form StatementTree → Form BranchTree
 branch expr stmt = do
-  e ← lined expr
+  line ← here
+  e ← expr
   t ← token Newline
   ss ← body stmt
-  give (e.0, e.1, statements ss)
+  give (e, line, statements ss)
 
 -- "elif" expr NL body
 abbrev pub elif : Form ExpressionTree → Form StatementTree → Form BranchTree

@@ -1,18 +1,12 @@
 -- The tree of a file without where it lies in memory.
 use Rattle.std.specs.Prelude.{ℕ, List, [], ◌∷◌, map, Option}
 use Rattle.std.specs.Option.{option_map}
-use Rattle.syntax.specs.declared.tree.Expression.{Expression}
-use Rattle.syntax.specs.declared.tree.Expression.TheVariants.{Name, Text}
+use Rattle.syntax.specs.ExpressionTree.{ExpressionTree, expression_of}
 use Rattle.syntax.specs.declared.tree.Statement.{Statement}
 use Rattle.syntax.specs.declared.tree.Statement.TheOpen.{Statement-F, Branch-F, Assign, Append, Call, Break, Continue, If, Foreach}
 use Rattle.syntax.specs.declared.tree.Statement.TheFolds.{fold-Statement, fold-Branch}
 use Rattle.syntax.specs.declared.tree.Branch.{Branch}
 use Rattle.syntax.specs.declared.tree.File.{File}
-
--- a name, or what stands between the quotes of a string, and its line
-pub data ExpressionTree : Type 0 where
-  NameTree : List ℕ → ℕ → ExpressionTree
-  TextTree : List ℕ → ℕ → ExpressionTree
 
 mutual
   -- A statement. Each has the line of its first token, and so have a condition and the list of a `foreach`.
@@ -53,10 +47,6 @@ abbrev pub branches : List BranchTree → Branches
 branches [] = NoBranch
 branches (b ∷ bs) = MoreBranches b.0 b.1 b.2 (branches bs)
 
-abbrev pub expression_of : Expression → ExpressionTree
-expression_of (Name name line) = NameTree name.now line
-expression_of (Text text line) = TextTree text.now line
-
 abbrev pub statement_step : Statement-F StatementTree BranchTree → StatementTree
 statement_step (Assign name line value) = AssignTree name.now line (expression_of value)
 statement_step (Append name line value) = AppendTree name.now line (expression_of value)
@@ -64,7 +54,8 @@ statement_step (Call name line arguments) = CallTree name.now line (map expressi
 statement_step (Break line) = BreakTree line
 statement_step (Continue line) = ContinueTree line
 statement_step (If line parts otherwise) = IfTree line (branches parts.items) (statements otherwise.items)
-statement_step (Foreach line first second list list_line body) = ForeachTree line first.now (option_map (λ name. name.now) second) (expression_of list) list_line (statements body.items)
+statement_step (Foreach line first second list list_line body) =
+    ForeachTree line first.now (option_map (λ name. name.now) second) (expression_of list) list_line (statements body.items)
 
 abbrev pub branch_step : Branch-F StatementTree BranchTree → BranchTree
 branch_step b = (expression_of b.condition, b.line, statements b.body.items)

@@ -66,7 +66,8 @@ impl<'t, 'a> Parser<'t, 'a> {
     // A newline, and the statement of the line behind it, if there is one.
     #[tactic(auto, unfolding(crate::specs::ReadingStatements::next_line_at))]
     fn next_line(&mut self, alloc: Global, levels: u32) -> Result<Option<Statement<'a>>, ReadError>
-        ensures read { Gives (option_map statement_of) result (lexemes self.new.rest.now) (next_line_at levels (lexemes self.old.rest.now)) }
+        ensures read { Gives (option_map statement_of) result (lexemes self.new.rest.now)
+            (next_line_at levels (lexemes self.old.rest.now)) }
         ensures shorter { OnOk result (length self.new.rest.now < length self.old.rest.now) }
     {
         self.take(Kind::Newline)?;
@@ -75,7 +76,8 @@ impl<'t, 'a> Parser<'t, 'a> {
 
     // The statements of the lines.
     fn lines(&mut self, alloc: Global, levels: u32) -> Result<Vec<Statement<'a>>, ReadError>
-        ensures read { Gives (λ v. map statement_of v.items) result (lexemes self.new.rest.now) (file_at levels (lexemes self.old.rest.now)) }
+        ensures read { Gives (λ v. map statement_of v.items) result (lexemes self.new.rest.now)
+            (file_at levels (lexemes self.old.rest.now)) }
     {
         let mut statements = Vec::new(alloc);
         if let Some(first) = self.line(alloc, false, levels)? {
@@ -133,10 +135,12 @@ fn located(source: &str, tokens: &[Token<'_>], stop: Stop) -> SyntaxFault
 
 /// The file that a source spells.
 ///
-/// A file is lines with a statement each, or none: an assignment `name = expression`, or a call `name(expression, ..)`;
-/// an expression is a name, a string, or an expression in parentheses. What is no file has a fault at the line of a
-/// token, where the end counts as one: E2 where the source has no tokens; E3 at the first token up to which the tokens
-/// begin no file; E4 at the first that opens level 65, where that comes before.
+/// A file is lines with a statement each, or none, of the forms of the Meson manual's page "Syntax": `name = expression`,
+/// `name += expression`, a call `name(expression, ..)`, `break` and `continue` inside a `foreach`, `if` with its `elif` and
+/// `else` parts up to `endif`, and `foreach` up to `endforeach`; so are expressions. What is no file has a fault at the line
+/// of a token, where the end counts as one: E2 where the source has no tokens; E3 at the first token up to which the tokens
+/// begin no file; E4 at the first that opens level 65, where that comes before. A bracket opens a level, and so does a
+/// block at its first word, with its condition or list inside; `elif` and `else` open none.
 pub fn parse(alloc: Global, source: &str) -> Result<File<'_>, SyntaxError>
     // Unless memory runs out, it is this function of the source.
     ensures reads { Answers file_of result (parsed source.now) }

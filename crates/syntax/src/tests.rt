@@ -1,5 +1,5 @@
 // Small sources, their trees and their faults.
-use crate::tree::{Expression, Statement};
+use crate::tree::{Expression, Literal, Statement};
 use crate::{parse, tokens};
 use lexer::fault::{FaultKind, SyntaxError, SyntaxFault};
 use lexer::token::Kind;
@@ -33,8 +33,9 @@ fn reads(rt: HostRuntime) -> Result<(), Fail> {
             Statement::Assign {
                 name: "n",
                 line: 1,
-                value: Expression::Text {
-                    text: "prog",
+                value: Expression::Literal {
+                    literal: Literal::String,
+                    text: "'prog'",
                     line: 1
                 }
             }

@@ -1,4 +1,5 @@
-//! The tree of a definition file. Each node has the line of its first byte; brackets leave no node.
+//! The tree of a definition file. Each node has the line of its first token, where a chain of
+//! operators begins with the bracket that its first value stands in; brackets leave no node of their own.
 
 /// A definition file.
 #[derive(Debug, Drop)]
@@ -67,10 +68,79 @@ pub struct Branch<'a> {
 }
 
 /// An expression.
+#[cycle(tree)]
 #[derive(Debug, Drop)]
 pub enum Expression<'a> {
     /// A name.
-    Name { name: &'a str, line: usize },
-    /// What stands between the quotes of a string.
-    Text { text: &'a str, line: usize },
+    Name {
+        name: &'a str,
+        line: usize,
+    },
+    /// A literal, as it stands in the source: a string has its quotes.
+    Literal {
+        literal: Literal,
+        text: &'a str,
+        line: usize,
+    },
+    /// `first + second - third`: values with operators between them, all of one line of the grammar.
+    Chain {
+        first: Box<Expression<'a>>,
+        others: Vec<Operand<'a>>,
+        line: usize,
+    },
+    /// `test ? yes : no`
+    Choice {
+        test: Box<Expression<'a>>,
+        yes: Box<Expression<'a>>,
+        no: Box<Expression<'a>>,
+        line: usize,
+    },
+}
+
+/// What a literal is.
+#[derive(Clone, Copy, PartialEq, Eq, Debug)]
+pub enum Literal {
+    True,
+    False,
+    /// A decimal number, or one that begins with `0x`, `0o` or `0b`.
+    Number,
+    /// `'..'`
+    String,
+    /// `'''..'''`
+    RawString,
+    /// `f'..'`
+    FormatString,
+    /// `f'''..'''`
+    RawFormatString,
+}
+
+/// What stands between two values.
+#[derive(Clone, Copy, PartialEq, Eq, Debug)]
+pub enum Operator {
+    Or,
+    And,
+    /// `==`
+    Equal,
+    /// `!=`
+    NotEqual,
+    Less,
+    LessOrEqual,
+    Greater,
+    GreaterOrEqual,
+    In,
+    /// `not in`
+    NotIn,
+    Add,
+    Subtract,
+    Multiply,
+    Divide,
+    Remainder,
+}
+
+/// An operator and the value behind it.
+#[cycle(tree)]
+#[derive(Debug, Drop)]
+pub struct Operand<'a> {
+    pub operator: Operator,
+    pub value: Expression<'a>,
 }

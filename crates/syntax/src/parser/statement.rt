@@ -3,7 +3,6 @@
 ghost use Rattle.std.specs.Prelude.{◌≡◌, ◌<◌, ◌≤◌, length, map, OnOk, true};
 ghost use Rattle.std.specs.Option.{option_map};
 ghost use Rattle.lexer.specs.Lexeme.{lexemes};
-ghost use Rattle.syntax.specs.Form.{line_here};
 ghost use Rattle.syntax.specs.Reading.{Gives, begins, optional_at, two_begin};
 ghost use Rattle.syntax.specs.ReadingExpressions.{arguments_at, expr_at};
 ghost use Rattle.syntax.specs.ReadingStatements.{begins_block, block_at, body_at, branch_at, call_at, conditional_at, elif_at, ended_line_at, ends_line, foreach_at, in_body, last_part_at, leave_at, maybe_at, otherwise_at, parts_at, second_at, set_at, simple_at, stmt_at};
@@ -16,16 +15,6 @@ use lexer::token::Kind;
 use std::alloc::Global;
 
 impl<'a> Parser<'_, 'a> {
-    // The line of the first token.
-    fn line_here(&self) -> usize
-        ensures { result ≡ line_here (lexemes self.now.rest.now) }
-    {
-        match self.rest {
-            [token, ..] => token.line,
-            [] => 0,
-        }
-    }
-
     // Whether a name and this sign come.
     fn begins_sign(&self, sign: Kind) -> bool
         ensures { result ≡ two_begin Kind.Name sign (lexemes self.now.rest.now) }
@@ -73,13 +62,14 @@ impl<'a> Parser<'_, 'a> {
 
     // An assignment.
     #[tactic(auto, unfolding(crate::specs::ReadingStatements::set_at))]
-    fn assign(&mut self, levels: u32) -> Result<Statement<'a>, ReadError>
-        ensures read { Gives statement_of result (lexemes self.new.rest.now) (set_at Kind.Assign AssignTree (expr_at levels) (lexemes self.old.rest.now)) }
+    fn assign(&mut self, alloc: Global, levels: u32) -> Result<Statement<'a>, ReadError>
+        ensures read { Gives statement_of result (lexemes self.new.rest.now)
+            (set_at Kind.Assign AssignTree (expr_at levels) (lexemes self.old.rest.now)) }
         ensures shorter { OnOk result (length self.new.rest.now < length self.old.rest.now) }
     {
         let name = self.take(Kind::Name)?;
         self.take(Kind::Assign)?;
-        let value = self.expression(levels)?;
+        let value = self.expression(alloc, levels)?;
         Ok(Statement::Assign {
             name: name.text,
             line: name.line,
@@ -89,13 +79,14 @@ impl<'a> Parser<'_, 'a> {
 
     // A value that is added.
     #[tactic(auto, unfolding(crate::specs::ReadingStatements::set_at))]
-    fn append(&mut self, levels: u32) -> Result<Statement<'a>, ReadError>
-        ensures read { Gives statement_of result (lexemes self.new.rest.now) (set_at Kind.PlusAssign AppendTree (expr_at levels) (lexemes self.old.rest.now)) }
+    fn append(&mut self, alloc: Global, levels: u32) -> Result<Statement<'a>, ReadError>
+        ensures read { Gives statement_of result (lexemes self.new.rest.now)
+            (set_at Kind.PlusAssign AppendTree (expr_at levels) (lexemes self.old.rest.now)) }
         ensures shorter { OnOk result (length self.new.rest.now < length self.old.rest.now) }
     {
         let name = self.take(Kind::Name)?;
         self.take(Kind::PlusAssign)?;
-        let value = self.expression(levels)?;
+        let value = self.expression(alloc, levels)?;
         Ok(Statement::Append {
             name: name.text,
             line: name.line,
@@ -121,7 +112,8 @@ impl<'a> Parser<'_, 'a> {
     // A `break`, where a `foreach` is open.
     #[tactic(auto, using(crate::proofs::StatementTails::break_inside, crate::proofs::StatementTails::break_fails, crate::proofs::StatementTails::break_outside, crate::proofs::Tails::fails_at))]
     fn leave_loop(&mut self, inside: bool) -> Result<Statement<'a>, ReadError>
-        ensures read { Gives statement_of result (lexemes self.new.rest.now) (leave_at Kind.Break BreakTree inside (lexemes self.old.rest.now)) }
+        ensures read { Gives statement_of result (lexemes self.new.rest.now)
+            (leave_at Kind.Break BreakTree inside (lexemes self.old.rest.now)) }
         ensures shorter { OnOk result (length self.new.rest.now < length self.old.rest.now) }
     {
         if inside {
@@ -135,7 +127,8 @@ impl<'a> Parser<'_, 'a> {
     // A `continue`, where a `foreach` is open.
     #[tactic(auto, using(crate::proofs::StatementTails::continue_inside, crate::proofs::StatementTails::continue_fails, crate::proofs::StatementTails::continue_outside, crate::proofs::Tails::fails_at))]
     fn leave_round(&mut self, inside: bool) -> Result<Statement<'a>, ReadError>
-        ensures read { Gives statement_of result (lexemes self.new.rest.now) (leave_at Kind.Continue ContinueTree inside (lexemes self.old.rest.now)) }
+        ensures read { Gives statement_of result (lexemes self.new.rest.now)
+            (leave_at Kind.Continue ContinueTree inside (lexemes self.old.rest.now)) }
         ensures shorter { OnOk result (length self.new.rest.now < length self.old.rest.now) }
     {
         if inside {
@@ -162,9 +155,9 @@ impl<'a> Parser<'_, 'a> {
         } else if self.begins(Kind::Continue) {
             self.leave_round(inside)
         } else if self.begins_sign(Kind::Assign) {
-            self.assign(levels)
+            self.assign(alloc, levels)
         } else if self.begins_sign(Kind::PlusAssign) {
-            self.append(levels)
+            self.append(alloc, levels)
         } else {
             self.call(alloc, levels)
         }
@@ -228,7 +221,8 @@ impl<'a> Parser<'_, 'a> {
     // The second name of a `foreach`, if there is one.
     #[tactic(auto, using(crate::proofs::StatementTails::optional_some, crate::proofs::StatementTails::optional_none, crate::proofs::StatementTails::optional_fails))]
     fn second(&mut self) -> Result<Option<&'a str>, ReadError>
-        ensures read { Gives (option_map (λ name. name.now)) result (lexemes self.new.rest.now) (optional_at (begins Kind.Comma) second_at (lexemes self.old.rest.now)) }
+        ensures read { Gives (option_map (λ name. name.now)) result (lexemes self.new.rest.now)
+            (optional_at (begins Kind.Comma) second_at (lexemes self.old.rest.now)) }
         ensures shorter { OnOk result (length self.new.rest.now ≤ length self.old.rest.now) }
     {
         if self.begins(Kind::Comma) {
@@ -242,15 +236,16 @@ impl<'a> Parser<'_, 'a> {
     #[cycle(statement)]
     #[tactic(auto, unfolding(crate::specs::ReadingStatements::foreach_at))]
     fn foreach(&mut self, alloc: Global, levels: u32) -> Result<Statement<'a>, ReadError>
-        ensures read { Gives statement_of result (lexemes self.new.rest.now) (foreach_at (expr_at levels) (stmt_at true levels) (lexemes self.old.rest.now)) }
+        ensures read { Gives statement_of result (lexemes self.new.rest.now)
+            (foreach_at (expr_at levels) (stmt_at true levels) (lexemes self.old.rest.now)) }
         ensures shorter { OnOk result (length self.new.rest.now < length self.old.rest.now) }
     {
         let word = self.take(Kind::Foreach)?;
         let first = self.take(Kind::Name)?;
         let second = self.second()?;
         self.take(Kind::Colon)?;
-        let list_line = self.line_here();
-        let list = self.expression(levels)?;
+        let list_line = self.first_line();
+        let list = self.expression(alloc, levels)?;
         self.take(Kind::Newline)?;
         let body = self.body(alloc, true, levels)?;
         self.take(Kind::EndForeach)?;
@@ -273,7 +268,8 @@ impl<'a> Parser<'_, 'a> {
         inside: bool,
         levels: u32,
     ) -> Result<Statement<'a>, ReadError>
-        ensures read { Gives statement_of result (lexemes self.new.rest.now) (conditional_at (expr_at levels) (stmt_at inside levels) (lexemes self.old.rest.now)) }
+        ensures read { Gives statement_of result (lexemes self.new.rest.now)
+            (conditional_at (expr_at levels) (stmt_at inside levels) (lexemes self.old.rest.now)) }
         ensures shorter { OnOk result (length self.new.rest.now < length self.old.rest.now) }
     {
         let word = self.take(Kind::If)?;
@@ -291,11 +287,12 @@ impl<'a> Parser<'_, 'a> {
     #[cycle(statement)]
     #[tactic(auto, unfolding(crate::specs::ReadingStatements::branch_at))]
     fn branch(&mut self, alloc: Global, inside: bool, levels: u32) -> Result<Branch<'a>, ReadError>
-        ensures read { Gives branch_of result (lexemes self.new.rest.now) (branch_at (expr_at levels) (stmt_at inside levels) (lexemes self.old.rest.now)) }
+        ensures read { Gives branch_of result (lexemes self.new.rest.now)
+            (branch_at (expr_at levels) (stmt_at inside levels) (lexemes self.old.rest.now)) }
         ensures shorter { OnOk result (length self.new.rest.now < length self.old.rest.now) }
     {
-        let line = self.line_here();
-        let condition = self.expression(levels)?;
+        let line = self.first_line();
+        let condition = self.expression(alloc, levels)?;
         self.take(Kind::Newline)?;
         let body = self.body(alloc, inside, levels)?;
         Ok(Branch {
@@ -309,7 +306,8 @@ impl<'a> Parser<'_, 'a> {
     #[cycle(statement)]
     #[tactic(auto, unfolding(crate::specs::ReadingStatements::elif_at))]
     fn elif(&mut self, alloc: Global, inside: bool, levels: u32) -> Result<Branch<'a>, ReadError>
-        ensures read { Gives branch_of result (lexemes self.new.rest.now) (elif_at (expr_at levels) (stmt_at inside levels) (lexemes self.old.rest.now)) }
+        ensures read { Gives branch_of result (lexemes self.new.rest.now)
+            (elif_at (expr_at levels) (stmt_at inside levels) (lexemes self.old.rest.now)) }
         ensures shorter { OnOk result (length self.new.rest.now < length self.old.rest.now) }
     {
         self.take(Kind::Elif)?;
@@ -324,7 +322,8 @@ impl<'a> Parser<'_, 'a> {
         inside: bool,
         levels: u32,
     ) -> Result<Vec<Branch<'a>>, ReadError>
-        ensures read { Gives (λ v. map branch_of v.items) result (lexemes self.new.rest.now) (parts_at (expr_at levels) (stmt_at inside levels) (lexemes self.old.rest.now)) }
+        ensures read { Gives (λ v. map branch_of v.items) result (lexemes self.new.rest.now)
+            (parts_at (expr_at levels) (stmt_at inside levels) (lexemes self.old.rest.now)) }
         ensures shorter { OnOk result (length self.new.rest.now < length self.old.rest.now) }
     {
         let mut parts = Vec::new(alloc);
@@ -344,7 +343,8 @@ impl<'a> Parser<'_, 'a> {
         inside: bool,
         levels: u32,
     ) -> Result<Vec<Statement<'a>>, ReadError>
-        ensures read { Gives (λ v. map statement_of v.items) result (lexemes self.new.rest.now) (last_part_at (stmt_at inside levels) (lexemes self.old.rest.now)) }
+        ensures read { Gives (λ v. map statement_of v.items) result (lexemes self.new.rest.now)
+            (last_part_at (stmt_at inside levels) (lexemes self.old.rest.now)) }
         ensures shorter { OnOk result (length self.new.rest.now < length self.old.rest.now) }
     {
         self.take(Kind::Else)?;
@@ -361,7 +361,8 @@ impl<'a> Parser<'_, 'a> {
         inside: bool,
         levels: u32,
     ) -> Result<Vec<Statement<'a>>, ReadError>
-        ensures read { Gives (λ v. map statement_of v.items) result (lexemes self.new.rest.now) (otherwise_at (stmt_at inside levels) (lexemes self.old.rest.now)) }
+        ensures read { Gives (λ v. map statement_of v.items) result (lexemes self.new.rest.now)
+            (otherwise_at (stmt_at inside levels) (lexemes self.old.rest.now)) }
         ensures shorter { OnOk result (length self.new.rest.now ≤ length self.old.rest.now) }
     {
         if self.begins(Kind::Else) {
@@ -379,7 +380,8 @@ impl<'a> Parser<'_, 'a> {
         inside: bool,
         levels: u32,
     ) -> Result<Vec<Statement<'a>>, ReadError>
-        ensures read { Gives (λ v. map statement_of v.items) result (lexemes self.new.rest.now) (body_at (stmt_at inside levels) (lexemes self.old.rest.now)) }
+        ensures read { Gives (λ v. map statement_of v.items) result (lexemes self.new.rest.now)
+            (body_at (stmt_at inside levels) (lexemes self.old.rest.now)) }
         ensures shorter { OnOk result (length self.new.rest.now ≤ length self.old.rest.now) }
     {
         let mut statements = Vec::new(alloc);
@@ -400,7 +402,8 @@ impl<'a> Parser<'_, 'a> {
         inside: bool,
         levels: u32,
     ) -> Result<Option<Statement<'a>>, ReadError>
-        ensures read { Gives (option_map statement_of) result (lexemes self.new.rest.now) (ended_line_at (stmt_at inside levels) (lexemes self.old.rest.now)) }
+        ensures read { Gives (option_map statement_of) result (lexemes self.new.rest.now)
+            (ended_line_at (stmt_at inside levels) (lexemes self.old.rest.now)) }
         ensures shorter { OnOk result (length self.new.rest.now < length self.old.rest.now) }
     {
         let statement = self.line(alloc, inside, levels)?;
@@ -417,7 +420,8 @@ impl<'a> Parser<'_, 'a> {
         inside: bool,
         levels: u32,
     ) -> Result<Option<Statement<'a>>, ReadError>
-        ensures read { Gives (option_map statement_of) result (lexemes self.new.rest.now) (maybe_at (stmt_at inside levels) (lexemes self.old.rest.now)) }
+        ensures read { Gives (option_map statement_of) result (lexemes self.new.rest.now)
+            (maybe_at (stmt_at inside levels) (lexemes self.old.rest.now)) }
         ensures shorter { OnOk result (length self.new.rest.now ≤ length self.old.rest.now) }
     {
         if self.ends_line() {

@@ -46,7 +46,8 @@ abbrev pub invariant-body-loop-alloc : goal.invariant-body-loop-alloc
 invariant-body-loop-alloc l =
     record {
       within : length l.self.rest.now ≤ length l.fn.self.rest.now;
-      read : StillBody (stmt_at l.inside l.levels) (map statement_of l.statements.items) (lexemes l.self.rest.now) (body_at (stmt_at l.inside l.levels) (lexemes l.fn.self.rest.now));
+      read : StillBody (stmt_at l.inside l.levels) (map statement_of l.statements.items) (lexemes l.self.rest.now)
+          (body_at (stmt_at l.inside l.levels) (lexemes l.fn.self.rest.now));
     }
 
 abbrev pub decreases-body-loop-alloc : goal.decreases-body-loop-alloc
@@ -56,7 +57,8 @@ abbrev pub invariant-parts-loop-alloc : goal.invariant-parts-loop-alloc
 invariant-parts-loop-alloc l =
     record {
       within : length l.self.rest.now < length l.fn.self.rest.now;
-      read : StillParts (expr_at l.levels) (stmt_at l.inside l.levels) (map branch_of l.parts.items) (lexemes l.self.rest.now) (parts_at (expr_at l.levels) (stmt_at l.inside l.levels) (lexemes l.fn.self.rest.now));
+      read : StillParts (expr_at l.levels) (stmt_at l.inside l.levels) (map branch_of l.parts.items) (lexemes l.self.rest.now)
+          (parts_at (expr_at l.levels) (stmt_at l.inside l.levels) (lexemes l.fn.self.rest.now));
     }
 
 abbrev pub decreases-parts-loop-alloc : goal.decreases-parts-loop-alloc

@@ -6,7 +6,8 @@ use Rattle.syntax.proofs.StatementTails.{StillLines}
 use Rattle.syntax.proofs.parser.Parser.lines.Given as goal
 
 abbrev pub invariant-loop-alloc : goal.invariant-loop-alloc
-invariant-loop-alloc l = StillLines l.levels (map statement_of l.statements.items) (lexemes l.self.rest.now) (file_at l.levels (lexemes l.fn.self.rest.now))
+invariant-loop-alloc l = StillLines l.levels (map statement_of l.statements.items) (lexemes l.self.rest.now)
+    (file_at l.levels (lexemes l.fn.self.rest.now))
 
 abbrev pub decreases-loop-alloc : goal.decreases-loop-alloc
 decreases-loop-alloc l = length l.self.rest.now
