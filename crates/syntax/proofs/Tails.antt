@@ -1,20 +1,15 @@
 -- What the functions of the parser answer, case by case.
-use Rattle.std.proofs.Common.{◌≡◌, ℕ, zero, suc, ◌+◌, ◌-◌, ◌≤◌, ◌<◌, true, false, List, [], ◌∷◌, ◌++◌, length, get_or, take, drop, Result, Ok, Err, refl, sym, ap, ◌∙◌, arith, rules, append_assoc, Option, Some, None}
+use Rattle.std.proofs.Common.{◌≡◌, ℕ, zero, suc, ◌+◌, ◌-◌, ◌≤◌, ◌<◌, true, false, List, [], ◌∷◌, length, get_or, take, drop, Result, Ok, Err, refl, sym, ap, ◌∙◌, arith, rules}
 use Rattle.std.proofs.lemmas.Grind.{common_steps}
-use Rattle.std.proofs.lemmas.List.{append-nil}
 use Rattle.lexer.specs.declared.token.Token.{Token}
 use Rattle.lexer.specs.declared.token.Kind.{Kind}
-use Rattle.lexer.specs.declared.token.Kind.TheVariants as Kinds
 use Rattle.syntax.specs.declared.stop.Stop.{Stop}
 use Rattle.syntax.specs.declared.stop.Stop.TheVariants.{Unexpected}
 use Rattle.syntax.specs.declared.stop.ReadError.{ReadError}
 use Rattle.syntax.specs.declared.stop.ReadError.TheVariants as errors
-use Rattle.syntax.specs.Grammar.{given}
 use Rattle.lexer.specs.Kinds.{is}
 use Rattle.lexer.specs.Lexeme.{Lexeme, lexeme_of, lexemes}
-use Rattle.syntax.specs.Tree.{StatementTree, FileTree}
-use Rattle.syntax.specs.Reading.{Reader, ◌>>=◌, Fails, begins, many_at, optional_at, or_at, token_at, two_begin, all_of}
-use Rattle.syntax.specs.ReadingStatements.{assign_at, call_at, file_at, line_at, next_line_at, stmt_at}
+use Rattle.syntax.specs.Reading.{Reader, Fails, token_at, all_of}
 use Rattle.syntax.specs.Parsed.{line_of}
 
 -- ---- one token
@@ -47,103 +42,6 @@ token_end k (t ∷ ts) le = absurd (omega arith)
 pub fails_at : {Y : Type 0} (e : ReadError) (f : Stop) (read : Result Y Stop) → e ≡ errors.Stop f → read ≡ Err f → Fails e read
 fails_at errors.Memory f read e h = tt
 fails_at (errors.Stop g) f read e h = let same : g ≡ f = cc in h ∙ ap (λ (x : Stop). Err x) (sym same)
-
--- ---- statements
-
-pub stmt_assign : (n : ℕ) (ts : List Lexeme) → two_begin Kinds.Name Kinds.Assign ts ≡ true → stmt_at n ts ≡ assign_at n ts
-unfolding stmt_at or_at
-stmt_assign n ts e = rw e
-
-pub stmt_call : (n : ℕ) (ts : List Lexeme) → two_begin Kinds.Name Kinds.Assign ts ≡ false → stmt_at n ts ≡ call_at n ts
-unfolding stmt_at or_at
-stmt_call n ts e = rw e
-
-pub line_some : (n : ℕ) (ts : List Lexeme) (s : StatementTree) (rest : List Lexeme) → begins Kinds.Name ts ≡ true → stmt_at n ts ≡ Ok (s, rest) → line_at n ts ≡ Ok (Some s, rest)
-unfolding line_at optional_at or_at
-line_some n ts s rest b e = rw (b, e) refl
-
-pub line_none : (n : ℕ) (ts : List Lexeme) → begins Kinds.Name ts ≡ false → line_at n ts ≡ Ok (None, ts)
-unfolding line_at optional_at or_at
-line_none n ts b = rw b refl
-
-pub line_fails : (n : ℕ) (ts : List Lexeme) (e : ReadError) → begins Kinds.Name ts ≡ true → Fails e (stmt_at n ts) → Fails e (line_at n ts)
-unfolding line_at optional_at or_at
-line_fails n ts errors.Memory b h = tt
-line_fails n ts (errors.Stop f) b h = rw (b, h) refl
-
--- ---- the loop over the lines
-
--- what the lines after these give
-abbrev pub with_lines : FileTree → Result (List (Option StatementTree) × List Lexeme) Stop → Result (FileTree × List Lexeme) Stop
-with_lines before read = read >>= λ x. Ok (before ++ given x.0, x.1)
-
-abbrev lines_from : ℕ → ℕ → Reader (List (Option StatementTree))
-lines_from n k ts = many_at (begins Kinds.Newline) (next_line_at n) k ts
-
-abbrev pub StillLines : ℕ → FileTree → List Lexeme → Result (FileTree × List Lexeme) Stop → Type 0
-StillLines n before ts total = (fuel : ℕ) × (length ts ≤ fuel) × (with_lines before (many_at (begins Kinds.Newline) (next_line_at n) fuel ts) ≡ total)
-
-lines_none : (n k : ℕ) (ts : List Lexeme) → begins Kinds.Newline ts ≡ false → lines_from n k ts ≡ Ok ([], ts)
-lines_none n zero ts stop = refl
-lines_none n (suc k) ts stop = rw stop refl
-
-abbrev pub with_line : FileTree → Option StatementTree → FileTree
-with_line before None = before
-with_line before (Some s) = before ++ s ∷ []
-
-lines_regroup : (before : FileTree) (o : Option StatementTree) (read : Result (List (Option StatementTree) × List Lexeme) Stop) → with_lines before (read >>= λ x. Ok (o ∷ x.0, x.1)) ≡ with_lines (with_line before o) read
-lines_regroup before None (Ok x) = refl
-lines_regroup before (Some s) (Ok x) = ap (λ (ss : FileTree). Ok (ss, x.1)) (simp append_assoc)
-lines_regroup before None (Err f) = refl
-lines_regroup before (Some s) (Err f) = refl
-
-first_given : (o : Option StatementTree) (read : Result (List (Option StatementTree) × List Lexeme) Stop) → (read >>= λ x. Ok (given (o ∷ x.0), x.1)) ≡ with_lines (with_line [] o) read
-first_given None (Ok x) = refl
-first_given (Some s) (Ok x) = refl
-first_given None (Err f) = refl
-first_given (Some s) (Err f) = refl
-
-pub still_lines_first : (n : ℕ) (ts : List Lexeme) (o : Option StatementTree) (rest : List Lexeme) → line_at n ts ≡ Ok (o, rest) → StillLines n (with_line [] o) rest (file_at n ts)
-unfolding file_at
-still_lines_first n ts o rest e = (length rest, omega arith, sym (rw e (first_given o (lines_from n (length rest) rest))))
-
-pub file_fails : (n : ℕ) (ts : List Lexeme) (e : ReadError) → Fails e (line_at n ts) → Fails e (file_at n ts)
-unfolding file_at
-file_fails n ts errors.Memory h = tt
-file_fails n ts (errors.Stop f) h = rw h refl
-
-pub next_line_reads : (n : ℕ) (ts : List Lexeme) (t : Lexeme) (mid : List Lexeme) (o : Option StatementTree) (rest : List Lexeme) → token_at Kinds.Newline ts ≡ Ok (t, mid) → line_at n mid ≡ Ok (o, rest) → next_line_at n ts ≡ Ok (o, rest)
-unfolding next_line_at
-next_line_reads n ts t mid o rest e1 e2 = rw (e1, e2) refl
-
-pub next_line_fails : (n : ℕ) (ts : List Lexeme) (e : ReadError) → Fails e (token_at Kinds.Newline ts) → Fails e (next_line_at n ts)
-unfolding next_line_at
-next_line_fails n ts errors.Memory h = tt
-next_line_fails n ts (errors.Stop f) h = rw h refl
-
-pub next_line_then_fails : (n : ℕ) (ts : List Lexeme) (t : Lexeme) (mid : List Lexeme) (e : ReadError) → token_at Kinds.Newline ts ≡ Ok (t, mid) → Fails e (line_at n mid) → Fails e (next_line_at n ts)
-unfolding next_line_at
-next_line_then_fails n ts t mid errors.Memory e1 h = tt
-next_line_then_fails n ts t mid (errors.Stop f) e1 h = rw (e1, h) refl
-
-pub still_lines_more : (n : ℕ) (before : FileTree) (ts : List Lexeme) (total : Result (FileTree × List Lexeme) Stop) (o : Option StatementTree) (rest : List Lexeme)
-    → StillLines n before ts total → begins Kinds.Newline ts ≡ true → next_line_at n ts ≡ Ok (o, rest) → length rest < length ts → StillLines n (with_line before o) rest total
-still_lines_more n before ts total o rest (zero, le, e) b h lt = absurd (omega arith)
-still_lines_more n before ts total o rest (suc k, le, e) b h lt =
-    (k, omega arith, sym (lines_regroup before o (lines_from n k rest)) ∙ sym (rw (b, h) refl) ∙ e)
-
-begins_long : (k : Kind) (ts : List Lexeme) → begins k ts ≡ true → 0 < length ts
-begins_long k [] b = absurd cc
-begins_long k (t ∷ ts) b = omega arith
-
-pub still_lines_fails : (n : ℕ) (before : FileTree) (ts : List Lexeme) (total : Result (FileTree × List Lexeme) Stop) (e : ReadError)
-    → StillLines n before ts total → begins Kinds.Newline ts ≡ true → Fails e (next_line_at n ts) → Fails e total
-still_lines_fails n before ts total errors.Memory s b h = tt
-still_lines_fails n before ts total (errors.Stop f) (zero, le, e) b h = absurd (omega (arith, begins_long Kinds.Newline ts b))
-still_lines_fails n before ts total (errors.Stop f) (suc k, le, e) b h = sym e ∙ rw (b, h) refl
-
-pub still_lines_end : (n : ℕ) (before : FileTree) (ts : List Lexeme) (total : Result (FileTree × List Lexeme) Stop) → StillLines n before ts total → begins Kinds.Newline ts ≡ false → total ≡ Ok (before, ts)
-still_lines_end n before ts total (k, le, e) b = sym e ∙ rw (lines_none n k ts b) (ap (λ (ss : FileTree). Ok (ss, ts)) (append-nil before))
 
 -- ---- all tokens
 

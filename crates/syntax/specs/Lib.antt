@@ -8,4 +8,5 @@ pub mod Parts
 pub mod Reading
 pub mod ReadingExpressions
 pub mod ReadingStatements
+pub mod Statements
 pub mod Tree

@@ -7,15 +7,15 @@ ghost use Rattle.lexer.specs.Kinds.{is};
 ghost use Rattle.lexer.specs.Lexeme.{Lexeme, lexeme_of, lexemes};
 ghost use Rattle.lexer.specs.Answers.{Answers};
 ghost use Rattle.syntax.specs.Parsed.{HasFault, Spells, line_of, located, parsed};
-ghost use Rattle.syntax.specs.Reading.{Gives, GivesAll, all_of, begins, tokens_left, token_at, two_begin};
-ghost use Rattle.syntax.specs.ReadingExpressions.{arguments_at, expr_at};
-ghost use Rattle.syntax.specs.ReadingStatements.{assign_at, call_at, file_at, line_at, stmt_at};
+ghost use Rattle.syntax.specs.Reading.{Gives, GivesAll, all_of, begins, tokens_left, token_at};
+ghost use Rattle.syntax.specs.ReadingStatements.{file_at, next_line_at};
 ghost use Rattle.syntax.specs.Tree.{FileTree, file_of, statement_of};
 
 mod expression;
+mod statement;
 
 use crate::stop::{ReadError, Stop};
-use crate::tree::{Expression, File, Statement};
+use crate::tree::{File, Statement};
 use lexer::fault::{FaultKind, SyntaxError, SyntaxFault};
 use lexer::token::{Kind, Token};
 use lexer::{newlines, tokens};
@@ -63,84 +63,28 @@ impl<'t, 'a> Parser<'t, 'a> {
         ReadError::Stop(Stop::Unexpected(self.rest.len()))
     }
 
-    // An assignment.
-    #[tactic(auto, unfolding(crate::specs::ReadingStatements::assign_at))]
-    fn assign(&mut self, alloc: Global, levels: u32) -> Result<Statement<'a>, ReadError>
-        ensures read { Gives statement_of result (lexemes self.new.rest.now) (assign_at levels (lexemes self.old.rest.now)) }
+    // A newline, and the statement of the line behind it, if there is one.
+    #[tactic(auto, unfolding(crate::specs::ReadingStatements::next_line_at))]
+    fn next_line(&mut self, alloc: Global, levels: u32) -> Result<Option<Statement<'a>>, ReadError>
+        ensures read { Gives (option_map statement_of) result (lexemes self.new.rest.now)
+            (next_line_at levels (lexemes self.old.rest.now)) }
         ensures shorter { OnOk result (length self.new.rest.now < length self.old.rest.now) }
     {
-        let name = self.take(Kind::Name)?;
-        self.take(Kind::Assign)?;
-        let value = self.expression(alloc, levels)?;
-        Ok(Statement::Assign {
-            name: name.text,
-            line: name.line,
-            value,
-        })
-    }
-
-    // A call.
-    #[tactic(auto, unfolding(crate::specs::ReadingStatements::call_at))]
-    fn call(&mut self, alloc: Global, levels: u32) -> Result<Statement<'a>, ReadError>
-        ensures read { Gives statement_of result (lexemes self.new.rest.now) (call_at levels (lexemes self.old.rest.now)) }
-        ensures shorter { OnOk result (length self.new.rest.now < length self.old.rest.now) }
-    {
-        let name = self.take(Kind::Name)?;
-        let arguments = self.arguments(alloc, levels)?;
-        Ok(Statement::Call {
-            name: name.text,
-            line: name.line,
-            arguments,
-        })
-    }
-
-    // Whether an assignment comes.
-    fn begins_assign(&self) -> bool
-        ensures { result ≡ two_begin Kind.Name Kind.Assign (lexemes self.now.rest.now) }
-    {
-        match self.rest {
-            [first, second, ..] => first.is(Kind::Name) && second.is(Kind::Assign),
-            _ => false,
-        }
-    }
-
-    // A statement.
-    #[tactic(auto, using(crate::proofs::Tails::stmt_assign, crate::proofs::Tails::stmt_call))]
-    fn statement(&mut self, alloc: Global, levels: u32) -> Result<Statement<'a>, ReadError>
-        ensures read { Gives statement_of result (lexemes self.new.rest.now) (stmt_at levels (lexemes self.old.rest.now)) }
-        ensures shorter { OnOk result (length self.new.rest.now < length self.old.rest.now) }
-    {
-        if self.begins_assign() {
-            self.assign(alloc, levels)
-        } else {
-            self.call(alloc, levels)
-        }
-    }
-
-    // The statement of a line, if there is one.
-    #[tactic(auto, using(crate::proofs::Tails::line_some, crate::proofs::Tails::line_none, crate::proofs::Tails::line_fails))]
-    fn line(&mut self, alloc: Global, levels: u32) -> Result<Option<Statement<'a>>, ReadError>
-        ensures read { Gives (option_map statement_of) result (lexemes self.new.rest.now) (line_at levels (lexemes self.old.rest.now)) }
-        ensures shorter { OnOk result (length self.new.rest.now ≤ length self.old.rest.now) }
-    {
-        if self.begins(Kind::Name) {
-            Ok(Some(self.statement(alloc, levels)?))
-        } else {
-            Ok(None)
-        }
+        self.take(Kind::Newline)?;
+        self.line(alloc, false, levels)
     }
 
     // The statements of the lines.
     fn lines(&mut self, alloc: Global, levels: u32) -> Result<Vec<Statement<'a>>, ReadError>
-        ensures read { Gives (λ v. map statement_of v.items) result (lexemes self.new.rest.now) (file_at levels (lexemes self.old.rest.now)) }
+        ensures read { Gives (λ v. map statement_of v.items) result (lexemes self.new.rest.now)
+            (file_at levels (lexemes self.old.rest.now)) }
     {
         let mut statements = Vec::new(alloc);
-        if let Some(first) = self.line(alloc, levels)? {
+        if let Some(first) = self.line(alloc, false, levels)? {
             statements.push(first)?;
         }
         while self.begins(Kind::Newline) {
-            self.take(Kind::Newline)?;
-            if let Some(next) = self.line(alloc, levels)? {
+            if let Some(next) = self.next_line(alloc, levels)? {
                 statements.push(next)?;
             }
         }
@@ -191,10 +135,12 @@ fn located(source: &str, tokens: &[Token<'_>], stop: Stop) -> SyntaxFault
 
 /// The file that a source spells.
 ///
-/// A file is lines with a statement each, or none: an assignment `name = expression`, or a call `name(expression, ..)`;
-/// an expression is a name, a string, or an expression in parentheses. What is no file has a fault at the line of a
-/// token, where the end counts as one: E2 where the source has no tokens; E3 at the first token up to which the tokens
-/// begin no file; E4 at the first that opens level 65, where that comes before.
+/// A file is lines with a statement each, or none, of the forms of the Meson manual's page "Syntax": `name = expression`,
+/// `name += expression`, a call `name(expression, ..)`, `break` and `continue` inside a `foreach`, `if` with its `elif` and
+/// `else` parts up to `endif`, and `foreach` up to `endforeach`; so are expressions. What is no file has a fault at the line
+/// of a token, where the end counts as one: E2 where the source has no tokens; E3 at the first token up to which the tokens
+/// begin no file; E4 at the first that opens level 65, where that comes before. A bracket opens a level, and so does a
+/// block at its first word, with its condition or list inside; `elif` and `else` open none.
 pub fn parse(alloc: Global, source: &str) -> Result<File<'_>, SyntaxError>
     // Unless memory runs out, it is this function of the source.
     ensures reads { Answers file_of result (parsed source.now) }

@@ -9,11 +9,18 @@ pub struct File<'a> {
     pub statements: Vec<Statement<'a>>,
 }
 
-/// A statement.
+/// A statement, of the manual's page "Syntax". Its line is that of its first token.
+#[cycle(statement)]
 #[derive(Debug, Drop)]
 pub enum Statement<'a> {
     /// `name = value`
     Assign {
+        name: &'a str,
+        line: usize,
+        value: Expression<'a>,
+    },
+    /// `name += value`
+    Append {
         name: &'a str,
         line: usize,
         value: Expression<'a>,
@@ -24,6 +31,42 @@ pub enum Statement<'a> {
         line: usize,
         arguments: Vec<Expression<'a>>,
     },
+    /// `break`, in the body of a `foreach`.
+    Break {
+        line: usize,
+    },
+    /// `continue`, in the body of a `foreach`.
+    Continue {
+        line: usize,
+    },
+    /// `if`, with a part for each `elif`, up to `endif`.
+    If {
+        line: usize,
+        /// The first part stands behind `if`, each other behind an `elif`.
+        branches: Vec<Branch<'a>>,
+        /// What stands behind `else`: nothing where there is no `else`.
+        otherwise: Vec<Statement<'a>>,
+    },
+    /// `foreach first : list`, or `foreach first, second : list`, up to `endforeach`.
+    Foreach {
+        line: usize,
+        first: &'a str,
+        second: Option<&'a str>,
+        list: Expression<'a>,
+        /// The line of the list's first token.
+        list_line: usize,
+        body: Vec<Statement<'a>>,
+    },
+}
+
+/// A part of an `if`: a condition, and the statements that are run where it holds.
+#[cycle(statement)]
+#[derive(Debug, Drop)]
+pub struct Branch<'a> {
+    pub condition: Expression<'a>,
+    /// The line of the condition's first token.
+    pub line: usize,
+    pub body: Vec<Statement<'a>>,
 }
 
 /// An expression.

@@ -87,7 +87,7 @@ fn literal_of(kind: Kind) -> Option<Literal>
 
 impl<'a> Parser<'_, 'a> {
     // The line of the token that comes.
-    fn first_line(&self) -> usize
+    pub(super) fn first_line(&self) -> usize
         ensures { result ≡ first_line (lexemes self.now.rest.now) }
     {
         match self.rest {

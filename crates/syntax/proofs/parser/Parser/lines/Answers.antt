@@ -2,59 +2,59 @@ use Rattle.std.proofs.Common.{sym, ◌∙◌, ◌≡◌, map, ap, [], ◌∷◌,
 use Rattle.std.specs.Option.{option_map}
 use Rattle.std.proofs.lemmas.Result.{err_from_is_err_and}
 use Rattle.std.proofs.lemmas.List.{map_push}
-use Rattle.lexer.specs.Lexeme.{lexeme_of, lexemes}
+use Rattle.lexer.specs.Lexeme.{lexemes}
 use Rattle.syntax.specs.Tree.{StatementTree, statement_of}
 use Rattle.syntax.specs.ReadingStatements.{file_at}
-use Rattle.syntax.proofs.Tails.{file_fails, still_lines_first, still_lines_more, still_lines_fails, next_line_reads, next_line_fails, next_line_then_fails, StillLines, with_line, length_lexemes}
+use Rattle.syntax.proofs.Gathered.{with_line}
+use Rattle.syntax.proofs.Tails.{length_lexemes}
+use Rattle.syntax.proofs.StatementTails.{StillLines, lines_fail, lines_first, lines_more, lines_stop}
 use Rattle.syntax.proofs.parser.Parser.lines.Goals as goal
 use Rattle.syntax.proofs.parser.Parser.lines.Goals.{in-Some+in_ok-push, in_default}
 
 pub returns-in_err-first : goal.returns-in_err-first
 returns-in_err-first c =
     let p = err_from_is_err_and c.from_residual.result c.from_residual.ensures.1 in
-    record { read = rw (p.1, p.2) (file_fails c.args.levels (lexemes c.args.self.now.rest.now) c.in_err-first.field-0.0 c.in_err-first.ensures.read) }
+    record {
+      read = rw (p.1, p.2)
+          (lines_fail c.args.levels (lexemes c.args.self.now.rest.now) c.in_err-first.field-0.0 c.in_err-first.ensures.read);
+    }
 
 pub loop-alloc-init : goal.loop-alloc-init
 loop-alloc-init c =
-    let first = still_lines_first c.args.levels (lexemes c.args.self.now.rest.now) (option_map statement_of c.in_ok-first.field-0) (lexemes c.line.new.self.rest.now) c.in_ok-first.ensures.read in
+    let first = lines_first c.args.levels (lexemes c.args.self.now.rest.now) (option_map statement_of c.in_ok-first.field-0)
+    (lexemes c.line.new.self.rest.now) c.in_ok-first.ensures.read in
     let front : map statement_of c.match-branch-2.statements.items ≡ with_line [] (option_map statement_of c.in_ok-first.field-0) =
     elim c.match-branch-2.branch [
       | in-Some+in_ok-push w ↦ rw (w.statements-is, w.in_ok-push.ensures.items, c.new-statements.ensures.items, w.in-Some.is) refl
       | in_default w ↦ rw (w.statements-is, c.new-statements.ensures.items, w.in_default.is) refl
     ] in
-    subst (λ (l : List StatementTree). StillLines c.args.levels l (lexemes c.line.new.self.rest.now) (file_at c.args.levels (lexemes c.args.self.now.rest.now))) (sym front) first
+    subst (λ (l : List StatementTree). StillLines c.args.levels l (lexemes c.line.new.self.rest.now)
+    (file_at c.args.levels (lexemes c.args.self.now.rest.now))) (sym front) first
 
-pub returns-in_err-take : goal.returns-in_err-take
-returns-in_err-take c =
-    let p = err_from_is_err_and c.from_residual-in_err-take.result c.from_residual-in_err-take.ensures.1 in
-    let b = sym c.begins.ensures ∙ c.loop-alloc-test.true in
-    record {
-      read = rw (p.1, p.2) (still_lines_fails c.args.levels (map statement_of c.loop-alloc.statements.items) (lexemes c.loop-alloc.self.rest.now) _ c.in_err-take.field-0.0 c.loop-alloc.invariant b
-          (next_line_fails c.args.levels (lexemes c.loop-alloc.self.rest.now) c.in_err-take.field-0.0 c.in_err-take.ensures.read));
-    }
+pub loop-alloc-preserved-in-Continue-branch-6 : goal.loop-alloc-preserved-in-Continue-branch-6
+loop-alloc-preserved-in-Continue-branch-6 c =
+    let e : map statement_of c.push-in-Some-2.new.self.items ≡ map statement_of c.loop-alloc.statements.items ++ statement_of
+    c.in-Some-2.next ∷ [] = rw c.in_ok-push-2.ensures.items (map_push _ c.loop-alloc.statements.items c.in-Some-2.next) in
+    let o : option_map statement_of c.in_ok-next.field-0 ≡ Some (statement_of c.in-Some-2.next) =
+    ap (option_map statement_of) c.in-Some-2.is in
+    rw e (lines_more c.args.levels (map statement_of c.loop-alloc.statements.items) (lexemes c.loop-alloc.self.rest.now) _
+    (Some (statement_of c.in-Some-2.next)) (lexemes c.next_line.new.self.rest.now) c.loop-alloc.invariant
+    (sym c.begins.ensures ∙ c.loop-alloc-test.true) (rw (← o) c.in_ok-next.ensures.read)
+    (omega (arith, c.in_ok-next.ensures.shorter, length_lexemes c.loop-alloc.self.rest.now, length_lexemes c.next_line.new.self.rest.now)))
+
+pub loop-alloc-preserved : goal.loop-alloc-preserved
+loop-alloc-preserved c =
+    let o : option_map statement_of c.in_ok-next.field-0 ≡ None = ap (option_map statement_of) c.in_default-2.is in
+    lines_more c.args.levels (map statement_of c.loop-alloc.statements.items) (lexemes c.loop-alloc.self.rest.now) _ None
+    (lexemes c.next_line.new.self.rest.now) c.loop-alloc.invariant
+    (sym c.begins.ensures ∙ c.loop-alloc-test.true) (rw (← o) c.in_ok-next.ensures.read)
+    (omega (arith, c.in_ok-next.ensures.shorter, length_lexemes c.loop-alloc.self.rest.now, length_lexemes c.next_line.new.self.rest.now))
 
 pub returns-in_err-next : goal.returns-in_err-next
 returns-in_err-next c =
     let p = err_from_is_err_and c.from_residual-in_err-next.result c.from_residual-in_err-next.ensures.1 in
-    let b = sym c.begins.ensures ∙ c.loop-alloc-test.true in
     record {
-      read = rw (p.1, p.2) (still_lines_fails c.args.levels (map statement_of c.loop-alloc.statements.items) (lexemes c.loop-alloc.self.rest.now) _ c.in_err-next.field-0.0 c.loop-alloc.invariant b
-          (next_line_then_fails c.args.levels (lexemes c.loop-alloc.self.rest.now) (lexeme_of c.in_ok-take.field-0) (lexemes c.take.new.self.rest.now) c.in_err-next.field-0.0 c.in_ok-take.ensures.read c.in_err-next.ensures.read));
+      read = rw (p.1, p.2) (lines_stop c.args.levels (map statement_of c.loop-alloc.statements.items)
+          (lexemes c.loop-alloc.self.rest.now) _ c.in_err-next.field-0.0 c.loop-alloc.invariant
+          (sym c.begins.ensures ∙ c.loop-alloc-test.true) c.in_err-next.ensures.read);
     }
-
-pub loop-alloc-preserved-in-Continue-branch-7 : goal.loop-alloc-preserved-in-Continue-branch-7
-loop-alloc-preserved-in-Continue-branch-7 c =
-    let b = sym c.begins.ensures ∙ c.loop-alloc-test.true in
-    let e : map statement_of c.push-in-Some-2.new.self.items ≡ map statement_of c.loop-alloc.statements.items ++ statement_of c.in-Some-2.next ∷ [] = rw c.in_ok-push-2.ensures.items (map_push _ c.loop-alloc.statements.items c.in-Some-2.next) in
-    let o : option_map statement_of c.in_ok-next.field-0 ≡ Some (statement_of c.in-Some-2.next) = ap (option_map statement_of) c.in-Some-2.is in
-    rw e (still_lines_more c.args.levels (map statement_of c.loop-alloc.statements.items) (lexemes c.loop-alloc.self.rest.now) _ (Some (statement_of c.in-Some-2.next)) (lexemes c.line-in-loop-alloc.new.self.rest.now) c.loop-alloc.invariant b
-    (rw (← o) (next_line_reads c.args.levels (lexemes c.loop-alloc.self.rest.now) (lexeme_of c.in_ok-take.field-0) (lexemes c.take.new.self.rest.now) (option_map statement_of c.in_ok-next.field-0) (lexemes c.line-in-loop-alloc.new.self.rest.now) c.in_ok-take.ensures.read c.in_ok-next.ensures.read))
-    (omega (arith, c.in_ok-take.ensures.shorter, c.in_ok-next.ensures.shorter, length_lexemes c.loop-alloc.self.rest.now, length_lexemes c.line-in-loop-alloc.new.self.rest.now)))
-
-pub loop-alloc-preserved : goal.loop-alloc-preserved
-loop-alloc-preserved c =
-    let b = sym c.begins.ensures ∙ c.loop-alloc-test.true in
-    let o : option_map statement_of c.in_ok-next.field-0 ≡ None = ap (option_map statement_of) c.in_default-2.is in
-    still_lines_more c.args.levels (map statement_of c.loop-alloc.statements.items) (lexemes c.loop-alloc.self.rest.now) _ None (lexemes c.line-in-loop-alloc.new.self.rest.now) c.loop-alloc.invariant b
-    (rw (← o) (next_line_reads c.args.levels (lexemes c.loop-alloc.self.rest.now) (lexeme_of c.in_ok-take.field-0) (lexemes c.take.new.self.rest.now) (option_map statement_of c.in_ok-next.field-0) (lexemes c.line-in-loop-alloc.new.self.rest.now) c.in_ok-take.ensures.read c.in_ok-next.ensures.read))
-    (omega (arith, c.in_ok-take.ensures.shorter, c.in_ok-next.ensures.shorter, length_lexemes c.loop-alloc.self.rest.now, length_lexemes c.line-in-loop-alloc.new.self.rest.now))

@@ -2,11 +2,12 @@ use Rattle.std.proofs.Common.{length, map}
 use Rattle.lexer.specs.Lexeme.{lexemes}
 use Rattle.syntax.specs.ReadingStatements.{file_at}
 use Rattle.syntax.specs.Tree.{statement_of}
-use Rattle.syntax.proofs.Tails.{StillLines}
+use Rattle.syntax.proofs.StatementTails.{StillLines}
 use Rattle.syntax.proofs.parser.Parser.lines.Given as goal
 
 abbrev pub invariant-loop-alloc : goal.invariant-loop-alloc
-invariant-loop-alloc l = StillLines l.levels (map statement_of l.statements.items) (lexemes l.self.rest.now) (file_at l.levels (lexemes l.fn.self.rest.now))
+invariant-loop-alloc l = StillLines l.levels (map statement_of l.statements.items) (lexemes l.self.rest.now)
+    (file_at l.levels (lexemes l.fn.self.rest.now))
 
 abbrev pub decreases-loop-alloc : goal.decreases-loop-alloc
 decreases-loop-alloc l = length l.self.rest.now

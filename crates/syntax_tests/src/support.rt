@@ -1,0 +1,137 @@
+use std::alloc::{AllocError, Global};
+use std::process::Abort;
+use std::test::Fail;
+use syntax::fault::SyntaxError;
+use syntax::parse;
+use syntax::tree::{Branch, Expression, Statement};
+
+/// Each row is a source, and what is shown of it.
+pub fn check(rt: &impl Abort, alloc: Global, rows: &[(&str, &str)]) -> Result<(), Fail> {
+    for (source, expected) in rows {
+        let found = shown(alloc, source)?;
+        assert_eq!(rt; found.as_str(), *expected, "of {source:?}");
+    }
+    Ok(())
+}
+
+/// The tree of a source: its statements, each with its line first and `;` last, names and texts with `@` and their line,
+/// bodies in braces, and the line of a condition or a list in brackets before it. Of a source with a fault its number and
+/// its line, as `E3 at 1`.
+pub fn shown(alloc: Global, source: &str) -> Result<String, AllocError> {
+    let mut out = String::new(alloc);
+    match parse(alloc, source) {
+        Ok(file) => put_statements(alloc, &mut out, &file.statements)?,
+        Err(SyntaxError::Memory) => out.push_str("memory")?,
+        Err(SyntaxError::Fault(fault)) => {
+            let number = fault.kind.number();
+            let line = fault.line;
+            out.push_str(format!(in alloc; "E{number} at {line}")?.as_str())?;
+        }
+    }
+    Ok(out)
+}
+
+fn put_expression(alloc: Global, out: &mut String, value: &Expression<'_>) -> Result<(), AllocError> {
+    match value {
+        Expression::Name { name, line } => {
+            out.push_str(format!(in alloc; "{name}@{line}")?.as_str())?;
+        }
+        Expression::Text { text, line } => {
+            out.push_str(format!(in alloc; "'{text}'@{line}")?.as_str())?;
+        }
+    }
+    Ok(())
+}
+
+// A line in brackets, an expression and a body.
+#[cycle(put)]
+fn put_part(
+    alloc: Global,
+    out: &mut String,
+    line: usize,
+    value: &Expression<'_>,
+    body: &Vec<Statement<'_>>,
+) -> Result<(), AllocError> {
+    out.push_str(format!(in alloc; " [{line}] ")?.as_str())?;
+    put_expression(alloc, out, value)?;
+    out.push_str(" {")?;
+    put_statements(alloc, out, body)?;
+    out.push_str("}")
+}
+
+#[cycle(put)]
+fn put_branches(alloc: Global, out: &mut String, branches: &Vec<Branch<'_>>) -> Result<(), AllocError> {
+    for branch in branches {
+        put_part(alloc, out, branch.line, &branch.condition, &branch.body)?;
+    }
+    Ok(())
+}
+
+#[cycle(put)]
+fn put_statements(alloc: Global, out: &mut String, statements: &Vec<Statement<'_>>) -> Result<(), AllocError> {
+    for statement in statements {
+        put_statement(alloc, out, statement)?;
+        out.push_str(";")?;
+    }
+    Ok(())
+}
+
+fn put_set(
+    alloc: Global,
+    out: &mut String,
+    line: usize,
+    target: &str,
+    value: &Expression<'_>,
+) -> Result<(), AllocError> {
+    out.push_str(format!(in alloc; "{line} {target} ")?.as_str())?;
+    put_expression(alloc, out, value)
+}
+
+#[cycle(put)]
+fn put_statement(alloc: Global, out: &mut String, statement: &Statement<'_>) -> Result<(), AllocError> {
+    match statement {
+        Statement::Assign { name, line, value } => {
+            put_set(alloc, out, *line, format!(in alloc; "{name} =")?.as_str(), value)
+        }
+        Statement::Append { name, line, value } => {
+            put_set(alloc, out, *line, format!(in alloc; "{name} +=")?.as_str(), value)
+        }
+        Statement::Call {
+            name,
+            line,
+            arguments,
+        } => {
+            out.push_str(format!(in alloc; "{line} {name}(")?.as_str())?;
+            for argument in arguments {
+                put_expression(alloc, out, argument)?;
+                out.push_str(",")?;
+            }
+            out.push_str(")")
+        }
+        Statement::Break { line } => out.push_str(format!(in alloc; "{line} break")?.as_str()),
+        Statement::Continue { line } => out.push_str(format!(in alloc; "{line} continue")?.as_str()),
+        Statement::If {
+            line,
+            branches,
+            otherwise,
+        } => {
+            out.push_str(format!(in alloc; "{line} if")?.as_str())?;
+            put_branches(alloc, out, branches)?;
+            out.push_str(" else {")?;
+            put_statements(alloc, out, otherwise)?;
+            out.push_str("}")
+        }
+        Statement::Foreach {
+            line,
+            first,
+            second,
+            list,
+            list_line,
+            body,
+        } => {
+            let others = second.unwrap_or("-");
+            out.push_str(format!(in alloc; "{line} foreach {first},{others}")?.as_str())?;
+            put_part(alloc, out, *list_line, list, body)
+        }
+    }
+}
