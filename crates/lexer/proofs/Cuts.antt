@@ -91,3 +91,11 @@ with_front ts (Err f) = Err f
 -- the tokens of the source are those that were cut and those from the place on
 abbrev pub StillLexes : List ℕ → List Lexeme → Place → Type 0
 StillLexes source ts p = (n : ℕ) × (length p.rest < n) × (lexed source ≡ with_front ts (lex n p))
+
+pub ruleset token_cases = (token_nothing, token_format, token_word, token_number, token_symbol, token_string)
+
+pub ruleset number_at_cases = (number_some, number_none, word_fits)
+
+pub ruleset symbol_cases = (symbol_two, symbol_one, symbol_none)
+
+pub ruleset word_cases = (word_is, word_fits)

@@ -159,3 +159,9 @@ escape_control (b ∷ s) code lt d e h = escape_named b s None d e ∙ ap (sized
 pub escape_other : (s : List ℕ) → 0 < length s → is_octal_digit (get_or s 0 0) ≡ false → digit_count (get_or s 0 0) ≡ None → control (get_or s 0 0) ≡ None → escape_at s ≡ None
 escape_other [] lt d e h = absurd (omega arith)
 escape_other (b ∷ s) lt d e h = escape_named b s None d e ∙ ap (sized 1) h
+
+pub ruleset hex_steps = (hex_short, hex_yes, hex_no, hex_end)
+
+pub ruleset octal_steps = (octal_yes, octal_no, octal_end, octal_full)
+
+pub ruleset escape_cases = (escape_nothing, escape_octal, escape_digits, escape_short, escape_control, escape_other)

@@ -1,5 +1,5 @@
 -- What stands between the quotes of a string.
-use Rattle.std.proofs.Common.{◌≡◌, ◌≢◌, ℕ, ◌+◌, ◌-◌, ◌≤◌, ◌<◌, Bool, true, false, List, length, get_or, sym, ap, subst, ◌∙◌, arith, lit<, nat_le, eq-eqb}
+use Rattle.std.proofs.Common.{◌≡◌, ℕ, ◌+◌, ◌-◌, ◌≤◌, ◌<◌, Bool, true, false, List, length, get_or, sym, ap, subst, ◌∙◌, arith, lit<, nat_le, eq-eqb}
 use Rattle.std.specs.Prelude.{◌==◌, ◌&&◌, slice_range}
 use Rattle.std.specs.Str.{IsUtf8, IsCharBoundary}
 use Rattle.std.proofs.lemmas.Bool.{eqb-true}
@@ -7,7 +7,7 @@ use Rattle.std.proofs.lemmas.Bool.Decides.{nat_tests}
 use Rattle.std.proofs.lemmas.Str.{IsCharBoundary-after_ascii, IsCharBoundary-before_ascii}
 use Rattle.lexer.specs.Bytes.{quote}
 use Rattle.lexer.specs.Texts.{is_framed, between}
-use Rattle.lexer.proofs.Tests.{and_left, and_right, neq_false, if_true, if_false}
+use Rattle.lexer.proofs.Tests.{and_true, and_left, and_right, if_true, if_false}
 
 le_true : (a b : ℕ) → a ≤ b → nat_le a b ≡ true
 le_true a b h = grind (arith, nat_tests)
@@ -23,15 +23,11 @@ true_le a b h = grind (arith, nat_tests)
 pub framed_short : (front back : ℕ) (text : List ℕ) → length text < front + back → is_framed front back text ≡ false
 framed_short front back text lt = ap (λ (t : Bool). t && ((get_or text (front - 1) 0 == quote) && (get_or text (length text - back) 0 == quote))) (le_false (front + back) (length text) lt)
 
-pub framed_front : (front back : ℕ) (text : List ℕ) → front + back ≤ length text → get_or text (front - 1) 0 ≢ quote → is_framed front back text ≡ false
-framed_front front back text le e =
-    ap (λ (t : Bool). t && ((get_or text (front - 1) 0 == quote) && (get_or text (length text - back) 0 == quote))) (le_true (front + back) (length text) le)
-    ∙ ap (λ (t : Bool). t && (get_or text (length text - back) 0 == quote)) (neq_false (get_or text (front - 1) 0) quote e)
+pub framed_enough : (front back : ℕ) (text : List ℕ) → front + back ≤ length text → is_framed front back text ≡ ((get_or text (front - 1) 0 == quote) && (get_or text (length text - back) 0 == quote))
+framed_enough front back text le = ap (λ (t : Bool). t && ((get_or text (front - 1) 0 == quote) && (get_or text (length text - back) 0 == quote))) (le_true (front + back) (length text) le)
 
-pub framed_back : (front back : ℕ) (text : List ℕ) → front + back ≤ length text → get_or text (front - 1) 0 ≡ quote → is_framed front back text ≡ (get_or text (length text - back) 0 == quote)
-framed_back front back text le e =
-    ap (λ (t : Bool). t && ((get_or text (front - 1) 0 == quote) && (get_or text (length text - back) 0 == quote))) (le_true (front + back) (length text) le)
-    ∙ ap (λ (t : Bool). t && (get_or text (length text - back) 0 == quote)) (eq-eqb (get_or text (front - 1) 0) quote e)
+pub framed_is : (front back : ℕ) (text : List ℕ) → front + back ≤ length text → get_or text (front - 1) 0 ≡ quote → get_or text (length text - back) 0 ≡ quote → is_framed front back text ≡ true
+framed_is front back text le before behind = framed_enough front back text le ∙ and_true _ _ (eq-eqb (get_or text (front - 1) 0) quote before) (eq-eqb (get_or text (length text - back) 0) quote behind)
 
 -- ---- what it says
 
@@ -70,3 +66,5 @@ between_framed front back text h = if_true (is_framed front back text) _ _ h
 pub between_all : (front back : ℕ) (text : List ℕ) → is_framed front back text ≡ false → between front back text ≡ text
 unfolding between
 between_all front back text h = if_false (is_framed front back text) _ _ h
+
+pub ruleset framed_cases = (framed_short, framed_enough)

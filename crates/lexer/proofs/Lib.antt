@@ -6,8 +6,10 @@ pub mod Escapes
 pub mod Frames
 pub mod Gaps
 pub mod Lexemes
+pub mod Named
 pub mod Runs
 pub mod Spans
+pub mod Stands
 pub mod Strings
 pub mod Symbols
 pub mod Tests

@@ -327,3 +327,11 @@ format_some s k n e = ap formatted (ap string_at (sym (rest_all s 1)) ∙ e)
 pub format_none : (s : List ℕ) → string_at (take (length s - 1) (drop 1 s)) ≡ None → format_at s ≡ None
 unfolding format_at
 format_none s e = ap formatted (ap string_at (sym (rest_all s 1)) ∙ e)
+
+pub ruleset inside_steps = (inside_bad, inside_good, inside_more, inside_quote, inside_end)
+
+pub ruleset quotes_steps = (quotes_yes, quotes_no, quotes_end)
+
+pub ruleset string_cases = (string_raw, string_raw_open, string_quoted, string_open)
+
+pub ruleset format_cases = (format_some, format_none)

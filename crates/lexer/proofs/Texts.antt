@@ -56,7 +56,7 @@ hex_ascii b h = grind (arith, nat_tests)
 octal_ascii : (b : ℕ) → is_octal_digit b ≡ true → b < 128
 octal_ascii b h = grind (arith, nat_tests)
 
-hex_ends : (n value : ℕ) (s : List ℕ) (code : ℕ) → hexadecimal n value s ≡ Some code → Ends s n
+pub hex_ends : (n value : ℕ) (s : List ℕ) (code : ℕ) → hexadecimal n value s ≡ Some code → Ends s n
 hex_ends zero value s code e = ends_none s
 hex_ends (suc n) value [] code e = absurd cc
 hex_ends (suc n) value (b ∷ s) code e = elim (cases_bool (is_digit b 16)) [
@@ -77,7 +77,7 @@ octal_ends (suc n) value size (b ∷ s) = elim (cases_bool (is_octal_digit b)) [
       (0, omega (arith, ap (λ (p : ℕ × ℕ). p.1) e), ends_none (b ∷ s))
 ]
 
-sized_some : (n : ℕ) (o : Option ℕ) (code size : ℕ) → sized n o ≡ Some (code, size) → (o ≡ Some code) × (n ≡ size)
+pub sized_some : (n : ℕ) (o : Option ℕ) (code size : ℕ) → sized n o ≡ Some (code, size) → (o ≡ Some code) × (n ≡ size)
 sized_some n None code size e = absurd cc
 sized_some n (Some c) code size e = let p : ◌≡◌ {A = ℕ × ℕ} (c, n) (code, size) = cc in (ap (λ (q : ℕ × ℕ). Some q.0) p, ap (λ (q : ℕ × ℕ). q.1) p)
 
@@ -163,7 +163,7 @@ plain_is [] more h = refl
 plain_is (b ∷ text) more h =
     let w = all_first is_no_backslash b text h in if_false (b == backslash) _ _ (not_true (b == backslash) w.0) ∙ ap (λ (l : List ℕ). b ∷ l) (plain_is text more w.1)
 
-skipped_is : (n : ℕ) (s : List ℕ) → unescaped_behind n s ≡ unescaped_behind 0 (drop n s)
+pub skipped_is : (n : ℕ) (s : List ℕ) → unescaped_behind n s ≡ unescaped_behind 0 (drop n s)
 skipped_is zero s = refl
 skipped_is (suc n) [] = refl
 skipped_is (suc n) (b ∷ s) = skipped_is n s
@@ -215,3 +215,5 @@ behind_boundary marked rest n utf8 marked_at run_is some =
     ap (λ (l : List ℕ). get_or l 0 0) marked_at ∙ ap (λ (m : ℕ). get_or (drop m rest) 0 0) run_is
     ∙ stops_at rest (omega (arith, some, ap length marked_at, ap (λ (m : ℕ). length (drop m rest)) run_is)) in
     IsCharBoundary-after_ascii marked 0 utf8 (omega (arith, some)) (subst (λ (x : ℕ). x < 128) (sym first) (lit< tt))
+
+pub ruleset escaped_cases = (escaped_named, escaped_unnamed, escaped_itself)

@@ -1,7 +1,8 @@
 -- What a backslash and what follows it stand for in a string that is not raw.
-use Rattle.std.specs.Prelude.{ℕ, zero, suc, ◌+◌, ◌*◌, Bool, false, ◌==◌, ◌||◌, not, nat_lt, if◌then◌else◌, List, [], ◌∷◌, Option, Some, None}
+use Rattle.std.specs.Prelude.{◌≡◌, ℕ, zero, suc, ◌+◌, ◌*◌, ◌<◌, ◌≤◌, Bool, true, false, ◌==◌, ◌||◌, not, nat_lt, if◌then◌else◌, List, [], ◌∷◌, length, fold, Option, Some, None}
 use Rattle.std.specs.Char.{digit_value, is_digit}
 use Rattle.std.specs.Int.{is_in_range}
+use Rattle.std.specs.List.{list_all}
 use Rattle.lexer.specs.Bytes.{quote, backslash, lower_f}
 use Rattle.lexer.specs.Numbers.{lower_b, lower_x, is_octal_digit}
 
@@ -81,3 +82,22 @@ names_none (Some (code, n)) = not (is_character code)
 -- an escape that names no character, of which this comes behind the backslash
 abbrev pub is_bad_escape : List ℕ → Bool
 is_bad_escape bs = names_none (escape_at bs)
+
+-- ---- the same as a relation
+
+-- the number that these digits write in a base
+abbrev pub number_of : ℕ → List ℕ → ℕ
+number_of base digits = fold (λ value d. base * value + digit_value d) 0 digits
+
+abbrev pub begins_octal : List ℕ → Bool
+begins_octal [] = false
+begins_octal (b ∷ rest) = is_octal_digit b
+
+-- The text behind a backslash is an escape and names the number, where `rest` comes directly after it: one character; a
+-- letter and as many hexadecimal digits as it wants; or one to three octal digits, and fewer than three only where no other follows.
+pub data IsEscape : ℕ → List ℕ → List ℕ → Type 0 where
+  alone : (b code : ℕ) (rest : List ℕ) → control b ≡ Some code → IsEscape code (b ∷ []) rest
+  sixteen : (b : ℕ) (digits rest : List ℕ) → digit_count b ≡ Some (length digits) → list_all (λ d. is_digit d 16) digits ≡ true
+      → IsEscape (number_of 16 digits) (b ∷ digits) rest
+  eight : (digits rest : List ℕ) → 0 < length digits → length digits ≤ 3 → list_all is_octal_digit digits ≡ true
+      → (length digits < 3 → begins_octal rest ≡ false) → IsEscape (number_of 8 digits) digits rest

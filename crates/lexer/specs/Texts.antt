@@ -1,10 +1,14 @@
 -- What a token stands for.
-use Rattle.std.specs.Prelude.{ℕ, zero, suc, ◌+◌, ◌-◌, Bool, ◌==◌, ◌&&◌, not, nat_le, if◌then◌else◌, List, [], ◌∷◌, ◌++◌, length, slice_index, slice_range, Option, Some, None, encode_utf8}
+use Rattle.std.specs.Prelude.{◌≡◌, ℕ, zero, suc, ◌+◌, ◌-◌, Bool, true, false, ◌==◌, ◌||◌, ◌&&◌, not, nat_le, if◌then◌else◌, List, [], ◌∷◌, ◌++◌, length, slice_index, slice_range, Option, Some, None, encode_utf8}
 use Rattle.lexer.specs.declared.token.Kind.{Kind}
 use Rattle.lexer.specs.declared.token.Kind.TheVariants as Kinds
-use Rattle.lexer.specs.Bytes.{quote, backslash}
-use Rattle.lexer.specs.Escapes.{escape_at, is_character}
+use Rattle.lexer.specs.Bytes.{quote, backslash, lower_f, three_quotes}
+use Rattle.lexer.specs.Escapes.{escape_at, is_character, IsEscape}
 use Rattle.lexer.specs.Kinds.{is}
+
+-- a string of any kind
+abbrev pub is_string : Kind → Bool
+is_string k = is k Kinds.String || (is k Kinds.FormatString || (is k Kinds.RawString || is k Kinds.RawFormatString))
 
 abbrev pub character : Option (ℕ × ℕ) → ℕ × ℕ
 character None = (backslash, 0)
@@ -45,3 +49,25 @@ text_of k text =
     else (if is k Kinds.RawString then between 3 3 text
     else (if is k Kinds.RawFormatString then between 4 3 text
     else text)))
+
+-- ---- the same as a relation
+
+-- no escape that names a character begins here, behind a backslash
+abbrev pub NoEscape : List ℕ → Type 0
+NoEscape bs = (code : ℕ) (written rest : List ℕ) → bs ≡ written ++ rest → IsEscape code written rest → is_character code ≡ true → ⊥
+
+-- The characters between quotes, and the text that they stand for.
+pub data StandsFor : List ℕ → List ℕ → Type 0 where
+  nothing : StandsFor [] []
+  itself : (b : ℕ) (bs text : List ℕ) → is_no_backslash b ≡ true → StandsFor bs text → StandsFor (b ∷ bs) (b ∷ text)
+  escape : (code : ℕ) (written bs text : List ℕ) → IsEscape code written bs → is_character code ≡ true → StandsFor bs text
+      → StandsFor (backslash ∷ (written ++ bs)) (encode_utf8 code ++ text)
+  kept : (bs text : List ℕ) → NoEscape bs → StandsFor bs text → StandsFor (backslash ∷ bs) (backslash ∷ text)
+
+-- The token of this kind and slice, and the text that it stands for.
+pub data TokenStandsFor : Kind → List ℕ → List ℕ → Type 0 where
+  quoted : (inside text : List ℕ) → StandsFor inside text → TokenStandsFor Kinds.String (quote ∷ (inside ++ quote ∷ [])) text
+  format : (inside text : List ℕ) → StandsFor inside text → TokenStandsFor Kinds.FormatString (lower_f ∷ quote ∷ (inside ++ quote ∷ [])) text
+  raw : (inside : List ℕ) → TokenStandsFor Kinds.RawString (three_quotes ++ (inside ++ three_quotes)) inside
+  raw_format : (inside : List ℕ) → TokenStandsFor Kinds.RawFormatString (lower_f ∷ (three_quotes ++ (inside ++ three_quotes))) inside
+  other : (k : Kind) (text : List ℕ) → is_string k ≡ false → TokenStandsFor k text text

@@ -18,7 +18,7 @@ use crate::word::word_at;
 use std::alloc::Global;
 
 // The kind and length of the longest token at the front.
-#[tactic(auto, using(crate::proofs::Cuts::token_nothing, crate::proofs::Cuts::token_format, crate::proofs::Cuts::token_word, crate::proofs::Cuts::token_number, crate::proofs::Cuts::token_symbol, crate::proofs::Cuts::token_string))]
+#[tactic(auto, using(crate::proofs::Cuts::token_cases))]
 fn token_at(bytes: &[u8]) -> Option<(Kind, usize)>
     ensures { result ≡ token_at bytes.now }
 {

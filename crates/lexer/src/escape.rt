@@ -36,7 +36,7 @@ fn digit_count(byte: u8) -> Option<usize>
 }
 
 // The number that so many hexadecimal digits at the front write.
-#[tactic(auto, using(crate::proofs::Escapes::hex_short, crate::proofs::Escapes::hex_yes, crate::proofs::Escapes::hex_no, crate::proofs::Escapes::hex_end))]
+#[tactic(auto, using(crate::proofs::Escapes::hex_steps))]
 fn hexadecimal(bytes: &[u8], count: usize) -> Option<u32>
     requires { count ≤ 8 }
     ensures { result ≡ hexadecimal count 0 bytes.now }
@@ -61,7 +61,7 @@ fn is_octal_digit(byte: u8) -> bool
 }
 
 // The number that the octal digits at the front write, three of them at most, and how many these are.
-#[tactic(auto, using(crate::proofs::Escapes::octal_yes, crate::proofs::Escapes::octal_no, crate::proofs::Escapes::octal_end, crate::proofs::Escapes::octal_full))]
+#[tactic(auto, using(crate::proofs::Escapes::octal_steps))]
 fn octal(bytes: &[u8]) -> (u32, usize)
     ensures { result ≡ octal 3 0 0 bytes.now }
 {
@@ -75,7 +75,7 @@ fn octal(bytes: &[u8]) -> (u32, usize)
 }
 
 // The number that an escape names, of which this comes behind the backslash, and how many bytes it has there.
-#[tactic(auto, using(crate::proofs::Escapes::escape_nothing, crate::proofs::Escapes::escape_octal, crate::proofs::Escapes::escape_digits, crate::proofs::Escapes::escape_short, crate::proofs::Escapes::escape_control, crate::proofs::Escapes::escape_other))]
+#[tactic(auto, using(crate::proofs::Escapes::escape_cases))]
 pub(crate) fn escape_at(bytes: &[u8]) -> Option<(u32, usize)>
     ensures { result ≡ escape_at bytes.now }
 {

@@ -9,7 +9,7 @@ use crate::escape::is_bad_escape;
 use crate::token::Kind;
 
 // How many bytes stand before the quote that ends a string.
-#[tactic(auto, using(crate::proofs::Strings::inside_bad, crate::proofs::Strings::inside_good, crate::proofs::Strings::inside_more, crate::proofs::Strings::inside_quote, crate::proofs::Strings::inside_end))]
+#[tactic(auto, using(crate::proofs::Strings::inside_steps))]
 fn inside_length(bytes: &[u8]) -> Option<usize>
     ensures found { result ≡ inside false bytes.now }
     ensures within { IfSome result (λ n. n + 1 ≤ length bytes.now) }
@@ -31,7 +31,7 @@ fn inside_length(bytes: &[u8]) -> Option<usize>
 }
 
 // How many bytes stand before the first three quotes.
-#[tactic(auto, using(crate::proofs::Strings::quotes_yes, crate::proofs::Strings::quotes_no, crate::proofs::Strings::quotes_end))]
+#[tactic(auto, using(crate::proofs::Strings::quotes_steps))]
 fn length_before_quotes(bytes: &[u8]) -> Option<usize>
     ensures found { result ≡ before_quotes bytes.now }
     ensures within { IfSome result (λ n. n + 3 ≤ length bytes.now) }
@@ -45,7 +45,7 @@ fn length_before_quotes(bytes: &[u8]) -> Option<usize>
 }
 
 // The kind and length of the string at the front, which begins with a quote.
-#[tactic(auto, using(crate::proofs::Strings::string_raw, crate::proofs::Strings::string_raw_open, crate::proofs::Strings::string_quoted, crate::proofs::Strings::string_open))]
+#[tactic(auto, using(crate::proofs::Strings::string_cases))]
 pub(crate) fn string_at(bytes: &[u8]) -> Option<(Kind, usize)>
     requires { 0 < length bytes.now }
     ensures found { result ≡ string_at bytes.now }
@@ -72,7 +72,7 @@ fn format_kind(kind: Kind) -> Kind
 }
 
 // The kind and length of the f-string at the front, which begins with `f` and a quote.
-#[tactic(auto, using(crate::proofs::Strings::format_some, crate::proofs::Strings::format_none))]
+#[tactic(auto, using(crate::proofs::Strings::format_cases))]
 pub(crate) fn format_at(bytes: &[u8]) -> Option<(Kind, usize)>
     requires { 1 < length bytes.now }
     ensures { result ≡ format_at bytes.now }

@@ -1,15 +1,16 @@
 //! What tokens stand for.
 
-ghost use Rattle.std.specs.Prelude.{◌≡◌, ◌<◌, IfOk, string_bytes};
+ghost use Rattle.std.specs.Prelude.{◌≡◌, ℕ, ◌<◌, List, IfOk, string_bytes};
 ghost use Rattle.lexer.specs.Lexing.{run};
-ghost use Rattle.lexer.specs.Texts.{escaped_by, is_no_backslash, unescaped, is_framed, between, text_of};
+ghost use Rattle.lexer.specs.Texts.{escaped_by, is_no_backslash, unescaped, is_framed, between, text_of, TokenStandsFor};
+ghost use Rattle.lexer.specs.Tokens.{IsToken};
 
 use crate::escape::escape_at;
 use crate::token::{Kind, Token};
 use std::alloc::{AllocError, Global};
 
 // The character that a backslash stands for, of which these come behind it, and how many of these belong to it.
-#[tactic(auto, using(crate::proofs::Texts::escaped_named, crate::proofs::Texts::escaped_unnamed, crate::proofs::Texts::escaped_itself))]
+#[tactic(auto, using(crate::proofs::Texts::escaped_cases))]
 fn escaped_by(bytes: &[u8]) -> (char, usize)
     ensures { result ≡ escaped_by bytes.now }
 {
@@ -23,7 +24,7 @@ fn escaped_by(bytes: &[u8]) -> (char, usize)
 }
 
 // How many bytes stand before the first backslash.
-#[tactic(auto, using(crate::proofs::Runs::run_yes, crate::proofs::Runs::run_no, crate::proofs::Runs::run_end))]
+#[tactic(auto, using(crate::proofs::Runs::run_steps))]
 fn plain_length(bytes: &[u8]) -> usize
     ensures { result ≡ run is_no_backslash bytes.now }
 {
@@ -55,7 +56,7 @@ fn unescaped(alloc: Global, text: &str) -> Result<String, AllocError>
 }
 
 // Whether so many bytes in front end with a quote, and so many others behind begin with one.
-#[tactic(auto, using(crate::proofs::Frames::framed_short, crate::proofs::Frames::framed_front, crate::proofs::Frames::framed_back))]
+#[tactic(auto, using(crate::proofs::Frames::framed_cases))]
 fn is_framed(bytes: &[u8], front: usize, back: usize) -> bool
     requires before { 0 < front }
     requires few { front < 8 }
@@ -64,12 +65,9 @@ fn is_framed(bytes: &[u8], front: usize, back: usize) -> bool
     ensures { result ≡ is_framed front back bytes.now }
 {
     if bytes.len() < front + back {
-        false
-    } else if bytes[front - 1] != b'\'' {
-        false
-    } else {
-        bytes[bytes.len() - back] == b'\''
+        return false;
     }
+    bytes[front - 1] == b'\'' && bytes[bytes.len() - back] == b'\''
 }
 
 // What stands behind the first bytes and before the last ones, so many each; all of a text without quotes at these places.
@@ -87,19 +85,31 @@ fn between(text: &str, front: usize, back: usize) -> &str
     }
 }
 
-/// The text of a string token after its escapes, as the Meson manual's page "Syntax" has them; of any other token its slice.
-///
-/// A raw string's text is what stands between its quotes. A token that was not made by [`crate::tokens`] has a text too: an
-/// escape that names no character stays with its backslash, and a string without its quotes is taken as it stands.
-pub fn text_of(alloc: Global, token: &Token<'_>) -> Result<String, AllocError>
-    ensures { IfOk result (λ s. string_bytes s ≡ text_of token.now.kind token.now.text.now) }
+// What a token of this kind and slice stands for.
+fn stood_for(alloc: Global, kind: Kind, text: &str) -> Result<String, AllocError>
+    ensures { IfOk result (λ s. string_bytes s ≡ text_of kind text.now) }
 {
-    let text = token.text;
-    match token.kind {
+    match kind {
         Kind::String => unescaped(alloc, between(text, 1, 1)),
         Kind::FormatString => unescaped(alloc, between(text, 2, 1)),
         Kind::RawString => String::from_str(alloc, between(text, 3, 3)),
         Kind::RawFormatString => String::from_str(alloc, between(text, 4, 3)),
         _ => String::from_str(alloc, text),
     }
+}
+
+/// The text of a string token after its escapes, as the Meson manual's page "Syntax" has them; of any other token its slice.
+///
+/// A raw string's text is what stands between its quotes. A token that was not made by [`crate::tokens`] has a text too: an
+/// escape that names no character stays with its backslash, and a string without its quotes is taken as it stands.
+pub fn text_of(alloc: Global, token: &Token<'_>) -> Result<String, AllocError>
+    // Unless memory runs out, it is this function of the token, whatever the token is.
+    ensures value { IfOk result (λ s. string_bytes s ≡ text_of token.now.kind token.now.text.now) }
+
+    // It is what a token of a source stands for, and the only text that a token stands for.
+    ensures source { (rest : List ℕ) → IsToken token.now.kind token.now.text.now rest
+        → IfOk result (λ s. TokenStandsFor token.now.kind token.now.text.now (string_bytes s)) }
+    ensures only { (text : List ℕ) → TokenStandsFor token.now.kind token.now.text.now text → IfOk result (λ s. string_bytes s ≡ text) }
+{
+    stood_for(alloc, token.kind, token.text)
 }

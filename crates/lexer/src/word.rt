@@ -9,7 +9,7 @@ use crate::bytes::continues_word;
 use crate::token::Kind;
 
 // How many bytes at the front go on with a word.
-#[tactic(auto, using(crate::proofs::Runs::run_yes, crate::proofs::Runs::run_no, crate::proofs::Runs::run_end))]
+#[tactic(auto, using(crate::proofs::Runs::run_steps))]
 pub(crate) fn word_length(bytes: &[u8]) -> usize
     ensures { result ≡ run continues_word bytes.now }
 {
@@ -44,7 +44,7 @@ fn word_kind(word: &[u8]) -> Kind
 }
 
 // The kind and length of the word at the front.
-#[tactic(auto, using(crate::proofs::Cuts::word_is, crate::proofs::Cuts::word_fits))]
+#[tactic(auto, using(crate::proofs::Cuts::word_cases))]
 pub(crate) fn word_at(bytes: &[u8]) -> (Kind, usize)
     ensures { result ≡ word_at bytes.now }
 {
