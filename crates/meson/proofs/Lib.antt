@@ -8,3 +8,4 @@ pub mod PathTexts
 pub mod Reading
 pub mod BuildFile
 pub mod Runs
+pub mod Trees

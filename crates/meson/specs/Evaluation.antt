@@ -7,7 +7,7 @@ use Rattle.ports.specs.Tree.{file_at}
 use Rattle.syntax.specs.declared.tree.Literal.{Literal}
 use Rattle.syntax.specs.declared.tree.Literal.TheVariants as literals
 use Rattle.syntax.specs.ExpressionTree.{ExpressionTree, NameTree, LiteralTree, line_of}
-use Rattle.syntax.specs.Tree.{StatementTree, AssignTree, CallTree, FileTree}
+use Rattle.syntax.specs.Tree.{StatementTree, AssignTree, AppendTree, CallTree, BreakTree, ContinueTree, IfTree, ForeachTree, FileTree}
 use Rattle.lexer.specs.Texts.{text_of}
 use Rattle.lexer.specs.declared.token.Kind.TheVariants as Kinds
 use Rattle.syntax.specs.Parsed.{parsed}
@@ -224,16 +224,29 @@ assignment file name line value = rule (value_of file value) >>= λ d. assigned 
 abbrev pub does : Files → SettingsData → List ℕ → StatementTree → Act (Unit {0})
 does files s file (AssignTree name line value) = assignment file name line value
 does files s file (CallTree name line arguments) = called files s file line name arguments (function_named name)
+does files s file (AppendTree name line value) = left_out file line
+does files s file (BreakTree line) = left_out file line
+does files s file (ContinueTree line) = left_out file line
+does files s file (IfTree line branches otherwise) = left_out file line
+does files s file (ForeachTree line first second items items_line body) = left_out file line
 
 abbrev pub do_all : Files → SettingsData → List ℕ → List StatementTree → Act (Unit {0})
 do_all files s file [] = pure tt
 do_all files s file (st ∷ sts) = rule (does files s file st) >>= λ _. do_all files s file sts
 
+abbrev pub no_project_call : List ℕ → ℕ → Act (Unit {0})
+no_project_call file line = refuse (plain_fault file line refusals.ProjectCall)
+
 -- the first statement of the root file is a call of `project`
 abbrev pub begins : Files → SettingsData → List ℕ → StatementTree → Act (Unit {0})
-begins files s file (AssignTree name line value) = refuse (plain_fault file line refusals.ProjectCall)
 begins files s file (CallTree name line arguments) =
-    if bytes_eq name (codes "project") then rule (project_call files s file line arguments) else refuse (plain_fault file line refusals.ProjectCall)
+    if bytes_eq name (codes "project") then rule (project_call files s file line arguments) else no_project_call file line
+begins files s file (AssignTree name line value) = no_project_call file line
+begins files s file (AppendTree name line value) = no_project_call file line
+begins files s file (BreakTree line) = no_project_call file line
+begins files s file (ContinueTree line) = no_project_call file line
+begins files s file (IfTree line branches otherwise) = no_project_call file line
+begins files s file (ForeachTree line first second items items_line body) = no_project_call file line
 
 abbrev pub root : Files → SettingsData → List ℕ → FileTree → Act (Unit {0})
 root files s file [] = refuse (plain_fault file 1 refusals.ProjectCall)

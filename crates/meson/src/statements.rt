@@ -4,13 +4,13 @@ ghost use Rattle.ports.specs.Outputs.{OutputState};
 ghost use Rattle.ports.specs.Tree.{Stays};
 ghost use Rattle.syntax.specs.ExpressionTree.{expression_of};
 ghost use Rattle.syntax.specs.Tree.{file_of, statement_of};
-ghost use Rattle.meson.specs.Evaluation.{Files, assignment, begins, called, do_all, does, project_call, root};
+ghost use Rattle.meson.specs.Evaluation.{Files, assignment, begins, called, do_all, does, left_out, no_project_call, project_call, root};
 ghost use Rattle.meson.specs.Gives.{Gives, Holds, failures_after};
 ghost use Rattle.meson.specs.Names.{function_named};
-ghost use Rattle.meson.specs.Run.{rule};
+ghost use Rattle.meson.specs.Run.{World, rule};
 ghost use Rattle.meson.specs.SettingsView.{settings_view};
 ghost use Rattle.meson.specs.Store.{world_of};
-ghost use Rattle.meson.specs.Trace.{seen};
+ghost use Rattle.meson.specs.Trace.{Seen, seen};
 
 use crate::executable::call_executable;
 use crate::expressions::value_of;
@@ -73,6 +73,22 @@ fn call<T: Tree, L: Ledger>(
     }
 }
 
+// Refuses a statement that is not there yet.
+fn left_out(alloc: Global, file: &str, line: usize) -> Result<(), Stop>
+    ensures gives { (w : World) (old : Seen) → Gives (λ u. u) (left_out file.now line w) result w old old }
+    ensures quiet { (n : ℕ) → failures_after n result ≡ n }
+{
+    Err(refused_here(alloc, file, line, Refusal::LeftOut))
+}
+
+// Refuses a first statement that is no call of `project`.
+fn no_project_call(alloc: Global, file: &str, line: usize) -> Result<(), Stop>
+    ensures gives { (w : World) (old : Seen) → Gives (λ u. u) (no_project_call file.now line w) result w old old }
+    ensures quiet { (n : ℕ) → failures_after n result ≡ n }
+{
+    Err(refused_here(alloc, file, line, Refusal::ProjectCall))
+}
+
 fn carry_out<T: Tree, L: Ledger>(
     alloc: Global,
     settings: &Settings,
@@ -98,6 +114,11 @@ fn carry_out<T: Tree, L: Ledger>(
         } => call(
             alloc, settings, file, name, *line, arguments, store, tree, steps,
         ),
+        Statement::Append { line, .. } => left_out(alloc, file, *line),
+        Statement::Break { line } => left_out(alloc, file, *line),
+        Statement::Continue { line } => left_out(alloc, file, *line),
+        Statement::If { line, .. } => left_out(alloc, file, *line),
+        Statement::Foreach { line, .. } => left_out(alloc, file, *line),
     }
 }
 
@@ -175,9 +196,6 @@ fn begin<T: Tree, L: Ledger>(
     ensures failures { (T.seen tree.new).failures ≡ failures_after (T.seen tree.old).failures result }
 {
     match statement {
-        Statement::Assign { line, .. } => {
-            Err(refused_here(alloc, file, *line, Refusal::ProjectCall))
-        }
         Statement::Call {
             name,
             line,
@@ -187,9 +205,15 @@ fn begin<T: Tree, L: Ledger>(
             if first {
                 first_call(alloc, settings, file, *line, arguments, store, tree, steps)
             } else {
-                Err(refused_here(alloc, file, *line, Refusal::ProjectCall))
+                no_project_call(alloc, file, *line)
             }
         }
+        Statement::Assign { line, .. } => no_project_call(alloc, file, *line),
+        Statement::Append { line, .. } => no_project_call(alloc, file, *line),
+        Statement::Break { line } => no_project_call(alloc, file, *line),
+        Statement::Continue { line } => no_project_call(alloc, file, *line),
+        Statement::If { line, .. } => no_project_call(alloc, file, *line),
+        Statement::Foreach { line, .. } => no_project_call(alloc, file, *line),
     }
 }
 

@@ -1,4 +1,3 @@
-use Rattle.std.proofs.Common.{refl}
 use Rattle.meson.specs.Evaluation.{plain_fault}
 use Rattle.meson.specs.ValueView.{view}
 use Rattle.meson.specs.declared.refusal.Refusal.TheVariants as refusals

@@ -13,4 +13,4 @@ returns-in_err-of_string-clause-gives c = λ w old. wanted_later view w old _ (b
 
 pub returns-clause-gives : goal.returns-clause-gives
 returns-clause-gives c = λ w old.
-    ended_later view c.in_ok-of_string.field-0 (text (text_of c.args.kind c.args.slice.now)) w old (c.in_ok-of_string.ensures ∙ ap text c.in_ok-string.ensures) (begun _ old)
+    ended_later view c.in_ok-of_string.field-0 (text (text_of c.args.kind c.args.slice.now)) w old (c.in_ok-of_string.ensures ∙ ap text c.in_ok-string.ensures.value) (begun _ old)
