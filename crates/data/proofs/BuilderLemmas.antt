@@ -1,6 +1,6 @@
 -- What a dictionary keeps when a value is put into it.
-use Rattle.std.proofs.Common.{◌≡◌, ℕ, zero, suc, ◌+◌, ◌<◌, ◌≤◌, Bool, true, false, List, [], ◌∷◌, length, get_or, set, Some, None, cond, String, Global, string_bytes, bytes_eq, refl, sym, ap, ◌∙◌, arith, Option}
-use Rattle.std.specs.Prelude.{max, slice_get, not, ◌||◌, if◌then◌else◌}
+use Rattle.std.proofs.Common.{◌≡◌, ℕ, zero, suc, ◌+◌, ◌<◌, ◌≤◌, Bool, true, false, List, [], ◌∷◌, length, get_or, set, Some, None, cond, String, Global, string_bytes, bytes_eq, refl, sym, ap, ◌∙◌, subst, arith, Option}
+use Rattle.std.specs.Prelude.{max, option_map, IfSome, slice_get, not, ◌||◌, if◌then◌else◌}
 use Rattle.std.specs.List.{position_or_len, list_any}
 use Rattle.std.specs.Cmp.Lexicographic.{bytes_decides}
 use Rattle.data.specs.Data.{Data, count, Entries, no_entries, entry, entry_count, entry_values, keys_in, find, put, merged, AreDistinct}
@@ -213,3 +213,13 @@ apart_none (entry k d fs) = (refl, apart_none fs)
 
 pub merged_none : (es : Entries) → AreDistinct es → merged no_entries es ≡ es
 merged_none es h = merged_apart no_entries es h (apart_none es)
+
+-- ---- the depth, where it is known
+
+pub deeper_is : (o r : Option ℕ) (n m more : ℕ) → r ≡ option_map (λ d. max d more) o → IfSome o (λ d. d ≡ n) → m ≡ max n more → IfSome r (λ d. d ≡ m)
+deeper_is None r n m more is known e = subst (λ x. IfSome x (λ d. d ≡ m)) (sym is) tt
+deeper_is (Some k) r n m more is known e = subst (λ x. IfSome x (λ d. d ≡ m)) (sym is) (ap (λ x. max x more) known ∙ sym e)
+
+pub deeper_small : (o r : Option ℕ) (more : ℕ) → r ≡ option_map (λ d. max d more) o → IfSome o (λ d. d ≤ 64) → more ≤ 64 → IfSome r (λ d. d ≤ 64)
+deeper_small None r more is small h = subst (λ x. IfSome x (λ d. d ≤ 64)) (sym is) tt
+deeper_small (Some k) r more is small h = subst (λ x. IfSome x (λ d. d ≤ 64)) (sym is) (omega arith)

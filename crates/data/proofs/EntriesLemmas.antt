@@ -8,6 +8,7 @@ use Rattle.data.specs.Data.{Data, dictionary, item, Entries, no_entries, entry, 
 use Rattle.data.specs.Weight.{items_weight, entries_weight}
 use Rattle.data.specs.View.{data_of, items_of, entries_of}
 use Rattle.data.specs.declared.value.Value.{Value}
+use Rattle.data.specs.declared.value.Value.TheVariants as value
 
 pub entry_count-entries_of : (ks : List (String Global)) (vs : List Value) → length ks ≡ length vs → entry_count (entries_of ks vs) ≡ length vs
 entry_count-entries_of [] [] fit = refl
@@ -79,6 +80,14 @@ at_position q ks i e = let p = chosen (nat_lt (place q ks) (length ks)) (place q
 
 pub no_position : (q : List ℕ) (ks : List (String Global)) → None ≡ position (λ k. bytes_eq q (string_bytes k)) ks → length ks ≤ place q ks
 no_position q ks e = ltb-false (place q ks) (length ks) (none_chosen (nat_lt (place q ks) (length ks)) (place q ks) e)
+
+-- whether a key is there
+pub has_key : (q : List ℕ) (ks : List (String Global)) (vs : List Value) (r : Option ℕ) → length ks ≡ length vs → r ≡ position (λ k. bytes_eq q (string_bytes k)) ks → is_some r ≡ is_some (find q (entries_of ks vs))
+has_key q ks vs None fit e = ap is_some (sym (find_out q ks vs (no_position q ks e)))
+has_key q ks vs (Some i) fit e =
+    let there = (at_position q ks i e).0 in
+    let some = slice_get-get_or vs (place q ks) (value.Truth true) (omega arith) in
+    sym (ap is_some (find_in q ks vs there ∙ ap (option_map data_of) some))
 
 no_any_at : (b c : Bool) (n m : ℕ) → (b || c) ≡ false → (c ≡ false → m ≤ n) → suc m ≤ cond (not b) (1 + n) 0
 no_any_at true c n m e later = absurd cc

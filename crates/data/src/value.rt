@@ -246,7 +246,7 @@ impl Value {
 }
 
 // Whether a list or a dictionary of so many items, this weight and so many levels is within the limits.
-fn is_within(items: usize, weight: u64, levels: u32) -> bool
+fn is_within(items: usize, weight: u128, levels: u32) -> bool
     ensures { result ≡ is_within_limits items weight levels }
 {
     items <= 65_536 && weight <= 33_554_432 && levels <= 64
@@ -315,7 +315,7 @@ impl List {
     {
         is_within(
             self.len() + 1,
-            self.weight() + value.weight() + 1,
+            (self.weight() + value.weight() + 1) as u128,
             self.depth().max(value.depth()) + 1,
         )
     }
@@ -326,7 +326,7 @@ impl List {
     {
         is_within(
             self.len() + other.len(),
-            self.weight() + other.weight() + 1,
+            (self.weight() + other.weight() + 1) as u128,
             self.depth().max(other.depth()) + 1,
         )
     }

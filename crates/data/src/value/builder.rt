@@ -1,7 +1,7 @@
 //! Dictionaries as they are made.
 
-ghost use Rattle.std.specs.Prelude.{◌≡◌, ◌<◌, ◌≤◌, ◌+◌, ◌^◌, length, OnOk, IfOk, string_bytes, Ok, Err, if◌then◌else◌};
-ghost use Rattle.data.specs.Data.{no_entries, entry_count, put, merged, entry_values};
+ghost use Rattle.std.specs.Prelude.{◌≡◌, IfSome, option_map, max, ◌<◌, ◌≤◌, ◌+◌, ◌^◌, length, OnOk, IfOk, string_bytes, is_some, Ok, Err, if◌then◌else◌};
+ghost use Rattle.data.specs.Data.{no_entries, entry_count, find, put, merged, entry_values};
 ghost use Rattle.data.specs.Weight.{weight, depth, items_depth, entries_weight};
 ghost use Rattle.data.specs.Limits.{entries_fit};
 ghost use Rattle.data.specs.View.{data_of, items_of};
@@ -18,8 +18,10 @@ use std::marker::Model;
 pub struct DictionaryBuilder {
     keys: IndexSet<String>,
     values: Vec<Value>,
-    weight: u64,
-    depth: u32,
+    // wide enough for the weight of all that memory holds
+    weight: u128,
+    // of the deepest value, where none was replaced since it was counted
+    depth: Option<u32>,
 }
 
 impl Model for DictionaryBuilder {
@@ -46,7 +48,7 @@ impl DictionaryBuilder {
             keys: IndexSet::new(alloc),
             values: Vec::new(alloc),
             weight: 0,
-            depth: 0,
+            depth: Some(0),
         }
     }
 
@@ -64,8 +66,8 @@ impl DictionaryBuilder {
         DictionaryBuilder {
             keys,
             values,
-            weight,
-            depth,
+            weight: weight as u128,
+            depth: Some(depth),
         }
     }
 
@@ -79,22 +81,29 @@ impl DictionaryBuilder {
         Ok(copy)
     }
 
+    /// Whether there is a value at a key.
+    pub fn contains_key(&self, key: &str) -> bool
+        ensures { result ≡ is_some (find key.now self.now) }
+    {
+        self.keys.get_index_of(key).is_some()
+    }
+
     /// Puts a value at a key: a key that is there keeps its place, another goes last.
     pub fn put(&mut self, key: String, value: Value) -> Result<(), AllocError>
-        requires { entries_weight self.old + (length (string_bytes key) + 1) + weight (data_of value) < 2 ^ 62 }
+        requires { entries_weight self.old + (length (string_bytes key) + 1) + weight (data_of value) < 2 ^ 126 }
         ensures { OnOk result (self.new ≡ put (string_bytes key) (data_of value) self.old) }
     {
         match self.keys.get_index_of(key.as_str()) {
             Some(index) => {
-                let old_weight = self.values[index].weight();
-                let weight = value.weight();
+                let old_weight = self.values[index].weight() as u128;
+                let weight = value.weight() as u128;
                 self.values[index] = value;
                 self.weight = self.weight - old_weight + weight;
-                self.depth = deepest(&self.values);
+                self.depth = None;
             }
             None => {
-                let key_weight = key.len() as u64 + 1;
-                let weight = value.weight();
+                let key_weight = key.len() as u128 + 1;
+                let weight = value.weight() as u128;
                 let depth = value.depth();
                 self.keys.reserve(1)?;
                 self.values.push(value)?;
@@ -102,7 +111,7 @@ impl DictionaryBuilder {
                     unreachable!()
                 };
                 self.weight += key_weight + weight;
-                self.depth = self.depth.max(depth);
+                self.depth = deeper(self.depth, depth);
             }
         }
         Ok(())
@@ -110,7 +119,7 @@ impl DictionaryBuilder {
 
     /// Puts the entries of a dictionary, in their order.
     pub fn put_all(&mut self, alloc: Global, dictionary: &Dictionary) -> Result<(), AllocError>
-        requires { entries_weight self.old < 2 ^ 61 }
+        requires { entries_weight self.old < 2 ^ 125 }
         ensures merged { OnOk result (self.new ≡ merged self.old dictionary.now) }
         ensures within { OnOk result (entries_weight dictionary.now + 1 ≤ 33554432) }
         ensures copied { OnOk result (self.old ≡ no_entries → self.new ≡ dictionary.now) }
@@ -133,15 +142,36 @@ impl DictionaryBuilder {
             weight,
             depth,
         } = self;
+        let depth = counted_depth(depth, &values);
         if !is_within(values.len(), weight + 1, depth + 1) {
             return Err(Refusal::Limit);
         }
         Ok(Dictionary {
             keys,
             values,
-            weight,
+            weight: weight as u64,
             depth,
         })
+    }
+}
+
+// The depth with one more value, where it was counted before.
+fn deeper(depth: Option<u32>, more: u32) -> Option<u32>
+    ensures { result ≡ option_map (λ d. max d more) depth }
+{
+    Some(depth?.max(more))
+}
+
+// The depth as it was counted, or counted now.
+fn counted_depth(depth: Option<u32>, values: &[Value]) -> u32
+    requires counted { IfSome depth (λ d. d ≡ items_depth (items_of values.now)) }
+    requires small { IfSome depth (λ d. d ≤ 64) }
+    ensures deepest { result ≡ items_depth (items_of values.now) }
+    ensures within { result ≤ 64 }
+{
+    match depth {
+        Some(depth) => depth,
+        None => deepest(values),
     }
 }
 

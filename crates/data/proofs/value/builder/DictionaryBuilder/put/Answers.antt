@@ -4,10 +4,10 @@ use Rattle.std.specs.List.{position, list_any}
 use Rattle.std.specs.String.{string_eq}
 use Rattle.std.proofs.lemmas.List.{length_push}
 use Rattle.data.specs.Data.{put, find, AreDistinct}
-use Rattle.data.specs.Weight.{weight, items_depth, entries_weight, entries_depth}
-use Rattle.data.specs.View.{data_of, items_of, entries_of}
+use Rattle.data.specs.Weight.{weight, entries_weight, entries_depth}
+use Rattle.data.specs.View.{data_of, entries_of}
 use Rattle.data.proofs.EntriesLemmas.{place, put_in, put_new, at_position, no_position, find_out}
-use Rattle.data.proofs.BuilderLemmas.{entries_depth-entries_of, weight_replaced, weight-le-entries_weight, weight_put-new, depth_put-new, put-distinct, not_any, length-set}
+use Rattle.data.proofs.BuilderLemmas.{deeper_is, deeper_small, weight_replaced, weight-le-entries_weight, weight_put-new, depth_put-new, put-distinct, not_any, length-set}
 use Rattle.data.proofs.value.builder.DictionaryBuilder.put.Goals as goal
 
 pub overflow_sub-self : goal.overflow_sub-self
@@ -36,9 +36,9 @@ invariant_of-self c =
       pairs = pairs;
       distinct = subst AreDistinct (sym is) (put-distinct q (data_of w) (entries_of ks vs) c.self.invariant.distinct);
       weight = omega (arith, total, low, old, c.weight-old_weight.ensures.weight, c.weight-weight.ensures.weight, c.self.invariant.weight);
-      depth = c.deepest-self-inside.ensures.deepest ∙ ap (λ l. items_depth (items_of l)) c.deref.ensures.value ∙ sym (entries_depth-entries_of ks (set vs i w) pairs);
+      depth = tt;
       light = omega (arith, low, old, c.weight-old_weight.ensures.weight, c.weight-weight.ensures.weight, c.self.invariant.weight, c.requires, ap entries_weight c.self.view_is);
-      shallow = c.deepest-self-inside.ensures.within;
+      shallow = tt;
     }
 
 pub invariant_of-self-in-None : goal.invariant_of-self-in-None
@@ -61,9 +61,9 @@ invariant_of-self-in-None c =
       pairs = ap length keys ∙ length_push ks c.args.key ∙ ap (λ n. n + 1) c.self.invariant.pairs ∙ sym (length_push vs w) ∙ sym (ap length values);
       distinct = subst AreDistinct (sym is) (put-distinct q (data_of w) (entries_of ks vs) c.self.invariant.distinct);
       weight = omega (arith, total, ap entries_weight is, c.weight-weight-in-None.ensures.weight, c.self.invariant.weight, c.len.ensures);
-      depth = omega (arith, deep, ap entries_depth is, c.depth-depth.ensures.depth, c.self.invariant.depth, c.max-self-inside.ensures);
+      depth = deeper_is c.self.inside.depth c.deeper-self-inside.result (entries_depth (entries_of ks vs)) (entries_depth (entries_of c.insert.new.self.keys c.push.new.self.items)) c.depth-depth.result c.deeper-self-inside.ensures c.self.invariant.depth (omega (arith, deep, ap entries_depth is, c.depth-depth.ensures.depth));
       light = omega (arith, c.weight-weight-in-None.ensures.weight, c.self.invariant.weight, c.requires, ap entries_weight c.self.view_is, c.len.ensures);
-      shallow = omega (arith, c.depth-depth.ensures.within, c.self.invariant.shallow, c.max-self-inside.ensures);
+      shallow = deeper_small c.self.inside.depth c.deeper-self-inside.result c.depth-depth.result c.deeper-self-inside.ensures c.self.invariant.shallow c.depth-depth.ensures.within;
     }
 
 pub returns-in-Some : goal.returns-in-Some
