@@ -1,0 +1,4 @@
+pub mod SearchLemmas
+pub mod CharsLemmas
+pub mod NumberLemmas
+pub mod StripLemmas

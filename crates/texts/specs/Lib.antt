@@ -1,0 +1,5 @@
+pub mod Search
+pub mod Strip
+pub mod Part
+pub mod Number
+pub mod Letters

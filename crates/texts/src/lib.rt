@@ -1,0 +1,16 @@
+//! The methods of texts, as functions on plain `&str`.
+//!
+//! Each is the method of the type `str` of the page "Reference manual" that has its name. Indexes count characters.
+#![tactic(auto)]
+
+mod ends;
+mod letters;
+mod number;
+mod part;
+mod search;
+
+pub use ends::{strip, strip_of};
+pub use letters::{to_lower, to_upper, underscorify};
+pub use number::to_int;
+pub use part::substring;
+pub use search::{contains, ends_with, starts_with};
