@@ -2,3 +2,5 @@ pub mod SearchLemmas
 pub mod CharsLemmas
 pub mod NumberLemmas
 pub mod StripLemmas
+pub mod PiecesLemmas
+pub mod CutLemmas

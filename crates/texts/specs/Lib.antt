@@ -3,3 +3,7 @@ pub mod Strip
 pub mod Part
 pub mod Number
 pub mod Letters
+pub mod Pieces
+pub mod Joined
+pub mod Answers
+pub mod Cut

@@ -3,6 +3,7 @@
 //! Each is the method of the type `str` of the page "Reference manual" that has its name. Indexes count characters.
 #![tactic(auto)]
 
+mod cut;
 mod ends;
 mod letters;
 mod number;

@@ -1,0 +1,13 @@
+use Rattle.std.proofs.Common.{◌≡◌, ◌∷◌, sym, ◌∙◌, ap, arith}
+use Rattle.texts.specs.Pieces.{parts}
+use Rattle.texts.proofs.PiecesLemmas.{parts_none}
+use Rattle.texts.proofs.CutLemmas.{part_at}
+use Rattle.texts.proofs.cut.first_part.Goals as goal
+
+pub returns-in-Some-clause-first : goal.returns-in-Some-clause-first
+returns-in-Some-clause-first c =
+    let cases = c.in-Some.ensures.cases in
+    part_at c.args.separator.now c.args.text.now c.in-Some.part.now c.in-Some.rest.now cases.0 cases.1 c.requires cases.2.0 cases.2.1.split cases.3 cases.4 (omega (arith, cases.5, cases.7))
+
+pub returns-in-None-clause-first : goal.returns-in-None-clause-first
+returns-in-None-clause-first c = parts_none c.args.separator.now c.args.text.now c.in-None.ensures.cases
