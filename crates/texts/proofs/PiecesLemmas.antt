@@ -1,13 +1,14 @@
 -- The first piece of a text.
-use Rattle.std.proofs.Common.{◌≡◌, ◌≢◌, ℕ, zero, suc, ◌+◌, ◌-◌, ◌<◌, ◌≤◌, Bool, true, false, not, List, [], ◌∷◌, ◌++◌, length, take, drop, nat_eq, refl, sym, ap, ◌∙◌, subst, arith, cond, MatchOption, Option, Some, None}
-use Rattle.std.specs.Prelude.{filter, ◌||◌, ◌&&◌, ◌==◌, codes, if◌then◌else◌}
+use Rattle.std.proofs.Common.{◌≡◌, ◌≢◌, ℕ, zero, suc, ◌+◌, ◌-◌, ◌<◌, ◌≤◌, Bool, true, false, not, List, [], ◌∷◌, ◌++◌, length, take, drop, nat_eq, refl, sym, ap, ◌∙◌, subst, arith, cond, MatchOption, Option, Some, None, rules, tests, map, Bor}
+use Rattle.std.specs.Prelude.{filter, ◌||◌, ◌&&◌, ◌==◌, codes, nat_le, Result, Ok, Err, if◌then◌else◌}
 use Rattle.std.specs.List.{starts_with, slice_split, onto_first, position_or_len, prefix_len}
 use Rattle.std.specs.Str.Pattern.{LacksTextAt}
-use Rattle.std.proofs.lemmas.List.{length-append}
+use Rattle.std.proofs.lemmas.List.{length-append, append_assoc, map_push}
 use Rattle.std.proofs.lemmas.Bool.{false≢true, eqb-true}
 use Rattle.std.proofs.lemmas.Bool.Decides.{nat_tests}
+use Rattle.data.specs.declared.refusal.Refusal.TheVariants as refusal
 use Rattle.texts.specs.Strip.{is_blank}
-use Rattle.texts.specs.Pieces.{parts, parts_after, words, lines, lines_after, is_filled, is_line_end}
+use Rattle.texts.specs.Pieces.{parts, parts_after, words, lines, lines_after, is_filled, is_line_end, within_items}
 use Rattle.texts.specs.Cut.{lines_behind, end_length}
 use Rattle.texts.proofs.SearchLemmas.{Decides-starts_with}
 
@@ -165,3 +166,22 @@ behind_end b [] = last_byte (starts_with nat_eq (b ∷ []) (codes "\r\n")) b
 behind_end b (c ∷ cs) =
     end_case (starts_with nat_eq (b ∷ c ∷ cs) (codes "\r\n")) (b == 13) (c == 10) b c cs refl
     (λ k. same_tests 13 b k && (same_tests 10 c k && true))
+
+-- a list has no room for another piece
+pub too_many : (all found more : List (List ℕ)) (piece : List ℕ) → all ≡ found ++ (piece ∷ more) → length found ≡ 65536 → Err refusal.Limit ≡ within_items all
+too_many all found more piece all_is full =
+    let count : length all ≡ length found + length (piece ∷ more) = ap length all_is ∙ length-append found (piece ∷ more) in
+    sym (unless (nat_le (length all) 65536) (Ok all) (Err refusal.Limit) (search (rules, tests)))
+
+pub few_enough : (all found : List (List ℕ)) → all ≡ found → length found ≤ 65536 → Ok found ≡ within_items all
+few_enough all found all_is few =
+    ap (λ pieces. Ok pieces) (sym all_is) ∙ sym (when (nat_le (length all) 65536) (Ok all) (Err refusal.Limit) (search (rules, tests)))
+
+-- a piece joins those that were found
+pub one_more_piece : (all : List (List ℕ)) (found more_found : List (Bor (List ℕ))) (piece : Bor (List ℕ)) (here more : List (List ℕ))
+    → all ≡ map (λ p. p.now) found ++ here → here ≡ piece.now ∷ more → more_found ≡ found ++ piece ∷ [] → all ≡ map (λ p. p.now) more_found ++ more
+one_more_piece all found more_found piece here more all_is here_is found_is =
+    all_is ∙ ap (λ pieces. map (λ p. p.now) found ++ pieces) here_is
+    ∙ sym (append_assoc (map (λ p. p.now) found) (piece.now ∷ []) more)
+    ∙ ap (λ pieces. pieces ++ more) (sym (map_push (λ p. p.now) found piece))
+    ∙ ap (λ pieces. map (λ p. p.now) pieces ++ more) (sym found_is)

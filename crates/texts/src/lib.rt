@@ -9,9 +9,11 @@ mod letters;
 mod number;
 mod part;
 mod search;
+mod split;
 
 pub use ends::{strip, strip_of};
 pub use letters::{to_lower, to_upper, underscorify};
 pub use number::to_int;
 pub use part::substring;
 pub use search::{contains, ends_with, starts_with};
+pub use split::{split_at, split_blank, split_lines};
