@@ -4,3 +4,4 @@ pub mod NumberLemmas
 pub mod StripLemmas
 pub mod PiecesLemmas
 pub mod CutLemmas
+pub mod JoinedLemmas

@@ -29,7 +29,8 @@ impl Cut<'_> {
     }
 }
 
-fn first_part<'a>(text: &'a str, separator: &str) -> (&'a str, Option<&'a str>)
+/// The part of a text before the first place of a separator, and the text behind that place, if there is one.
+pub fn first_part<'a>(text: &'a str, separator: &str) -> (&'a str, Option<&'a str>)
     requires { 0 < length separator.now }
     ensures first { parts separator.now text.now ≡ result.0.now ∷ left (parts separator.now) result.1 }
     ensures shorter { IfSome result.1 (λ r. length r.now < length text.now) }

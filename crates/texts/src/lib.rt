@@ -5,6 +5,7 @@
 
 mod cut;
 mod ends;
+mod joining;
 mod letters;
 mod number;
 mod part;
@@ -12,6 +13,7 @@ mod search;
 mod split;
 
 pub use ends::{strip, strip_of};
+pub use joining::{join, replace};
 pub use letters::{to_lower, to_upper, underscorify};
 pub use number::to_int;
 pub use part::substring;
