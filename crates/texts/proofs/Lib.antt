@@ -5,3 +5,4 @@ pub mod StripLemmas
 pub mod PiecesLemmas
 pub mod CutLemmas
 pub mod JoinedLemmas
+pub mod FormatLemmas

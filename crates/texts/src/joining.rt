@@ -64,8 +64,8 @@ pub fn replace(
     }
 }
 
-// A piece behind the text, unless the text becomes too long.
-fn append(made: &mut String, piece: &str) -> Result<Result<(), Refusal>, AllocError>
+/// A piece behind the text, unless the text becomes too long.
+pub fn append(made: &mut String, piece: &str) -> Result<Result<(), Refusal>, AllocError>
     ensures { IfOk result (λ r. Appends (string_bytes made.old) piece.now (string_bytes made.new) r) }
 {
     if made.len() + piece.len() > Text::MOST_BYTES {
@@ -75,8 +75,8 @@ fn append(made: &mut String, piece: &str) -> Result<Result<(), Refusal>, AllocEr
     Ok(Ok(()))
 }
 
-// The same with two pieces.
-fn append_both(
+/// Two pieces behind the text, unless the text becomes too long.
+pub fn append_both(
     made: &mut String,
     first: &str,
     second: &str,
