@@ -1,5 +1,6 @@
 -- Texts that grow piece by piece.
-use Rattle.std.proofs.Common.{◌≡◌, ℕ, zero, suc, ◌+◌, ◌-◌, ◌<◌, ◌≤◌, Bool, true, false, List, [], ◌∷◌, ◌++◌, length, get_or, drop, map, Bor, refl, sym, ap, ◌∙◌, arith, rules, tests}
+use Rattle.std.proofs.Common.{◌≡◌, ℕ, zero, suc, ◌+◌, ◌-◌, ◌<◌, ◌≤◌, Bool, true, false, List, [], ◌∷◌, ◌++◌, length, get_or, drop, map}
+use Rattle.std.proofs.Common.{Bor, refl, sym, ap, ◌∙◌, rules, tests}
 use Rattle.std.specs.Prelude.{Ok, Err, nat_le, nat_eq, ◌==◌, if◌then◌else◌}
 use Rattle.std.specs.List.{flat_map, starts_with, onto_first}
 use Rattle.std.proofs.lemmas.List.{append_assoc, length-append, drop_more, drop_all}
@@ -8,9 +9,11 @@ use Rattle.texts.specs.Pieces.{parts, parts_after}
 use Rattle.texts.specs.Joined.{joined, within_bytes, replaced}
 use Rattle.texts.proofs.PiecesLemmas.{when, unless}
 
-pub too_long : (all made piece more : List ℕ) → all ≡ made ++ (piece ++ more) → 16777216 < length (made ++ piece) → Err refusal.Limit ≡ within_bytes all
+pub too_long : (all made piece more : List ℕ) → all ≡ made ++ (piece ++ more) → 16777216 < length (made ++ piece)
+    → Err refusal.Limit ≡ within_bytes all
 too_long all made piece more all_is long =
-    let count : length all ≡ length (made ++ piece) + length more = ap length (all_is ∙ sym (append_assoc made piece more)) ∙ length-append (made ++ piece) more in
+    let count : length all ≡ length (made ++ piece) + length more = ap length (all_is ∙ sym (append_assoc made piece more))
+    ∙ length-append (made ++ piece) more in
     sym (unless (nat_le (length all) 16777216) (Ok all) (Err refusal.Limit) (search (rules, tests)))
 
 pub short_enough : (all made : List ℕ) → all ≡ made → length made ≤ 16777216 → Ok made ≡ within_bytes all
@@ -32,7 +35,8 @@ next_piece separator pieces i x below = ap (λ ps. flat_map (λ next. separator 
 pub no_pieces : (separator : List ℕ) (pieces : List (Bor (List ℕ))) (i : ℕ) → length pieces ≤ i → pieces_from separator pieces i ≡ []
 no_pieces separator pieces i all = ap (λ ps. flat_map (λ next. separator ++ next) (map (λ p. p.now) ps)) (drop_all i pieces all)
 
-some_front : (b : Bool) (x : ℕ) (xss yss : List (List ℕ)) → (q : List ℕ) × (qs : List (List ℕ)) × ((if b then [] ∷ xss else onto_first x yss) ≡ q ∷ qs)
+some_front : (b : Bool) (x : ℕ) (xss yss : List (List ℕ)) → (q : List ℕ) × (qs : List (List ℕ)) ×
+    ((if b then [] ∷ xss else onto_first x yss) ≡ q ∷ qs)
 some_front true x xss yss = ([], xss, refl)
 some_front false x xss [] = (x ∷ [], [], refl)
 some_front false x xss (ys ∷ yss) = (x ∷ ys, yss, refl)
@@ -40,11 +44,13 @@ some_front false x xss (ys ∷ yss) = (x ∷ ys, yss, refl)
 -- a text has a first part
 some_part : (passed : ℕ) (separator text : List ℕ) → (q : List ℕ) × (qs : List (List ℕ)) × (parts_after passed separator text ≡ q ∷ qs)
 some_part passed separator [] = ([], [], refl)
-some_part zero separator (b ∷ bs) = some_front (starts_with nat_eq (b ∷ bs) separator) b (parts_after (length separator - 1) separator bs) (parts_after zero separator bs)
+some_part zero separator (b ∷ bs) = some_front (starts_with nat_eq (b ∷ bs) separator) b
+    (parts_after (length separator - 1) separator bs) (parts_after zero separator bs)
 some_part (suc passed) separator (b ∷ bs) = some_part passed separator bs
 
 -- a part before others is followed by what stands between parts
-pub joined_more : (between part separator rest : List ℕ) → joined between (part ∷ parts separator rest) ≡ (part ++ between) ++ joined between (parts separator rest)
+pub joined_more : (between part separator rest : List ℕ) → joined between (part ∷ parts separator rest) ≡
+    (part ++ between) ++ joined between (parts separator rest)
 joined_more between part separator rest =
     let first = some_part zero separator rest in
     ap (λ ps. joined between (part ∷ ps)) first.2

@@ -1,6 +1,6 @@
 -- Why a text spells no integer.
-use Rattle.std.proofs.Common.{◌≡◌, ℕ, ◌<◌, Bool, true, false, cond, List, [], ◌∷◌, length, ℤ, pos, negsuc, refl, Ok, Err, arith}
-use Rattle.std.specs.Prelude.{◌&&◌, Result, if◌then◌else◌}
+use Rattle.std.proofs.Common.{◌≡◌, ℕ, ◌<◌, Bool, true, false, List, [], ◌∷◌, length, ℤ, pos, negsuc, refl, Ok, Err, arith}
+use Rattle.std.specs.Prelude.{◌&&◌, if◌then◌else◌}
 use Rattle.std.specs.Char.{is_ascii_digit, digit_value}
 use Rattle.std.specs.Int.{w128}
 use Rattle.std.specs.Prelude.{FitsSigned, nat_lt}
@@ -8,7 +8,6 @@ use Rattle.std.specs.List.{list_all}
 use Rattle.std.specs.Str.Parse.{AllDigits, IsNumeral, without_leading_sign, signed_digits_value}
 use Rattle.std.proofs.lemmas.Bool.{false≢true}
 use Rattle.std.proofs.lemmas.Bool.Decides.{nat_tests}
-use Rattle.data.specs.declared.refusal.Refusal.{Refusal}
 use Rattle.data.specs.declared.refusal.Refusal.TheVariants as refusal
 use Rattle.texts.specs.Number.{is_numeral, is_in_range, integer_of}
 
@@ -36,12 +35,14 @@ fits_from_range : (z : ℤ) → is_in_range z ≡ true → FitsSigned w128 z
 fits_from_range (pos n) h = grind (arith, nat_tests)
 fits_from_range (negsuc n) h = grind (arith, nat_tests)
 
-refused : (n b : Bool) (v : ℤ) → n ≡ true → (b ≡ true → ⊥) → (if n then (if b then Ok v else Err refusal.Range) else Err refusal.Arguments) ≡ Err refusal.Range
+refused : (n b : Bool) (v : ℤ) → n ≡ true → (b ≡ true → ⊥)
+    → (if n then (if b then Ok v else Err refusal.Range) else Err refusal.Arguments) ≡ Err refusal.Range
 refused true false v e h = refl
 refused true true v e h = absurd (h refl)
 refused false b v e h = absurd (false≢true e)
 
-pub out_of_range : (text : List ℕ) → is_numeral text ≡ true → ¬ (IsNumeral 10 (without_leading_sign text) × FitsSigned w128 (signed_digits_value 10 text)) → integer_of text ≡ Err refusal.Range
+pub out_of_range : (text : List ℕ) → is_numeral text ≡ true → ¬ (IsNumeral 10 (without_leading_sign text) × FitsSigned w128
+    (signed_digits_value 10 text)) → integer_of text ≡ Err refusal.Range
 out_of_range text numeral large =
     refused (is_numeral text) (is_in_range (signed_digits_value 10 text)) (signed_digits_value 10 text) numeral
     (λ small. large (IsNumeral-from_test text numeral, fits_from_range (signed_digits_value 10 text) small))

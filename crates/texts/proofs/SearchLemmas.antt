@@ -1,8 +1,6 @@
 -- What the tests of `specs/Search.antt` tell.
-use Rattle.std.proofs.Common.{◌≡◌, ℕ, ◌+◌, Bool, true, false, List, [], ◌∷◌, ◌++◌, length, take, drop, nat_eq, Decides, refl, sym, ap, ◌∙◌, inl, inr, ◌⊎◌}
-use Rattle.std.specs.Prelude.{◌||◌}
+use Rattle.std.proofs.Common.{◌≡◌, ℕ, List, [], ◌∷◌, ◌++◌, length, take, drop, nat_eq, Decides, refl, sym, ap, ◌∙◌, inl, inr, ◌⊎◌}
 use Rattle.std.specs.List.{starts_with}
-use Rattle.std.specs.Str.{bytes_eq}
 use Rattle.std.specs.Str.Iter.{HasSubslice}
 use Rattle.std.specs.Cmp.Lexicographic.{bytes_decides}
 use Rattle.std.proofs.lemmas.List.{take_at, take-append-drop}
@@ -21,7 +19,8 @@ nowhere_else : (part a b : List ℕ) → [] ≡ a ++ (part ++ b) → (rest : Lis
 nowhere_else part [] b e = (b, e)
 nowhere_else part (x ∷ xs) b e = cc
 
-here_or_later : (x : ℕ) (xs part a b : List ℕ) → x ∷ xs ≡ a ++ (part ++ b) → ((rest : List ℕ) × (x ∷ xs ≡ part ++ rest)) ⊎ HasSubslice xs part
+here_or_later : (x : ℕ) (xs part a b : List ℕ) → x ∷ xs ≡ a ++ (part ++ b)
+    → ((rest : List ℕ) × (x ∷ xs ≡ part ++ rest)) ⊎ HasSubslice xs part
 here_or_later x xs part [] b e = inl (b, e)
 here_or_later x xs part (y ∷ ys) b e =
     let tails : xs ≡ ys ++ (part ++ b) = cc in

@@ -40,12 +40,14 @@ none text e = ap chars (nil_from_length text e) ∙ chars-nil
 pub first_none : (p : ℕ → Bool) (rest : List ℕ) → length rest ≡ 0 → without_first p (chars rest) ≡ chars rest
 first_none p rest e = ap (without_first p) (none rest e) ∙ sym (none rest e)
 
-pub first_kept : (p : ℕ → Bool) (rest more : List ℕ) (c : ℕ) → IsUtf8 rest → rest ≡ encode_utf8 c ++ more → p c ≡ false → without_first p (chars rest) ≡ chars rest
+pub first_kept : (p : ℕ → Bool) (rest more : List ℕ) (c : ℕ) → IsUtf8 rest → rest ≡ encode_utf8 c ++ more → p c ≡ false
+    → without_first p (chars rest) ≡ chars rest
 first_kept p rest more c utf8 first stays =
     let is = chars_past_char rest more c utf8 first in
     ap (without_first p) is ∙ first_of (p c) (without_first p (chars more)) (c ∷ chars more) stays ∙ sym is
 
-pub first_gone : (p : ℕ → Bool) (rest more : List ℕ) (c : ℕ) → IsUtf8 rest → rest ≡ encode_utf8 c ++ more → p c ≡ true → without_first p (chars more) ≡ without_first p (chars rest)
+pub first_gone : (p : ℕ → Bool) (rest more : List ℕ) (c : ℕ) → IsUtf8 rest → rest ≡ encode_utf8 c ++ more → p c ≡ true
+    → without_first p (chars more) ≡ without_first p (chars rest)
 first_gone p rest more c utf8 first goes =
     let is = chars_past_char rest more c utf8 first in
     sym (ap (without_first p) is ∙ later_of (p c) (without_first p (chars more)) (c ∷ chars more) goes)
@@ -58,23 +60,27 @@ last_char rest front c utf8 before last =
     ∙ ap (λ bs. encode_utf8_all (chars front) ++ bs) (sym (append-nil (encode_utf8 c)))
     ∙ sym (encodes-append (chars front) (c ∷ [])))
 
-turned : (rest front : List ℕ) (c : ℕ) → IsUtf8 rest → IsUtf8 front → rest ≡ front ++ encode_utf8 c → reverse (chars rest) ≡ c ∷ reverse (chars front)
+turned : (rest front : List ℕ) (c : ℕ) → IsUtf8 rest → IsUtf8 front → rest ≡ front ++ encode_utf8 c
+    → reverse (chars rest) ≡ c ∷ reverse (chars front)
 turned rest front c utf8 before last = ap reverse (last_char rest front c utf8 before last) ∙ reverse-append (chars front) (c ∷ [])
 
 pub last_none : (p : ℕ → Bool) (rest : List ℕ) → length rest ≡ 0 → without_last p (chars rest) ≡ chars rest
 last_none p rest e = ap (without_last p) (none rest e) ∙ sym (none rest e)
 
-pub last_kept : (p : ℕ → Bool) (rest front : List ℕ) (c : ℕ) → IsUtf8 rest → IsUtf8 front → rest ≡ front ++ encode_utf8 c → p c ≡ false → without_last p (chars rest) ≡ chars rest
+pub last_kept : (p : ℕ → Bool) (rest front : List ℕ) (c : ℕ) → IsUtf8 rest → IsUtf8 front → rest ≡ front ++ encode_utf8 c → p c ≡ false
+    → without_last p (chars rest) ≡ chars rest
 last_kept p rest front c utf8 before last stays =
     let is = turned rest front c utf8 before last in
     ap (λ cs. reverse (without_first p cs)) is
     ∙ ap reverse (first_of (p c) (without_first p (reverse (chars front))) (c ∷ reverse (chars front)) stays ∙ sym is)
     ∙ reverse-reverse (chars rest)
 
-pub last_gone : (p : ℕ → Bool) (rest front : List ℕ) (c : ℕ) → IsUtf8 rest → IsUtf8 front → rest ≡ front ++ encode_utf8 c → p c ≡ true → without_last p (chars front) ≡ without_last p (chars rest)
+pub last_gone : (p : ℕ → Bool) (rest front : List ℕ) (c : ℕ) → IsUtf8 rest → IsUtf8 front → rest ≡ front ++ encode_utf8 c → p c ≡ true
+    → without_last p (chars front) ≡ without_last p (chars rest)
 last_gone p rest front c utf8 before last goes =
     let is = turned rest front c utf8 before last in
-    sym (ap (λ cs. reverse (without_first p cs)) is ∙ ap reverse (later_of (p c) (without_first p (reverse (chars front))) (c ∷ reverse (chars front)) goes))
+    sym (ap (λ cs. reverse (without_first p cs)) is ∙ ap reverse (later_of (p c) (without_first p (reverse (chars front)))
+    (c ∷ reverse (chars front)) goes))
 
 pub shorter : (rest more : List ℕ) (c : ℕ) → rest ≡ encode_utf8 c ++ more → length more < length rest
 shorter rest more c e =

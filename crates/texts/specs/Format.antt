@@ -1,5 +1,6 @@
 -- A text with places for values, as `@0@`.
-use Rattle.std.specs.Prelude.{ℕ, zero, suc, ◌+◌, ◌&&◌, Bool, List, [], ◌∷◌, take, Option, Some, None, is_some, unwrap_or, slice_get, slice_index, ◌==◌, Result, Ok, Err, if◌then◌else◌}
+use Rattle.std.specs.Prelude.{ℕ, zero, suc, ◌+◌, ◌&&◌, Bool, List, [], ◌∷◌, take, Option, Some, is_some, unwrap_or, slice_get}
+use Rattle.std.specs.Prelude.{slice_index, ◌==◌, Result, Err, if◌then◌else◌}
 use Rattle.std.specs.Char.{is_ascii_digit}
 use Rattle.std.specs.List.{prefix_len, list_all, flat_map}
 use Rattle.std.specs.Str.Parse.{digits_value}

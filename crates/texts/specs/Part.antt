@@ -16,7 +16,10 @@ place_or (Some index) count other = place index count
 abbrev pub items_between : ℕ → ℕ → List ℕ → List ℕ
 items_between start end items = take (end - start) (drop start items)
 
--- the characters of a text from one index up to another; without one the part goes from the start or to the end
+-- the characters from one index up to another; without one they begin at the start, or go on to the end
+abbrev pub between : Option ℤ → Option ℤ → List ℕ → List ℕ
+between from to cs = items_between (place_or from (length cs) 0) (place_or to (length cs) (length cs)) cs
+
+-- the text of those characters of a text
 abbrev pub part : Option ℤ → Option ℤ → List ℕ → List ℕ
-part from to text =
-    encode_utf8_all (items_between (place_or from (length (chars text)) 0) (place_or to (length (chars text)) (length (chars text))) (chars text))
+part from to text = encode_utf8_all (between from to (chars text))

@@ -18,7 +18,8 @@ impl Cut<'_> {
     /// The first piece of a text, and what is left of the text if more pieces follow.
     pub fn first<'a>(&self, text: &'a str) -> Option<(&'a str, Option<&'a str>)>
         requires { CanCut self.now }
-        ensures first { MatchOption result (pieces self.now text.now ≡ []) (λ p. pieces self.now text.now ≡ p.0.now ∷ left (pieces self.now) p.1) }
+        ensures first { MatchOption result (pieces self.now text.now ≡ [])
+            (λ p. pieces self.now text.now ≡ p.0.now ∷ left (pieces self.now) p.1) }
         ensures shorter { IfSome result (λ p. IfSome p.1 (λ r. length r.now < length text.now)) }
     {
         match self {

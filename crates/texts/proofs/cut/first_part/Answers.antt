@@ -1,5 +1,4 @@
-use Rattle.std.proofs.Common.{◌≡◌, ◌∷◌, sym, ◌∙◌, ap, arith}
-use Rattle.texts.specs.Pieces.{parts}
+use Rattle.std.proofs.Common.{arith}
 use Rattle.texts.proofs.PiecesLemmas.{parts_none}
 use Rattle.texts.proofs.CutLemmas.{part_at}
 use Rattle.texts.proofs.cut.first_part.Goals as goal

@@ -1,4 +1,4 @@
-use Rattle.std.proofs.Common.{◌≡◌, ◌+◌, ◌<◌, ◌∷◌, length, take, drop, sym, ◌∙◌, ap, arith}
+use Rattle.std.proofs.Common.{◌≡◌, ◌<◌, ◌∷◌, length, sym, ◌∙◌, ap, arith}
 use Rattle.std.specs.List.{prefix_len, position_or_len}
 use Rattle.std.proofs.lemmas.Bool.Decides.{nat_tests}
 use Rattle.texts.specs.Strip.{is_blank}
@@ -8,7 +8,8 @@ use Rattle.texts.proofs.cut.first_word.Goals as goal
 
 pub split_at-requires : goal.split_at-requires
 split_at-requires c =
-    boundary_after_blanks c.args.text.now c.blank_length.result c.utf8.text (c.blank_length.ensures ∙ ap (prefix_len is_blank) c.as_bytes.ensures.value)
+    boundary_after_blanks c.args.text.now c.blank_length.result c.utf8.text
+    (c.blank_length.ensures ∙ ap (prefix_len is_blank) c.as_bytes.ensures.value)
 
 pub returns-then-is_empty-clause-first : goal.returns-then-is_empty-clause-first
 returns-then-is_empty-clause-first c =
@@ -18,13 +19,15 @@ returns-then-is_empty-clause-first c =
 
 pub split_at-requires-2 : goal.split_at-requires-2
 split_at-requires-2 c =
-    boundary_before_blank c.split_at.result.1.now c.word_length.result (c.word_length.ensures ∙ ap (position_or_len is_blank) c.as_bytes-2.ensures.value)
+    boundary_before_blank c.split_at.result.1.now c.word_length.result
+    (c.word_length.ensures ∙ ap (position_or_len is_blank) c.as_bytes-2.ensures.value)
 
 pub returns-clause-first : goal.returns-clause-first
 returns-clause-first c =
     let rest = c.split_at.result.1.now in
     let filled : 0 < length rest = grind (arith, nat_tests) in
-    word_at c.args.text.now rest c.blank_length.result c.word_length.result (c.blank_length.ensures ∙ ap (prefix_len is_blank) c.as_bytes.ensures.value)
+    word_at c.args.text.now rest c.blank_length.result c.word_length.result
+    (c.blank_length.ensures ∙ ap (prefix_len is_blank) c.as_bytes.ensures.value)
     c.split_at.ensures.back (c.word_length.ensures ∙ ap (position_or_len is_blank) c.as_bytes-2.ensures.value) filled
     ∙ (λ k. sym c.split_at-2.ensures.front k ∷ words (sym c.split_at-2.ensures.back k))
 
@@ -32,5 +35,7 @@ pub returns-clause-shorter : goal.returns-clause-shorter
 returns-clause-shorter c =
     let rest = c.split_at.result.1.now in
     let filled : 0 < length rest = grind (arith, nat_tests) in
-    let some = word_is_filled c.args.text.now rest c.blank_length.result c.word_length.result (c.blank_length.ensures ∙ ap (prefix_len is_blank) c.as_bytes.ensures.value) c.split_at.ensures.back (c.word_length.ensures ∙ ap (position_or_len is_blank) c.as_bytes-2.ensures.value) filled in
+    let some = word_is_filled c.args.text.now rest c.blank_length.result c.word_length.result
+    (c.blank_length.ensures ∙ ap (prefix_len is_blank) c.as_bytes.ensures.value) c.split_at.ensures.back
+    (c.word_length.ensures ∙ ap (position_or_len is_blank) c.as_bytes-2.ensures.value) filled in
     omega (arith, c.split_at.ensures.back_len, c.split_at-2.ensures.back_len)

@@ -1,4 +1,4 @@
-use Rattle.std.proofs.Common.{◌≡◌, ℕ, ◌<◌, true, false, get_or}
+use Rattle.std.proofs.Common.{◌≡◌, ℕ, ◌<◌, false, get_or}
 use Rattle.texts.specs.Pieces.{is_line_end}
 use Rattle.texts.proofs.cut.line_length.Given as goal
 

@@ -1,4 +1,4 @@
-use Rattle.std.proofs.Common.{◌≡◌, ℕ, ◌<◌, true, false, get_or}
+use Rattle.std.proofs.Common.{◌≡◌, ℕ, ◌<◌, false, get_or}
 use Rattle.texts.specs.Strip.{is_blank}
 use Rattle.texts.proofs.cut.word_length.Given as goal
 

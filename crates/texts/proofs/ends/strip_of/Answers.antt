@@ -6,4 +6,5 @@ use Rattle.texts.proofs.ends.strip_of.Goals as goal
 
 pub returns : goal.returns
 returns c =
-    c.without_both.ensures ∙ stripped-same (is_in (set.Given c.in_ok-given.given)) (is_among c.args.set.now) (λ q. c.in_ok-given.ensures.0 q) c.args.text.now
+    c.without_both.ensures ∙ stripped-same (is_in (set.Given c.in_ok-given.given)) (is_among c.args.set.now)
+    (λ q. c.in_ok-given.ensures.0 q) c.args.text.now

@@ -5,4 +5,5 @@ use Rattle.texts.proofs.joining.join.Given as goal
 
 abbrev pub invariant-loop-piece : goal.invariant-loop-piece
 invariant-loop-piece l =
-    (joined l.separator (map (λ p. p.now) l.pieces) ≡ string_bytes l.made ++ pieces_from l.separator l.others l.piece-index) × (length (string_bytes l.made) ≤ 16777216)
+    (joined l.separator (map (λ p. p.now) l.pieces) ≡ string_bytes l.made ++ pieces_from l.separator l.others l.piece-index) ×
+    (length (string_bytes l.made) ≤ 16777216)

@@ -6,7 +6,8 @@ use Rattle.texts.specs.Joined.{joined}
 use Rattle.texts.proofs.joining.replace.Given as goal
 
 abbrev pub invariant-loop-after : goal.invariant-loop-after
-invariant-loop-after l = shadow (Utf8 l.rest) × (joined l.new (parts l.old l.text) ≡ string_bytes l.made ++ joined l.new (parts l.old l.rest))
+invariant-loop-after l = shadow (Utf8 l.rest) × (joined l.new (parts l.old l.text) ≡ string_bytes l.made ++ joined l.new
+    (parts l.old l.rest))
 
 abbrev pub decreases-loop-after : goal.decreases-loop-after
 decreases-loop-after l = length l.rest

@@ -19,14 +19,17 @@ pub returns-clause-text : goal.returns-clause-text
 returns-clause-text c =
     let text = c.args.text.now in
     c.as_str.ensures ∙ (elim c.each-test.branch [
-      | else-each-test w ↦ ap (λ r. r.rest.now) w.rest-is ∙ whole text c.each.rest.rest.now c.each.counter c.args.count c.each.invariant (omega arith)
+      | else-each-test w ↦ ap (λ r. r.rest.now) w.rest-is
+          ∙ whole text c.each.rest.rest.now c.each.counter c.args.count c.each.invariant (omega arith)
       | then-each-test+in_default w ↦
           ap (λ r. r.rest.now) (w.rest-is ∙ w.in_default.ensures.steps.0.1) ∙ c.each.invariant
-          ∙ after_end (chars text) c.each.counter c.args.count (omega arith) (ap length (sym c.each.invariant) ∙ w.in_default.ensures.steps.0.0)
+          ∙ after_end (chars text) c.each.counter c.args.count (omega arith) (ap length (sym c.each.invariant)
+          ∙ w.in_default.ensures.steps.0.0)
     ])
 
 pub returns-clause-within : goal.returns-clause-within
 returns-clause-within c =
     let text = c.args.text.now in
     rest-le text (encode_utf8_all (take c.args.count (chars text))) c.as_str.result.now
-    (cut_chars text c.args.count c.utf8.text ∙ ap (λ bs. encode_utf8_all (take c.args.count (chars text)) ++ bs) (sym (returns-clause-text c)))
+    (cut_chars text c.args.count c.utf8.text ∙ ap (λ bs. encode_utf8_all (take c.args.count (chars text)) ++ bs)
+    (sym (returns-clause-text c)))

@@ -1,7 +1,7 @@
-use Rattle.std.proofs.Common.{◌≡◌, ◌+◌, ◌<◌, ◌≤◌, ◌++◌, ◌∷◌, [], ℕ, List, length, take, drop, map, sym, ◌∙◌, ap, subst, arith}
+use Rattle.std.proofs.Common.{◌≡◌, ◌+◌, ◌<◌, ◌++◌, ◌∷◌, ℕ, List, length, drop, map, sym, ◌∙◌, ap, subst, arith}
 use Rattle.std.specs.Str.{IsUtf8}
 use Rattle.std.specs.Str.Parse.{IsNumeral, digits_value}
-use Rattle.texts.specs.Format.{Item, byte, place, place_digits, items}
+use Rattle.texts.specs.Format.{byte, place, place_digits, items}
 use Rattle.texts.proofs.FormatLemmas.{no_items, items_before, items_at, place_numeral, boundary_in_place}
 use Rattle.texts.proofs.places.first_place.Goals as goal
 
@@ -10,7 +10,7 @@ returns-then-count-eq0-clause-first c =
     let text = c.args.text.now in
     let at = c.bytes_before_place.result in
     let none : place_digits (drop at text) ≡ 0 =
-      sym (c.place_digits-count.ensures ∙ ap place_digits (c.as_bytes-2.ensures.value ∙ c.split_at.ensures.back)) ∙ c.if-count-eq0.true in
+    sym (c.place_digits-count.ensures ∙ ap place_digits (c.as_bytes-2.ensures.value ∙ c.split_at.ensures.back)) ∙ c.if-count-eq0.true in
     let P : List ℕ → Type 0 = λ xs. at < length xs → 0 < place_digits (drop at xs) in
     no_items text at (omega (arith, ap length c.as_bytes.ensures.value, c.bytes_before_place.ensures.within))
     (λ k below. ap (λ xs. place_digits (drop k xs)) (sym c.as_bytes.ensures.value) ∙ c.bytes_before_place.ensures.before k below)
@@ -37,8 +37,8 @@ returns-clause-first c =
     (λ k below. ap (λ xs. place_digits (drop k xs)) (sym c.as_bytes.ensures.value) ∙ c.bytes_before_place.ensures.before k below)
     ∙ (λ k. map byte (sym c.split_at.ensures.front k) ++ items (sym c.split_at.ensures.back k))
     ∙ ap (λ more. map byte c.split_at.result.0.now ++ more) (
-      items_at rest count is some
-      ∙ (λ k. place (digits_value 10 (sym c.range.ensures.value k)) ∷ items (sym c.range_from.ensures.value k)))
+    items_at rest count is some
+    ∙ (λ k. place (digits_value 10 (sym c.range.ensures.value k)) ∷ items (sym c.range_from.ensures.value k)))
 
 pub returns-clause-digits : goal.returns-clause-digits
 returns-clause-digits c =

@@ -7,7 +7,8 @@ use Rattle.texts.proofs.places.has_values.Given as goal
 
 abbrev pub invariant-loop-digits : goal.invariant-loop-digits
 invariant-loop-digits l =
-    shadow (Utf8 l.rest) × (list_all (has_value (map (λ v. v.now) l.values)) (items l.text) ≡ list_all (has_value (map (λ v. v.now) l.values)) (items l.rest))
+    shadow (Utf8 l.rest) × (list_all (has_value (map (λ v. v.now) l.values)) (items l.text) ≡ list_all
+    (has_value (map (λ v. v.now) l.values)) (items l.rest))
 
 abbrev pub decreases-loop-digits : goal.decreases-loop-digits
 decreases-loop-digits l = length l.rest
