@@ -42,7 +42,7 @@ some_front false x xss [] = (x ∷ [], [], refl)
 some_front false x xss (ys ∷ yss) = (x ∷ ys, yss, refl)
 
 -- a text has a first part
-some_part : (passed : ℕ) (separator text : List ℕ) → (q : List ℕ) × (qs : List (List ℕ)) × (parts_after passed separator text ≡ q ∷ qs)
+pub some_part : (passed : ℕ) (separator text : List ℕ) → (q : List ℕ) × (qs : List (List ℕ)) × (parts_after passed separator text ≡ q ∷ qs)
 some_part passed separator [] = ([], [], refl)
 some_part zero separator (b ∷ bs) = some_front (starts_with nat_eq (b ∷ bs) separator) b
     (parts_after (length separator - 1) separator bs) (parts_after zero separator bs)

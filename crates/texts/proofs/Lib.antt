@@ -6,3 +6,5 @@ pub mod PiecesLemmas
 pub mod CutLemmas
 pub mod JoinedLemmas
 pub mod FormatLemmas
+pub mod PartsLaws
+mod Examples

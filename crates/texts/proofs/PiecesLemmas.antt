@@ -13,7 +13,7 @@ use Rattle.texts.specs.Pieces.{parts, parts_after, words, lines, lines_after, is
 use Rattle.texts.specs.Cut.{lines_behind, end_length}
 use Rattle.texts.proofs.SearchLemmas.{Decides-starts_with}
 
-is_false : (b : Bool) → (b ≡ true → ⊥) → b ≡ false
+pub is_false : (b : Bool) → (b ≡ true → ⊥) → b ≡ false
 is_false true h = absurd (h refl)
 is_false false h = refl
 

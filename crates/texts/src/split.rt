@@ -1,8 +1,10 @@
 //! Texts cut into pieces, which are slices of the text.
 
-ghost use Rattle.std.specs.Prelude.{◌≡◌, IfOk};
+ghost use Rattle.std.specs.Prelude.{◌≡◌, false, All, IfOk};
 ghost use Rattle.texts.specs.Pieces.{words, lines, split_at, within_items};
 ghost use Rattle.texts.specs.Cut.{pieces, left, CanCut};
+ghost use Rattle.texts.specs.Search.{contains};
+ghost use Rattle.texts.specs.Joined.{joined};
 ghost use Rattle.texts.specs.Answers.{pieces_in};
 
 use crate::cut::Cut;
@@ -21,7 +23,11 @@ pub fn split_at<'a>(
     text: &'a str,
     separator: &str,
 ) -> Result<Result<Vec<&'a str>, Refusal>, AllocError>
-    ensures { IfOk result (λ r. pieces_in r ≡ split_at text.now separator.now) }
+    ensures parts { IfOk result (λ r. pieces_in r ≡ split_at text.now separator.now) }
+
+    // Laws of the definition: nothing gets lost, and each place of the separator is found.
+    ensures whole { IfOk result (λ r. IfOk (pieces_in r) (λ found. joined separator.now found ≡ text.now)) }
+    ensures apart { IfOk result (λ r. IfOk (pieces_in r) (All (λ part. contains part separator.now ≡ false))) }
 {
     if separator.is_empty() {
         return Ok(Err(Refusal::Arguments));
