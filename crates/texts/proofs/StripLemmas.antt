@@ -91,3 +91,12 @@ pub shorter_back : (rest front : List ℕ) (c : ℕ) → rest ≡ front ++ encod
 shorter_back rest front c e =
     let n : length rest ≡ length front + length (encode_utf8 c) = ap length e ∙ length-append front (encode_utf8 c) in
     omega (arith, length-encode c, len_utf8_bounds c)
+
+-- what stands before the last character of a text, and what behind its first, where each has another name
+pub before_last : (rest left before front : List ℕ) (c : ℕ) → left ≡ rest → left ≡ before ++ encode_utf8 c → front ≡ before
+    → rest ≡ front ++ encode_utf8 c
+before_last rest left before front c same last front_is = sym same ∙ last ∙ ap (λ bs. bs ++ encode_utf8 c) (sym front_is)
+
+pub behind_first : (rest left behind more : List ℕ) (c : ℕ) → left ≡ rest → left ≡ encode_utf8 c ++ behind → more ≡ behind
+    → rest ≡ encode_utf8 c ++ more
+behind_first rest left behind more c same first more_is = sym same ∙ first ∙ ap (λ bs. encode_utf8 c ++ bs) (sym more_is)

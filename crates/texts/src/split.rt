@@ -46,8 +46,8 @@ pub fn split_blank(alloc: Global, text: &str) -> Result<Result<Vec<&str>, Refusa
 
 /// The lines of `text`: the method `splitlines`.
 ///
-/// A line ends at a newline, a carriage return, or both in this order. Behind the last end there is no line. `Refusal::Limit` where
-/// there are more than 65,536 lines.
+/// A line ends at a newline, a carriage return, or both in this order. Behind the last end there is no line.
+/// `Refusal::Limit` where there are more than 65,536 lines.
 pub fn split_lines(alloc: Global, text: &str) -> Result<Result<Vec<&str>, Refusal>, AllocError>
     ensures { IfOk result (λ r. pieces_in r ≡ within_items (lines text.now)) }
 {

@@ -10,7 +10,9 @@ each-init c = c.chars-rest.ensures.rest ∙ sym (encodes-chars c.args.text.now c
 
 pub each-preserved : goal.each-preserved
 each-preserved c =
-    after_char (chars c.args.text.now) c.each.counter c.in-Some.field-0 c.each.rest.rest.now c.next.new.self.rest.now c.each.invariant c.in-Some.ensures.steps.0
+    let rest = c.each.rest.rest.now in
+    let more = c.next.new.self.rest.now in
+    after_char (chars c.args.text.now) c.each.counter c.in-Some.field-0 rest more c.each.invariant c.in-Some.ensures.steps.0
 
 whole : (text rest : List ℕ) (k n : ℕ) → rest ≡ encode_utf8_all (drop k (chars text)) → k ≡ n → rest ≡ encode_utf8_all (drop n (chars text))
 whole text rest k n e same = e ∙ ap (λ i. encode_utf8_all (drop i (chars text))) same
