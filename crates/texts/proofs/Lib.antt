@@ -1,0 +1,10 @@
+pub mod SearchLemmas
+pub mod CharsLemmas
+pub mod NumberLemmas
+pub mod StripLemmas
+pub mod PiecesLemmas
+pub mod CutLemmas
+pub mod JoinedLemmas
+pub mod FormatLemmas
+pub mod PartsLaws
+mod Examples

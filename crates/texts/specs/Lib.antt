@@ -1,0 +1,10 @@
+pub mod Search
+pub mod Strip
+pub mod Part
+pub mod Number
+pub mod Letters
+pub mod Pieces
+pub mod Joined
+pub mod Answers
+pub mod Cut
+pub mod Format

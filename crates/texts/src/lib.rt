@@ -1,0 +1,23 @@
+//! The methods of texts, as functions on plain `&str`.
+//!
+//! Each is the method of the type `str` of the page "Reference manual" that has its name. Indexes count characters.
+#![tactic(auto)]
+
+mod cut;
+mod ends;
+mod joining;
+mod letters;
+mod number;
+mod part;
+mod places;
+mod search;
+mod split;
+
+pub use ends::{strip, strip_of};
+pub use joining::{join, replace};
+pub use letters::{to_lower, to_upper, underscorify};
+pub use number::to_int;
+pub use part::substring;
+pub use places::format;
+pub use search::{contains, ends_with, starts_with};
+pub use split::{split_at, split_blank, split_lines};
