@@ -3,6 +3,7 @@ pub mod Cuts
 pub mod Cutting
 pub mod Digits
 pub mod Escapes
+pub mod Escaping
 pub mod Frames
 pub mod Gaps
 pub mod Lexemes

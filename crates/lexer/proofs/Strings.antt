@@ -12,6 +12,7 @@ use Rattle.lexer.specs.Kinds.{format_kind}
 use Rattle.lexer.specs.Lexing.{further, inside, before_quotes, string_of, string_at, formatted, format_at}
 use Rattle.lexer.specs.Tokens.{AreCharacters, no_more, plain, escaped, IsString, quoted, raw}
 use Rattle.lexer.proofs.Escapes.{bad_before}
+use Rattle.lexer.proofs.Escaping.{good_names, names_good}
 use Rattle.lexer.proofs.Runs.{take_all}
 use Rattle.lexer.proofs.Tests.{cases_bool, or_false, or_false_right, neither, not_true, not_false, and_left, and_right, neq_false, if_true, if_false}
 
@@ -69,7 +70,7 @@ step_true b bs go n e = elim (cases_bool (is_bad_escape (b ∷ bs))) [
       let ih = go w.0 w.1 in
       let parts : bs ≡ take w.0 bs ++ quote ∷ ih.1.0 = sym (take-append-drop w.0 bs) ∙ ap (λ (l : List ℕ). take w.0 bs ++ l) ih.1.1 in
       let same : is_bad_escape (b ∷ take w.0 bs) ≡ false = sym (bad_before b (take w.0 bs) ih.1.0) ∙ ap (λ (l : List ℕ). is_bad_escape (b ∷ l)) (sym parts) ∙ good in
-      subst (Between true (b ∷ bs)) (sym w.2) (escaped b (take w.0 bs) same ih.0, ih.1)
+      subst (Between true (b ∷ bs)) (sym w.2) (escaped b (take w.0 bs) (good_names (b ∷ take w.0 bs) same) ih.0, ih.1)
 ]
 
 inside_both : (s : List ℕ) → Inside false s × Inside true s
@@ -89,7 +90,7 @@ inside_complete _ rest (plain b text h g) =
     inside_on b (text ++ quote ∷ rest) false (or_false (b == quote) (b == backslash) other) (or_false_right (b == quote) (b == backslash) other) ∙ ap further (inside_complete text rest g)
 inside_complete _ rest (escaped b text h g) =
     inside_on backslash (b ∷ (text ++ quote ∷ rest)) true refl refl
-    ∙ ap further (inside_behind b (text ++ quote ∷ rest) (bad_before b text rest ∙ h) ∙ ap further (inside_complete text rest g))
+    ∙ ap further (inside_behind b (text ++ quote ∷ rest) (bad_before b text rest ∙ names_good (b ∷ text) h) ∙ ap further (inside_complete text rest g))
 
 -- ---- up to three quotes
 

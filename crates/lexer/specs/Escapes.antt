@@ -1,5 +1,5 @@
 -- What a backslash and what follows it stand for in a string that is not raw.
-use Rattle.std.specs.Prelude.{◌≡◌, ℕ, zero, suc, ◌+◌, ◌*◌, ◌<◌, ◌≤◌, Bool, true, false, ◌==◌, ◌||◌, not, nat_lt, if◌then◌else◌, List, [], ◌∷◌, length, fold, Option, Some, None}
+use Rattle.std.specs.Prelude.{◌≡◌, ℕ, zero, suc, ◌+◌, ◌*◌, ◌<◌, ◌≤◌, Bool, true, false, ◌==◌, ◌||◌, not, nat_lt, if◌then◌else◌, List, [], ◌∷◌, ◌++◌, length, fold, Option, Some, None}
 use Rattle.std.specs.Char.{digit_value, is_digit}
 use Rattle.std.specs.Int.{is_in_range}
 use Rattle.std.specs.List.{list_all}
@@ -101,3 +101,7 @@ pub data IsEscape : ℕ → List ℕ → List ℕ → Type 0 where
       → IsEscape (number_of 16 digits) (b ∷ digits) rest
   eight : (digits rest : List ℕ) → 0 < length digits → length digits ≤ 3 → list_all is_octal_digit digits ≡ true
       → (length digits < 3 → begins_octal rest ≡ false) → IsEscape (number_of 8 digits) digits rest
+
+-- each escape that begins here, behind a backslash, names a character
+abbrev pub NamesCharacters : List ℕ → Type 0
+NamesCharacters bs = (code : ℕ) (written rest : List ℕ) → bs ≡ written ++ rest → IsEscape code written rest → is_character code ≡ true

@@ -26,7 +26,10 @@ in_line_rest commented b = commented || (is_blank 0 b || (b == hash))
 -- blanks, a comment or none and a newline come next
 abbrev pub continues_line : Bool → List ℕ → Bool
 continues_line commented [] = false
-continues_line commented (b ∷ bs) = if b == newline then true else (if in_line_rest commented b then continues_line (commented || (b == hash)) bs else false)
+continues_line commented (b ∷ bs) =
+    if b == newline then true
+    else (if in_line_rest commented b then continues_line (commented || (b == hash)) bs
+    else false)
 
 -- whether the byte belongs to a gap, in this part of it; `bs` comes after the byte
 abbrev pub in_gap : ℕ → GapPart → ℕ → List ℕ → Bool
@@ -76,7 +79,9 @@ string_of k round (Some n) = Some (k, n + round)
 
 -- the string at the front, which begins with a quote
 unfoldable pub string_at : List ℕ → Option (Kind × ℕ)
-string_at bs = if opens_raw bs then string_of Kinds.RawString 6 (before_quotes (drop 3 bs)) else string_of Kinds.String 2 (inside false (drop 1 bs))
+string_at bs =
+    if opens_raw bs then string_of Kinds.RawString 6 (before_quotes (drop 3 bs))
+    else string_of Kinds.String 2 (inside false (drop 1 bs))
 
 abbrev pub formatted : Option (Kind × ℕ) → Option (Kind × ℕ)
 formatted None = None

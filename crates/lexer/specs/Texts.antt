@@ -27,7 +27,9 @@ is_no_backslash b = not (b == backslash)
 abbrev pub unescaped_behind : ℕ → List ℕ → List ℕ
 unescaped_behind skip [] = []
 unescaped_behind (suc n) (b ∷ bs) = unescaped_behind n bs
-unescaped_behind zero (b ∷ bs) = if b == backslash then encode_utf8 (escaped_by bs).0 ++ unescaped_behind (escaped_by bs).1 bs else b ∷ unescaped_behind zero bs
+unescaped_behind zero (b ∷ bs) =
+    if b == backslash then encode_utf8 (escaped_by bs).0 ++ unescaped_behind (escaped_by bs).1 bs
+    else b ∷ unescaped_behind zero bs
 
 -- the text that characters between quotes stand for, with each escape replaced by what it names
 unfoldable pub unescaped : List ℕ → List ℕ
@@ -35,7 +37,8 @@ unescaped bs = unescaped_behind 0 bs
 
 -- whether the first `front` bytes end with a quote, and the last `back` ones, which are others, begin with one
 abbrev pub is_framed : ℕ → ℕ → List ℕ → Bool
-is_framed front back text = nat_le (front + back) (length text) && ((slice_index text (front - 1) == quote) && (slice_index text (length text - back) == quote))
+is_framed front back text =
+    nat_le (front + back) (length text) && ((slice_index text (front - 1) == quote) && (slice_index text (length text - back) == quote))
 
 -- what stands behind the first `front` bytes and before the last `back` ones; all of a text without quotes at these places
 unfoldable pub between : ℕ → ℕ → List ℕ → List ℕ

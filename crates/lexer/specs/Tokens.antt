@@ -4,7 +4,7 @@ use Rattle.std.specs.List.{list_all}
 use Rattle.lexer.specs.declared.token.Kind.{Kind}
 use Rattle.lexer.specs.declared.token.Kind.TheVariants as Kinds
 use Rattle.lexer.specs.Bytes.{quote, hash, backslash, newline, lower_f, is_letter, continues_word, ends_word, is_plain, is_blank, in_line, is_line_rest, newlines, three_quotes, opens_raw, opens_format}
-use Rattle.lexer.specs.Escapes.{is_bad_escape}
+use Rattle.lexer.specs.Escapes.{NamesCharacters}
 use Rattle.lexer.specs.Kinds.{word_kind, format_kind, symbol_kind, depth_after}
 use Rattle.lexer.specs.Lexeme.{Lexeme}
 use Rattle.lexer.specs.Numbers.{is_number}
@@ -16,12 +16,12 @@ abbrev pub is_word : List ℕ → Bool
 is_word [] = false
 is_word (a ∷ others) = if is_letter a then list_all continues_word others else false
 
--- What may stand between the quotes of a string that is not raw: no quote but behind a backslash, and each backslash with
--- what it stands before, which is no escape of a number that no character has.
+-- What may stand between the quotes of a string that is not raw: no quote but behind a backslash, each backslash with the
+-- byte behind it, and no escape of a number that no character has.
 pub data AreCharacters : List ℕ → Type 0 where
   no_more : AreCharacters []
   plain : (b : ℕ) (text : List ℕ) → is_plain b ≡ true → AreCharacters text → AreCharacters (b ∷ text)
-  escaped : (b : ℕ) (text : List ℕ) → is_bad_escape (b ∷ text) ≡ false → AreCharacters text → AreCharacters (backslash ∷ b ∷ text)
+  escaped : (b : ℕ) (text : List ℕ) → NamesCharacters (b ∷ text) → AreCharacters text → AreCharacters (backslash ∷ b ∷ text)
 
 -- The text is a string of the kind, without the `f` that may stand before it, where `rest` comes directly after it. Where a
 -- raw string opens there is no empty string. A raw string ends with the first three quotes behind those that open it.

@@ -16,12 +16,21 @@ fn first(alloc: Global, source: &str) -> Result<String, Fail> {
 #[test]
 fn escapes(rt: HostRuntime) -> Result<(), Fail> {
     let alloc = rt.alloc();
-    assert_eq!(rt; first(alloc, "'\\x41\\u00e9\\101\\q\\''")?.as_str(), "AéA\\q'");
+    assert_eq!(rt;
+        first(alloc, "'\\x41\\u00e9\\101\\q\\''")?.as_str(),
+        "AéA\\q'"
+    );
     assert_eq!(rt; first(alloc, "'\\1234'")?.as_str(), "S4");
     assert_eq!(rt; first(alloc, "'\\400'")?.as_str(), "\u{100}");
     assert_eq!(rt; first(alloc, "'\\x4'")?.as_str(), "\\x4");
-    assert_eq!(rt; first(alloc, "'\\a\\b\\t\\n\\v\\f\\r\\\\'")?.as_str(), "\u{7}\u{8}\t\n\u{b}\u{c}\r\\");
-    assert_eq!(rt; first(alloc, "'\\U0001f600\\8\\é'")?.as_str(), "\u{1f600}\\8\\é");
+    assert_eq!(rt;
+        first(alloc, "'\\a\\b\\t\\n\\v\\f\\r\\\\'")?.as_str(),
+        "\u{7}\u{8}\t\n\u{b}\u{c}\r\\"
+    );
+    assert_eq!(rt;
+        first(alloc, "'\\U0001f600\\8\\é'")?.as_str(),
+        "\u{1f600}\\8\\é"
+    );
     assert_eq!(rt; first(alloc, "f'\\0@a@'")?.as_str(), "\u{0}@a@");
     Ok(())
 }
@@ -37,16 +46,26 @@ fn slices(rt: HostRuntime) -> Result<(), Fail> {
 }
 
 fn made(kind: Kind, text: &str) -> Token<'_> {
-    Token { kind, text, line: 1 }
+    Token {
+        kind,
+        text,
+        line: 1,
+    }
 }
 
 // Tokens that no source has.
 #[test]
 fn made_by_hand(rt: HostRuntime) -> Result<(), Fail> {
     let alloc = rt.alloc();
-    assert_eq!(rt; text_of(alloc, &made(Kind::String, "'\\ud800\\n'"))?.as_str(), "\\ud800\n");
+    assert_eq!(rt;
+        text_of(alloc, &made(Kind::String, "'\\ud800\\n'"))?.as_str(),
+        "\\ud800\n"
+    );
     assert_eq!(rt; text_of(alloc, &made(Kind::String, "é"))?.as_str(), "é");
     assert_eq!(rt; text_of(alloc, &made(Kind::String, "'"))?.as_str(), "'");
-    assert_eq!(rt; text_of(alloc, &made(Kind::RawString, "'a'"))?.as_str(), "'a'");
+    assert_eq!(rt;
+        text_of(alloc, &made(Kind::RawString, "'a'"))?.as_str(),
+        "'a'"
+    );
     Ok(())
 }

@@ -22,7 +22,9 @@ fn only(alloc: Global, source: &str) -> Result<Kind, Fail> {
 #[test]
 fn numbers(rt: HostRuntime) -> Result<(), Fail> {
     let alloc = rt.alloc();
-    for source in ["0", "7", "120", "0x1F", "0XaB", "0o17", "0O7", "0b101", "0B0"] {
+    for source in [
+        "0", "7", "120", "0x1F", "0XaB", "0o17", "0O7", "0b101", "0B0",
+    ] {
         assert_eq!(rt; only(alloc, source)?, Kind::Number, "{source}");
     }
     for source in ["012", "0b12", "0xg", "0o8", "12ab", "0x", "0b", "1_0", "0_"] {
@@ -40,7 +42,16 @@ fn strings(rt: HostRuntime) -> Result<(), Fail> {
     assert_eq!(rt; only(alloc, "''''''")?, Kind::RawString);
     assert_eq!(rt; only(alloc, "f'@a@'")?, Kind::FormatString);
     assert_eq!(rt; only(alloc, "f'''\\ud800'''")?, Kind::RawFormatString);
-    for source in ["'a", "'a\\'", "'''a''", "f'abc", "'\\ud800'", "'\\U00110000'", "f'\\udfff'", "'\\"] {
+    for source in [
+        "'a",
+        "'a\\'",
+        "'''a''",
+        "f'abc",
+        "'\\ud800'",
+        "'\\U00110000'",
+        "f'\\udfff'",
+        "'\\",
+    ] {
         assert_eq!(rt; tokens(alloc, source).err(), unreadable(1), "{source}");
     }
     let found = tokens(alloc, "ff'a' f 'b'")?;
@@ -62,6 +73,9 @@ fn lines(rt: HostRuntime) -> Result<(), Fail> {
     assert_eq!(rt; found[3].line, 4);
     assert_eq!(rt; tokens(alloc, "a\nb \\ c\n").err(), unreadable(2));
     assert_eq!(rt; tokens(alloc, "a\nb \\ # end").err(), unreadable(2));
-    assert_eq!(rt; tokens(alloc, "'a\nb' 'c\nd\\x4\\ud800'").err(), unreadable(2));
+    assert_eq!(rt;
+        tokens(alloc, "'a\nb' 'c\nd\\x4\\ud800'").err(),
+        unreadable(2)
+    );
     Ok(())
 }
