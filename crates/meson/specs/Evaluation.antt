@@ -6,8 +6,8 @@ use Rattle.std.specs.Str.Lossy.{utf8_valid_len}
 use Rattle.ports.specs.Tree.{file_at}
 use Rattle.syntax.specs.declared.tree.Literal.{Literal}
 use Rattle.syntax.specs.declared.tree.Literal.TheVariants as literals
-use Rattle.syntax.specs.ExpressionTree.{ExpressionTree, NameTree, LiteralTree, line_of}
-use Rattle.syntax.specs.Tree.{StatementTree, AssignTree, AppendTree, CallTree, BreakTree, ContinueTree, IfTree, ForeachTree, FileTree}
+use Rattle.syntax.specs.ExpressionTree.{ExpressionTree, NameTree, LiteralTree, FunctionTree, ArgumentTrees, NoArgument, MoreArguments, line_of}
+use Rattle.syntax.specs.Tree.{StatementTree, AssignTree, AppendTree, ValueTree, BreakTree, ContinueTree, IfTree, ForeachTree, FileTree}
 use Rattle.lexer.specs.Texts.{text_of}
 use Rattle.lexer.specs.declared.token.Kind.TheVariants as Kinds
 use Rattle.syntax.specs.Parsed.{parsed}
@@ -68,10 +68,23 @@ value_of file (NameTree name line) = variable file line name
 value_of file (LiteralTree literal t line) = literal_value file line literal t
 value_of file e = left_out file (line_of e)
 
--- the values so far, and those of the rest, from left to right
-abbrev pub values_of : List ℕ → List Data → List ExpressionTree → Act (List Data)
-values_of file ds [] = pure ds
-values_of file ds (e ∷ es) = rule (value_of file e) >>= λ d. values_of file (ds ++ d ∷ []) es
+-- the values so far, and those of the other arguments, from left to right
+abbrev pub values_of : List ℕ → List Data → ArgumentTrees → Act (List Data)
+values_of file ds NoArgument = pure ds
+values_of file ds (MoreArguments name e more) = rule (value_of file e) >>= λ d. values_of file (ds ++ d ∷ []) more
+
+-- whether an argument is given by a name
+abbrev pub has_named : ArgumentTrees → Bool
+has_named NoArgument = false
+has_named (MoreArguments name e more) = is_some name || has_named more
+
+-- arguments with a name are left out so far
+abbrev pub unnamed : List ℕ → ℕ → ArgumentTrees → Act (Unit {0})
+unnamed file line arguments = if has_named arguments then left_out file line else pure tt
+
+-- the values of the arguments of a call
+abbrev pub arguments_of : List ℕ → ℕ → ArgumentTrees → Act (List Data)
+arguments_of file line arguments = unnamed file line arguments >>= λ _. values_of file [] arguments
 
 -- ---- assignments
 
@@ -129,16 +142,16 @@ no_option_words (word ∷ words) = refuse (plain_fault (codes "<command line>") 
 abbrev pub options_read : Files → List (List ℕ) → Act (Unit {0})
 options_read files words = no_option_file files (codes "meson.options") >>= λ _. no_option_file files (codes "meson_options.txt") >>= λ _. no_option_words words
 
-abbrev pub project_call : Files → SettingsData → List ℕ → ℕ → List ExpressionTree → Act (Unit {0})
-project_call files s file line arguments = values_of file [] arguments >>= λ ds. project_taken file line ds >>= λ _. options_read files s.words
+abbrev pub project_call : Files → SettingsData → List ℕ → ℕ → ArgumentTrees → Act (Unit {0})
+project_call files s file line arguments = arguments_of file line arguments >>= λ ds. project_taken file line ds >>= λ _. options_read files s.words
 
 -- a second call of `project` is refused, whatever it is given
 abbrev pub project_again_fault : List ℕ → ℕ → List Data → FaultData
 project_again_fault file line [] = plain_fault file line refusals.Arguments
 project_again_fault file line (d ∷ ds) = plain_fault file line refusals.ProjectCall
 
-abbrev pub again_called : List ℕ → ℕ → List ExpressionTree → Act (Unit {0})
-again_called file line arguments = values_of file [] arguments >>= λ ds. refuse (project_again_fault file line ds)
+abbrev pub again_called : List ℕ → ℕ → ArgumentTrees → Act (Unit {0})
+again_called file line arguments = arguments_of file line arguments >>= λ ds. refuse (project_again_fault file line ds)
 
 -- ---- `executable`
 
@@ -206,13 +219,13 @@ checked_target files depth file line t = required files file line t.source >>= �
 abbrev pub described_target : Files → SettingsData → List ℕ → ℕ → List Data → Act (Unit {0})
 described_target files s file line ds = target_of s.source_root file line ds >>= λ t. checked_target files s.depth file line t
 
-abbrev pub executable_call : Files → SettingsData → List ℕ → ℕ → List ExpressionTree → Act (Unit {0})
-executable_call files s file line arguments = first_target file line >>= λ _. values_of file [] arguments >>= λ ds. described_target files s file line ds
+abbrev pub executable_call : Files → SettingsData → List ℕ → ℕ → ArgumentTrees → Act (Unit {0})
+executable_call files s file line arguments = first_target file line >>= λ _. arguments_of file line arguments >>= λ ds. described_target files s file line ds
 
 -- ---- statements
 
 -- a call, by the function that its name names
-abbrev pub called : Files → SettingsData → List ℕ → ℕ → List ℕ → List ExpressionTree → Function → Act (Unit {0})
+abbrev pub called : Files → SettingsData → List ℕ → ℕ → List ℕ → ArgumentTrees → Function → Act (Unit {0})
 called files s file line name arguments functions.Project = again_called file line arguments
 called files s file line name arguments functions.Executable = executable_call files s file line arguments
 called files s file line name arguments functions.LeftOut = refuse (plain_fault file line refusals.LeftOut)
@@ -221,9 +234,14 @@ called files s file line name arguments functions.Unknown = refuse (fault_at fil
 abbrev pub assignment : List ℕ → List ℕ → ℕ → ExpressionTree → Act (Unit {0})
 assignment file name line value = rule (value_of file value) >>= λ d. assigned file line name d
 
+-- an expression alone: a call
+abbrev pub carried_out : Files → SettingsData → List ℕ → ExpressionTree → Act (Unit {0})
+carried_out files s file (FunctionTree name arguments line) = called files s file line name arguments (function_named name)
+carried_out files s file e = left_out file (line_of e)
+
 abbrev pub does : Files → SettingsData → List ℕ → StatementTree → Act (Unit {0})
 does files s file (AssignTree name line value) = assignment file name line value
-does files s file (CallTree name line arguments) = called files s file line name arguments (function_named name)
+does files s file (ValueTree e line) = carried_out files s file e
 does files s file (AppendTree name line value) = left_out file line
 does files s file (BreakTree line) = left_out file line
 does files s file (ContinueTree line) = left_out file line
@@ -237,10 +255,15 @@ do_all files s file (st ∷ sts) = rule (does files s file st) >>= λ _. do_all 
 abbrev pub no_project_call : List ℕ → ℕ → Act (Unit {0})
 no_project_call file line = refuse (plain_fault file line refusals.ProjectCall)
 
+-- a call of `project`, in a statement of this line
+abbrev pub begins_with : Files → SettingsData → List ℕ → ℕ → ExpressionTree → Act (Unit {0})
+begins_with files s file line (FunctionTree name arguments call_line) =
+    if bytes_eq name (codes "project") then rule (project_call files s file call_line arguments) else no_project_call file line
+begins_with files s file line e = no_project_call file line
+
 -- the first statement of the root file is a call of `project`
 abbrev pub begins : Files → SettingsData → List ℕ → StatementTree → Act (Unit {0})
-begins files s file (CallTree name line arguments) =
-    if bytes_eq name (codes "project") then rule (project_call files s file line arguments) else no_project_call file line
+begins files s file (ValueTree e line) = begins_with files s file line e
 begins files s file (AssignTree name line value) = no_project_call file line
 begins files s file (AppendTree name line value) = no_project_call file line
 begins files s file (BreakTree line) = no_project_call file line

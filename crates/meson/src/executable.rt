@@ -4,7 +4,7 @@ ghost use Rattle.std.specs.List.{ends_with};
 ghost use Rattle.ports.specs.Outputs.{OutputState};
 ghost use Rattle.ports.specs.Tree.{Stays};
 ghost use Rattle.build.specs.View.{target_view};
-ghost use Rattle.syntax.specs.ExpressionTree.{expression_of};
+ghost use Rattle.syntax.specs.ExpressionTree.{argument_trees};
 ghost use Rattle.meson.specs.Evaluation.{Files, checked_target, count_fault, declared, executable_call, first_target, held, is_target_name, target_at, target_from, target_named, target_of};
 ghost use Rattle.meson.specs.Data.{text_in};
 ghost use Rattle.meson.specs.Paths.{tree_path};
@@ -15,7 +15,7 @@ ghost use Rattle.meson.specs.Store.{world_of};
 ghost use Rattle.meson.specs.Trace.{Seen, seen};
 ghost use Rattle.meson.specs.ValueView.{view};
 
-use crate::expressions::values_of;
+use crate::expressions::arguments_of;
 use crate::look::require_file;
 use crate::paths::{is_c_source, is_target_name, tree_path};
 use crate::refusal::Refusal;
@@ -30,7 +30,7 @@ use ninja::can_hold_edges;
 use ports::Tree;
 use std::alloc::Global;
 use std::sync::ledger::Ledger;
-use syntax::tree::Expression;
+use syntax::tree::Argument;
 
 // Whether a target can have this name, and the source is one of C.
 fn fit(name: &str, source: &str) -> bool
@@ -202,18 +202,18 @@ pub fn call_executable<T: Tree, L: Ledger>(
     settings: &Settings,
     file: &str,
     line: usize,
-    arguments: &[Expression<'_>],
+    arguments: &[Argument<'_>],
     store: &mut Store,
     tree: &mut T,
     steps: &mut Steps<L>,
 ) -> Result<(), Stop>
     requires { (T.seen tree.old).failures + 1 < 2 ^ 64 }
-    ensures gives { (files : Files) → Holds (T.seen tree.old) files → (out : OutputState) → Gives (λ u. u) (executable_call files (settings_view settings.now) file.now line (map expression_of arguments.now) (world_of store.old)) result (world_of store.new) (seen out steps.old) (seen out steps.new) }
+    ensures gives { (files : Files) → Holds (T.seen tree.old) files → (out : OutputState) → Gives (λ u. u) (executable_call files (settings_view settings.now) file.now line (argument_trees arguments.now) (world_of store.old)) result (world_of store.new) (seen out steps.old) (seen out steps.new) }
     ensures stays { Stays (T.seen tree.old) (T.seen tree.new) }
     ensures failures { (T.seen tree.new).failures ≡ failures_after (T.seen tree.old).failures result }
 {
     require_first(alloc, file, line, store)?;
-    let values = values_of(alloc, file, arguments, store, steps)?;
+    let values = arguments_of(alloc, file, line, arguments, store, steps)?;
     let target = target_of(alloc, &settings.source_root, file, line, &values)?;
     declare_checked(alloc, settings.depth, file, line, target, store, tree)
 }

@@ -1,9 +1,10 @@
 //! Expressions: their values, from left to right.
-ghost use Rattle.std.specs.Prelude.{◌≡◌, ℕ, [], map};
+ghost use Rattle.std.specs.Prelude.{◌≡◌, ℕ, [], is_some};
+ghost use Rattle.std.specs.List.{list_any};
 ghost use Rattle.ports.specs.Outputs.{OutputState};
-ghost use Rattle.syntax.specs.ExpressionTree.{expression_of};
+ghost use Rattle.syntax.specs.ExpressionTree.{argument_of, argument_trees, expression_of};
 ghost use Rattle.lexer.specs.Texts.{text_of};
-ghost use Rattle.meson.specs.Evaluation.{left_out, literal_value, value_of, values_of, variable};
+ghost use Rattle.meson.specs.Evaluation.{arguments_of, left_out, literal_value, unnamed, value_of, values_of, variable};
 ghost use Rattle.meson.specs.Gives.{Gives, failures_after};
 ghost use Rattle.meson.specs.Data.{text};
 ghost use Rattle.meson.specs.Run.{World, pure, rule};
@@ -22,7 +23,7 @@ use lexer::text_of;
 use lexer::token::{Kind, Token};
 use std::alloc::Global;
 use std::sync::ledger::Ledger;
-use syntax::tree::{Expression, Literal};
+use syntax::tree::{Argument, Expression, Literal};
 
 fn variable(
     alloc: Global,
@@ -102,6 +103,11 @@ fn form_value(
             text,
             line,
         } => literal_value(alloc, file, *literal, text, *line),
+        Expression::List { line, .. } => left_out(alloc, file, *line),
+        Expression::Dictionary { line, .. } => left_out(alloc, file, *line),
+        Expression::Call { line, .. } => left_out(alloc, file, *line),
+        Expression::Postfix { line, .. } => left_out(alloc, file, *line),
+        Expression::Prefix { line, .. } => left_out(alloc, file, *line),
         Expression::Chain { line, .. } => left_out(alloc, file, *line),
         Expression::Choice { line, .. } => left_out(alloc, file, *line),
     }
@@ -122,21 +128,60 @@ pub fn value_of<L: Ledger>(
     ended(answer, steps)
 }
 
-/// The values of all expressions.
-pub fn values_of<L: Ledger>(
+fn values_of<L: Ledger>(
     alloc: Global,
     file: &str,
-    expressions: &[Expression<'_>],
+    arguments: &[Argument<'_>],
     store: &Store,
     steps: &mut Steps<L>,
 ) -> Result<Vec<Value>, Stop>
-    ensures gives { (out : OutputState) → Gives values_view (values_of file.now [] (map expression_of expressions.now) (world_of store.now)) result (world_of store.now) (seen out steps.old) (seen out steps.new) }
+    ensures gives { (out : OutputState) → Gives values_view (values_of file.now [] (argument_trees arguments.now) (world_of store.now)) result (world_of store.now) (seen out steps.old) (seen out steps.new) }
     ensures quiet { (n : ℕ) → failures_after n result ≡ n }
 {
     let mut values = Vec::new(alloc);
-    for expression in expressions {
+    for argument in arguments {
+        let expression = argument.value();
         let value = value_of(alloc, file, expression, store, steps)?;
         values.push(value)?;
     }
     Ok(values)
+}
+
+fn has_named(arguments: &[Argument<'_>]) -> bool
+    ensures { result ≡ list_any (λ a. is_some (argument_of a).0) arguments.now }
+{
+    arguments.iter().any(|argument| argument.is_named())
+}
+
+// Refuses arguments that are given by a name.
+fn refuse_named(
+    alloc: Global,
+    file: &str,
+    line: usize,
+    arguments: &[Argument<'_>],
+) -> Result<(), Stop>
+    ensures gives { (w : World) (old : Seen) → Gives (λ u. u) (unnamed file.now line (argument_trees arguments.now) w) result w old old }
+    ensures quiet { (n : ℕ) → failures_after n result ≡ n }
+{
+    if has_named(arguments) {
+        Err(refused_here(alloc, file, line, Refusal::LeftOut))
+    } else {
+        Ok(())
+    }
+}
+
+/// The values of the arguments of a call.
+pub fn arguments_of<L: Ledger>(
+    alloc: Global,
+    file: &str,
+    line: usize,
+    arguments: &[Argument<'_>],
+    store: &Store,
+    steps: &mut Steps<L>,
+) -> Result<Vec<Value>, Stop>
+    ensures gives { (out : OutputState) → Gives values_view (arguments_of file.now line (argument_trees arguments.now) (world_of store.now)) result (world_of store.now) (seen out steps.old) (seen out steps.new) }
+    ensures quiet { (n : ℕ) → failures_after n result ≡ n }
+{
+    refuse_named(alloc, file, line, arguments)?;
+    values_of(alloc, file, arguments, store, steps)
 }

@@ -3,7 +3,7 @@ ghost use Rattle.std.specs.Prelude.{◌≡◌, ℕ, ◌+◌, ◌^◌, ◌<◌, m
 ghost use Rattle.std.specs.List.{list_all};
 ghost use Rattle.ports.specs.Outputs.{OutputState};
 ghost use Rattle.ports.specs.Tree.{Stays};
-ghost use Rattle.syntax.specs.ExpressionTree.{expression_of};
+ghost use Rattle.syntax.specs.ExpressionTree.{argument_trees};
 ghost use Rattle.meson.specs.Evaluation.{Files, is_c, languages_taken, no_option_file, no_option_words, again_called, options_read, project_again_fault, project_call, project_taken};
 ghost use Rattle.meson.specs.Gives.{Gives, Holds, IsRefusal, failures_after};
 ghost use Rattle.meson.specs.Run.{World};
@@ -12,7 +12,7 @@ ghost use Rattle.meson.specs.Store.{world_of};
 ghost use Rattle.meson.specs.Trace.{Seen, seen};
 ghost use Rattle.meson.specs.ValueView.{view};
 
-use crate::expressions::values_of;
+use crate::expressions::arguments_of;
 use crate::look::is_there;
 use crate::refusal::Refusal;
 use crate::refuse::refused_here;
@@ -24,7 +24,7 @@ use crate::value::Value;
 use ports::Tree;
 use std::alloc::Global;
 use std::sync::ledger::Ledger;
-use syntax::tree::Expression;
+use syntax::tree::Argument;
 
 fn is_c(value: &Value) -> bool
     ensures { result ≡ is_c (view value.now) }
@@ -116,17 +116,17 @@ pub fn call_project<T: Tree, L: Ledger>(
     settings: &Settings,
     file: &str,
     line: usize,
-    arguments: &[Expression<'_>],
+    arguments: &[Argument<'_>],
     store: &mut Store,
     tree: &mut T,
     steps: &mut Steps<L>,
 ) -> Result<(), Stop>
     requires { (T.seen tree.old).failures + 1 < 2 ^ 64 }
-    ensures gives { (files : Files) → Holds (T.seen tree.old) files → (out : OutputState) → Gives (λ u. u) (project_call files (settings_view settings.now) file.now line (map expression_of arguments.now) (world_of store.old)) result (world_of store.new) (seen out steps.old) (seen out steps.new) }
+    ensures gives { (files : Files) → Holds (T.seen tree.old) files → (out : OutputState) → Gives (λ u. u) (project_call files (settings_view settings.now) file.now line (argument_trees arguments.now) (world_of store.old)) result (world_of store.new) (seen out steps.old) (seen out steps.new) }
     ensures stays { Stays (T.seen tree.old) (T.seen tree.new) }
     ensures failures { (T.seen tree.new).failures ≡ failures_after (T.seen tree.old).failures result }
 {
-    let values = values_of(alloc, file, arguments, store, steps)?;
+    let values = arguments_of(alloc, file, line, arguments, store, steps)?;
     take_project(alloc, file, line, &values)?;
     read_options(alloc, &settings.words, store, tree)
 }
@@ -146,13 +146,13 @@ pub fn call_project_again<L: Ledger>(
     alloc: Global,
     file: &str,
     line: usize,
-    arguments: &[Expression<'_>],
+    arguments: &[Argument<'_>],
     store: &Store,
     steps: &mut Steps<L>,
 ) -> Result<(), Stop>
-    ensures gives { (out : OutputState) → Gives (λ u. u) (again_called file.now line (map expression_of arguments.now) (world_of store.now)) result (world_of store.now) (seen out steps.old) (seen out steps.new) }
+    ensures gives { (out : OutputState) → Gives (λ u. u) (again_called file.now line (argument_trees arguments.now) (world_of store.now)) result (world_of store.now) (seen out steps.old) (seen out steps.new) }
     ensures quiet { (n : ℕ) → failures_after n result ≡ n }
 {
-    let values = values_of(alloc, file, arguments, store, steps)?;
+    let values = arguments_of(alloc, file, line, arguments, store, steps)?;
     Err(refuse_project(alloc, file, line, &values))
 }

@@ -2,9 +2,9 @@
 ghost use Rattle.std.specs.Prelude.{◌≡◌, ℕ, ◌+◌, ◌^◌, ◌<◌, map};
 ghost use Rattle.ports.specs.Outputs.{OutputState};
 ghost use Rattle.ports.specs.Tree.{Stays};
-ghost use Rattle.syntax.specs.ExpressionTree.{expression_of};
+ghost use Rattle.syntax.specs.ExpressionTree.{argument_trees, expression_of};
 ghost use Rattle.syntax.specs.Tree.{file_of, statement_of};
-ghost use Rattle.meson.specs.Evaluation.{Files, assignment, begins, called, do_all, does, left_out, no_project_call, project_call, root};
+ghost use Rattle.meson.specs.Evaluation.{Files, assignment, begins, begins_with, called, carried_out, do_all, does, left_out, no_project_call, project_call, root};
 ghost use Rattle.meson.specs.Gives.{Gives, Holds, failures_after};
 ghost use Rattle.meson.specs.Names.{function_named};
 ghost use Rattle.meson.specs.Run.{World, rule};
@@ -25,7 +25,7 @@ use crate::store::{Store, set_variable};
 use ports::Tree;
 use std::alloc::Global;
 use std::sync::ledger::Ledger;
-use syntax::tree::{Expression, File, Statement};
+use syntax::tree::{Argument, Expression, File, Statement};
 
 fn assign<L: Ledger>(
     alloc: Global,
@@ -53,13 +53,13 @@ fn call<T: Tree, L: Ledger>(
     file: &str,
     name: &str,
     line: usize,
-    arguments: &[Expression<'_>],
+    arguments: &[Argument<'_>],
     store: &mut Store,
     tree: &mut T,
     steps: &mut Steps<L>,
 ) -> Result<(), Stop>
     requires { (T.seen tree.old).failures + 1 < 2 ^ 64 }
-    ensures gives { (files : Files) → Holds (T.seen tree.old) files → (out : OutputState) → Gives (λ u. u) (called files (settings_view settings.now) file.now line name.now (map expression_of arguments.now) (function_named name.now) (world_of store.old)) result (world_of store.new) (seen out steps.old) (seen out steps.new) }
+    ensures gives { (files : Files) → Holds (T.seen tree.old) files → (out : OutputState) → Gives (λ u. u) (called files (settings_view settings.now) file.now line name.now (argument_trees arguments.now) (function_named name.now) (world_of store.old)) result (world_of store.new) (seen out steps.old) (seen out steps.new) }
     ensures stays { Stays (T.seen tree.old) (T.seen tree.new) }
     ensures failures { (T.seen tree.new).failures ≡ failures_after (T.seen tree.old).failures result }
 {
@@ -89,6 +89,40 @@ fn no_project_call(alloc: Global, file: &str, line: usize) -> Result<(), Stop>
     Err(refused_here(alloc, file, line, Refusal::ProjectCall))
 }
 
+// An expression alone: a call.
+fn carry_out_expression<T: Tree, L: Ledger>(
+    alloc: Global,
+    settings: &Settings,
+    file: &str,
+    expression: &Expression<'_>,
+    store: &mut Store,
+    tree: &mut T,
+    steps: &mut Steps<L>,
+) -> Result<(), Stop>
+    requires { (T.seen tree.old).failures + 1 < 2 ^ 64 }
+    ensures gives { (files : Files) → Holds (T.seen tree.old) files → (out : OutputState) → Gives (λ u. u) (carried_out files (settings_view settings.now) file.now (expression_of expression.now) (world_of store.old)) result (world_of store.new) (seen out steps.old) (seen out steps.new) }
+    ensures stays { Stays (T.seen tree.old) (T.seen tree.new) }
+    ensures failures { (T.seen tree.new).failures ≡ failures_after (T.seen tree.old).failures result }
+{
+    match expression {
+        Expression::Call {
+            name,
+            arguments,
+            line,
+        } => call(
+            alloc, settings, file, name, *line, arguments, store, tree, steps,
+        ),
+        Expression::Name { line, .. } => left_out(alloc, file, *line),
+        Expression::Literal { line, .. } => left_out(alloc, file, *line),
+        Expression::List { line, .. } => left_out(alloc, file, *line),
+        Expression::Dictionary { line, .. } => left_out(alloc, file, *line),
+        Expression::Postfix { line, .. } => left_out(alloc, file, *line),
+        Expression::Prefix { line, .. } => left_out(alloc, file, *line),
+        Expression::Chain { line, .. } => left_out(alloc, file, *line),
+        Expression::Choice { line, .. } => left_out(alloc, file, *line),
+    }
+}
+
 fn carry_out<T: Tree, L: Ledger>(
     alloc: Global,
     settings: &Settings,
@@ -107,13 +141,9 @@ fn carry_out<T: Tree, L: Ledger>(
         Statement::Assign { name, line, value } => {
             assign(alloc, file, name, *line, value, store, steps)
         }
-        Statement::Call {
-            name,
-            line,
-            arguments,
-        } => call(
-            alloc, settings, file, name, *line, arguments, store, tree, steps,
-        ),
+        Statement::Expression { value, .. } => {
+            carry_out_expression(alloc, settings, file, value, store, tree, steps)
+        }
         Statement::Append { line, .. } => left_out(alloc, file, *line),
         Statement::Break { line } => left_out(alloc, file, *line),
         Statement::Continue { line } => left_out(alloc, file, *line),
@@ -166,18 +196,58 @@ fn first_call<T: Tree, L: Ledger>(
     settings: &Settings,
     file: &str,
     line: usize,
-    arguments: &[Expression<'_>],
+    arguments: &[Argument<'_>],
     store: &mut Store,
     tree: &mut T,
     steps: &mut Steps<L>,
 ) -> Result<(), Stop>
     requires { (T.seen tree.old).failures + 1 < 2 ^ 64 }
-    ensures gives { (files : Files) → Holds (T.seen tree.old) files → (out : OutputState) → Gives (λ u. u) (rule (project_call files (settings_view settings.now) file.now line (map expression_of arguments.now)) (world_of store.old)) result (world_of store.new) (seen out steps.old) (seen out steps.new) }
+    ensures gives { (files : Files) → Holds (T.seen tree.old) files → (out : OutputState) → Gives (λ u. u) (rule (project_call files (settings_view settings.now) file.now line (argument_trees arguments.now)) (world_of store.old)) result (world_of store.new) (seen out steps.old) (seen out steps.new) }
     ensures stays { Stays (T.seen tree.old) (T.seen tree.new) }
     ensures failures { (T.seen tree.new).failures ≡ failures_after (T.seen tree.old).failures result }
 {
     let answer = call_project(alloc, settings, file, line, arguments, store, tree, steps);
     ended(answer, steps)
+}
+
+// The expression of the first statement, which is a call of `project`.
+fn begin_with<T: Tree, L: Ledger>(
+    alloc: Global,
+    settings: &Settings,
+    file: &str,
+    line: usize,
+    expression: &Expression<'_>,
+    store: &mut Store,
+    tree: &mut T,
+    steps: &mut Steps<L>,
+) -> Result<(), Stop>
+    requires { (T.seen tree.old).failures + 1 < 2 ^ 64 }
+    ensures gives { (files : Files) → Holds (T.seen tree.old) files → (out : OutputState) → Gives (λ u. u) (begins_with files (settings_view settings.now) file.now line (expression_of expression.now) (world_of store.old)) result (world_of store.new) (seen out steps.old) (seen out steps.new) }
+    ensures stays { Stays (T.seen tree.old) (T.seen tree.new) }
+    ensures failures { (T.seen tree.new).failures ≡ failures_after (T.seen tree.old).failures result }
+{
+    match expression {
+        Expression::Call {
+            name,
+            arguments,
+            line: call_line,
+        } => {
+            let first = *name == "project";
+            if first {
+                first_call(alloc, settings, file, *call_line, arguments, store, tree, steps)
+            } else {
+                no_project_call(alloc, file, line)
+            }
+        }
+        Expression::Name { .. } => no_project_call(alloc, file, line),
+        Expression::Literal { .. } => no_project_call(alloc, file, line),
+        Expression::List { .. } => no_project_call(alloc, file, line),
+        Expression::Dictionary { .. } => no_project_call(alloc, file, line),
+        Expression::Postfix { .. } => no_project_call(alloc, file, line),
+        Expression::Prefix { .. } => no_project_call(alloc, file, line),
+        Expression::Chain { .. } => no_project_call(alloc, file, line),
+        Expression::Choice { .. } => no_project_call(alloc, file, line),
+    }
 }
 
 // The first statement, which is a call of `project`.
@@ -196,17 +266,8 @@ fn begin<T: Tree, L: Ledger>(
     ensures failures { (T.seen tree.new).failures ≡ failures_after (T.seen tree.old).failures result }
 {
     match statement {
-        Statement::Call {
-            name,
-            line,
-            arguments,
-        } => {
-            let first = *name == "project";
-            if first {
-                first_call(alloc, settings, file, *line, arguments, store, tree, steps)
-            } else {
-                no_project_call(alloc, file, *line)
-            }
+        Statement::Expression { value, line } => {
+            begin_with(alloc, settings, file, *line, value, store, tree, steps)
         }
         Statement::Assign { line, .. } => no_project_call(alloc, file, *line),
         Statement::Append { line, .. } => no_project_call(alloc, file, *line),

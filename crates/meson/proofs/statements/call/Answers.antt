@@ -1,5 +1,5 @@
 use Rattle.std.proofs.Common.{map, sym, ap}
-use Rattle.syntax.specs.ExpressionTree.{expression_of}
+use Rattle.syntax.specs.ExpressionTree.{argument_trees}
 use Rattle.meson.specs.Evaluation.{called, fault_at, plain_fault}
 use Rattle.meson.specs.SettingsView.{settings_view}
 use Rattle.meson.specs.Store.{world_of}
@@ -13,11 +13,11 @@ returns-in-LeftOut-clause-gives g c = λ files holds out.
     let w = world_of c.args.store.now in
     let s = settings_view c.args.settings.now in
     refused_later (λ u. u) (plain_fault c.args.file.now c.args.line refusals.LeftOut) c.refused_here.result w w _
-    (same_run (ap (λ f. called files s c.args.file.now c.args.line c.args.name.now (map expression_of c.args.arguments.now) f w) (sym c.in-LeftOut.ensures)) (seen out c.args.steps.now)) c.refused_here.ensures
+    (same_run (ap (λ f. called files s c.args.file.now c.args.line c.args.name.now (argument_trees c.args.arguments.now) f w) (sym c.in-LeftOut.ensures)) (seen out c.args.steps.now)) c.refused_here.ensures
 
 pub returns-in-Unknown-clause-gives : goal.returns-in-Unknown-clause-gives
 returns-in-Unknown-clause-gives g c = λ files holds out.
     let w = world_of c.args.store.now in
     let s = settings_view c.args.settings.now in
     refused_later (λ u. u) (fault_at c.args.file.now c.args.line refusals.UnknownFunction c.args.name.now) c.refused.result w w _
-    (same_run (ap (λ f. called files s c.args.file.now c.args.line c.args.name.now (map expression_of c.args.arguments.now) f w) (sym c.in-Unknown.ensures)) (seen out c.args.steps.now)) c.refused.ensures
+    (same_run (ap (λ f. called files s c.args.file.now c.args.line c.args.name.now (argument_trees c.args.arguments.now) f w) (sym c.in-Unknown.ensures)) (seen out c.args.steps.now)) c.refused.ensures

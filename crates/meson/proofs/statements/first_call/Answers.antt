@@ -1,5 +1,5 @@
 use Rattle.std.proofs.Common.{map}
-use Rattle.syntax.specs.ExpressionTree.{expression_of}
+use Rattle.syntax.specs.ExpressionTree.{argument_trees}
 use Rattle.meson.specs.Evaluation.{project_call}
 use Rattle.meson.specs.SettingsView.{settings_view}
 use Rattle.meson.specs.Store.{world_of}
@@ -15,5 +15,5 @@ returns-clause-gives g c = λ files holds out.
     let old = seen out c.args.steps.now in
     let mid = seen out c.call_project-answer.new.steps in
     rw (c.ended.ensures.same, c.ended.ensures.ticks)
-    (gives_rule (λ u. u) (project_call files s c.args.file.now c.args.line (map expression_of c.args.arguments.now) w) c.call_project-answer.result v old mid
+    (gives_rule (λ u. u) (project_call files s c.args.file.now c.args.line (argument_trees c.args.arguments.now) w) c.call_project-answer.result v old mid
     (c.call_project-answer.ensures.gives files holds out))
