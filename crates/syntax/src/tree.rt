@@ -23,11 +23,10 @@ pub enum Statement<'a> {
         line: usize,
         value: Expression<'a>,
     },
-    /// `name(argument, argument)`
-    Call {
-        name: &'a str,
+    /// An expression alone, as a call.
+    Expression {
+        value: Expression<'a>,
         line: usize,
-        arguments: Vec<Expression<'a>>,
     },
     /// `break`, in the body of a `foreach`.
     Break {
