@@ -7,7 +7,7 @@ use Rattle.lexer.specs.declared.token.Kind.TheVariants as Kinds
 use Rattle.syntax.specs.Tree.{StatementTree, AssignTree, CallTree, FileTree}
 use Rattle.syntax.specs.Form.{Form, token, give, many, optional, Repeats, ◌>>=◌}
 use Rattle.syntax.specs.Grammar.{assign, call, stmt, given}
-use Rattle.syntax.specs.Expressions.{expr, arguments}
+use Rattle.syntax.specs.Expressions.{expr, plain_arguments}
 use Rattle.lexer.specs.Kinds.{is}
 use Rattle.syntax.specs.Reading.{Reader, begins, many_at, optional_at, or_at, token_at, two_begin}
 use Rattle.syntax.specs.ReadingExpressions.{arguments_at, expr_at}
@@ -47,13 +47,13 @@ unfolding assign_at
 line-assign n = line-then (token Kinds.Name) (token Kinds.Name) (assigned n) (assigned (suc n)) (token_at Kinds.Name) (token_at Kinds.Name) (assigned_at n) (assigned_at (suc n)) AfterExpression 1 2 (line-token Kinds.Name) (line-assigned n)
 
 abbrev called : ℕ → Lexeme → Form StatementTree
-called n t = arguments n >>= λ xs. give (CallTree t.text t.line xs)
+called n t = plain_arguments n >>= λ xs. give (CallTree t.text t.line xs)
 
 abbrev called_at : ℕ → Lexeme → Reader StatementTree
 called_at n t = bind_at (arguments_at n) (λ xs. give_at (CallTree t.text t.line xs))
 
 line-called : (n : ℕ) (t : Lexeme) → Line (called n t) (called (suc n) t) (called_at n t) (called_at (suc n) t) AfterExpression 1
-line-called n t = line-then (arguments n) (arguments (suc n)) (λ xs. give (CallTree t.text t.line xs)) (λ xs. give (CallTree t.text t.line xs)) (arguments_at n) (arguments_at (suc n)) (λ xs. give_at (CallTree t.text t.line xs)) (λ xs. give_at (CallTree t.text t.line xs)) AfterExpression 1 0
+line-called n t = line-then (plain_arguments n) (plain_arguments (suc n)) (λ xs. give (CallTree t.text t.line xs)) (λ xs. give (CallTree t.text t.line xs)) (arguments_at n) (arguments_at (suc n)) (λ xs. give_at (CallTree t.text t.line xs)) (λ xs. give_at (CallTree t.text t.line xs)) AfterExpression 1 0
     (line-arguments n) (λ xs. line-give (CallTree t.text t.line xs) AfterExpression)
 
 line-call : (n : ℕ) → Line (call n) (call (suc n)) (call_at n) (call_at (suc n)) AfterExpression 2
@@ -89,7 +89,7 @@ group_no_assign : (ts : List Lexeme) → head_is opens_group ts ≡ true → beg
 group_no_assign ts h = begins-head Kinds.Assign ts ∙ head_not opens_group (λ l. is l Kinds.Assign) (λ k e. subst (λ (l : Kind). is l Kinds.Assign ≡ false) (sym (is-true k Kinds.OpenParenthesis e)) refl) ts h
 
 starts-called : (n : ℕ) (t : Lexeme) → Starts (called n t) opens_group
-starts-called n t = starts-bind (arguments n) (λ xs. give (CallTree t.text t.line xs)) opens_group (starts-arguments n)
+starts-called n t = starts-bind (plain_arguments n) (λ xs. give (CallTree t.text t.line xs)) opens_group (starts-arguments n)
 
 assign_comes : (n : ℕ) (a : StatementTree) (ts rest : List Lexeme) → (assign n).spells a ts rest → assigns ts ≡ true
 assign_comes n a ts rest (t, m, h, q) = name_assign ts t m h.0 h.1 (begins_token Kinds.Assign (λ s. value n t) a m rest q)

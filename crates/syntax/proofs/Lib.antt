@@ -1,5 +1,8 @@
+pub mod Alike
+pub mod Atoms
 pub mod Binding
 pub mod Chains
+pub mod ChoiceLines
 pub mod Ends
 pub mod ExpressionTails
 pub mod Expressions

@@ -2,7 +2,7 @@
 use Rattle.std.specs.Prelude.{ℕ, List, [], ◌∷◌, ◌++◌, Option, Some, None}
 use Rattle.lexer.specs.declared.token.Kind.TheVariants.{Name, Assign, Newline}
 use Rattle.syntax.specs.Tree.{StatementTree, AssignTree, CallTree, FileTree}
-use Rattle.syntax.specs.Expressions.{arguments, expr}
+use Rattle.syntax.specs.Expressions.{expr, plain_arguments}
 use Rattle.syntax.specs.Form.{Form, token, give, ◌>>=◌, ◌or◌, many, optional}
 
 -- how many levels may be open
@@ -21,7 +21,7 @@ assign n = do
 abbrev pub call : ℕ → Form StatementTree
 call n = do
   t ← token Name
-  xs ← arguments n
+  xs ← plain_arguments n
   give (CallTree t.text t.line xs)
 
 -- stmt = NAME "=" expr | NAME "(" [expr {"," expr} [","]] ")"

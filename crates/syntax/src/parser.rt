@@ -86,7 +86,7 @@ impl<'t, 'a> Parser<'t, 'a> {
         ensures shorter { OnOk result (length self.new.rest.now < length self.old.rest.now) }
     {
         let name = self.take(Kind::Name)?;
-        let arguments = self.arguments(alloc, levels)?;
+        let arguments = self.plain_arguments(alloc, levels)?;
         Ok(Statement::Call {
             name: name.text,
             line: name.line,
