@@ -7,9 +7,9 @@ use Rattle.lexer.specs.declared.token.Kind.{Kind}
 use Rattle.lexer.specs.declared.token.Kind.TheVariants as Kinds
 use Rattle.syntax.specs.declared.stop.Stop.{Stop}
 use Rattle.syntax.specs.ExpressionTree.{ExpressionTree, NameTree}
-use Rattle.syntax.specs.Expressions.{additive, chain, choice, comparison, conjunction, conjunctive, disjunctive, expr, multiplicative, product, unary}
+use Rattle.syntax.specs.Expressions.{additive, chain, choice, comparison, conjunction, conjunctive, disjunctive, expr, multiplicative, product, unary, unary_in}
 use Rattle.syntax.specs.Form.{Form}
-use Rattle.syntax.specs.Parts.{first_line}
+use Rattle.syntax.specs.Parts.{Inner, Closed, Inside, first_line}
 use Rattle.syntax.specs.declared.tree.Operator.{Operator}
 use Rattle.syntax.specs.Reading.{Reader, begins, two_begin}
 use Rattle.syntax.proofs.Binding.{AfterExpression, after_kind, binding}
@@ -85,10 +85,15 @@ choice_one unary e ts rest h =
     let test = chain_one disjunctive (conjunction (unary true)) e ts rest (chain_one conjunctive (comparison (unary true)) e ts rest (comparison_one (unary true) e ts rest h)) in
     (first_line ts, ts, (refl, refl), (e, rest, test, (None, rest, inr (refl, refl), (refl, refl))))
 
+-- no operator stands before it, nothing is asked of it, and it is not called
+in_name : (u : Inner) (b : Bool) (t : Lexeme) (us : List Lexeme) → t.kind ≡ Kinds.Name → (unary_in u b).spells (NameTree t.text t.line) (t ∷ us) us
+in_name u b t us k =
+    inr (inr (t.line, t ∷ us, (refl, refl), (NameTree t.text t.line, us, inr (inl (t, us, (refl, k), (refl, refl))), ([], us, refl, (refl, refl)))))
+
 unary_name : (n : ℕ) (b : Bool) (t : Lexeme) (us : List Lexeme) → t.kind ≡ Kinds.Name → (unary n b).spells (NameTree t.text t.line) (t ∷ us) us
 unfolding unary
-unary_name zero b t us k = inl (t, us, (refl, k), (refl, refl))
-unary_name (suc n) b t us k = inl (t, us, (refl, k), (refl, refl))
+unary_name zero b t us k = in_name Closed b t us k
+unary_name (suc n) b t us k = in_name (Inside (unary n)) b t us k
 
 pub named_expr : (n : ℕ) (t : Lexeme) (us : List Lexeme) → t.kind ≡ Kinds.Name → (expr n).spells (NameTree t.text t.line) (t ∷ us) us
 unfolding expr

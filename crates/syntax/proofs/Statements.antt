@@ -14,9 +14,9 @@ use Rattle.syntax.specs.ReadingExpressions.{expr_at}
 use Rattle.syntax.specs.ReadingStatements.{set_at, plain_at, leave_at, simple_at, ends_line}
 use Rattle.syntax.proofs.Binding.{AfterExpression, after_kind, binding}
 use Rattle.syntax.proofs.Chain.{then_line, at_kind, weaken, give_line, line-or, line-apart, line-none}
-use Rattle.syntax.proofs.Expressions.{line-expr, opens_expr, starts-expr}
+use Rattle.syntax.proofs.Expressions.{line-expr, starts-expr}
 use Rattle.syntax.proofs.Named.{named_expr, name_front, no_sign_in}
-use Rattle.syntax.proofs.Steps.{line-here, starts-here}
+use Rattle.syntax.proofs.Steps.{line-here, opens_expr, starts-here}
 use Rattle.syntax.proofs.Line.{Line, line-token, begun_token, begins_token}
 use Rattle.syntax.proofs.Starts.{Starts, head_is, begins-head, starts-bind, starts-never, starts-or, starts-token}
 use Rattle.syntax.proofs.Words.{cond_true, not_in, newline_head, name_sign, AfterName, after-name, after-name-or}

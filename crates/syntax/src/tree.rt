@@ -81,6 +81,31 @@ pub enum Expression<'a> {
         text: &'a str,
         line: usize,
     },
+    /// `[first, second]`
+    List {
+        items: Vec<Expression<'a>>,
+        line: usize,
+    },
+    /// `{key : value, key : value}`
+    Dictionary { entries: Vec<Entry<'a>>, line: usize },
+    /// `name(argument, name: argument)`
+    Call {
+        name: &'a str,
+        arguments: Vec<Argument<'a>>,
+        line: usize,
+    },
+    /// `first.name(argument)[index]`: a value, and what is asked of it in turn.
+    Postfix {
+        first: Box<Expression<'a>>,
+        links: Vec<Link<'a>>,
+        line: usize,
+    },
+    /// `not value` or `-value`
+    Prefix {
+        prefix: Prefix,
+        value: Box<Expression<'a>>,
+        line: usize,
+    },
     /// `first + second - third`: values with operators between them, all of one line of the grammar.
     Chain {
         first: Box<Expression<'a>>,
@@ -142,4 +167,41 @@ pub enum Operator {
 pub struct Operand<'a> {
     pub operator: Operator,
     pub value: Expression<'a>,
+}
+
+/// What stands before a value.
+#[derive(Clone, Copy, PartialEq, Eq, Debug)]
+pub enum Prefix {
+    Not,
+    /// `-`
+    Negative,
+}
+
+/// `key : value`
+#[cycle(tree)]
+#[derive(Debug, Drop)]
+pub struct Entry<'a> {
+    pub key: Expression<'a>,
+    pub value: Expression<'a>,
+}
+
+/// An argument, with its name where it is given by one. Those with a name stand behind the others.
+#[cycle(tree)]
+#[derive(Debug, Drop)]
+pub struct Argument<'a> {
+    pub name: Option<&'a str>,
+    pub value: Expression<'a>,
+}
+
+/// What is asked of a value.
+#[cycle(tree)]
+#[derive(Debug, Drop)]
+pub enum Link<'a> {
+    /// `.name(argument)`
+    Method {
+        name: &'a str,
+        arguments: Vec<Argument<'a>>,
+    },
+    /// `[index]`
+    Index { index: Expression<'a> },
 }
