@@ -6,11 +6,11 @@ use Rattle.lexer.specs.declared.token.Kind.TheVariants as Kinds
 use Rattle.syntax.specs.Reading.{begins}
 use Rattle.syntax.proofs.Numbers.{is-true}
 
--- 1 what goes on after an atom, 2 to 6 the operators from `*` to `or`, 7 the question mark, 8 what ends an expression
+-- 0 the arguments of a call, 1 what is asked of a value, 2 to 6 the operators from `*` to `or`, 7 the question mark, 8 what ends an expression
 abbrev pub binding : Kind → ℕ
 binding Kinds.Dot = 1
 binding Kinds.OpenBracket = 1
-binding Kinds.OpenParenthesis = 1
+binding Kinds.OpenParenthesis = 0
 binding Kinds.Times = 2
 binding Kinds.Divide = 2
 binding Kinds.Remainder = 2

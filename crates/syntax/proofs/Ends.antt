@@ -16,7 +16,7 @@ pub record Ends {A : Type 0} (F : Form A) : Type 0 where
 end_same : (ts more : List Lexeme) → ts ≡ more → IsEnd more ts
 end_same ts more e = record { before = []; parts = e }
 
-end_then : (ts mid rest : List Lexeme) → IsEnd mid ts → IsEnd rest mid → IsEnd rest ts
+pub end_then : (ts mid rest : List Lexeme) → IsEnd mid ts → IsEnd rest mid → IsEnd rest ts
 end_then ts mid rest p q = record { before = p.before ++ q.before; parts = p.parts ∙ ap (λ (l : List Lexeme). p.before ++ l) q.parts ∙ sym (append_assoc p.before q.before rest) }
 
 pub ends-token : (k : Kind) → Ends (token k)

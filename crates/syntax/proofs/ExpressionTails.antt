@@ -11,8 +11,10 @@ use Rattle.syntax.specs.declared.stop.Stop.TheVariants.{Unexpected, TooDeep}
 use Rattle.syntax.specs.declared.stop.ReadError.{ReadError}
 use Rattle.syntax.specs.declared.stop.ReadError.TheVariants as errors
 use Rattle.lexer.specs.Lexeme.{Lexeme, lexeme_of, lexemes}
-use Rattle.syntax.specs.ExpressionTree.{ExpressionTree, LiteralTree}
-use Rattle.syntax.specs.Reading.{Reader, ◌>>=◌, Fails, begins, deep_at, head_is, items_at, or_at, tail_at, token_at}
+use Rattle.syntax.specs.ExpressionTree.{ArgumentTree, ExpressionTree, LiteralTree}
+use Rattle.syntax.specs.declared.tree.Prefix.TheVariants as prefixes
+use Rattle.syntax.proofs.Laws.{cases_bool, cases_result}
+use Rattle.syntax.specs.Reading.{Reader, ◌>>=◌, Fails, begins, deep_at, head_is, or_at, token_at, two_begin}
 use Rattle.syntax.specs.declared.parser.expression.Rank.{Rank}
 use Rattle.syntax.specs.declared.parser.expression.Rank.TheVariants as ranks
 use Rattle.std.specs.Option.{is_some}
@@ -20,7 +22,7 @@ use Rattle.syntax.specs.declared.tree.Literal.{Literal}
 use Rattle.syntax.specs.declared.tree.Operator.{Operator}
 use Rattle.syntax.specs.Expressions.{comparative, literal_of}
 use Rattle.syntax.specs.Parts.{after_as, opened_at, stands_for, taken, token_as_at}
-use Rattle.syntax.specs.ReadingExpressions.{arguments_at, arguments_in, atom_at, choice_at, comparison_operator_at, disjunction_at, expr_at, group_at, name_at, unary_at, items_of, literal_at, not_in_at, operand_at, plain_comparison_at}
+use Rattle.syntax.specs.ReadingExpressions.{argument_at, arguments_at, arguments_in, atom_at, base_at, call_at, choice_at, comparison_operator_at, dictionary_at, disjunction_at, enter_at, entered_at, expr_at, group_at, index_at, inner_at, items_at, items_of, link_at, list_at, literal_at, method_at, name_at, named_at, not_in_at, operand_at, plain_comparison_at, positional_at, postfix_at, prefixed_at, unary_at, unary_in_at}
 use Rattle.syntax.proofs.Steps.{cases_option}
 use Rattle.syntax.proofs.Tails.{length_lexemes}
 
@@ -40,75 +42,6 @@ pub arguments_unexpected : (n : ℕ) (ts : List Token) → n ≤ 0 → begins Ki
 unfolding arguments_at deep_at
 arguments_unexpected zero ts lt o = rw o (ap (λ (k : ℕ). Err (Unexpected k)) (length_lexemes ts))
 arguments_unexpected (suc n) ts lt o = absurd (omega arith)
-
--- ---- the loop over the arguments
-
--- what was read before, and what is still read
-abbrev pub with_items : {A : Type 0} → List A → Result (List A × List Lexeme) Stop → Result (List A × List Lexeme) Stop
-with_items before read = read >>= λ x. Ok (before ++ x.0, x.1)
-
-abbrev items_from : ℕ → ℕ → Reader (List ExpressionTree)
-items_from n k ts = items_at (begins Kinds.CloseParenthesis) (expr_at n) k ts
-
-abbrev pub StillItems : ℕ → List ExpressionTree → List Lexeme → Result (List ExpressionTree × List Lexeme) Stop → Type 0
-StillItems n before ts total = (fuel : ℕ) × (length ts < fuel) × (with_items before (items_at (begins Kinds.CloseParenthesis) (expr_at n) fuel ts) ≡ total)
-
-items_nil : {A : Type 0} (r : Result (List A × List Lexeme) Stop) → with_items [] r ≡ r
-items_nil (Ok x) = refl
-items_nil (Err f) = refl
-
-pub items_first : (n : ℕ) (ts : List Lexeme) → StillItems n [] ts (items_of n ts)
-unfolding items_of
-items_first n ts = (length ts + 1, omega arith, items_nil (items_from n (length ts + 1) ts))
-
-items_stop : (n k : ℕ) (ts : List Lexeme) → begins Kinds.CloseParenthesis ts ≡ true → items_from n k ts ≡ Ok ([], ts)
-unfolding items_at
-items_stop n zero ts b = refl
-items_stop n (suc k) ts b = rw b refl
-
-items_step : (n k : ℕ) (ts : List Lexeme) → begins Kinds.CloseParenthesis ts ≡ false
-    → items_from n (suc k) ts ≡ (expr_at n ts >>= λ x. tail_at (items_from n k) x.1 >>= λ y. Ok (x.0 ∷ y.0, y.1))
-unfolding items_at
-items_step n k ts b = rw b refl
-
-pub items_closed : (n : ℕ) (before : List ExpressionTree) (ts : List Lexeme) (total : Result (List ExpressionTree × List Lexeme) Stop) → StillItems n before ts total → begins Kinds.CloseParenthesis ts ≡ true → total ≡ Ok (before, ts)
-items_closed n before ts total (k, le, e) b = sym e ∙ rw (items_stop n k ts b) (ap (λ (xs : List ExpressionTree). Ok (xs, ts)) (append-nil before))
-
-pub items_fails : (n : ℕ) (before : List ExpressionTree) (ts : List Lexeme) (total : Result (List ExpressionTree × List Lexeme) Stop) (e : ReadError)
-    → StillItems n before ts total → begins Kinds.CloseParenthesis ts ≡ false → Fails e (expr_at n ts) → Fails e total
-items_fails n before ts total errors.Memory s b h = tt
-items_fails n before ts total (errors.Stop f) (zero, le, e) b h = absurd (omega arith)
-items_fails n before ts total (errors.Stop f) (suc k, le, e) b h = sym e ∙ rw (items_step n k ts b, h) refl
-
-tail_comma : (items : Reader (List ExpressionTree)) (ts : List Lexeme) → begins Kinds.Comma ts ≡ true → tail_at items ts ≡ (token_at Kinds.Comma ts >>= λ c. items c.1)
-unfolding tail_at
-tail_comma items ts b = rw b refl
-
-tail_none : (items : Reader (List ExpressionTree)) (ts : List Lexeme) → begins Kinds.Comma ts ≡ false → tail_at items ts ≡ Ok ([], ts)
-unfolding tail_at
-tail_none items ts b = rw b refl
-
-regroup : {A : Type 0} (before : List A) (a : A) (read : Result (List A × List Lexeme) Stop) → with_items before (read >>= λ x. Ok (a ∷ x.0, x.1)) ≡ with_items (before ++ a ∷ []) read
-regroup {A} before a (Ok x) = ap (λ (xs : List A). Ok (xs, x.1)) (simp append_assoc)
-regroup before a (Err f) = refl
-
-pub items_last : (n : ℕ) (before : List ExpressionTree) (ts : List Lexeme) (total : Result (List ExpressionTree × List Lexeme) Stop) (a : ExpressionTree) (mid : List Lexeme)
-    → StillItems n before ts total → begins Kinds.CloseParenthesis ts ≡ false → expr_at n ts ≡ Ok (a, mid) → begins Kinds.Comma mid ≡ false → total ≡ Ok (before ++ a ∷ [], mid)
-items_last n before ts total a mid (zero, le, e) b h c = absurd (omega arith)
-items_last n before ts total a mid (suc k, le, e) b h c = sym e ∙ rw (items_step n k ts b, h, tail_none (items_from n k) mid c) refl
-
-pub items_more : (n : ℕ) (before : List ExpressionTree) (ts : List Lexeme) (total : Result (List ExpressionTree × List Lexeme) Stop) (a : ExpressionTree) (mid : List Lexeme) (c : Lexeme) (rest : List Lexeme)
-    → StillItems n before ts total → begins Kinds.CloseParenthesis ts ≡ false → expr_at n ts ≡ Ok (a, mid) → begins Kinds.Comma mid ≡ true → token_at Kinds.Comma mid ≡ Ok (c, rest) → length rest < length ts
-    → StillItems n (before ++ a ∷ []) rest total
-items_more n before ts total a mid c rest (zero, le, e) b h comma t lt = absurd (omega arith)
-items_more n before ts total a mid c rest (suc k, le, e) b h comma t lt =
-    (k, omega arith, sym (regroup before a (items_from n k rest)) ∙ sym (rw (items_step n k ts b, h, tail_comma (items_from n k) mid comma, t) refl) ∙ e)
-
-pub items_comma_fails : (n : ℕ) (before : List ExpressionTree) (ts : List Lexeme) (total : Result (List ExpressionTree × List Lexeme) Stop) (a : ExpressionTree) (mid : List Lexeme) (e : ReadError)
-    → StillItems n before ts total → begins Kinds.CloseParenthesis ts ≡ false → expr_at n ts ≡ Ok (a, mid) → begins Kinds.Comma mid ≡ true → Fails e (token_at Kinds.Comma mid) → Fails e total
-items_comma_fails n before ts total a mid errors.Memory s b h comma t = tt
-items_comma_fails n before ts total a mid (errors.Stop f) (zero, le, e) b h comma t = absurd (omega arith)
-items_comma_fails n before ts total a mid (errors.Stop f) (suc k, le, e) b h comma t = sym e ∙ rw (items_step n k ts b, h, tail_comma (items_from n k) mid comma, t) refl
 
 -- ---- tokens that stand for something
 
@@ -226,31 +159,115 @@ pub choice_any : (u : Bool → Reader ExpressionTree) (b : Bool) (ts : List Lexe
 choice_any u true ts e = refl
 choice_any u false ts e = absurd cc
 
-pub unary_name : (n : ℕ) (b : Bool) (ts : List Lexeme) → begins Kinds.Name ts ≡ true → unary_at n b ts ≡ name_at ts
-unfolding unary_at atom_at or_at
-unary_name zero b ts e = rw e
-unary_name (suc n) b ts e = rw e
+-- ---- what opens a level
 
-pub unary_group : (n m : ℕ) (b : Bool) (ts : List Lexeme) → begins Kinds.Name ts ≡ false → begins Kinds.OpenParenthesis ts ≡ true → 0 < n → m ≡ n - 1 → unary_at n b ts ≡ opened_at Kinds.OpenParenthesis (Some (unary_at m)) (λ e. group_at e b) ts
-unfolding unary_at atom_at or_at
-unary_group zero m b ts e f lt k = absurd (omega arith)
-unary_group (suc n) m b ts e f lt k = rw (e, f, k, sub-one) refl
+module _ {A : Type 0} (k : Kind) (f : (Bool → Reader ExpressionTree) → Lexeme → Reader A) where
+  pub opened_entered : (n : ℕ) (ts : List Lexeme) → opened_at k (inner_at n) f ts ≡ entered_at k n f ts
+  unfolding opened_at entered_at enter_at deep_at
+  opened_entered zero ts = elim (cases_bool (begins k ts)) [ inl b ↦ rw b refl | inr b ↦ rw b refl ]
+  opened_entered (suc n) ts = elim (cases_result (token_at k ts)) [ inl x ↦ rw x.1 refl | inr d ↦ rw d.1 refl ]
 
-pub unary_deep : (n : ℕ) (b : Bool) (ts : List Token) → begins Kinds.Name (lexemes ts) ≡ false → begins Kinds.OpenParenthesis (lexemes ts) ≡ true → n ≡ 0 → unary_at n b (lexemes ts) ≡ Err (TooDeep (length ts))
-unfolding unary_at atom_at or_at opened_at deep_at
-unary_deep zero b ts e f z = rw (e, f) (ap (λ (k : ℕ). Err (TooDeep k)) (length_lexemes ts))
-unary_deep (suc n) b ts e f z = absurd (omega arith)
+  pub opened_is : (n : ℕ) → opened_at k (inner_at n) f ≡ entered_at k n f
+  opened_is n = λ i ts. opened_entered n ts i
 
-pub unary_literal : (n : ℕ) (b : Bool) (ts : List Lexeme) → begins Kinds.Name ts ≡ false → begins Kinds.OpenParenthesis ts ≡ false → unary_at n b ts ≡ literal_at ts
-unfolding unary_at atom_at or_at
-unary_literal zero b ts e f = rw (e, f)
-unary_literal (suc n) b ts e f = rw (e, f)
+pub enter_found : (k : Kind) (n : ℕ) (ts : List Lexeme) (t : Lexeme) (rest : List Lexeme) → 0 < n → token_at k ts ≡ Ok (t, rest) → enter_at k n ts ≡ Ok ((t, n - 1), rest)
+unfolding enter_at
+enter_found k zero ts t rest lt e = absurd (omega arith)
+enter_found k (suc n) ts t rest lt e = rw (e, sub-one) refl
+
+pub enter_fails : (k : Kind) (n : ℕ) (ts : List Lexeme) (e : ReadError) → 0 < n → Fails e (token_at k ts) → Fails e (enter_at k n ts)
+unfolding enter_at
+enter_fails k n ts errors.Memory lt h = tt
+enter_fails k zero ts (errors.Stop f) lt h = absurd (omega arith)
+enter_fails k (suc n) ts (errors.Stop f) lt h = rw h refl
+
+pub enter_deep : (k : Kind) (n : ℕ) (ts : List Token) → n ≤ 0 → begins k (lexemes ts) ≡ true → enter_at k n (lexemes ts) ≡ Err (TooDeep (length ts))
+unfolding enter_at deep_at
+enter_deep k zero ts le b = rw b (ap (λ (m : ℕ). Err (TooDeep m)) (length_lexemes ts))
+enter_deep k (suc n) ts le b = absurd (omega arith)
+
+pub enter_missing : (k : Kind) (n : ℕ) (ts : List Token) → n ≤ 0 → begins k (lexemes ts) ≡ false → enter_at k n (lexemes ts) ≡ Err (Unexpected (length ts))
+unfolding enter_at deep_at
+enter_missing k zero ts le b = rw b (ap (λ (m : ℕ). Err (Unexpected m)) (length_lexemes ts))
+enter_missing k (suc n) ts le b = absurd (omega arith)
+
+-- ---- atoms
+
+module _ (n : ℕ) (b : Bool) (ts : List Lexeme) where
+  pub atom_name : begins Kinds.Name ts ≡ true → atom_at (inner_at n) b ts ≡ name_at ts
+  unfolding atom_at or_at
+  atom_name e = rw e
+
+  pub atom_group : begins Kinds.Name ts ≡ false → begins Kinds.OpenParenthesis ts ≡ true → atom_at (inner_at n) b ts ≡ entered_at Kinds.OpenParenthesis n (λ e. group_at e b) ts
+  unfolding atom_at or_at
+  atom_group e f = rw (e, f) (opened_entered Kinds.OpenParenthesis (λ e. group_at e b) n ts)
+
+  pub atom_list : begins Kinds.Name ts ≡ false → begins Kinds.OpenParenthesis ts ≡ false → begins Kinds.OpenBracket ts ≡ true → atom_at (inner_at n) b ts ≡ entered_at Kinds.OpenBracket n (λ e. list_at e b) ts
+  unfolding atom_at or_at
+  atom_list e f g = rw (e, f, g) (opened_entered Kinds.OpenBracket (λ e. list_at e b) n ts)
+
+  pub atom_dictionary : begins Kinds.Name ts ≡ false → begins Kinds.OpenParenthesis ts ≡ false → begins Kinds.OpenBracket ts ≡ false → begins Kinds.OpenBrace ts ≡ true → atom_at (inner_at n) b ts ≡ entered_at Kinds.OpenBrace n (λ e. dictionary_at e b) ts
+  unfolding atom_at or_at
+  atom_dictionary e f g h = rw (e, f, g, h) (opened_entered Kinds.OpenBrace (λ e. dictionary_at e b) n ts)
+
+  pub atom_literal : begins Kinds.Name ts ≡ false → begins Kinds.OpenParenthesis ts ≡ false → begins Kinds.OpenBracket ts ≡ false → begins Kinds.OpenBrace ts ≡ false → atom_at (inner_at n) b ts ≡ literal_at ts
+  unfolding atom_at or_at
+  atom_literal e f g h = rw (e, f, g, h)
+
+  pub base_call : two_begin Kinds.Name Kinds.OpenParenthesis ts ≡ true → base_at (inner_at n) b ts ≡ call_at (entered_at Kinds.OpenParenthesis n (λ e. items_at e b)) ts
+  unfolding base_at or_at
+  base_call e = rw e (ap (λ (q : Reader (List ArgumentTree)). call_at q ts) (opened_is Kinds.OpenParenthesis (λ e. items_at e b) n))
+
+  pub base_atom : two_begin Kinds.Name Kinds.OpenParenthesis ts ≡ false → base_at (inner_at n) b ts ≡ atom_at (inner_at n) b ts
+  unfolding base_at or_at
+  base_atom e = rw e
+
+  pub link_method : begins Kinds.Dot ts ≡ true → link_at (inner_at n) b ts ≡ method_at (entered_at Kinds.OpenParenthesis n (λ e. items_at e b)) ts
+  unfolding link_at or_at
+  link_method e = rw e (ap (λ (q : Reader (List ArgumentTree)). method_at q ts) (opened_is Kinds.OpenParenthesis (λ e. items_at e b) n))
+
+  pub link_index : begins Kinds.Dot ts ≡ false → link_at (inner_at n) b ts ≡ entered_at Kinds.OpenBracket n (λ e. index_at e b) ts
+  unfolding link_at or_at
+  link_index e = rw e (opened_entered Kinds.OpenBracket (λ e. index_at e b) n ts)
+
+unary_inner : (n : ℕ) (b : Bool) (ts : List Lexeme) → unary_at n b ts ≡ unary_in_at (inner_at n) b ts
+unfolding unary_at
+unary_inner zero b ts = refl
+unary_inner (suc n) b ts = refl
+
+module _ (n : ℕ) (b : Bool) (ts : List Lexeme) where
+  pub unary_not : begins Kinds.Not ts ≡ true → unary_at n b ts ≡ entered_at Kinds.Not n (λ e. prefixed_at prefixes.Not e b) ts
+  unfolding unary_in_at or_at
+  unary_not e = unary_inner n b ts ∙ rw e (opened_entered Kinds.Not (λ e. prefixed_at prefixes.Not e b) n ts)
+
+  pub unary_minus : begins Kinds.Not ts ≡ false → begins Kinds.Minus ts ≡ true → unary_at n b ts ≡ entered_at Kinds.Minus n (λ e. prefixed_at prefixes.Negative e b) ts
+  unfolding unary_in_at or_at
+  unary_minus e f = unary_inner n b ts ∙ rw (e, f) (opened_entered Kinds.Minus (λ e. prefixed_at prefixes.Negative e b) n ts)
+
+  pub unary_postfix : begins Kinds.Not ts ≡ false → begins Kinds.Minus ts ≡ false → unary_at n b ts ≡ postfix_at (inner_at n) b ts
+  unfolding unary_in_at or_at
+  unary_postfix e f = unary_inner n b ts ∙ rw (e, f) refl
+
+-- ---- arguments
+
+module _ (r : Reader ExpressionTree) (s : Bool) (ts : List Lexeme) where
+  pub argument_named : two_begin Kinds.Name Kinds.Colon ts ≡ true → argument_at r s ts ≡ named_at r ts
+  unfolding argument_at or_at
+  argument_named e = elim s as (λ z. argument_at r z ts ≡ named_at r ts) [ true ↦ refl | false ↦ rw e ]
+
+  pub argument_behind : s ≡ true → argument_at r s ts ≡ named_at r ts
+  unfolding argument_at
+  argument_behind e = rw e refl
+
+  pub argument_positional : s ≡ false → two_begin Kinds.Name Kinds.Colon ts ≡ false → argument_at r s ts ≡ positional_at r ts
+  unfolding argument_at or_at
+  argument_positional e f = rw (e, f) refl
 
 -- ---- the order of the calls
 
 -- how far a chain of this rank is from the unary expressions
 abbrev pub weight : Rank → ℕ
-weight ranks.Product = 1
-weight ranks.Sum = 5
-weight ranks.And = 10
-weight ranks.Or = 13
+weight ranks.Product = 8
+weight ranks.Sum = 12
+weight ranks.And = 21
+weight ranks.Or = 25

@@ -1,286 +1,254 @@
--- The lines of the grammar of expressions.
-use Rattle.std.proofs.Common.{◌≡◌, ℕ, zero, suc, ◌+◌, ◌≤◌, ◌<◌, Bool, true, false, cond, List, Option, Some, None, refl, ap, ◌∙◌, inl, inr, lit≤, arith}
-use Rattle.std.specs.Option.{option_to_list}
+-- The lines of the grammar of expressions, from atoms to whole expressions.
+use Rattle.std.proofs.Common.{◌≡◌, ℕ, zero, suc, ◌+◌, ◌≤◌, ◌<◌, Bool, true, false, cond, List, [], ◌∷◌, length, Option, Some, None, refl, sym, ap, subst, ◌∙◌, inl, inr, lit≤, arith}
 use Rattle.lexer.specs.Lexeme.{Lexeme}
 use Rattle.lexer.specs.Kinds.{is}
 use Rattle.lexer.specs.declared.token.Kind.{Kind}
 use Rattle.lexer.specs.declared.token.Kind.TheVariants as Kinds
-use Rattle.syntax.specs.declared.tree.Operator.{Operator}
-use Rattle.syntax.specs.declared.tree.Operator.TheVariants as operators
-use Rattle.syntax.specs.ExpressionTree.{ExpressionTree, NameTree, LiteralTree}
-use Rattle.syntax.specs.Form.{Form, token, give, listed, ◌>>=◌, ◌or◌}
-use Rattle.syntax.specs.Parts.{Inner, Closed, Inside, here, here_at, opened, opened_at, stands_for, token_as, token_as_at}
-use Rattle.syntax.specs.Expressions.{additive, comparative, conjunctive, disjunctive, literal_of, multiplicative, chain_tree, choice_tree, product, sum, comparison, conjunction, disjunction, compared, comparison_operator, not_in, branches, choice, name, literal, group, atom, unary, expr, arguments}
-use Rattle.syntax.specs.Reading.{Reader, begins, token_at}
-use Rattle.syntax.specs.ReadingExpressions.{arguments_at, arguments_in, asks, atom_at, branches_at, choice_at, compared_at, compares, comparison_at, comparison_operator_at, conjunction_at, disjunction_at, expr_at, group_at, items_of, literal_at, name_at, not_in_at, plain_comparison_at, product_at, sum_at, unary_at}
-use Rattle.syntax.proofs.Binding.{After, AfterExpression, after_kind, binding}
-use Rattle.syntax.proofs.Chains.{line-either, line-map, line-then-optional}
+use Rattle.syntax.specs.declared.tree.Prefix.{Prefix}
+use Rattle.syntax.specs.declared.tree.Prefix.TheVariants as prefixes
+use Rattle.syntax.specs.ExpressionTree.{ExpressionTree, NameTree, FunctionTree, ArgumentTree, LinkTree, MethodTree, IndexTree, PrefixTree, arguments}
+use Rattle.syntax.specs.Form.{Form, token, give, listed, same_state, many, ◌>>=◌, ◌or◌}
+use Rattle.syntax.specs.Parts.{Inner, Closed, Inside, here, here_at, opened, opened_at, stands_for}
+use Rattle.syntax.specs.Expressions.{atom, call, choice, dictionary, expr, group, in_parentheses, index, is_named, items, link, list, literal, literal_of, method, name, plain_arguments, postfix, postfix_tree, prefixed, unary, unary_in, argument}
+use Rattle.syntax.specs.Reading.{Reader, begins, listed_at, or_at, token_at}
+use Rattle.syntax.specs.ReadingExpressions.{argument_at, arguments_at, arguments_in, atom_at, base_at, call_at, choice_at, dictionary_at, expr_at, group_at, in_parentheses_at, index_at, items_at, items_of, link_at, links_at, links_on, list_at, literal_at, method_at, name_at, postfix_at, prefixed_at, unary_at, unary_in_at}
+use Rattle.syntax.proofs.Alike.{line-alike}
+use Rattle.syntax.proofs.Atoms.{either, inside, line-argument, line-closed, line-dictionary, line-group, line-list, line-literal, line-name, of_kind, starts-either, starts-weaker, starts-inside, starts-literal, starts-name, AfterArgument}
+use Rattle.syntax.proofs.Binding.{After, AfterExpression, after_kind, binding, head_binding}
+use Rattle.syntax.proofs.Chains.{line-map, line-then-many}
+use Rattle.syntax.proofs.ChoiceLines.{line-before, line-choice-of, single_choice, starts-choice}
 use Rattle.syntax.proofs.Laws.{bind_at, give_at}
-use Rattle.syntax.proofs.Line.{Line, Any, line-token, line-give, line-then, line-choice, line-bind, line-stops, begins_token, begun_token}
-use Rattle.syntax.proofs.Lists.{line-listed}
+use Rattle.syntax.proofs.Line.{Line, Any, line-bind, line-choice, line-give, line-stops, line-then, line-token, begins_token, begun_token}
 use Rattle.syntax.proofs.Numbers.{is-true}
-use Rattle.syntax.proofs.Operators.{after_less, head_binds, head_ends, line-chain, rank-additive, rank-conjunctive, rank-disjunctive, rank-multiplicative}
-use Rattle.syntax.proofs.Starts.{Starts, begins-head, starts-bind, starts-or, starts-never, starts-token}
-use Rattle.syntax.proofs.Steps.{IsInside, line-as, line-deep, line-here, line-opened, starts-as, starts-here, starts-opened}
-
--- ---- comparisons
-
-compares_ends : (k : Kind) → 4 < binding k → compares k ≡ false
-compares_ends Kinds.Equal lt = absurd (omega arith)
-compares_ends Kinds.NotEqual lt = absurd (omega arith)
-compares_ends Kinds.Less lt = absurd (omega arith)
-compares_ends Kinds.LessOrEqual lt = absurd (omega arith)
-compares_ends Kinds.Greater lt = absurd (omega arith)
-compares_ends Kinds.GreaterOrEqual lt = absurd (omega arith)
-compares_ends Kinds.In lt = absurd (omega arith)
-compares_ends Kinds.Not lt = absurd (omega arith)
-compares_ends _ lt = refl
-
-compares_binds : (k : Kind) → compares k ≡ true → 4 ≤ binding k
-compares_binds Kinds.Equal e = lit≤ tt
-compares_binds Kinds.NotEqual e = lit≤ tt
-compares_binds Kinds.Less e = lit≤ tt
-compares_binds Kinds.LessOrEqual e = lit≤ tt
-compares_binds Kinds.Greater e = lit≤ tt
-compares_binds Kinds.GreaterOrEqual e = lit≤ tt
-compares_binds Kinds.In e = lit≤ tt
-compares_binds Kinds.Not e = lit≤ tt
-compares_binds _ e = absurd cc
-
-plain_compares : (k : Kind) → stands_for comparative k ≡ true → compares k ≡ true
-plain_compares Kinds.Not e = refl
-plain_compares k e = e
-
-kind_is : (q : Kind → Bool) (k : Kind) (b : Bool) → q k ≡ b → (l : Kind) → is l k ≡ true → q l ≡ b
-kind_is q k b e l h = ap q (is-true l k h) ∙ e
-
-abbrev is_not : Kind → Bool
-is_not l = is l Kinds.Not
-
-abbrev plain_comparison : Form Operator
-plain_comparison = token_as comparative >>= λ o. give o.0
-
-line-plain-comparison : Line plain_comparison plain_comparison plain_comparison_at plain_comparison_at Any 1
-unfolding plain_comparison_at
-line-plain-comparison = line-map (token_as comparative) (token_as comparative) (λ o. o.0) (token_as_at comparative) (token_as_at comparative) Any 1 (line-as comparative)
-
-line-not-in : Line not_in not_in not_in_at not_in_at Any 1
-unfolding not_in_at
-line-not-in = line-then (token Kinds.Not) (token Kinds.Not) (λ n. token Kinds.In >>= λ i. give operators.NotIn) (λ n. token Kinds.In >>= λ i. give operators.NotIn) (token_at Kinds.Not) (token_at Kinds.Not) (λ n. bind_at (token_at Kinds.In) (λ i. give_at operators.NotIn)) (λ n. bind_at (token_at Kinds.In) (λ i. give_at operators.NotIn)) Any 1 0
-    (line-token Kinds.Not) (λ n. line-stops _ _ _ _ Any Any 1 0 (λ ts st. st) (omega arith) (line-map (token Kinds.In) (token Kinds.In) (λ i. operators.NotIn) (token_at Kinds.In) (token_at Kinds.In) Any 1 (line-token Kinds.In)))
-
-starts-plain : Starts plain_comparison (stands_for comparative)
-starts-plain = starts-bind (token_as comparative) _ (stands_for comparative) (starts-as comparative)
-
-starts-not-in : Starts not_in is_not
-starts-not-in = starts-bind (token Kinds.Not) _ is_not (starts-token Kinds.Not)
-
-line-comparison-operator : Line comparison_operator comparison_operator comparison_operator_at comparison_operator_at Any 1
-unfolding comparison_operator_at
-line-comparison-operator = line-either (stands_for comparative) is_not plain_comparison plain_comparison not_in not_in plain_comparison_at plain_comparison_at not_in_at not_in_at Any 1 starts-plain starts-not-in
-    (kind_is (stands_for comparative) Kinds.Not false refl) line-plain-comparison line-not-in
-
-starts-comparison-operator : Starts comparison_operator compares
-starts-comparison-operator = starts-or plain_comparison not_in (stands_for comparative) is_not compares starts-plain starts-not-in plain_compares (kind_is compares Kinds.Not true refl)
-
--- ---- the lines over the unary expressions
-
-module _ (F F' : Form ExpressionTree) (r r' : Reader ExpressionTree) (u : Line F F' r r' (After 1) 1) where
-  line-product : Line (product F) (product F') (product_at r) (product_at r') (After 2) 1
-  unfolding product_at
-  line-product = line-chain multiplicative 2 1 rank-multiplicative (lit≤ tt) F F' r r' u
-
-  line-sum : Line (sum F) (sum F') (sum_at r) (sum_at r') (After 3) 1
-  unfolding sum_at
-  line-sum = line-chain additive 3 2 rank-additive (lit≤ tt) (product F) (product F') (product_at r) (product_at r') line-product
-
-  line-compared : Line (compared (sum F)) (compared (sum F')) (compared_at (sum_at r)) (compared_at (sum_at r')) (After 3) 1
-  unfolding compared_at
-  line-compared =
-      line-stops _ _ _ _ (After 3) (After 3) 2 1 (λ ts st. st) (omega arith)
-      (line-then comparison_operator comparison_operator (λ o. sum F >>= λ e. give (o, e)) (λ o. sum F' >>= λ e. give (o, e)) comparison_operator_at comparison_operator_at (λ o. bind_at (sum_at r) (λ e. give_at (o, e))) (λ o. bind_at (sum_at r') (λ e. give_at (o, e))) (After 3) 1 1 line-comparison-operator
-      (λ o. line-map (sum F) (sum F') (λ e. (o, e)) (sum_at r) (sum_at r') (After 3) 1 line-sum))
-
-  line-comparison : Line (comparison F) (comparison F') (comparison_at r) (comparison_at r') (After 4) 1
-  unfolding comparison_at
-  line-comparison =
-      line-stops _ _ _ _ (After 4) (After 4) (0 + 1) 1 (λ ts st. st) (omega arith)
-      (line-then here here _ _ here_at here_at _ _ (After 4) 0 1 line-here
-      (λ line. line-then-optional (compared (sum F)) (compared (sum F')) (compared_at (sum_at r)) (compared_at (sum_at r')) compares (After 3)
-      (starts-bind comparison_operator _ compares starts-comparison-operator) line-compared (sum F) (sum F') (sum_at r) (sum_at r') (After 3) (After 4) line-sum
-      (λ ts h. let a = head_binds compares 3 (λ k e. compares_binds k e) ts h in (a, a))
-      (λ ts st. (head_ends compares 4 compares_ends ts st, after_less 4 3 (lit≤ tt) ts st, after_less 4 3 (lit≤ tt) ts st))
-      (λ first o. chain_tree line first (option_to_list o))))
-
-  line-conjunction : Line (conjunction F) (conjunction F') (conjunction_at r) (conjunction_at r') (After 5) 1
-  unfolding conjunction_at
-  line-conjunction = line-chain conjunctive 5 4 rank-conjunctive (lit≤ tt) (comparison F) (comparison F') (comparison_at r) (comparison_at r') line-comparison
-
-  line-disjunction : Line (disjunction F) (disjunction F') (disjunction_at r) (disjunction_at r') (After 6) 1
-  unfolding disjunction_at
-  line-disjunction = line-chain disjunctive 6 5 rank-disjunctive (lit≤ tt) (conjunction F) (conjunction F') (conjunction_at r) (conjunction_at r') line-conjunction
-
-starts-disjunction : (F : Form ExpressionTree) (p : Kind → Bool) → Starts F p → Starts (disjunction F) p
-starts-disjunction F p s =
-    starts-here _ p (λ l. starts-bind (conjunction F) _ p (starts-here _ p (λ l. starts-bind (comparison F) _ p (starts-here _ p (λ l. starts-bind (sum F) _ p (starts-here _ p (λ l. starts-bind (product F) _ p (starts-here _ p (λ l. starts-bind F _ p s)))))))))
-
--- ---- choices
-
--- a part that ends where a token of this kind comes
-line-before : {A B : Type 0} (k : Kind) (rank : ℕ) (F F' : Form A) (G G' : A → Lexeme → Form B) (r r' : Reader A) (s s' : A → Lexeme → Reader B) (StopsG : List Lexeme → Type 0) → rank < binding k → Line F F' r r' (After rank) 1
-    → ((a : A) (t : Lexeme) → Line (G a t) (G' a t) (s a t) (s' a t) StopsG 0)
-    → Line (F >>= λ a. token k >>= G a) (F' >>= λ a. token k >>= G' a) (bind_at r (λ a. bind_at (token_at k) (s a))) (bind_at r' (λ a. bind_at (token_at k) (s' a))) StopsG 1
-line-before k rank F F' G G' r r' s s' StopsG lt f g =
-    line-stops _ _ _ _ StopsG StopsG 2 1 (λ ts st. st) (omega arith)
-    (line-bind F F' (λ a. token k >>= G a) (λ a. token k >>= G' a) r r' (λ a. bind_at (token_at k) (s a)) (λ a. bind_at (token_at k) (s' a)) (After rank) StopsG 1 1 f
-    (λ a. line-then (token k) (token k) (G a) (G' a) (token_at k) (token_at k) (s a) (s' a) StopsG 1 0 (line-token k) (g a))
-    (λ a b ts rest h st. after_kind k rank ts lt (begins_token k (G a) b ts rest h))
-    (λ a ts more h. elim (begun_token k (G a) ts more h) [ inl same ↦ inl same | inr head ↦ inr (after_kind k rank ts lt head) ]))
-
-module _ (P P' : Form ExpressionTree) (q q' : Reader ExpressionTree) (part : Line P P' q q' (After 6) 1) where
-  line-branches : Line (branches P) (branches P') (branches_at q) (branches_at q') (After 6) 1
-  unfolding branches_at
-  line-branches =
-      line-stops _ _ _ _ (After 6) (After 6) 2 1 (λ ts st. st) (omega arith)
-      (line-then (token Kinds.Question) (token Kinds.Question) _ _ (token_at Kinds.Question) (token_at Kinds.Question) _ _ (After 6) 1 1 (line-token Kinds.Question)
-      (λ t. line-before Kinds.Colon 6 P P' (λ one c. P >>= λ other. give (one, other)) (λ one c. P' >>= λ other. give (one, other)) q q' (λ one c. bind_at q (λ other. give_at (one, other))) (λ one c. bind_at q' (λ other. give_at (one, other))) (After 6) (lit≤ tt) part
-      (λ one c. line-stops _ _ _ _ (After 6) (After 6) 1 0 (λ ts st. st) (omega arith) (line-map P P' (λ other. (one, other)) q q' (After 6) 1 part))))
-
-asks_ends : (k : Kind) → 7 < binding k → asks k ≡ false
-asks_ends Kinds.Question lt = absurd (omega arith)
-asks_ends _ lt = refl
-
-module _ (U U' : Bool → Form ExpressionTree) (v v' : Bool → Reader ExpressionTree) (u : (b : Bool) → Line (U b) (U' b) (v b) (v' b) (After 1) 1) where
-  pub line-choice-of : (b : Bool) → Line (choice U b) (choice U' b) (choice_at v b) (choice_at v' b) (After 7) 1
-  unfolding choice_at
-  line-choice-of false = line-stops (disjunction (U false)) (disjunction (U' false)) (disjunction_at (v false)) (disjunction_at (v' false)) (After 6) (After 7) 1 1 (after_less 7 6 (lit≤ tt)) (omega arith) (line-disjunction (U false) (U' false) (v false) (v' false) (u false))
-  line-choice-of true =
-      let plain = line-disjunction (U false) (U' false) (v false) (v' false) (u false) in
-      line-stops _ _ _ _ (After 7) (After 7) (0 + 1) 1 (λ ts st. st) (omega arith)
-      (line-then here here _ _ here_at here_at _ _ (After 7) 0 1 line-here
-      (λ line. line-then-optional (branches (disjunction (U false))) (branches (disjunction (U' false))) (branches_at (disjunction_at (v false))) (branches_at (disjunction_at (v' false))) asks (After 6)
-      (starts-bind (token Kinds.Question) _ asks (starts-token Kinds.Question)) (line-branches _ _ _ _ plain) (disjunction (U true)) (disjunction (U' true)) (disjunction_at (v true)) (disjunction_at (v' true)) (After 6) (After 7)
-      (line-disjunction (U true) (U' true) (v true) (v' true) (u true))
-      (λ ts h. let a = after_kind Kinds.Question 6 ts (lit≤ tt) (begins-head Kinds.Question ts ∙ h) in (a, a))
-      (λ ts st. (head_ends asks 7 asks_ends ts st, after_less 7 6 (lit≤ tt) ts st, after_less 7 6 (lit≤ tt) ts st))
-      (choice_tree line)))
-
-starts-choice : (U : Bool → Form ExpressionTree) (p : Kind → Bool) → ((b : Bool) → Starts (U b) p) → (b : Bool) → Starts (choice U b) p
-starts-choice U p s false = starts-disjunction (U false) p (s false)
-starts-choice U p s true = starts-here _ p (λ l. starts-bind (disjunction (U true)) _ p (starts-disjunction (U true) p (s true)))
+use Rattle.syntax.proofs.Operators.{after_less, head_binds, head_ends}
+use Rattle.syntax.proofs.Starts.{Starts, begins-head, starts-bind, starts-never, starts-or, starts-token}
+use Rattle.syntax.proofs.Steps.{IsInside, IsUnary, line-deep, line-here, line-opened, opens_expr, starts-here, starts-opened}
 
 -- ---- atoms
 
-line-name : Line name name name_at name_at Any 1
-unfolding name_at
-line-name = line-map (token Kinds.Name) (token Kinds.Name) (λ t. NameTree t.text t.line) (token_at Kinds.Name) (token_at Kinds.Name) Any 1 (line-token Kinds.Name)
-
-line-literal : Line literal literal literal_at literal_at Any 1
-unfolding literal_at
-line-literal = line-map (token_as literal_of) (token_as literal_of) (λ t. LiteralTree t.0 t.1.text t.1.line) (token_as_at literal_of) (token_as_at literal_of) Any 1 (line-as literal_of)
-
-line-group : (b : Bool) (G G' : Bool → Form ExpressionTree) (s s' : Bool → Reader ExpressionTree) → ((b : Bool) → Line (G b) (G' b) (s b) (s' b) (After 1) 1) → (o : Lexeme) → Line (group G b o) (group G' b o) (group_at s b o) (group_at s' b o) Any 0
-unfolding group_at
-line-group b G G' s s' h o =
-    line-stops _ _ _ _ Any Any 1 0 (λ ts st. st) (omega arith)
-    (line-before Kinds.CloseParenthesis 7 (choice G b) (choice G' b) (λ e c. give e) (λ e c. give e) (choice_at s b) (choice_at s' b) (λ e c. give_at e) (λ e c. give_at e) Any (lit≤ tt) (line-choice-of G G' s s' h b) (λ e c. line-give e Any))
-
--- the kinds with which one of two forms begins
-abbrev either : (Kind → Bool) → (Kind → Bool) → Kind → Bool
-either p q k = cond (p k) true (q k)
-
-either_right : (a b : Bool) → b ≡ true → cond a true b ≡ true
-either_right true b e = refl
-either_right false b e = e
-
-starts-either : (p q : Kind → Bool) (F G : Form ExpressionTree) → Starts F p → Starts G q → Starts (F or G) (either p q)
-starts-either p q F G s t = starts-or F G p q (either p q) s t (λ k e. rw e refl) (λ k e. either_right (p k) (q k) e)
-
-abbrev pub of_kind : Kind → Kind → Bool
-of_kind k l = is l k
+abbrev after_name : Kind → Bool
+after_name = either (of_kind Kinds.OpenParenthesis) (either (of_kind Kinds.OpenBracket) (either (of_kind Kinds.OpenBrace) (stands_for literal_of)))
 
 abbrev opens_atom : Kind → Bool
-opens_atom = either (of_kind Kinds.Name) (either (of_kind Kinds.OpenParenthesis) (stands_for literal_of))
-
-starts-name : Starts name (of_kind Kinds.Name)
-starts-name = starts-bind (token Kinds.Name) _ (of_kind Kinds.Name) (starts-token Kinds.Name)
-
-starts-literal : Starts literal (stands_for literal_of)
-starts-literal = starts-bind (token_as literal_of) _ (stands_for literal_of) (starts-as literal_of)
+opens_atom = either (of_kind Kinds.Name) after_name
 
 module _ (u : Inner) (b : Bool) where
   abbrev grouped : Form ExpressionTree
   grouped = opened Kinds.OpenParenthesis u (λ e. group e b)
 
-  starts-grouped : Starts grouped (of_kind Kinds.OpenParenthesis)
-  starts-grouped = starts-opened Kinds.OpenParenthesis (λ e. group e b) u
+  abbrev listing : Form ExpressionTree
+  listing = opened Kinds.OpenBracket u (λ e. list e b)
 
-  starts-plain-atom : Starts (grouped or literal) (either (of_kind Kinds.OpenParenthesis) (stands_for literal_of))
-  starts-plain-atom = starts-either (of_kind Kinds.OpenParenthesis) (stands_for literal_of) grouped literal starts-grouped starts-literal
+  abbrev mapping : Form ExpressionTree
+  mapping = opened Kinds.OpenBrace u (λ e. dictionary e b)
+
+  starts-mapping : Starts (mapping or literal) (either (of_kind Kinds.OpenBrace) (stands_for literal_of))
+  starts-mapping = starts-either (of_kind Kinds.OpenBrace) (stands_for literal_of) mapping literal (starts-opened Kinds.OpenBrace (λ e. dictionary e b) u) starts-literal
+
+  starts-listing : Starts (listing or (mapping or literal)) (either (of_kind Kinds.OpenBracket) (either (of_kind Kinds.OpenBrace) (stands_for literal_of)))
+  starts-listing = starts-either (of_kind Kinds.OpenBracket) _ listing (mapping or literal) (starts-opened Kinds.OpenBracket (λ e. list e b) u) starts-mapping
+
+  starts-grouped : Starts (grouped or (listing or (mapping or literal))) after_name
+  starts-grouped = starts-either (of_kind Kinds.OpenParenthesis) _ grouped (listing or (mapping or literal)) (starts-opened Kinds.OpenParenthesis (λ e. group e b) u) starts-listing
 
   starts-atom : Starts (atom u b) opens_atom
-  starts-atom = starts-either (of_kind Kinds.Name) (either (of_kind Kinds.OpenParenthesis) (stands_for literal_of)) name (grouped or literal) starts-name starts-plain-atom
+  starts-atom = starts-either (of_kind Kinds.Name) after_name name (grouped or (listing or (mapping or literal))) starts-name starts-grouped
 
-line-atom : (u u' : Inner) (v v' : Option (Bool → Reader ExpressionTree)) → IsInside u u' v v' → (b : Bool) → Line (atom u b) (atom u' b) (atom_at v b) (atom_at v' b) (After 1) 1
-unfolding atom_at
-line-atom u u' v v' h b =
-    line-stops _ _ _ _ Any (After 1) 1 1 (λ ts st. tt) (omega arith)
-    (line-choice Kinds.Name (either (of_kind Kinds.OpenParenthesis) (stands_for literal_of)) name name (grouped u b or literal) (grouped u' b or literal) name_at name_at _ _ Any 1 starts-name (starts-plain-atom u b) refl line-name
-    (line-choice Kinds.OpenParenthesis (stands_for literal_of) (grouped u b) (grouped u' b) literal literal (opened_at Kinds.OpenParenthesis v (λ e. group_at e b)) (opened_at Kinds.OpenParenthesis v' (λ e. group_at e b)) literal_at literal_at Any 1 (starts-grouped u b) starts-literal refl
-    (line-opened Kinds.OpenParenthesis (λ e. group e b) (λ e. group_at e b) Any (line-group b) u u' v v' h) line-literal))
+module _ (u u' : Inner) (v v' : Option (Bool → Reader ExpressionTree)) (h : IsInside u u' v v') (b : Bool) where
+  line-atom : Line (atom u b) (atom u' b) (atom_at v b) (atom_at v' b) Any 1
+  unfolding atom_at
+  line-atom =
+      line-choice Kinds.Name after_name name name _ _ name_at name_at _ _ Any 1 starts-name (starts-grouped u b) refl line-name
+      (line-choice Kinds.OpenParenthesis (either (of_kind Kinds.OpenBracket) (either (of_kind Kinds.OpenBrace) (stands_for literal_of))) (grouped u b) (grouped u' b) _ _ _ _ _ _ Any 1 (starts-opened Kinds.OpenParenthesis (λ e. group e b) u) (starts-listing u b) refl
+      (line-opened Kinds.OpenParenthesis (λ e. group e b) (λ e. group_at e b) Any (λ G G' s s' i. line-group G G' s s' i b) u u' v v' h)
+      (line-choice Kinds.OpenBracket (either (of_kind Kinds.OpenBrace) (stands_for literal_of)) (listing u b) (listing u' b) _ _ _ _ _ _ Any 1 (starts-opened Kinds.OpenBracket (λ e. list e b) u) (starts-mapping u b) refl
+      (line-opened Kinds.OpenBracket (λ e. list e b) (λ e. list_at e b) Any (λ G G' s s' i. line-list G G' s s' i b) u u' v v' h)
+      (line-choice Kinds.OpenBrace (stands_for literal_of) (mapping u b) (mapping u' b) literal literal _ _ literal_at literal_at Any 1 (starts-opened Kinds.OpenBrace (λ e. dictionary e b) u) starts-literal refl
+      (line-opened Kinds.OpenBrace (λ e. dictionary e b) (λ e. dictionary_at e b) Any (λ G G' s s' i. line-dictionary G G' s s' i b) u u' v v' h)
+      line-literal)))
 
-line-unary : (n : ℕ) (b : Bool) → Line (unary n b) (unary (suc n) b) (unary_at n b) (unary_at (suc n) b) (After 1) 1
+  single_name : (t : Lexeme) (us : List Lexeme) → t.kind ≡ Kinds.Name → (atom u b).spells (NameTree t.text t.line) (t ∷ us) us
+  single_name t us k = inl (t, us, (refl, k), (refl, refl))
+
+  -- ---- calls
+
+  line-items : (G G' : Bool → Form ExpressionTree) (s s' : Bool → Reader ExpressionTree) → ((b : Bool) → IsUnary (G b) (G' b) (s b) (s' b)) → (o : Lexeme) → Line (items G b o) (items G' b o) (items_at s b o) (items_at s' b o) Any 0
+  unfolding items_at
+  line-items G G' s s' i o = line-closed Kinds.CloseParenthesis (argument (choice G b)) (argument (choice G' b)) (argument_at (choice_at s b)) (argument_at (choice_at s' b)) is_named (λ xs. xs) (AfterArgument G G' s s' i b) refl refl
+      (λ ts c. (after_kind Kinds.Comma 7 ts (lit≤ tt) c, not_colon Kinds.Comma refl ts c)) (λ ts c. (after_kind Kinds.CloseParenthesis 7 ts (lit≤ tt) c, not_colon Kinds.CloseParenthesis refl ts c))
+      starts_argument (line-argument G G' s s' i b) false
+    where
+      not_colon : (k : Kind) → is k Kinds.Colon ≡ false → (ts : List Lexeme) → begins k ts ≡ true → begins Kinds.Colon ts ≡ false
+      not_colon k e [] c = refl
+      not_colon k e (t ∷ ts) c = subst (λ (l : Kind). is l Kinds.Colon ≡ false) (sym (is-true t.kind k c)) e
+
+      from_name : (k : Kind) → is k Kinds.Name ≡ true → opens_expr k ≡ true
+      from_name k e = ap opens_expr (is-true k Kinds.Name e)
+
+      starts_argument : (n : Bool) → Starts (argument (choice G b) n) opens_expr
+      starts_argument true = starts-weaker (of_kind Kinds.Name) opens_expr _ from_name (starts-bind (token Kinds.Name) _ (of_kind Kinds.Name) (starts-token Kinds.Name))
+      starts_argument false = starts-or _ _ (of_kind Kinds.Name) opens_expr opens_expr (starts-bind (token Kinds.Name) _ (of_kind Kinds.Name) (starts-token Kinds.Name)) (starts-bind (choice G b) _ opens_expr (starts-inside G G' s s' i b)) from_name (λ k e. e)
+
+  line-in-parentheses : Line (in_parentheses u b) (in_parentheses u' b) (in_parentheses_at v b) (in_parentheses_at v' b) Any 1
+  line-in-parentheses = line-opened Kinds.OpenParenthesis (λ e. items e b) (λ e. items_at e b) Any line-items u u' v v' h
+
+  abbrev After0 : List Lexeme → Type 0
+  After0 ts = After 0 ts
+
+  not_call : (ts : List Lexeme) → After 0 ts → begins Kinds.OpenParenthesis ts ≡ false
+  not_call ts st = begins-head Kinds.OpenParenthesis ts ∙ head_ends (of_kind Kinds.OpenParenthesis) 0 call_ends ts st
+    where
+      call_ends : (k : Kind) → 0 < binding k → of_kind Kinds.OpenParenthesis k ≡ false
+      call_ends Kinds.OpenParenthesis lt = absurd (omega arith)
+      call_ends _ lt = refl
+
+  line-base : Line (call (in_parentheses u b) or atom u b) (call (in_parentheses u' b) or atom u' b) (base_at v b) (base_at v' b) (After 0) 1
+  unfolding base_at call_at
+  line-base = line-alike Kinds.Name Kinds.OpenParenthesis _ _ (atom u b) (atom u' b) _ _ (atom_at v b) (atom_at v' b) (After 0) Any
+      (λ t. starts-bind (in_parentheses u b) _ (of_kind Kinds.OpenParenthesis) (starts-opened Kinds.OpenParenthesis (λ e. items e b) u))
+      (λ t. line-stops _ _ _ _ Any (After 0) 1 0 (λ ts st. tt) (omega arith) (line-map (in_parentheses u b) (in_parentheses u' b) (λ xs. FunctionTree t.text (arguments xs) t.line) (in_parentheses_at v b) (in_parentheses_at v' b) Any 1 line-in-parentheses))
+      line-atom
+      (λ t us k. (NameTree t.text t.line, single_name t us k))
+      (λ us c. tt)
+      (λ us st. (tt, not_call us st))
+
+  -- ---- what is asked of a value
+
+  line-method : Line (method (in_parentheses u b)) (method (in_parentheses u' b)) (method_at (in_parentheses_at v b)) (method_at (in_parentheses_at v' b)) Any 1
+  unfolding method_at
+  line-method = line-stops _ _ _ _ Any Any (1 + (1 + 1)) 1 (λ ts st. st) (omega arith)
+      (line-then (token Kinds.Dot) (token Kinds.Dot) _ _ (token_at Kinds.Dot) (token_at Kinds.Dot) _ _ Any 1 (1 + 1) (line-token Kinds.Dot)
+      (λ d. line-then (token Kinds.Name) (token Kinds.Name) _ _ (token_at Kinds.Name) (token_at Kinds.Name) _ _ Any 1 1 (line-token Kinds.Name)
+      (λ t. line-map (in_parentheses u b) (in_parentheses u' b) (λ xs. MethodTree t.text (arguments xs)) (in_parentheses_at v b) (in_parentheses_at v' b) Any 1 line-in-parentheses)))
+
+  line-index : (G G' : Bool → Form ExpressionTree) (s s' : Bool → Reader ExpressionTree) → ((b : Bool) → IsUnary (G b) (G' b) (s b) (s' b)) → (o : Lexeme) → Line (index G b o) (index G' b o) (index_at s b o) (index_at s' b o) Any 0
+  unfolding index_at
+  line-index G G' s s' i o =
+      line-stops _ _ _ _ Any Any 1 0 (λ ts st. st) (omega arith)
+      (line-before Kinds.CloseBracket 7 (choice G b) (choice G' b) (λ e c. give (IndexTree e)) (λ e c. give (IndexTree e)) (choice_at s b) (choice_at s' b) (λ e c. give_at (IndexTree e)) (λ e c. give_at (IndexTree e)) Any (lit≤ tt) (inside G G' s s' i b) (λ e c. line-give (IndexTree e) Any))
+
+  starts-method : Starts (method (in_parentheses u b)) (of_kind Kinds.Dot)
+  starts-method = starts-bind (token Kinds.Dot) _ (of_kind Kinds.Dot) (starts-token Kinds.Dot)
+
+  starts-index : Starts (opened Kinds.OpenBracket u (λ e. index e b)) (of_kind Kinds.OpenBracket)
+  starts-index = starts-opened Kinds.OpenBracket (λ e. index e b) u
+
+  line-link : Line (link u b) (link u' b) (link_at v b) (link_at v' b) Any 1
+  unfolding link_at
+  line-link = line-choice Kinds.Dot (of_kind Kinds.OpenBracket) (method (in_parentheses u b)) (method (in_parentheses u' b)) _ _ _ _ _ _ Any 1 starts-method starts-index refl line-method
+      (line-opened Kinds.OpenBracket (λ e. index e b) (λ e. index_at e b) Any line-index u u' v v' h)
+
+  starts-link : Starts (link u b) links_on
+  starts-link = starts-either (of_kind Kinds.Dot) (of_kind Kinds.OpenBracket) _ _ starts-method starts-index
+
+  links_bind : (k : Kind) → links_on k ≡ true → 0 < binding k
+  links_bind Kinds.Dot e = lit≤ tt
+  links_bind Kinds.OpenBracket e = lit≤ tt
+  links_bind _ e = absurd cc
+
+  links_end : (k : Kind) → 1 < binding k → links_on k ≡ false
+  links_end Kinds.Dot lt = absurd (omega arith)
+  links_end Kinds.OpenBracket lt = absurd (omega arith)
+  links_end _ lt = refl
+
+  line-postfix : Line (postfix u b) (postfix u' b) (postfix_at v b) (postfix_at v' b) (After 1) 1
+  unfolding postfix_at links_at
+  line-postfix =
+      line-stops _ _ _ _ (After 1) (After 1) (0 + 1) 1 (λ ts st. st) (omega arith)
+      (line-then here here _ _ here_at here_at _ _ (After 1) 0 1 line-here
+      (λ line. line-then-many (link u b) (link u' b) (link_at v b) (link_at v' b) links_on Any starts-link line-link _ _ (base_at v b) (base_at v' b) (After 0) (After 1) line-base
+      (λ ts c. (head_binds links_on 0 links_bind ts c, tt))
+      (λ ts st. (head_ends links_on 1 links_end ts st, tt, after_less 1 0 (omega arith) ts st))
+      (postfix_tree line)))
+
+  starts-postfix : Starts (postfix u b) opens_atom
+  starts-postfix = starts-here _ opens_atom (λ line. starts-bind _ _ opens_atom (starts-or (call (in_parentheses u b)) (atom u b) (of_kind Kinds.Name) opens_atom opens_atom
+      (starts-bind (token Kinds.Name) _ (of_kind Kinds.Name) (starts-token Kinds.Name)) (starts-atom u b) (λ k e. ap opens_atom (is-true k Kinds.Name e)) (λ k e. e)))
+
+  single_postfix : (t : Lexeme) (us : List Lexeme) → t.kind ≡ Kinds.Name → (postfix u b).spells (NameTree t.text t.line) (t ∷ us) us
+  single_postfix t us k = (_, t ∷ us, (refl, refl), (NameTree t.text t.line, us, inr (single_name t us k), ([], us, refl, (refl, refl))))
+
+  -- ---- prefix operators
+
+  line-prefixed : (p : Prefix) (G G' : Bool → Form ExpressionTree) (s s' : Bool → Reader ExpressionTree) → ((b : Bool) → IsUnary (G b) (G' b) (s b) (s' b)) → (o : Lexeme) → Line (prefixed p G b o) (prefixed p G' b o) (prefixed_at p s b o) (prefixed_at p s' b o) (After 1) 0
+  unfolding prefixed_at
+  line-prefixed p G G' s s' i o = line-stops _ _ _ _ (After 1) (After 1) 1 0 (λ ts st. st) (omega arith) (line-map (G b) (G' b) (λ e. PrefixTree p e o.line) (s b) (s' b) (After 1) 1 (i b).line)
+
+  abbrev negative : Inner → Form ExpressionTree
+  negative w = opened Kinds.Minus w (λ e. prefixed prefixes.Negative e b)
+
+  abbrev negated : Inner → Form ExpressionTree
+  negated w = opened Kinds.Not w (λ e. prefixed prefixes.Not e b)
+
+  starts-negative : Starts (negative u or postfix u b) (either (of_kind Kinds.Minus) opens_atom)
+  starts-negative = starts-either (of_kind Kinds.Minus) opens_atom (negative u) (postfix u b) (starts-opened Kinds.Minus (λ e. prefixed prefixes.Negative e b) u) starts-postfix
+
+  line-unary-in : Line (unary_in u b) (unary_in u' b) (unary_in_at v b) (unary_in_at v' b) (After 1) 1
+  unfolding unary_in_at
+  line-unary-in =
+      line-choice Kinds.Not (either (of_kind Kinds.Minus) opens_atom) (negated u) (negated u') _ _ _ _ _ _ (After 1) 1 (starts-opened Kinds.Not (λ e. prefixed prefixes.Not e b) u) starts-negative refl
+      (line-opened Kinds.Not (λ e. prefixed prefixes.Not e b) (λ e. prefixed_at prefixes.Not e b) (After 1) (line-prefixed prefixes.Not) u u' v v' h)
+      (line-choice Kinds.Minus opens_atom (negative u) (negative u') (postfix u b) (postfix u' b) _ _ (postfix_at v b) (postfix_at v' b) (After 1) 1 (starts-opened Kinds.Minus (λ e. prefixed prefixes.Negative e b) u) starts-postfix refl
+      (line-opened Kinds.Minus (λ e. prefixed prefixes.Negative e b) (λ e. prefixed_at prefixes.Negative e b) (After 1) (line-prefixed prefixes.Negative) u u' v v' h) line-postfix)
+
+  atom_opens : (k : Kind) → opens_atom k ≡ true → opens_expr k ≡ true
+  atom_opens Kinds.Name e = refl
+  atom_opens Kinds.OpenParenthesis e = refl
+  atom_opens Kinds.OpenBracket e = refl
+  atom_opens Kinds.OpenBrace e = refl
+  atom_opens Kinds.Not e = refl
+  atom_opens Kinds.Minus e = refl
+  atom_opens k e = e
+
+  starts-unary-in : Starts (unary_in u b) opens_expr
+  starts-unary-in = starts-or (negated u) _ (of_kind Kinds.Not) opens_expr opens_expr (starts-opened Kinds.Not (λ e. prefixed prefixes.Not e b) u)
+      (starts-or (negative u) (postfix u b) (of_kind Kinds.Minus) opens_atom opens_expr (starts-opened Kinds.Minus (λ e. prefixed prefixes.Negative e b) u) starts-postfix (λ k e. ap opens_expr (is-true k Kinds.Minus e)) atom_opens)
+      (λ k e. ap opens_expr (is-true k Kinds.Not e)) (λ k e. e)
+
+  is-unary-in : IsUnary (unary_in u b) (unary_in u' b) (unary_in_at v b) (unary_in_at v' b)
+  is-unary-in = record { line = line-unary-in; starts = starts-unary-in; single = λ t us k. inr (inr (single_postfix t us k)) }
+
+-- ---- expressions
+
+is-unary : (n : ℕ) (b : Bool) → IsUnary (unary n b) (unary (suc n) b) (unary_at n b) (unary_at (suc n) b)
 unfolding unary unary_at
-line-unary zero b = line-atom Closed (Inside (unary 0)) None (Some (unary_at 0)) tt b
-line-unary (suc n) b = line-atom (Inside (unary n)) (Inside (unary (suc n))) (Some (unary_at n)) (Some (unary_at (suc n))) (line-unary n) b
-
--- the kinds with which an expression begins
-abbrev pub opens_expr : Kind → Bool
-opens_expr = opens_atom
-
-starts-unary : (n : ℕ) (b : Bool) → Starts (unary n b) opens_expr
-unfolding unary
-starts-unary zero b = starts-atom Closed b
-starts-unary (suc n) b = starts-atom (Inside (unary n)) b
+is-unary zero b = is-unary-in Closed (Inside (unary 0)) None (Some (unary_at 0)) tt b
+is-unary (suc n) b = is-unary-in (Inside (unary n)) (Inside (unary (suc n))) (Some (unary_at n)) (Some (unary_at (suc n))) (is-unary n) b
 
 pub line-expr : (n : ℕ) → Line (expr n) (expr (suc n)) (expr_at n) (expr_at (suc n)) AfterExpression 1
 unfolding expr expr_at
-line-expr n = line-choice-of (unary n) (unary (suc n)) (unary_at n) (unary_at (suc n)) (line-unary n) true
+line-expr n = inside (unary n) (unary (suc n)) (unary_at n) (unary_at (suc n)) (is-unary n) true
 
 pub starts-expr : (n : ℕ) → Starts (expr n) opens_expr
 unfolding expr
-starts-expr n = starts-choice (unary n) opens_expr (starts-unary n) true
+starts-expr n = starts-inside (unary n) (unary (suc n)) (unary_at n) (unary_at (suc n)) (is-unary n) true
 
--- ---- arguments
+-- a name alone is an expression
+pub name-is-expr : (n : ℕ) (t : Lexeme) (us : List Lexeme) → t.kind ≡ Kinds.Name → (expr n).spells (NameTree t.text t.line) (t ∷ us) us
+unfolding expr
+name-is-expr n t us k = single_choice (unary n) true (NameTree t.text t.line) (t ∷ us) us ((is-unary n true).single t us k)
 
-abbrev Closes : List Lexeme → Type 0
-Closes ts = begins Kinds.CloseParenthesis ts ≡ true
+-- ---- arguments of a statement
 
-line-items : (n : ℕ) → Line (listed (expr n)) (listed (expr (suc n))) (items_of n) (items_of (suc n)) Closes 0
-unfolding items_of
-line-items n = line-listed Kinds.CloseParenthesis opens_expr (expr n) (expr (suc n)) (expr_at n) (expr_at (suc n)) AfterExpression refl refl (starts-expr n) (λ ts b. after_kind Kinds.Comma 7 ts (lit≤ tt) b) (λ ts b. after_kind Kinds.CloseParenthesis 7 ts (lit≤ tt) b) (line-expr n)
-
-abbrev inside : ℕ → Lexeme → Form (List ExpressionTree)
-inside n o = listed (expr n) >>= λ xs. token Kinds.CloseParenthesis >>= λ c. give xs
+abbrev inside_of : ℕ → Lexeme → Form (List ExpressionTree)
+inside_of n o = listed (expr n) >>= λ xs. token Kinds.CloseParenthesis >>= λ c. give xs
 
 abbrev inside_at : ℕ → Lexeme → Reader (List ExpressionTree)
 inside_at n o = bind_at (items_of n) (λ xs. bind_at (token_at Kinds.CloseParenthesis) (λ c. give_at xs))
 
-line-inside : (n : ℕ) (o : Lexeme) → Line (inside n o) (inside (suc n) o) (inside_at n o) (inside_at (suc n) o) Any 0
-line-inside n o = line-bind (listed (expr n)) (listed (expr (suc n))) _ _ (items_of n) (items_of (suc n)) _ _ Closes Any 0 0 (line-items n)
-    (λ xs. line-stops _ _ _ _ Any Any 1 0 (λ ts st. st) (omega arith) (line-map (token Kinds.CloseParenthesis) (token Kinds.CloseParenthesis) (λ c. xs) (token_at Kinds.CloseParenthesis) (token_at Kinds.CloseParenthesis) Any 1 (line-token Kinds.CloseParenthesis)))
-    (λ xs b ts rest h st. begins_token Kinds.CloseParenthesis (λ c. give xs) b ts rest h)
-    (λ xs ts more h. begun_token Kinds.CloseParenthesis (λ c. give xs) ts more h)
+line-inside : (n : ℕ) (o : Lexeme) → Line (inside_of n o) (inside_of (suc n) o) (inside_at n o) (inside_at (suc n) o) Any 0
+unfolding items_of
+line-inside n o = line-closed Kinds.CloseParenthesis (λ s. expr n) (λ s. expr (suc n)) (λ s. expr_at n) (λ s. expr_at (suc n)) same_state (λ xs. xs) (After 7) refl refl (λ ts b. after_kind Kinds.Comma 7 ts (lit≤ tt) b) (λ ts b. after_kind Kinds.CloseParenthesis 7 ts (lit≤ tt) b) (λ s. starts-expr n) (λ s. line-expr n) tt
 
-pub line-arguments : (n : ℕ) → Line (arguments n) (arguments (suc n)) (arguments_at n) (arguments_at (suc n)) Any 1
-unfolding arguments arguments_at arguments_in
-line-arguments zero = line-deep Kinds.OpenParenthesis (inside 0) (inside_at 0) Any
-line-arguments (suc n) = line-then (token Kinds.OpenParenthesis) (token Kinds.OpenParenthesis) (inside n) (inside (suc n)) (token_at Kinds.OpenParenthesis) (token_at Kinds.OpenParenthesis) (inside_at n) (inside_at (suc n)) Any 1 0 (line-token Kinds.OpenParenthesis) (line-inside n)
+pub line-arguments : (n : ℕ) → Line (plain_arguments n) (plain_arguments (suc n)) (arguments_at n) (arguments_at (suc n)) Any 1
+unfolding plain_arguments arguments_at arguments_in
+line-arguments zero = line-deep Kinds.OpenParenthesis (inside_of 0) (inside_at 0) Any
+line-arguments (suc n) = line-then (token Kinds.OpenParenthesis) (token Kinds.OpenParenthesis) (inside_of n) (inside_of (suc n)) (token_at Kinds.OpenParenthesis) (token_at Kinds.OpenParenthesis) (inside_at n) (inside_at (suc n)) Any 1 0 (line-token Kinds.OpenParenthesis) (line-inside n)
 
 abbrev pub opens_group : Kind → Bool
 opens_group = of_kind Kinds.OpenParenthesis
 
-pub starts-arguments : (n : ℕ) → Starts (arguments n) opens_group
-unfolding arguments
+pub starts-arguments : (n : ℕ) → Starts (plain_arguments n) opens_group
+unfolding plain_arguments
 starts-arguments zero = starts-never opens_group
-starts-arguments (suc n) = starts-bind (token Kinds.OpenParenthesis) (inside n) opens_group (starts-token Kinds.OpenParenthesis)
+starts-arguments (suc n) = starts-bind (token Kinds.OpenParenthesis) (inside_of n) opens_group (starts-token Kinds.OpenParenthesis)

@@ -1,7 +1,10 @@
+pub mod Alike
+pub mod Atoms
 pub mod Binding
 pub mod Blocks
 pub mod Chain
 pub mod Chains
+pub mod ChoiceLines
 pub mod Ends
 pub mod ExpressionTails
 pub mod Expressions

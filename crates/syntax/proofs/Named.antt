@@ -1,12 +1,16 @@
 -- An expression as a statement, beside statements that begin with a name and a sign.
-use Rattle.std.proofs.Common.{◌≡◌, ℕ, ◌≤◌, ◌<◌, Bool, true, false, List, [], ◌∷◌, ◌++◌, length, Result, Ok, refl, sym, ap, subst, ◌∙◌, ◌⊎◌, inl, inr, arith, length-append}
+use Rattle.std.proofs.Common.{Option, None, zero, suc, ◌≡◌, ℕ, ◌≤◌, ◌<◌, Bool, true, false, List, [], ◌∷◌, ◌++◌, length, Result, Ok, refl, sym, ap, subst, ◌∙◌, ◌⊎◌, inl, inr, arith, length-append}
 use Rattle.std.specs.Prelude.{◌&&◌}
 use Rattle.lexer.specs.Lexeme.{Lexeme}
 use Rattle.lexer.specs.Kinds.{is}
 use Rattle.lexer.specs.declared.token.Kind.{Kind}
 use Rattle.lexer.specs.declared.token.Kind.TheVariants as Kinds
 use Rattle.syntax.specs.declared.stop.Stop.{Stop}
+use Rattle.syntax.specs.ExpressionTree.{ExpressionTree, NameTree}
+use Rattle.syntax.specs.Expressions.{additive, chain, choice, comparison, conjunction, conjunctive, disjunctive, expr, multiplicative, product, unary, unary_in}
 use Rattle.syntax.specs.Form.{Form}
+use Rattle.syntax.specs.Parts.{Inner, Closed, Inside, first_line}
+use Rattle.syntax.specs.declared.tree.Operator.{Operator}
 use Rattle.syntax.specs.Reading.{Reader, begins, two_begin}
 use Rattle.syntax.proofs.Binding.{AfterExpression, after_kind, binding}
 use Rattle.syntax.proofs.Ends.{IsEnd}
@@ -66,3 +70,31 @@ module _ {A : Type 0} {F F' : Form A} {r r' : Reader A} {i : ℕ} (tree : Lexeme
         | inl same ↦ inl same
         | inr same ↦ inr (t, ap (λ (l : List Lexeme). t ∷ l) (sym same), (sign_comes t us two).0)
       ]
+
+-- ---- a name is an expression
+
+chain_one : (f : Kind → Option Operator) (part : Form ExpressionTree) (e : ExpressionTree) (ts rest : List Lexeme) → part.spells e ts rest → (chain f part).spells e ts rest
+chain_one f part e ts rest h = (first_line ts, ts, (refl, refl), (e, rest, h, ([], rest, refl, (refl, refl))))
+
+comparison_one : (unary : Form ExpressionTree) (e : ExpressionTree) (ts rest : List Lexeme) → unary.spells e ts rest → (comparison unary).spells e ts rest
+comparison_one unary e ts rest h =
+    (first_line ts, ts, (refl, refl), (e, rest, chain_one additive (product unary) e ts rest (chain_one multiplicative unary e ts rest h), (None, rest, inr (refl, refl), (refl, refl))))
+
+choice_one : (unary : Bool → Form ExpressionTree) (e : ExpressionTree) (ts rest : List Lexeme) → (unary true).spells e ts rest → (choice unary true).spells e ts rest
+choice_one unary e ts rest h =
+    let test = chain_one disjunctive (conjunction (unary true)) e ts rest (chain_one conjunctive (comparison (unary true)) e ts rest (comparison_one (unary true) e ts rest h)) in
+    (first_line ts, ts, (refl, refl), (e, rest, test, (None, rest, inr (refl, refl), (refl, refl))))
+
+-- no operator stands before it, nothing is asked of it, and it is not called
+in_name : (u : Inner) (b : Bool) (t : Lexeme) (us : List Lexeme) → t.kind ≡ Kinds.Name → (unary_in u b).spells (NameTree t.text t.line) (t ∷ us) us
+in_name u b t us k =
+    inr (inr (t.line, t ∷ us, (refl, refl), (NameTree t.text t.line, us, inr (inl (t, us, (refl, k), (refl, refl))), ([], us, refl, (refl, refl)))))
+
+unary_name : (n : ℕ) (b : Bool) (t : Lexeme) (us : List Lexeme) → t.kind ≡ Kinds.Name → (unary n b).spells (NameTree t.text t.line) (t ∷ us) us
+unfolding unary
+unary_name zero b t us k = in_name Closed b t us k
+unary_name (suc n) b t us k = in_name (Inside (unary n)) b t us k
+
+pub named_expr : (n : ℕ) (t : Lexeme) (us : List Lexeme) → t.kind ≡ Kinds.Name → (expr n).spells (NameTree t.text t.line) (t ∷ us) us
+unfolding expr
+named_expr n t us k = choice_one (unary n) (NameTree t.text t.line) (t ∷ us) us (unary_name n true t us k)

@@ -14,8 +14,8 @@ use Rattle.syntax.specs.Statements.{given}
 use Rattle.syntax.specs.ExpressionTree.{ExpressionTree}
 use Rattle.syntax.specs.Tree.{StatementTree, AssignTree, AppendTree, BreakTree, ContinueTree, BranchTree}
 use Rattle.syntax.specs.Reading.{Reader, ◌>>=◌, Fails, begins, deep_at, optional_at, or_at, token_at, two_begin}
-use Rattle.syntax.specs.ReadingExpressions.{arguments_at, expr_at}
-use Rattle.syntax.specs.ReadingStatements.{set_at, call_at, leave_at, simple_at, ends_line, in_line, maybe_at, in_body, ended_line_at, body_at, elif_at, branch_at, parts_at, last_part_at, otherwise_at, foreach_at, conditional_at, begins_block, block_at, stmt_at, line_at, next_line_at, file_at}
+use Rattle.syntax.specs.ReadingExpressions.{expr_at}
+use Rattle.syntax.specs.ReadingStatements.{set_at, plain_at, leave_at, simple_at, ends_line, in_line, maybe_at, in_body, ended_line_at, body_at, elif_at, branch_at, parts_at, last_part_at, otherwise_at, foreach_at, conditional_at, begins_block, block_at, stmt_at, line_at, next_line_at, file_at}
 use Rattle.syntax.proofs.Gathered as loops
 use Rattle.syntax.proofs.Gathered.{all, with_one, one_regroup, with_line, line_regroup, begins_long}
 use Rattle.syntax.proofs.Tails.{length_lexemes}
@@ -86,11 +86,10 @@ pub simple_append : (inside : Bool) (n : ℕ) (ts : List Lexeme) → begins Kind
 unfolding simple_at or_at
 simple_append inside n ts b c a p = rw (b, c, a, p) refl
 
-pub simple_call : (inside : Bool) (n : ℕ) (ts : List Lexeme) → begins Kinds.Break ts ≡ false → begins Kinds.Continue ts ≡ false
-    → two_begin Kinds.Name Kinds.Assign ts ≡ false → two_begin Kinds.Name Kinds.PlusAssign ts ≡ false
-    → simple_at inside n ts ≡ call_at (arguments_at n) ts
+pub simple_plain : (inside : Bool) (n : ℕ) (ts : List Lexeme) → begins Kinds.Break ts ≡ false → begins Kinds.Continue ts ≡ false
+    → two_begin Kinds.Name Kinds.Assign ts ≡ false → two_begin Kinds.Name Kinds.PlusAssign ts ≡ false → simple_at inside n ts ≡ plain_at (expr_at n) ts
 unfolding simple_at or_at
-simple_call inside n ts b c a p = rw (b, c, a, p) refl
+simple_plain inside n ts b c a p = rw (b, c, a, p) refl
 
 -- ---- statements
 

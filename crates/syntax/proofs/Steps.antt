@@ -4,9 +4,11 @@ use Rattle.std.specs.Option.{is_some}
 use Rattle.lexer.specs.Lexeme.{Lexeme}
 use Rattle.lexer.specs.Kinds.{is}
 use Rattle.lexer.specs.declared.token.Kind.{Kind}
+use Rattle.lexer.specs.declared.token.Kind.TheVariants as Kinds
+use Rattle.syntax.specs.Expressions.{literal_of}
 use Rattle.syntax.specs.declared.stop.Stop.{Stop}
 use Rattle.syntax.specs.declared.stop.Stop.TheVariants.{Unexpected, TooDeep}
-use Rattle.syntax.specs.ExpressionTree.{ExpressionTree}
+use Rattle.syntax.specs.ExpressionTree.{ExpressionTree, NameTree}
 use Rattle.syntax.specs.Form.{Form, token, never, ◌>>=◌}
 use Rattle.syntax.specs.Parts.{Inner, Closed, Inside, first_line, here, here_at, opened, opened_at, stands_for, token_as, token_as_at}
 use Rattle.syntax.specs.Reading.{Reader, begins, deep_at, head_is, token_at, tokens_left}
@@ -173,14 +175,30 @@ module _ {A : Type 0} (k : Kind) (G : Lexeme → Form A) (s : Lexeme → Reader 
     takes = takes-never 1;
   }
 
+-- the kinds with which an expression begins
+abbrev pub opens_expr : Kind → Bool
+opens_expr Kinds.Name = true
+opens_expr Kinds.OpenParenthesis = true
+opens_expr Kinds.OpenBracket = true
+opens_expr Kinds.OpenBrace = true
+opens_expr Kinds.Not = true
+opens_expr Kinds.Minus = true
+opens_expr k = stands_for literal_of k
+
+-- What is said of the unary expressions, at one number of levels and at one more. A name alone is one.
+pub record IsUnary (F G : Form ExpressionTree) (r s : Reader ExpressionTree) : Type 0 where
+  pub line : Line F G r s (After 1) 1
+  pub starts : Starts F opens_expr
+  pub single : (t : Lexeme) (us : List Lexeme) → t.kind ≡ Kinds.Name → F.spells (NameTree t.text t.line) (t ∷ us) us
+
 -- The expressions of one level less, at one number of levels and at one more.
 abbrev pub IsInside : Inner → Inner → Option (Bool → Reader ExpressionTree) → Option (Bool → Reader ExpressionTree) → Type 0
 IsInside Closed (Inside G) None (Some s) = Unit {0}
-IsInside (Inside F) (Inside G) (Some r) (Some s) = (b : Bool) → Line (F b) (G b) (r b) (s b) (After 1) 1
+IsInside (Inside F) (Inside G) (Some r) (Some s) = (b : Bool) → IsUnary (F b) (G b) (r b) (s b)
 IsInside _ _ _ _ = ⊥
 
 pub line-opened : {A : Type 0} (k : Kind) (F : (Bool → Form ExpressionTree) → Lexeme → Form A) (r : (Bool → Reader ExpressionTree) → Lexeme → Reader A) (Stops : List Lexeme → Type 0)
-    → ((G G' : Bool → Form ExpressionTree) (s s' : Bool → Reader ExpressionTree) → ((b : Bool) → Line (G b) (G' b) (s b) (s' b) (After 1) 1) → (o : Lexeme) → Line (F G o) (F G' o) (r s o) (r s' o) Stops 0)
+    → ((G G' : Bool → Form ExpressionTree) (s s' : Bool → Reader ExpressionTree) → ((b : Bool) → IsUnary (G b) (G' b) (s b) (s' b)) → (o : Lexeme) → Line (F G o) (F G' o) (r s o) (r s' o) Stops 0)
     → (u u' : Inner) (v v' : Option (Bool → Reader ExpressionTree)) → IsInside u u' v v' → Line (opened k u F) (opened k u' F) (opened_at k v r) (opened_at k v' r) Stops 1
 unfolding opened_at
 line-opened k F r Stops f Closed (Inside G) None (Some s) h = line-deep k (F G) (r s) Stops

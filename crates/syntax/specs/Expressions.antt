@@ -1,7 +1,7 @@
 -- The grammar of expressions, a form for each line, as the Meson manual's page "Syntax" has it. `b` says whether a
 -- choice (`test ? yes : no`) may stand in the expression, `u` what may stand behind a token that opens a level.
 use Rattle.std.specs.Prelude.{ℕ, zero, suc, Bool, true, false, List, [], ◌∷◌, Option, Some, None}
-use Rattle.std.specs.Option.{option_to_list}
+use Rattle.std.specs.Option.{is_some, option_to_list}
 use Rattle.lexer.specs.Lexeme.{Lexeme}
 use Rattle.lexer.specs.declared.token.Kind.{Kind}
 use Rattle.lexer.specs.declared.token.Kind.TheVariants as Kinds
@@ -9,8 +9,10 @@ use Rattle.syntax.specs.declared.tree.Literal.{Literal}
 use Rattle.syntax.specs.declared.tree.Literal.TheVariants as literals
 use Rattle.syntax.specs.declared.tree.Operator.{Operator}
 use Rattle.syntax.specs.declared.tree.Operator.TheVariants as operators
-use Rattle.syntax.specs.ExpressionTree.{ExpressionTree, NameTree, LiteralTree, ChainTree, ChoiceTree, OperandTree, operands}
-use Rattle.syntax.specs.Form.{Form, token, give, ◌>>=◌, ◌or◌, never, many, optional, listed}
+use Rattle.syntax.specs.declared.tree.Prefix.{Prefix}
+use Rattle.syntax.specs.declared.tree.Prefix.TheVariants as prefixes
+use Rattle.syntax.specs.ExpressionTree.{ExpressionTree, NameTree, LiteralTree, ListTree, DictionaryTree, FunctionTree, PostfixTree, PrefixTree, ChainTree, ChoiceTree, ArgumentTree, EntryTree, LinkTree, MethodTree, IndexTree, OperandTree, arguments, entries, expressions, links, operands}
+use Rattle.syntax.specs.Form.{Form, token, give, ◌>>=◌, ◌or◌, never, many, optional, listed, listed_by}
 use Rattle.syntax.specs.Parts.{Inner, Closed, Inside, here, opened, token_as}
 
 -- ---- what tokens stand for
@@ -165,24 +167,143 @@ group unary b o = do
   c ← token Kinds.CloseParenthesis
   give e
 
--- atom = NAME | "(" expr ")" | NUMBER | STRING | "true" | "false"
+-- [expr {"," expr} [","]] "]"
+abbrev pub list : (Bool → Form ExpressionTree) → Bool → Lexeme → Form ExpressionTree
+list unary b o = do
+  es ← listed (choice unary b)
+  c ← token Kinds.CloseBracket
+  give (ListTree (expressions es) o.line)
+
+-- expr ":" expr
+abbrev pub entry : Form ExpressionTree → Form EntryTree
+entry expr = do
+  k ← expr
+  c ← token Kinds.Colon
+  v ← expr
+  give (k, v)
+
+-- [expr ":" expr {"," expr ":" expr} [","]] "}"
+abbrev pub dictionary : (Bool → Form ExpressionTree) → Bool → Lexeme → Form ExpressionTree
+dictionary unary b o = do
+  es ← listed (entry (choice unary b))
+  c ← token Kinds.CloseBrace
+  give (DictionaryTree (entries es) o.line)
+
+-- atom = NAME | "(" expr ")" | "[" .. "]" | "{" .. "}" | NUMBER | STRING | "true" | "false"
 abbrev pub atom : Inner → Bool → Form ExpressionTree
-atom u b = name or (opened Kinds.OpenParenthesis u (λ e. group e b) or literal)
+atom u b =
+    name
+    or (opened Kinds.OpenParenthesis u (λ e. group e b)
+    or (opened Kinds.OpenBracket u (λ e. list e b)
+    or (opened Kinds.OpenBrace u (λ e. dictionary e b)
+    or literal)))
+
+-- ---- arguments
+
+-- NAME ":" expr
+abbrev pub named : Form ExpressionTree → Form ArgumentTree
+named expr = do
+  t ← token Kinds.Name
+  c ← token Kinds.Colon
+  e ← expr
+  give (Some t.text, e)
+
+-- expr
+abbrev pub positional : Form ExpressionTree → Form ArgumentTree
+positional expr = do
+  e ← expr
+  give (None, e)
+
+-- item = expr | NAME ":" expr, and behind a named one only a named one
+abbrev pub argument : Form ExpressionTree → Bool → Form ArgumentTree
+argument expr true = named expr
+argument expr false = named expr or positional expr
+
+-- whether an argument has a name
+abbrev pub is_named : Bool → ArgumentTree → Bool
+is_named before a = is_some a.0
+
+-- args ")", where args = [item {"," item} [","]]
+abbrev pub items : (Bool → Form ExpressionTree) → Bool → Lexeme → Form (List ArgumentTree)
+items unary b o = do
+  xs ← listed_by (argument (choice unary b)) is_named false
+  c ← token Kinds.CloseParenthesis
+  give xs
+
+-- "(" args ")"
+abbrev pub in_parentheses : Inner → Bool → Form (List ArgumentTree)
+in_parentheses u b = opened Kinds.OpenParenthesis u (λ e. items e b)
+
+-- NAME "(" args ")"
+abbrev pub call : Form (List ArgumentTree) → Form ExpressionTree
+call args = do
+  t ← token Kinds.Name
+  xs ← args
+  give (FunctionTree t.text (arguments xs) t.line)
+
+-- ---- what is asked of a value
+
+-- "." NAME "(" args ")"
+abbrev pub method : Form (List ArgumentTree) → Form LinkTree
+method args = do
+  d ← token Kinds.Dot
+  t ← token Kinds.Name
+  xs ← args
+  give (MethodTree t.text (arguments xs))
+
+-- expr "]"
+abbrev pub index : (Bool → Form ExpressionTree) → Bool → Lexeme → Form LinkTree
+index unary b o = do
+  e ← choice unary b
+  c ← token Kinds.CloseBracket
+  give (IndexTree e)
+
+-- "." NAME "(" args ")" | "[" expr "]"
+abbrev pub link : Inner → Bool → Form LinkTree
+link u b = method (in_parentheses u b) or opened Kinds.OpenBracket u (λ e. index e b)
+
+-- a value of which nothing is asked is that value
+abbrev pub postfix_tree : ℕ → ExpressionTree → List LinkTree → ExpressionTree
+postfix_tree line first [] = first
+postfix_tree line first (l ∷ ls) = PostfixTree first (links (l ∷ ls)) line
+
+-- post = (NAME "(" args ")" | atom) {"." NAME "(" args ")" | "[" expr "]"}
+abbrev pub postfix : Inner → Bool → Form ExpressionTree
+postfix u b = do
+  line ← here
+  first ← call (in_parentheses u b) or atom u b
+  ls ← many (link u b)
+  give (postfix_tree line first ls)
+
+-- ---- prefix operators
+
+-- unary
+abbrev pub prefixed : Prefix → (Bool → Form ExpressionTree) → Bool → Lexeme → Form ExpressionTree
+prefixed p unary b o = do
+  e ← unary b
+  give (PrefixTree p e o.line)
+
+-- unary = ("not"|"-") unary | post
+abbrev pub unary_in : Inner → Bool → Form ExpressionTree
+unary_in u b =
+    opened Kinds.Not u (λ e. prefixed prefixes.Not e b)
+    or (opened Kinds.Minus u (λ e. prefixed prefixes.Negative e b)
+    or postfix u b)
 
 unfoldable pub unary : ℕ → Bool → Form ExpressionTree
-unary zero b = atom Closed b
-unary (suc n) b = atom (Inside (unary n)) b
+unary zero b = unary_in Closed b
+unary (suc n) b = unary_in (Inside (unary n)) b
 
 -- expr
 unfoldable pub expr : ℕ → Form ExpressionTree
 expr n = choice (unary n) true
 
--- ---- arguments
+-- ---- arguments of a statement
 
 -- "(" [expr {"," expr} [","]] ")"
-unfoldable pub arguments : ℕ → Form (List ExpressionTree)
-arguments zero = never
-arguments (suc n) = do
+unfoldable pub plain_arguments : ℕ → Form (List ExpressionTree)
+plain_arguments zero = never
+plain_arguments (suc n) = do
   o ← token Kinds.OpenParenthesis
   xs ← listed (expr n)
   c ← token Kinds.CloseParenthesis

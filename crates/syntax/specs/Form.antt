@@ -65,9 +65,33 @@ optional F = (F >>= λ a. give (Some a)) or give None
 abbrev pub comma_then : {A : Type 0} → Form A → Form A
 comma_then F = token Kinds.Comma >>= λ c. F
 
--- [form {"," form} [","]]
-abbrev pub some_listed : {A : Type 0} → Form A → Form (List A)
-some_listed F = F >>= λ first. many (comma_then F) >>= λ others. optional (token Kinds.Comma) >>= λ last. give (first ∷ others)
+-- A list whose elements depend on those before them, by a state that each element leads on from.
+module _ {S A : Type 0} (F : S → Form A) (step : S → A → S) where
+  abbrev pub state_after : S → List A → S
+  state_after s [] = s
+  state_after s (x ∷ xs) = state_after (step s x) xs
+
+  -- {"," form}
+  abbrev pub Further : S → List A → List Lexeme → List Lexeme → Type 0
+  Further s [] ts rest = ts ≡ rest
+  Further s (x ∷ xs) ts rest = (mid : List Lexeme) × (comma_then (F s)).spells x ts mid × Further (step s x) xs mid rest
+
+  abbrev pub further : S → Form (List A)
+  further s = record {
+    spells = Further s;
+    front = λ ts more. (xs : List A) × (mid : List Lexeme) × Further s xs ts mid × (comma_then (F (state_after s xs))).front mid more;
+  }
+
+  -- [form {"," form} [","]]
+  abbrev pub some_listed_by : S → Form (List A)
+  some_listed_by s = F s >>= λ first. further (step s first) >>= λ others. optional (token Kinds.Comma) >>= λ last. give (first ∷ others)
+
+  abbrev pub listed_by : S → Form (List A)
+  listed_by s = some_listed_by s or give []
+
+-- a list whose elements do not depend on one another
+abbrev pub same_state : {A : Type 0} → Unit {0} → A → Unit {0}
+same_state s x = s
 
 abbrev pub listed : {A : Type 0} → Form A → Form (List A)
-listed F = some_listed F or give []
+listed F = listed_by (λ s. F) same_state tt

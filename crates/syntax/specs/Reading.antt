@@ -65,10 +65,13 @@ optional_at first r ts = or_at first (λ us. r us >>= λ x. Ok (Some x.0, x.1)) 
 unfoldable pub tail_at : {A : Type 0} → Reader (List A) → Reader (List A)
 tail_at items ts = if begins Kinds.Comma ts then (token_at Kinds.Comma ts >>= λ c. items c.1) else Ok ([], ts)
 
--- the elements of a list up to what stops it, where there are fewer than so many
-unfoldable pub items_at : {A : Type 0} → (List Lexeme → Bool) → Reader A → ℕ → Reader (List A)
-items_at stop r zero ts = Ok ([], ts)
-items_at stop r (suc k) ts = if stop ts then Ok ([], ts) else (r ts >>= λ x. tail_at (items_at stop r k) x.1 >>= λ y. Ok (x.0 ∷ y.0, y.1))
+-- the elements of a list up to what stops it, where there are fewer than so many; each leads on from a state to the next
+unfoldable pub items_by : {S A : Type 0} → (List Lexeme → Bool) → (S → Reader A) → (S → A → S) → ℕ → S → Reader (List A)
+items_by stop r step zero s ts = Ok ([], ts)
+items_by stop r step (suc k) s ts = if stop ts then Ok ([], ts) else (r s ts >>= λ x. tail_at (items_by stop r step k (step s x.0)) x.1 >>= λ y. Ok (x.0 ∷ y.0, y.1))
+
+unfoldable pub listed_at : {S A : Type 0} → Kind → (S → Reader A) → (S → A → S) → S → Reader (List A)
+listed_at k r step s ts = items_by (begins k) r step (length ts + 1) s ts
 
 -- the first two tokens are of these kinds
 abbrev pub two_begin : Kind → Kind → List Lexeme → Bool

@@ -1,5 +1,5 @@
 -- Reading expressions, as functions.
-use Rattle.std.specs.Prelude.{ℕ, zero, suc, ◌+◌, Bool, true, false, List, length, Ok, Option, Some, None}
+use Rattle.std.specs.Prelude.{ℕ, zero, suc, ◌+◌, Bool, true, false, cond, List, length, Ok, Option, Some, None}
 use Rattle.std.specs.Option.{option_to_list}
 use Rattle.lexer.specs.Lexeme.{Lexeme}
 use Rattle.lexer.specs.Kinds.{is}
@@ -9,10 +9,13 @@ use Rattle.syntax.specs.declared.tree.Operator.{Operator}
 use Rattle.syntax.specs.declared.tree.Operator.TheVariants as operators
 use Rattle.syntax.specs.declared.parser.expression.Rank.{Rank}
 use Rattle.syntax.specs.declared.parser.expression.Rank.TheVariants as ranks
-use Rattle.syntax.specs.ExpressionTree.{ExpressionTree, NameTree, LiteralTree, OperandTree}
-use Rattle.syntax.specs.Expressions.{additive, chain_tree, choice_tree, comparative, conjunctive, disjunctive, literal_of, multiplicative}
+use Rattle.syntax.specs.ExpressionTree.{ExpressionTree, NameTree, LiteralTree, ListTree, DictionaryTree, FunctionTree, PrefixTree, ArgumentTree, EntryTree, LinkTree, MethodTree, IndexTree, OperandTree, arguments, entries, expressions}
+use Rattle.syntax.specs.declared.tree.Prefix.{Prefix}
+use Rattle.syntax.specs.declared.tree.Prefix.TheVariants as prefixes
+use Rattle.syntax.specs.Expressions.{additive, chain_tree, choice_tree, comparative, conjunctive, disjunctive, is_named, literal_of, multiplicative, postfix_tree}
 use Rattle.syntax.specs.Parts.{here_at, opened_at, stands_for, token_as_at}
-use Rattle.syntax.specs.Reading.{Reader, ◌>>=◌, begins, deep_at, head_is, many_at, optional_at, token_at, or_at, items_at}
+use Rattle.syntax.specs.Reading.{Reader, ◌>>=◌, begins, deep_at, head_is, listed_at, many_at, optional_at, token_at, or_at, two_begin}
+use Rattle.syntax.specs.Form.{same_state}
 
 -- ---- chains of operators
 
@@ -116,15 +119,133 @@ group_at unary b o ts = do
   c ← token_at Kinds.CloseParenthesis e.1
   Ok (e.0, c.1)
 
+unfoldable pub list_at : (Bool → Reader ExpressionTree) → Bool → Lexeme → Reader ExpressionTree
+list_at unary b o ts = do
+  es ← listed_at Kinds.CloseBracket (λ s. choice_at unary b) same_state tt ts
+  c ← token_at Kinds.CloseBracket es.1
+  Ok (ListTree (expressions es.0) o.line, c.1)
+
+unfoldable pub entry_at : Reader ExpressionTree → Reader EntryTree
+entry_at expr ts = do
+  k ← expr ts
+  c ← token_at Kinds.Colon k.1
+  v ← expr c.1
+  Ok ((k.0, v.0), v.1)
+
+unfoldable pub dictionary_at : (Bool → Reader ExpressionTree) → Bool → Lexeme → Reader ExpressionTree
+dictionary_at unary b o ts = do
+  es ← listed_at Kinds.CloseBrace (λ s. entry_at (choice_at unary b)) same_state tt ts
+  c ← token_at Kinds.CloseBrace es.1
+  Ok (DictionaryTree (entries es.0) o.line, c.1)
+
 unfoldable pub atom_at : Option (Bool → Reader ExpressionTree) → Bool → Reader ExpressionTree
-atom_at u b ts = or_at (begins Kinds.Name) name_at (or_at (begins Kinds.OpenParenthesis) (opened_at Kinds.OpenParenthesis u (λ e. group_at e b)) literal_at) ts
+atom_at u b ts =
+    or_at (begins Kinds.Name) name_at
+    (or_at (begins Kinds.OpenParenthesis) (opened_at Kinds.OpenParenthesis u (λ e. group_at e b))
+    (or_at (begins Kinds.OpenBracket) (opened_at Kinds.OpenBracket u (λ e. list_at e b))
+    (or_at (begins Kinds.OpenBrace) (opened_at Kinds.OpenBrace u (λ e. dictionary_at e b))
+    literal_at))) ts
+
+-- ---- arguments
+
+unfoldable pub named_at : Reader ExpressionTree → Reader ArgumentTree
+named_at expr ts = do
+  t ← token_at Kinds.Name ts
+  c ← token_at Kinds.Colon t.1
+  e ← expr c.1
+  Ok ((Some t.0.text, e.0), e.1)
+
+unfoldable pub positional_at : Reader ExpressionTree → Reader ArgumentTree
+positional_at expr ts = do
+  e ← expr ts
+  Ok ((None, e.0), e.1)
+
+unfoldable pub argument_at : Reader ExpressionTree → Bool → Reader ArgumentTree
+argument_at expr true ts = named_at expr ts
+argument_at expr false ts = or_at (two_begin Kinds.Name Kinds.Colon) (named_at expr) (positional_at expr) ts
+
+unfoldable pub items_at : (Bool → Reader ExpressionTree) → Bool → Lexeme → Reader (List ArgumentTree)
+items_at unary b o ts = do
+  xs ← listed_at Kinds.CloseParenthesis (argument_at (choice_at unary b)) is_named false ts
+  c ← token_at Kinds.CloseParenthesis xs.1
+  Ok (xs.0, c.1)
+
+abbrev pub in_parentheses_at : Option (Bool → Reader ExpressionTree) → Bool → Reader (List ArgumentTree)
+in_parentheses_at u b = opened_at Kinds.OpenParenthesis u (λ e. items_at e b)
+
+unfoldable pub call_at : Reader (List ArgumentTree) → Reader ExpressionTree
+call_at args ts = do
+  t ← token_at Kinds.Name ts
+  xs ← args t.1
+  Ok (FunctionTree t.0.text (arguments xs.0) t.0.line, xs.1)
+
+-- ---- what is asked of a value
+
+unfoldable pub method_at : Reader (List ArgumentTree) → Reader LinkTree
+method_at args ts = do
+  d ← token_at Kinds.Dot ts
+  t ← token_at Kinds.Name d.1
+  xs ← args t.1
+  Ok (MethodTree t.0.text (arguments xs.0), xs.1)
+
+unfoldable pub index_at : (Bool → Reader ExpressionTree) → Bool → Lexeme → Reader LinkTree
+index_at unary b o ts = do
+  e ← choice_at unary b ts
+  c ← token_at Kinds.CloseBracket e.1
+  Ok (IndexTree e.0, c.1)
+
+unfoldable pub link_at : Option (Bool → Reader ExpressionTree) → Bool → Reader LinkTree
+link_at u b ts = or_at (begins Kinds.Dot) (method_at (in_parentheses_at u b)) (opened_at Kinds.OpenBracket u (λ e. index_at e b)) ts
+
+-- something more is asked of a value
+abbrev pub links_on : Kind → Bool
+links_on k = cond (is k Kinds.Dot) true (is k Kinds.OpenBracket)
+
+unfoldable pub links_at : Option (Bool → Reader ExpressionTree) → Bool → Reader (List LinkTree)
+links_at u b ts = many_at (head_is links_on) (link_at u b) (length ts) ts
+
+unfoldable pub base_at : Option (Bool → Reader ExpressionTree) → Bool → Reader ExpressionTree
+base_at u b ts = or_at (two_begin Kinds.Name Kinds.OpenParenthesis) (call_at (in_parentheses_at u b)) (atom_at u b) ts
+
+unfoldable pub postfix_at : Option (Bool → Reader ExpressionTree) → Bool → Reader ExpressionTree
+postfix_at u b ts = do
+  line ← here_at ts
+  first ← base_at u b line.1
+  ls ← links_at u b first.1
+  Ok (postfix_tree line.0 first.0 ls.0, ls.1)
+
+-- ---- prefix operators
+
+unfoldable pub prefixed_at : Prefix → (Bool → Reader ExpressionTree) → Bool → Lexeme → Reader ExpressionTree
+prefixed_at p unary b o ts = do
+  e ← unary b ts
+  Ok (PrefixTree p e.0 o.line, e.1)
+
+unfoldable pub unary_in_at : Option (Bool → Reader ExpressionTree) → Bool → Reader ExpressionTree
+unary_in_at u b ts =
+    or_at (begins Kinds.Not) (opened_at Kinds.Not u (λ e. prefixed_at prefixes.Not e b))
+    (or_at (begins Kinds.Minus) (opened_at Kinds.Minus u (λ e. prefixed_at prefixes.Negative e b))
+    (postfix_at u b)) ts
 
 unfoldable pub unary_at : ℕ → Bool → Reader ExpressionTree
-unary_at zero b ts = atom_at None b ts
-unary_at (suc n) b ts = atom_at (Some (unary_at n)) b ts
+unary_at zero b ts = unary_in_at None b ts
+unary_at (suc n) b ts = unary_in_at (Some (unary_at n)) b ts
+
+-- what stands inside where so many levels may be opened
+abbrev pub inner_at : ℕ → Option (Bool → Reader ExpressionTree)
+inner_at zero = None
+inner_at (suc n) = Some (unary_at n)
 
 unfoldable pub expr_at : ℕ → Reader ExpressionTree
 expr_at n ts = choice_at (unary_at n) true ts
+
+-- a token of this kind, and what follows it where one level less may be opened
+unfoldable pub enter_at : Kind → ℕ → Reader (Lexeme × ℕ)
+enter_at k zero ts = deep_at k ts
+enter_at k (suc n) ts = token_at k ts >>= λ t. Ok ((t.0, n), t.1)
+
+unfoldable pub entered_at : {A : Type 0} → Kind → ℕ → ((Bool → Reader ExpressionTree) → Lexeme → Reader A) → Reader A
+entered_at k n f ts = enter_at k n ts >>= λ t. f (unary_at t.0.1) t.0.0 t.1
 
 -- ---- the operators of a rank, and the parts between them
 
@@ -140,10 +261,10 @@ part_at ranks.And unary = comparison_at unary
 part_at ranks.Sum unary = product_at unary
 part_at ranks.Product unary = unary
 
--- ---- arguments
+-- ---- arguments of a statement
 
 unfoldable pub items_of : ℕ → Reader (List ExpressionTree)
-items_of n ts = items_at (begins Kinds.CloseParenthesis) (expr_at n) (length ts + 1) ts
+items_of n ts = listed_at Kinds.CloseParenthesis (λ s. expr_at n) same_state tt ts
 
 unfoldable pub arguments_in : ℕ → Reader (List ExpressionTree)
 arguments_in n ts = do

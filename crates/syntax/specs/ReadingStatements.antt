@@ -7,10 +7,10 @@ use Rattle.lexer.specs.declared.token.Kind.TheVariants as Kinds
 use Rattle.syntax.specs.declared.stop.Stop.TheVariants.{Unexpected}
 use Rattle.syntax.specs.Parts.{here_at}
 use Rattle.syntax.specs.ExpressionTree.{ExpressionTree}
-use Rattle.syntax.specs.Tree.{StatementTree, AssignTree, AppendTree, CallTree, BreakTree, ContinueTree, IfTree, ForeachTree, FileTree, statements, BranchTree, branches}
+use Rattle.syntax.specs.Tree.{StatementTree, AssignTree, AppendTree, ValueTree, BreakTree, ContinueTree, IfTree, ForeachTree, FileTree, statements, BranchTree, branches}
 use Rattle.syntax.specs.Statements.{given}
 use Rattle.syntax.specs.Reading.{Reader, ◌>>=◌, begins, token_at, many_at, or_at, optional_at, deep_at, two_begin}
-use Rattle.syntax.specs.ReadingExpressions.{expr_at, arguments_at}
+use Rattle.syntax.specs.ReadingExpressions.{expr_at}
 
 -- ---- statements of one line
 
@@ -22,11 +22,11 @@ set_at k tree r ts = do
   e ← r q.1
   Ok (tree t.0.text t.0.line e.0, e.1)
 
-unfoldable pub call_at : Reader (List ExpressionTree) → Reader StatementTree
-call_at r ts = do
-  t ← token_at Kinds.Name ts
-  xs ← r t.1
-  Ok (CallTree t.0.text t.0.line xs.0, xs.1)
+unfoldable pub plain_at : Reader ExpressionTree → Reader StatementTree
+plain_at r ts = do
+  line ← here_at ts
+  e ← r line.1
+  Ok (ValueTree e.0 line.0, e.1)
 
 unfoldable pub leave_at : Kind → (ℕ → StatementTree) → Bool → Reader StatementTree
 leave_at k tree true ts = token_at k ts >>= λ t. Ok (tree t.0.line, t.1)
@@ -38,7 +38,7 @@ simple_at inside n ts =
     (or_at (begins Kinds.Continue) (leave_at Kinds.Continue ContinueTree inside)
     (or_at (two_begin Kinds.Name Kinds.Assign) (set_at Kinds.Assign AssignTree (expr_at n))
     (or_at (two_begin Kinds.Name Kinds.PlusAssign) (set_at Kinds.PlusAssign AppendTree (expr_at n))
-    (call_at (arguments_at n))))) ts
+    (plain_at (expr_at n))))) ts
 
 -- ---- blocks
 

@@ -4,10 +4,10 @@ use Rattle.std.specs.Prelude.{ℕ, zero, suc, Bool, true, false, List, [], ◌�
 use Rattle.lexer.specs.declared.token.Kind.{Kind}
 use Rattle.lexer.specs.declared.token.Kind.TheVariants.{Name, Assign, PlusAssign, Newline, Comma, Colon, Break, Continue, If, Elif, Else, EndIf, Foreach, EndForeach}
 use Rattle.syntax.specs.ExpressionTree.{ExpressionTree}
-use Rattle.syntax.specs.Tree.{StatementTree, AssignTree, AppendTree, CallTree, BreakTree, ContinueTree, IfTree, ForeachTree, FileTree, statements, BranchTree, branches}
+use Rattle.syntax.specs.Tree.{StatementTree, AssignTree, AppendTree, ValueTree, BreakTree, ContinueTree, IfTree, ForeachTree, FileTree, statements, BranchTree, branches}
 use Rattle.syntax.specs.Form.{Form, token, give, ◌>>=◌, ◌or◌, never, many, optional}
 use Rattle.syntax.specs.Parts.{here}
-use Rattle.syntax.specs.Expressions.{expr, arguments}
+use Rattle.syntax.specs.Expressions.{expr}
 
 -- ---- statements of one line
 
@@ -27,12 +27,12 @@ append expr = do
   e ← expr
   give (AppendTree t.text t.line e)
 
--- NAME "(" [expr {"," expr} [","]] ")"
-abbrev pub call : Form (List ExpressionTree) → Form StatementTree
-call arguments = do
-  t ← token Name
-  xs ← arguments
-  give (CallTree t.text t.line xs)
+-- expr
+abbrev pub plain : Form ExpressionTree → Form StatementTree
+plain expr = do
+  line ← here
+  e ← expr
+  give (ValueTree e line)
 
 -- a word that stands inside a `foreach` alone
 abbrev pub leave : Kind → (ℕ → StatementTree) → Bool → Form StatementTree
@@ -41,10 +41,11 @@ leave k tree true = do
   give (tree t.line)
 leave k tree false = never
 
--- NAME ("="|"+=") expr | NAME "(" [expr {"," expr} [","]] ")" | "break" | "continue"
+-- NAME ("="|"+=") expr | expr | "break" | "continue"
 abbrev pub simple : Bool → ℕ → Form StatementTree
-simple inside n = leave Break BreakTree inside or
-    (leave Continue ContinueTree inside or (assign (expr n) or (append (expr n) or call (arguments n))))
+simple inside n =
+    leave Break BreakTree inside
+    or (leave Continue ContinueTree inside or (assign (expr n) or (append (expr n) or plain (expr n))))
 
 -- ---- blocks
 

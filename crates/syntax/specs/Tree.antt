@@ -3,7 +3,8 @@ use Rattle.std.specs.Prelude.{ℕ, List, [], ◌∷◌, map, Option}
 use Rattle.std.specs.Option.{option_map}
 use Rattle.syntax.specs.ExpressionTree.{ExpressionTree, expression_of}
 use Rattle.syntax.specs.declared.tree.Statement.{Statement}
-use Rattle.syntax.specs.declared.tree.Statement.TheOpen.{Statement-F, Branch-F, Assign, Append, Call, Break, Continue, If, Foreach}
+use Rattle.syntax.specs.declared.tree.Statement.TheOpen.{Statement-F, Branch-F, Assign, Append, Break, Continue, If, Foreach}
+use Rattle.syntax.specs.declared.tree.Statement.TheOpen as opened
 use Rattle.syntax.specs.declared.tree.Statement.TheFolds.{fold-Statement, fold-Branch}
 use Rattle.syntax.specs.declared.tree.Branch.{Branch}
 use Rattle.syntax.specs.declared.tree.File.{File}
@@ -15,8 +16,8 @@ mutual
     AssignTree : List ℕ → ℕ → ExpressionTree → StatementTree
     -- a name, the line, and the value that is added to what it has
     AppendTree : List ℕ → ℕ → ExpressionTree → StatementTree
-    -- a name, the line, and the arguments that it is called with
-    CallTree : List ℕ → ℕ → List ExpressionTree → StatementTree
+    -- an expression, and the line of its first token
+    ValueTree : ExpressionTree → ℕ → StatementTree
     BreakTree : ℕ → StatementTree
     ContinueTree : ℕ → StatementTree
     -- the line, the parts with a condition, and what stands behind `else`
@@ -50,7 +51,7 @@ branches (b ∷ bs) = MoreBranches b.0 b.1 b.2 (branches bs)
 abbrev pub statement_step : Statement-F StatementTree BranchTree → StatementTree
 statement_step (Assign name line value) = AssignTree name.now line (expression_of value)
 statement_step (Append name line value) = AppendTree name.now line (expression_of value)
-statement_step (Call name line arguments) = CallTree name.now line (map expression_of arguments.items)
+statement_step (opened.Expression value line) = ValueTree (expression_of value) line
 statement_step (Break line) = BreakTree line
 statement_step (Continue line) = ContinueTree line
 statement_step (If line parts otherwise) = IfTree line (branches parts.items) (statements otherwise.items)

@@ -44,10 +44,13 @@ fn reads(rt: HostRuntime) -> Result<(), Fail> {
     assert!(rt;
         matches!(
             &file.statements[1],
-            Statement::Call {
-                name: "executable",
-                line: 3,
-                ..
+            Statement::Expression {
+                value: Expression::Call {
+                    name: "executable",
+                    line: 3,
+                    ..
+                },
+                line: 3
             }
         )
     );

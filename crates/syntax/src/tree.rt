@@ -1,7 +1,7 @@
 //! The tree of a definition file. Each node has the line of its first token, where a chain of
 //! operators begins with the bracket that its first value stands in; brackets leave no node of their own.
 
-ghost use Rattle.std.specs.Prelude.{◌≡◌};
+ghost use Rattle.std.specs.Prelude.{◌≡◌, is_some};
 
 /// A definition file.
 #[derive(Debug, Drop)]
@@ -25,11 +25,10 @@ pub enum Statement<'a> {
         line: usize,
         value: Expression<'a>,
     },
-    /// `name(argument, argument)`
-    Call {
-        name: &'a str,
+    /// An expression alone, as a call.
+    Expression {
+        value: Expression<'a>,
         line: usize,
-        arguments: Vec<Expression<'a>>,
     },
     /// `break`, in the body of a `foreach`.
     Break {
@@ -84,6 +83,31 @@ pub enum Expression<'a> {
         text: &'a str,
         line: usize,
     },
+    /// `[first, second]`
+    List {
+        items: Vec<Expression<'a>>,
+        line: usize,
+    },
+    /// `{key : value, key : value}`
+    Dictionary { entries: Vec<Entry<'a>>, line: usize },
+    /// `name(argument, name: argument)`
+    Call {
+        name: &'a str,
+        arguments: Vec<Argument<'a>>,
+        line: usize,
+    },
+    /// `first.name(argument)[index]`: a value, and what is asked of it in turn.
+    Postfix {
+        first: Box<Expression<'a>>,
+        links: Vec<Link<'a>>,
+        line: usize,
+    },
+    /// `not value` or `-value`
+    Prefix {
+        prefix: Prefix,
+        value: Box<Expression<'a>>,
+        line: usize,
+    },
     /// `first + second - third`: values with operators between them, all of one line of the grammar.
     Chain {
         first: Box<Expression<'a>>,
@@ -99,19 +123,21 @@ pub enum Expression<'a> {
     },
 }
 
-impl Expression<'_> {
-    ghost use Rattle.syntax.specs.ExpressionTree.{expression_of, line_of};
+impl<'a> Argument<'a> {
+    ghost use Rattle.syntax.specs.ExpressionTree.{argument_of, expression_of};
 
-    /// The line of its first token.
-    pub fn line(&self) -> usize
-        ensures { result ≡ line_of (expression_of self.now) }
+    /// What is given.
+    pub fn value(&self) -> &Expression<'a>
+        ensures { expression_of result.now ≡ (argument_of self.now).1 }
     {
-        match self {
-            Expression::Name { line, .. } => *line,
-            Expression::Literal { line, .. } => *line,
-            Expression::Chain { line, .. } => *line,
-            Expression::Choice { line, .. } => *line,
-        }
+        &self.value
+    }
+
+    /// Whether it is given by a name.
+    pub fn is_named(&self) -> bool
+        ensures { result ≡ is_some (argument_of self.now).0 }
+    {
+        self.name.is_some()
     }
 }
 
@@ -161,4 +187,41 @@ pub enum Operator {
 pub struct Operand<'a> {
     pub operator: Operator,
     pub value: Expression<'a>,
+}
+
+/// What stands before a value.
+#[derive(Clone, Copy, PartialEq, Eq, Debug)]
+pub enum Prefix {
+    Not,
+    /// `-`
+    Negative,
+}
+
+/// `key : value`
+#[cycle(tree)]
+#[derive(Debug, Drop)]
+pub struct Entry<'a> {
+    pub key: Expression<'a>,
+    pub value: Expression<'a>,
+}
+
+/// An argument, with its name where it is given by one. Those with a name stand behind the others.
+#[cycle(tree)]
+#[derive(Debug, Drop)]
+pub struct Argument<'a> {
+    pub name: Option<&'a str>,
+    pub value: Expression<'a>,
+}
+
+/// What is asked of a value.
+#[cycle(tree)]
+#[derive(Debug, Drop)]
+pub enum Link<'a> {
+    /// `.name(argument)`
+    Method {
+        name: &'a str,
+        arguments: Vec<Argument<'a>>,
+    },
+    /// `[index]`
+    Index { index: Expression<'a> },
 }

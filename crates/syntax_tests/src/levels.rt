@@ -3,7 +3,13 @@ use std::alloc::{AllocError, Global};
 use std::test::Fail;
 
 // So many times the first text, the middle, and so many times the last.
-fn nested(alloc: Global, count: u32, first: &str, middle: &str, last: &str) -> Result<String, AllocError> {
+fn nested(
+    alloc: Global,
+    count: u32,
+    first: &str,
+    middle: &str,
+    last: &str,
+) -> Result<String, AllocError> {
     let mut source = String::new(alloc);
     for _ in 0..count {
         source.push_str(first)?;

@@ -33,7 +33,10 @@ fn names_take_values(rt: HostRuntime) -> Result<(), Fail> {
 fn a_foreach_has_one_name_or_two(rt: HostRuntime) -> Result<(), Fail> {
     let rows = [
         ("foreach a : b\nendforeach", "1 foreach a,- [1] b@1 {};"),
-        ("foreach a, c : b\nendforeach\n", "1 foreach a,c [1] b@1 {};"),
+        (
+            "foreach a, c : b\nendforeach\n",
+            "1 foreach a,c [1] b@1 {};",
+        ),
         (
             "\nforeach a : (\n\nb)\n\n  x = a\n\n  x += a\nendforeach\ny = x",
             "2 foreach a,- [2] b@4 {6 x = a@6;8 x += a@8;};10 y = x@10;",
@@ -76,7 +79,10 @@ fn an_if_has_parts(rt: HostRuntime) -> Result<(), Fail> {
         ("if a\n\n\nendif\n", "1 if [1] a@1 {} else {};"),
         ("if a\nx = b\nendif", "1 if [1] a@1 {2 x = b@2;} else {};"),
         ("if a\nelse\nendif", "1 if [1] a@1 {} else {};"),
-        ("if a\nelse\nx = b\nendif", "1 if [1] a@1 {} else {3 x = b@3;};"),
+        (
+            "if a\nelse\nx = b\nendif",
+            "1 if [1] a@1 {} else {3 x = b@3;};",
+        ),
         (
             "if a\nx = a\nelif b\nx = b\nelif c\n\nelse\nx = d\ny = x\nendif\nz = x",
             "1 if [1] a@1 {2 x = a@2;} [3] b@3 {4 x = b@4;} [5] c@5 {} else {8 x = d@8;9 y = x@9;};11 z = x@11;",

@@ -3,7 +3,7 @@ use std::process::Abort;
 use std::test::Fail;
 use syntax::fault::SyntaxError;
 use syntax::parse;
-use syntax::tree::{Branch, Expression, Statement};
+use syntax::tree::{Branch, Expression, Operand, Operator, Statement};
 
 /// Each row is a source, and what is shown of it.
 pub fn check(rt: &impl Abort, alloc: Global, rows: &[(&str, &str)]) -> Result<(), Fail> {
@@ -31,44 +31,121 @@ pub fn shown(alloc: Global, source: &str) -> Result<String, AllocError> {
     Ok(out)
 }
 
-fn put_expression(alloc: Global, out: &mut String, value: &Expression<'_>) -> Result<(), AllocError> {
+fn sign(operator: Operator) -> &'static str {
+    match operator {
+        Operator::Or => "or",
+        Operator::And => "and",
+        Operator::Equal => "==",
+        Operator::NotEqual => "!=",
+        Operator::Less => "<",
+        Operator::LessOrEqual => "<=",
+        Operator::Greater => ">",
+        Operator::GreaterOrEqual => ">=",
+        Operator::In => "in",
+        Operator::NotIn => "not in",
+        Operator::Add => "+",
+        Operator::Subtract => "-",
+        Operator::Multiply => "*",
+        Operator::Divide => "/",
+        Operator::Remainder => "%",
+    }
+}
+
+#[cycle(expression)]
+fn put_expression(
+    alloc: Global,
+    out: &mut String,
+    value: &Expression<'_>,
+) -> Result<(), AllocError> {
     match value {
-        Expression::Name { name, line } => {
-            out.push_str(format!(in alloc; "{name}@{line}")?.as_str())?;
+        Expression::Name { name, line } => out.push_str(format!(in alloc;
+            "{name}@{line}"
+        )?.as_str()),
+        Expression::Literal { text, line, .. } => {
+            out.push_str(format!(in alloc; "{text}@{line}")?.as_str())
         }
-        Expression::Text { text, line } => {
-            out.push_str(format!(in alloc; "'{text}'@{line}")?.as_str())?;
+        Expression::Chain {
+            first,
+            others,
+            line,
+        } => {
+            out.push_str("(")?;
+            put_expression(alloc, out, first)?;
+            put_operands(alloc, out, others)?;
+            out.push_str(format!(in alloc; ")@{line}")?.as_str())
         }
+        Expression::Choice {
+            test,
+            yes,
+            no,
+            line,
+        } => {
+            out.push_str("(")?;
+            put_expression(alloc, out, test)?;
+            out.push_str(" ? ")?;
+            put_expression(alloc, out, yes)?;
+            out.push_str(" : ")?;
+            put_expression(alloc, out, no)?;
+            out.push_str(format!(in alloc; ")@{line}")?.as_str())
+        }
+    }
+}
+
+#[cycle(expression)]
+fn put_operands(
+    alloc: Global,
+    out: &mut String,
+    others: &Vec<Operand<'_>>,
+) -> Result<(), AllocError> {
+    for other in others {
+        out.push_str(format!(in alloc; " {} ", sign(other.operator))?.as_str())?;
+        put_expression(alloc, out, &other.value)?;
     }
     Ok(())
 }
 
-// A line in brackets, an expression and a body.
-#[cycle(put)]
-fn put_part(
+// A line in brackets and an expression.
+fn put_head(
     alloc: Global,
     out: &mut String,
     line: usize,
     value: &Expression<'_>,
-    body: &Vec<Statement<'_>>,
 ) -> Result<(), AllocError> {
     out.push_str(format!(in alloc; " [{line}] ")?.as_str())?;
-    put_expression(alloc, out, value)?;
+    put_expression(alloc, out, value)
+}
+
+// Statements in braces.
+#[cycle(put)]
+fn put_body(
+    alloc: Global,
+    out: &mut String,
+    body: &Vec<Statement<'_>>,
+) -> Result<(), AllocError> {
     out.push_str(" {")?;
     put_statements(alloc, out, body)?;
     out.push_str("}")
 }
 
 #[cycle(put)]
-fn put_branches(alloc: Global, out: &mut String, branches: &Vec<Branch<'_>>) -> Result<(), AllocError> {
+fn put_branches(
+    alloc: Global,
+    out: &mut String,
+    branches: &Vec<Branch<'_>>,
+) -> Result<(), AllocError> {
     for branch in branches {
-        put_part(alloc, out, branch.line, &branch.condition, &branch.body)?;
+        put_head(alloc, out, branch.line, &branch.condition)?;
+        put_body(alloc, out, &branch.body)?;
     }
     Ok(())
 }
 
 #[cycle(put)]
-fn put_statements(alloc: Global, out: &mut String, statements: &Vec<Statement<'_>>) -> Result<(), AllocError> {
+fn put_statements(
+    alloc: Global,
+    out: &mut String,
+    statements: &Vec<Statement<'_>>,
+) -> Result<(), AllocError> {
     for statement in statements {
         put_statement(alloc, out, statement)?;
         out.push_str(";")?;
@@ -88,13 +165,29 @@ fn put_set(
 }
 
 #[cycle(put)]
-fn put_statement(alloc: Global, out: &mut String, statement: &Statement<'_>) -> Result<(), AllocError> {
+fn put_statement(
+    alloc: Global,
+    out: &mut String,
+    statement: &Statement<'_>,
+) -> Result<(), AllocError> {
     match statement {
         Statement::Assign { name, line, value } => {
-            put_set(alloc, out, *line, format!(in alloc; "{name} =")?.as_str(), value)
+            put_set(
+                alloc,
+                out,
+                *line,
+                format!(in alloc; "{name} =")?.as_str(),
+                value,
+            )
         }
         Statement::Append { name, line, value } => {
-            put_set(alloc, out, *line, format!(in alloc; "{name} +=")?.as_str(), value)
+            put_set(
+                alloc,
+                out,
+                *line,
+                format!(in alloc; "{name} +=")?.as_str(),
+                value,
+            )
         }
         Statement::Call {
             name,
@@ -109,7 +202,9 @@ fn put_statement(alloc: Global, out: &mut String, statement: &Statement<'_>) -> 
             out.push_str(")")
         }
         Statement::Break { line } => out.push_str(format!(in alloc; "{line} break")?.as_str()),
-        Statement::Continue { line } => out.push_str(format!(in alloc; "{line} continue")?.as_str()),
+        Statement::Continue { line } => out.push_str(format!(in alloc;
+            "{line} continue"
+        )?.as_str()),
         Statement::If {
             line,
             branches,
@@ -117,9 +212,8 @@ fn put_statement(alloc: Global, out: &mut String, statement: &Statement<'_>) -> 
         } => {
             out.push_str(format!(in alloc; "{line} if")?.as_str())?;
             put_branches(alloc, out, branches)?;
-            out.push_str(" else {")?;
-            put_statements(alloc, out, otherwise)?;
-            out.push_str("}")
+            out.push_str(" else")?;
+            put_body(alloc, out, otherwise)
         }
         Statement::Foreach {
             line,
@@ -131,7 +225,8 @@ fn put_statement(alloc: Global, out: &mut String, statement: &Statement<'_>) -> 
         } => {
             let others = second.unwrap_or("-");
             out.push_str(format!(in alloc; "{line} foreach {first},{others}")?.as_str())?;
-            put_part(alloc, out, *list_line, list, body)
+            put_head(alloc, out, *list_line, list)?;
+            put_body(alloc, out, body)
         }
     }
 }

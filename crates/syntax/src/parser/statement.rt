@@ -4,8 +4,8 @@ ghost use Rattle.std.specs.Prelude.{◌≡◌, ◌<◌, ◌≤◌, length, map, 
 ghost use Rattle.std.specs.Option.{option_map};
 ghost use Rattle.lexer.specs.Lexeme.{lexemes};
 ghost use Rattle.syntax.specs.Reading.{Gives, begins, optional_at, two_begin};
-ghost use Rattle.syntax.specs.ReadingExpressions.{arguments_at, expr_at};
-ghost use Rattle.syntax.specs.ReadingStatements.{begins_block, block_at, body_at, branch_at, call_at, conditional_at, elif_at, ended_line_at, ends_line, foreach_at, in_body, last_part_at, leave_at, maybe_at, otherwise_at, parts_at, second_at, set_at, simple_at, stmt_at};
+ghost use Rattle.syntax.specs.ReadingExpressions.{expr_at};
+ghost use Rattle.syntax.specs.ReadingStatements.{begins_block, block_at, body_at, branch_at, conditional_at, elif_at, ended_line_at, ends_line, foreach_at, in_body, last_part_at, leave_at, maybe_at, otherwise_at, parts_at, plain_at, second_at, set_at, simple_at, stmt_at};
 ghost use Rattle.syntax.specs.Tree.{AppendTree, AssignTree, BreakTree, ContinueTree, branch_of, statement_of};
 
 use super::Parser;
@@ -94,19 +94,16 @@ impl<'a> Parser<'_, 'a> {
         })
     }
 
-    // A call.
-    #[tactic(auto, unfolding(crate::specs::ReadingStatements::call_at))]
-    fn call(&mut self, alloc: Global, levels: u32) -> Result<Statement<'a>, ReadError>
-        ensures read { Gives statement_of result (lexemes self.new.rest.now) (call_at (arguments_at levels) (lexemes self.old.rest.now)) }
+    // An expression alone.
+    #[tactic(auto, unfolding(crate::specs::ReadingStatements::plain_at))]
+    fn plain(&mut self, alloc: Global, levels: u32) -> Result<Statement<'a>, ReadError>
+        ensures read { Gives statement_of result (lexemes self.new.rest.now)
+            (plain_at (expr_at levels) (lexemes self.old.rest.now)) }
         ensures shorter { OnOk result (length self.new.rest.now < length self.old.rest.now) }
     {
-        let name = self.take(Kind::Name)?;
-        let arguments = self.arguments(alloc, levels)?;
-        Ok(Statement::Call {
-            name: name.text,
-            line: name.line,
-            arguments,
-        })
+        let line = self.first_line();
+        let value = self.expression(alloc, levels)?;
+        Ok(Statement::Expression { value, line })
     }
 
     // A `break`, where a `foreach` is open.
@@ -140,7 +137,7 @@ impl<'a> Parser<'_, 'a> {
     }
 
     // A statement of one line.
-    #[tactic(auto, using(crate::proofs::StatementTails::simple_break, crate::proofs::StatementTails::simple_continue, crate::proofs::StatementTails::simple_assign, crate::proofs::StatementTails::simple_append, crate::proofs::StatementTails::simple_call))]
+    #[tactic(auto, using(crate::proofs::StatementTails::simple_break, crate::proofs::StatementTails::simple_continue, crate::proofs::StatementTails::simple_assign, crate::proofs::StatementTails::simple_append, crate::proofs::StatementTails::simple_plain))]
     fn simple(
         &mut self,
         alloc: Global,
@@ -159,7 +156,7 @@ impl<'a> Parser<'_, 'a> {
         } else if self.begins_sign(Kind::PlusAssign) {
             self.append(alloc, levels)
         } else {
-            self.call(alloc, levels)
+            self.plain(alloc, levels)
         }
     }
 
