@@ -234,7 +234,9 @@ fn begin_with<T: Tree, L: Ledger>(
         } => {
             let first = *name == "project";
             if first {
-                first_call(alloc, settings, file, *call_line, arguments, store, tree, steps)
+                first_call(
+                    alloc, settings, file, *call_line, arguments, store, tree, steps,
+                )
             } else {
                 no_project_call(alloc, file, line)
             }

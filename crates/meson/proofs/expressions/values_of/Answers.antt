@@ -1,9 +1,11 @@
-use Rattle.std.proofs.Common.{◌+◌, [], ◌∷◌, ◌++◌, map, drop, refl, ap, ◌∙◌}
+use Rattle.std.proofs.Common.{◌+◌, [], ◌∷◌, ◌++◌, Err, map, drop, refl, ap, subst, ◌∙◌}
 use Rattle.std.proofs.lemmas.List.{map-append}
-use Rattle.syntax.specs.ExpressionTree.{argument_of, arguments}
+use Rattle.syntax.specs.ExpressionTree.{ExpressionTree, argument_of, arguments}
 use Rattle.meson.specs.Evaluation.{value_of, values_of}
+use Rattle.meson.specs.Gives.{Gives}
 use Rattle.meson.specs.Run.{rule}
 use Rattle.meson.specs.Store.{world_of}
+use Rattle.meson.specs.Trace.{seen}
 use Rattle.meson.specs.ValueView.{view, values_view}
 use Rattle.meson.proofs.Follow.{begun, done, further, stopped_later, wanted_later, ended_later}
 use Rattle.meson.proofs.Items.{next_is, no_item}
@@ -19,7 +21,9 @@ returns-in_err-value-clause-gives g c = λ out.
     let x = c.argument-item.result in
     stopped_later view values_view (rule (value_of c.args.file.now (argument_of x).1) w) _ c.in_err-value.field-0.0 w w _ _
     (next_is (λ xs. values_of c.args.file.now (map view l.values.items) (arguments xs) w) argument_of c.args.arguments.now l.argument-index x c.loop-argument-test.true c.argument-item.is (l.invariant out))
-    c.from_residual.ensures.1 (rw c.value-expression.ensures at (c.in_err-value.ensures.gives out))
+    c.from_residual.ensures.1
+    (subst (λ (t : ExpressionTree). Gives view (rule (value_of c.args.file.now t) w) (Err c.in_err-value.field-0.0) w (seen out l.steps) (seen out c.value_of.new.steps))
+    c.value-expression.ensures (c.in_err-value.ensures.gives out))
 
 pub returns-in_err-push-clause-gives : goal.returns-in_err-push-clause-gives
 returns-in_err-push-clause-gives g c = λ out.
