@@ -1,7 +1,8 @@
 //! The tokens of Meson definition files.
 //!
 //! [`tokens`] cuts a source into its tokens, or refuses it with a [`fault::SyntaxFault`], which names what is wrong and the
-//! line. The language is that of the Meson manual's page "Syntax".
+//! line. [`text_of`] gives what a token stands for: a string's text after its escapes. The language is that of the Meson
+//! manual's page "Syntax".
 #![tactic(auto)]
 
 mod bytes;
