@@ -1,0 +1,33 @@
+-- `and` and `or`: the left side decides, or the right side does.
+use Rattle.std.specs.Prelude.{◌≡◌, true, false, Option, Some, None, Result, Ok, Err}
+use Rattle.data.specs.declared.object.Object.TheVariants as TheObject
+use Rattle.data.specs.declared.refusal.Refusal.{Refusal}
+use Rattle.data.specs.declared.refusal.Refusal.TheVariants as refusal
+use Rattle.data.specs.Data.{Data, truth, object}
+use Rattle.data.specs.View.{data_of}
+use Rattle.operators.specs.declared.operator.Connective.{Connective}
+use Rattle.operators.specs.declared.operator.Connective.TheVariants.{And, Or}
+use Rattle.operators.specs.declared.logic.Left.{Left}
+use Rattle.operators.specs.declared.logic.Left.TheVariants as left
+use Rattle.operators.specs.Operations.{disabler}
+
+-- What the left side of `and` or `or` says: a value, where the right side is left alone; `None`, where the right side decides.
+abbrev pub left_answer : Connective → Data → Result (Option Data) Refusal
+left_answer And (truth false) = Ok (Some (truth false))
+left_answer And (truth true) = Ok None
+left_answer Or (truth true) = Ok (Some (truth true))
+left_answer Or (truth false) = Ok None
+left_answer connective (object TheObject.Disabler) = Ok (Some disabler)
+left_answer connective d = Err refusal.Type
+
+-- what the right side of `and` or `or` gives, where it decides
+abbrev pub right_answer : Data → Result Data Refusal
+right_answer (truth b) = Ok (truth b)
+right_answer (object TheObject.Disabler) = Ok disabler
+right_answer d = Err refusal.Type
+
+-- the call says of the left side what is given: a value that stands for the whole, that the right side decides, or its refusal
+abbrev pub LeftAnswers : Connective → Data → Result Left Refusal → Type 0
+LeftAnswers connective d (Ok (left.Decides v)) = left_answer connective d ≡ Ok (Some (data_of v))
+LeftAnswers connective d (Ok left.Open) = left_answer connective d ≡ Ok None
+LeftAnswers connective d (Err r) = left_answer connective d ≡ Err r

@@ -1,0 +1,33 @@
+-- Which values are of one type.
+use Rattle.std.specs.Prelude.{Bool, true, false}
+use Rattle.data.specs.declared.object.Object.{Object}
+use Rattle.data.specs.declared.object.Object.TheVariants as TheObject
+use Rattle.data.specs.Data.{Data, truth, integer, text, list, dictionary, object}
+
+-- Objects are of one kind where they are of one type of the manual. All targets are of one kind, outputs of custom targets of another.
+abbrev pub is_one_kind : Object → Object → Bool
+is_one_kind (TheObject.Feature f) (TheObject.Feature g) = true
+is_one_kind (TheObject.Dependency d) (TheObject.Dependency e) = true
+is_one_kind (TheObject.Program p) (TheObject.Program q) = true
+is_one_kind (TheObject.BuildTarget m) (TheObject.BuildTarget n) = true
+is_one_kind (TheObject.BuildTarget m) (TheObject.CustomTarget n j) = true
+is_one_kind (TheObject.CustomTarget m i) (TheObject.BuildTarget n) = true
+is_one_kind (TheObject.CustomTarget m i) (TheObject.CustomTarget n j) = true
+is_one_kind (TheObject.CustomOutput m i) (TheObject.CustomOutput n j) = true
+is_one_kind (TheObject.File p b) (TheObject.File q c) = true
+is_one_kind (TheObject.IncludeDirectories v) (TheObject.IncludeDirectories w) = true
+is_one_kind (TheObject.Machine m) (TheObject.Machine n) = true
+is_one_kind TheObject.Meson TheObject.Meson = true
+is_one_kind TheObject.Compiler TheObject.Compiler = true
+is_one_kind (TheObject.ConfigurationData m) (TheObject.ConfigurationData n) = true
+is_one_kind TheObject.Disabler TheObject.Disabler = true
+is_one_kind _ _ = false
+
+abbrev pub is_one_type : Data → Data → Bool
+is_one_type (truth b) (truth c) = true
+is_one_type (integer y) (integer z) = true
+is_one_type (text s) (text t) = true
+is_one_type (list ds) (list es) = true
+is_one_type (dictionary es) (dictionary fs) = true
+is_one_type (object o) (object p) = is_one_kind o p
+is_one_type _ _ = false

@@ -1,0 +1,72 @@
+//! Sums of lists and of dictionaries. What nobody else holds is changed in place.
+
+ghost use Rattle.std.specs.Prelude.{◌≡◌, IfOk};
+ghost use Rattle.data.specs.Data.{list as list_data, dictionary as dictionary_data, items_append, item, no_items, merged};
+ghost use Rattle.data.specs.Limits.{within};
+ghost use Rattle.data.specs.View.{data_of};
+ghost use Rattle.data.specs.Tables.{Answers};
+
+use data::{Dictionary, DictionaryBuilder, List, Refusal, Value};
+use std::alloc::{AllocError, Global};
+use std::rc::Rc;
+
+/// The items of one list and then those of another.
+pub fn append_all(
+    alloc: Global,
+    list: Rc<List>,
+    others: &List,
+) -> Result<Result<Value, Refusal>, AllocError>
+    ensures { IfOk result (λ r. Answers (within (list_data (items_append list.value others.now))) r) }
+{
+    if !list.has_room_for(others) {
+        return Ok(Err(Refusal::Limit));
+    }
+    let mut list = own_list(alloc, list)?;
+    list.extend(others)?;
+    Ok(Ok(Value::of_list(alloc, list)?))
+}
+
+/// The items of a list and then a value.
+pub fn append(
+    alloc: Global,
+    list: Rc<List>,
+    value: Value,
+) -> Result<Result<Value, Refusal>, AllocError>
+    ensures { IfOk result (λ r. Answers (within (list_data (items_append list.value (item (data_of value) no_items)))) r) }
+{
+    if !list.has_room(&value) {
+        return Ok(Err(Refusal::Limit));
+    }
+    let mut list = own_list(alloc, list)?;
+    list.push(value)?;
+    Ok(Ok(Value::of_list(alloc, list)?))
+}
+
+/// The entries of one dictionary with those of another.
+pub fn merge(
+    alloc: Global,
+    dictionary: Rc<Dictionary>,
+    others: &Dictionary,
+) -> Result<Result<Value, Refusal>, AllocError>
+    ensures { IfOk result (λ r. Answers (within (dictionary_data (merged dictionary.value others.now))) r) }
+{
+    let mut builder = match Rc::try_unwrap(dictionary) {
+        Ok(dictionary) => DictionaryBuilder::of_dictionary(dictionary),
+        Err(shared) => DictionaryBuilder::copy_of(alloc, &shared)?,
+    };
+    builder.put_all(alloc, others)?;
+    match builder.finish() {
+        Ok(dictionary) => Ok(Ok(Value::of_dictionary(alloc, dictionary)?)),
+        Err(refusal) => Ok(Err(refusal)),
+    }
+}
+
+// The list itself where nobody else holds it, else a copy.
+fn own_list(alloc: Global, list: Rc<List>) -> Result<List, AllocError>
+    ensures { IfOk result (λ l. l ≡ list.value) }
+{
+    match Rc::try_unwrap(list) {
+        Ok(list) => Ok(list),
+        Err(shared) => List::copy_of(alloc, &shared),
+    }
+}

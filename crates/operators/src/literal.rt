@@ -1,0 +1,70 @@
+//! Dictionary literals.
+
+ghost use Rattle.std.specs.Prelude.{◌≡◌, ◌+◌, ◌<◌, ◌≤◌, ◌^◌, IfOk, MatchResult, Ok, Err};
+ghost use Rattle.data.specs.Data.{no_entries};
+ghost use Rattle.data.specs.Weight.{entries_weight};
+ghost use Rattle.data.specs.View.{data_of};
+ghost use Rattle.data.specs.Tables.{Answers};
+ghost use Rattle.operators.specs.Literal.{with_entry, with_entries, literal_answer, pairs_of};
+
+use data::{DictionaryBuilder, Refusal, Value};
+use std::alloc::{AllocError, Global};
+
+/// The dictionary of a literal's keys and values, in order.
+///
+/// The first key that is no text (E6) or equal to an earlier one (E11) decides; then E22, where it is past a limit.
+pub fn dictionary(
+    alloc: Global,
+    entries: Vec<(Value, Value)>,
+) -> Result<Result<Value, Refusal>, AllocError>
+    ensures { IfOk result (λ r. Answers (literal_answer (pairs_of entries.items)) r) }
+{
+    let builder = match with_entries(alloc, entries)? {
+        Ok(builder) => builder,
+        Err(refusal) => return Ok(Err(refusal)),
+    };
+    match builder.finish() {
+        Ok(dictionary) => Ok(Ok(Value::of_dictionary(alloc, dictionary)?)),
+        Err(refusal) => Ok(Err(refusal)),
+    }
+}
+
+fn with_entries(
+    alloc: Global,
+    entries: Vec<(Value, Value)>,
+) -> Result<Result<DictionaryBuilder, Refusal>, AllocError>
+    ensures { IfOk result (λ r. with_entries no_entries (pairs_of entries.items) ≡ r) }
+{
+    let mut builder = DictionaryBuilder::new(alloc);
+    for (key, value) in entries {
+        if let Err(refusal) = put_entry(alloc, &mut builder, &key, value)? {
+            return Ok(Err(refusal));
+        }
+    }
+    Ok(Ok(builder))
+}
+
+// Puts one more entry, unless its key is refused.
+fn put_entry(
+    alloc: Global,
+    builder: &mut DictionaryBuilder,
+    key: &Value,
+    value: Value,
+) -> Result<Result<(), Refusal>, AllocError>
+    requires { entries_weight builder.old < 2 ^ 100 }
+    ensures put { IfOk result (λ r. MatchResult r
+        (λ _. with_entry builder.old (data_of key.now) (data_of value) ≡ Ok builder.new)
+        (λ e. with_entry builder.old (data_of key.now) (data_of value) ≡ Err e)) }
+    ensures light { IfOk result (λ _. entries_weight builder.new ≤ entries_weight builder.old + 2 ^ 26) }
+{
+    let Some(text) = key.as_text() else {
+        return Ok(Err(Refusal::Type));
+    };
+    if builder.contains_key(text) {
+        return Ok(Err(Refusal::Duplicate));
+    }
+    // no value weighs so much that the sum could overflow
+    let _weight = value.weight();
+    builder.put(String::from_str(alloc, text)?, value)?;
+    Ok(Ok(()))
+}

@@ -1,0 +1,110 @@
+//! The operators, by the types of their operands.
+
+ghost use Rattle.std.specs.Prelude.{◌≡◌, IfOk, option_map};
+ghost use Rattle.data.specs.Data.{truth as truth_data};
+ghost use Rattle.data.specs.declared.refusal.Refusal.TheVariants as refusal;
+ghost use Rattle.data.specs.View.{data_of};
+ghost use Rattle.data.specs.Tables.{Answers};
+ghost use Rattle.operators.specs.Operations.{answer, binary_outcome, unary_answer, binary_answer};
+ghost use Rattle.operators.specs.declared.operator.Binary.TheVariants.{Add, Divide};
+
+use crate::arithmetic::{difference, integer, integer_quotient, opposite, product, remainder};
+use crate::lists::{append, append_all, merge};
+use crate::logic::negation;
+use crate::membership::{absence, membership};
+use crate::operator::{Binary, Unary};
+use crate::relations::{
+    equality, inequality, is_greater, is_greater_or_equal, is_less, is_less_or_equal,
+};
+use crate::texts::{concatenate, path_below};
+use data::{Refusal, Value};
+use std::alloc::{AllocError, Global};
+
+/// What an operator gives for one operand, or E6 for a wrong type and E7 for an integer out of range.
+pub fn unary(operator: Unary, operand: Value) -> Result<Value, Refusal>
+    ensures { Answers (unary_answer operator (data_of operand)) result }
+{
+    if operand.is_disabler() {
+        return Ok(operand);
+    }
+    match operator {
+        Unary::Not => negation(&operand),
+        Unary::Negate => opposite(&operand),
+    }
+}
+
+/// What an operator gives for two operands: a disabler where one of them is a disabler, else by their types.
+///
+/// Refusals are E6 for types that the operator does not take, E7 for an integer out of range or a divisor of
+/// zero, and E22 for a value past a limit. A list or dictionary that nobody else holds is added to in place.
+pub fn binary(
+    alloc: Global,
+    operator: Binary,
+    left: Value,
+    right: Value,
+) -> Result<Result<Value, Refusal>, AllocError>
+    ensures { IfOk result (λ r. Answers (binary_answer operator (data_of left) (data_of right)) r) }
+{
+    if left.is_disabler() {
+        return Ok(Ok(left));
+    }
+    if right.is_disabler() {
+        return Ok(Ok(right));
+    }
+    match operator {
+        Binary::Add => sum(alloc, left, right),
+        Binary::Subtract => Ok(difference(&left, &right)),
+        Binary::Multiply => Ok(product(&left, &right)),
+        Binary::Divide => quotient(alloc, &left, &right),
+        Binary::Remainder => Ok(remainder(&left, &right)),
+        Binary::Equal => Ok(truth(equality(&left, &right))),
+        Binary::NotEqual => Ok(truth(inequality(&left, &right))),
+        Binary::Less => Ok(truth(is_less(&left, &right))),
+        Binary::LessOrEqual => Ok(truth(is_less_or_equal(&left, &right))),
+        Binary::Greater => Ok(truth(is_greater(&left, &right))),
+        Binary::GreaterOrEqual => Ok(truth(is_greater_or_equal(&left, &right))),
+        Binary::In => Ok(truth(membership(&left, &right))),
+        Binary::NotIn => Ok(truth(absence(&left, &right))),
+    }
+}
+
+// The value of a test that the operands have.
+fn truth(test: Option<bool>) -> Result<Value, Refusal>
+    ensures { Answers (answer (option_map truth_data test) refusal.Type) result }
+{
+    match test {
+        Some(truth) => Ok(Value::Truth(truth)),
+        None => Err(Refusal::Type),
+    }
+}
+
+// `left + right`
+fn sum(alloc: Global, left: Value, right: Value) -> Result<Result<Value, Refusal>, AllocError>
+    ensures { IfOk result (λ r. Answers (binary_outcome Add (data_of left) (data_of right)) r) }
+{
+    match (left, right) {
+        (Value::Integer(x), Value::Integer(y)) => Ok(integer(x.checked_add(y))),
+        (Value::Text(s), Value::Text(t)) => concatenate(alloc, s.as_str(), t.as_str()),
+        (Value::List(list), Value::List(others)) => append_all(alloc, list, &others),
+        (Value::List(list), value) => append(alloc, list, value),
+        (Value::Dictionary(dictionary), Value::Dictionary(others)) => merge(
+            alloc, dictionary, &others,
+        ),
+        _ => Ok(Err(Refusal::Type)),
+    }
+}
+
+// `left / right`
+fn quotient(
+    alloc: Global,
+    left: &Value,
+    right: &Value,
+) -> Result<Result<Value, Refusal>, AllocError>
+    ensures { IfOk result (λ r. Answers (binary_outcome Divide (data_of left.now) (data_of right.now)) r) }
+{
+    match (left, right) {
+        (Value::Integer(x), Value::Integer(y)) => Ok(integer(integer_quotient(*x, *y))),
+        (Value::Text(s), Value::Text(t)) => path_below(alloc, s.as_str(), t.as_str()),
+        _ => Ok(Err(Refusal::Type)),
+    }
+}
