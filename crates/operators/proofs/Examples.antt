@@ -1,13 +1,11 @@
 -- What the definitions say of operations that are written out.
-use Rattle.std.proofs.Common.{◌≡◌, pos, negsuc, Bool, true, false, List, [], ◌∷◌, codes, Result, Ok, Err, refl}
+use Rattle.std.proofs.Common.{◌≡◌, pos, negsuc, true, false, [], ◌∷◌, codes, Ok, Err, refl}
 use Rattle.data.specs.declared.object.Object.TheVariants as TheObject
 use Rattle.data.specs.declared.refusal.Refusal.TheVariants as refusal
-use Rattle.data.specs.Data.{Data, truth, integer, text, list, dictionary, object, Items, no_items, item, Entries, no_entries, entry}
+use Rattle.data.specs.Data.{truth, integer, text, list, dictionary, object, no_items, item, no_entries, entry}
 use Rattle.operators.specs.declared.operator.Binary.TheVariants.{Add, Divide, Remainder, Equal, Less, In}
 use Rattle.operators.specs.declared.operator.Unary.TheVariants.{Negate}
-use Rattle.operators.specs.declared.operator.Connective.TheVariants.{And, Or}
 use Rattle.operators.specs.Operations.{unary_answer, binary_answer, disabler}
-use Rattle.operators.specs.Logic.{left_answer}
 use Rattle.operators.specs.Index.{index_answer}
 use Rattle.operators.specs.Literal.{literal_answer}
 
