@@ -1,29 +1,60 @@
 -- A source is cut between characters.
-use Rattle.std.proofs.Common.{◌≡◌, ℕ, ◌+◌, ◌-◌, ◌≤◌, ◌<◌, Bool, true, false, List, [], ◌∷◌, length, drop, get_or, refl, sym, ap, subst, ◌∙◌, inl, inr, arith, lit<, Some, length-drop, length-append}
-use Rattle.std.specs.Prelude.{◌==◌}
+use Rattle.std.proofs.Common.{◌≡◌, ◌≢◌, ℕ, ◌+◌, ◌-◌, ◌≤◌, ◌<◌, Bool, true, false, List, [], ◌∷◌, length, drop, get_or, refl, sym, ap, subst, ◌∙◌, ◌⊎◌, inl, inr, arith, lit<, Some, length-drop, length-append}
+use Rattle.std.specs.Prelude.{◌==◌, ◌&&◌, not, nat_lt}
 use Rattle.std.specs.Str.{IsUtf8, IsCharBoundary}
 use Rattle.std.proofs.lemmas.Bool.{eqb-true}
 use Rattle.std.proofs.lemmas.Bool.Decides.{nat_tests}
 use Rattle.std.proofs.lemmas.List.{get_or-drop, get_or_append_left, drop-drop}
 use Rattle.std.proofs.lemmas.Str.{IsCharBoundary-after_ascii, IsCharBoundary-before_ascii, IsCharBoundary-end, IsCharBoundary-start}
 use Rattle.lexer.specs.declared.token.Kind.{Kind}
-use Rattle.lexer.specs.Bytes.{newline}
-use Rattle.lexer.specs.Lexing.{gap, in_gap, commented_after, token_at}
+use Rattle.lexer.specs.declared.gap.GapPart.{GapPart}
+use Rattle.lexer.specs.declared.gap.GapPart.TheVariants.{Blank, Comment, Continuation}
+use Rattle.lexer.specs.Bytes.{newline, hash, backslash, is_blank}
+use Rattle.lexer.specs.Lexing.{continues_line, gap, in_gap, part_after, token_at}
 use Rattle.lexer.proofs.Gaps.{gap_yes, gap_no}
-use Rattle.lexer.proofs.Gaps.{cases_bool}
+use Rattle.lexer.proofs.Tests.{cases_bool, neither, not_false, or_false, if_false}
 use Rattle.lexer.proofs.Lexemes.{token_sound, token_ascii}
 
 newline_ascii : (b : ℕ) → (b == newline) ≡ true → b < 128
 newline_ascii b e = subst (λ (x : ℕ). x < 128) (sym (eqb-true b newline e)) (lit< tt)
 
--- a byte of a gap that is outside a comment, and begins none
-plain_ascii : (depth : ℕ) (c : Bool) (b : ℕ) → in_gap depth c b ≡ true → commented_after c b ≡ false → b < 128
-plain_ascii depth true b t f = grind (arith, nat_tests)
-plain_ascii depth false b t f = grind (arith, nat_tests)
+back_ascii : (b : ℕ) (part : GapPart) → part_after part b ≡ Blank → ((b == newline) ≡ false → part_after part b ≡ part) → part ≢ Blank → b < 128
+back_ascii b part f other n = elim (cases_bool (b == newline)) [
+  | inl y ↦ newline_ascii b y
+  | inr m ↦ absurd (n (sym (other m) ∙ f))
+]
 
--- the byte behind a comment
-stop_ascii : (depth b : ℕ) → in_gap depth true b ≡ false → b < 128
-stop_ascii depth b f = grind (arith, nat_tests)
+blank_ascii : (depth b : ℕ) → is_blank depth b ≡ true → b < 128
+blank_ascii depth b t = grind (arith, nat_tests)
+
+-- a byte of a gap that is followed by no comment and no continuation
+plain_ascii : (depth : ℕ) (part : GapPart) (b : ℕ) (bs : List ℕ) → in_gap depth part b bs ≡ true → part_after part b ≡ Blank → b < 128
+plain_ascii depth Blank b bs t f = elim (cases_bool (is_blank depth b)) [
+  | inl y ↦ blank_ascii depth b y
+  | inr n ↦ elim (cases_bool (b == hash)) [
+    | inl y ↦ subst (λ (x : ℕ). x < 128) (sym (eqb-true b hash y)) (lit< tt)
+    | inr m ↦ elim (cases_bool (b == backslash)) [
+      | inl y ↦ subst (λ (x : ℕ). x < 128) (sym (eqb-true b backslash y)) (lit< tt)
+      | inr o ↦ absurd (let e = neither (is_blank depth b) _ n (neither (b == hash) _ m (ap (λ (x : Bool). x && continues_line false bs) o)) in cc)
+    ]
+  ]
+]
+plain_ascii depth Comment b bs t f = back_ascii b Comment f (λ n. if_false (b == newline) _ _ n) (λ e. cc)
+plain_ascii depth Continuation b bs t f = back_ascii b Continuation f (λ n. if_false (b == newline) _ _ n) (λ e. cc)
+
+-- the byte behind a part of a gap that is not at its end
+stop_ascii : (depth : ℕ) (part : GapPart) (b : ℕ) (bs : List ℕ) → part ≢ Blank → in_gap depth part b bs ≡ false → b < 128
+stop_ascii depth Blank b bs n f = absurd (n refl)
+stop_ascii depth Comment b bs n f = elim (cases_bool (b == newline)) [
+  | inl y ↦ newline_ascii b y
+  | inr m ↦ absurd (let e = or_false (not (b == newline)) (nat_lt 0 depth) f in let u = not_false (b == newline) m in cc)
+]
+stop_ascii depth Continuation b bs n f = absurd cc
+
+cases_part : (part : GapPart) → (part ≡ Blank) ⊎ (part ≢ Blank)
+cases_part Blank = inl refl
+cases_part Comment = inr (λ e. cc)
+cases_part Continuation = inr (λ e. cc)
 
 here_is : (bs : List ℕ) (i b : ℕ) (rest : List ℕ) → drop i bs ≡ b ∷ rest → (get_or bs i 0 ≡ b) × (i < length bs)
 here_is bs i b rest e = (sym (get_or-drop-zero bs i) ∙ ap (λ (l : List ℕ). get_or l 0 0) e, omega (arith, ap length e, length-drop i bs))
@@ -34,26 +65,25 @@ here_is bs i b rest e = (sym (get_or-drop-zero bs i) ∙ ap (λ (l : List ℕ). 
 next_drop : (bs : List ℕ) (i b : ℕ) (rest : List ℕ) → drop i bs ≡ b ∷ rest → drop (i + 1) bs ≡ rest
 next_drop bs i b rest e = sym (drop-drop 1 i bs) ∙ ap (λ (l : List ℕ). drop 1 l) e
 
-pub gap_cut : (bs : List ℕ) → IsUtf8 bs → (depth : ℕ) (c : Bool) (i : ℕ) (s : List ℕ) → drop i bs ≡ s → i ≤ length bs → (c ≡ false → IsCharBoundary bs i) → IsCharBoundary bs (i + gap depth c s)
-gap_cut bs utf8 depth c i [] e le h = subst (IsCharBoundary bs) (omega (arith, ap length e, length-drop i bs)) (IsCharBoundary-end bs)
-gap_cut bs utf8 depth c i (b ∷ rest) e le h =
+pub gap_cut : (bs : List ℕ) → IsUtf8 bs → (depth : ℕ) (part : GapPart) (i : ℕ) (s : List ℕ) → drop i bs ≡ s → i ≤ length bs → (part ≡ Blank → IsCharBoundary bs i) → IsCharBoundary bs (i + gap depth part s)
+gap_cut bs utf8 depth part i [] e le h = subst (IsCharBoundary bs) (omega (arith, ap length e, length-drop i bs)) (IsCharBoundary-end bs)
+gap_cut bs utf8 depth part i (b ∷ rest) e le h =
     let at = here_is bs i b rest e in
-    elim (cases_bool (in_gap depth c b)) [
-      | inl t ↦ subst (IsCharBoundary bs) (let q : (i + 1) + gap depth (commented_after c b) rest ≡ i + gap depth c (b ∷ rest) = omega (arith, gap_yes depth c b rest t) in q)
-          (gap_cut bs utf8 depth (commented_after c b) (i + 1) rest (next_drop bs i b rest e) (omega (arith, at.1))
-          (λ f. IsCharBoundary-after_ascii bs i utf8 at.1 (subst (λ (x : ℕ). x < 128) (sym at.0) (plain_ascii depth c b t f))))
-      | inr n ↦ subst (IsCharBoundary bs) (let q : i ≡ i + gap depth c (b ∷ rest) = omega (arith, gap_no depth c b rest n) in q) (here c h n at)
+    elim (cases_bool (in_gap depth part b rest)) [
+      | inl t ↦ subst (IsCharBoundary bs) (let q : (i + 1) + gap depth (part_after part b) rest ≡ i + gap depth part (b ∷ rest) = omega (arith, gap_yes depth part b rest t) in q)
+          (gap_cut bs utf8 depth (part_after part b) (i + 1) rest (next_drop bs i b rest e) (omega (arith, at.1))
+          (λ f. IsCharBoundary-after_ascii bs i utf8 at.1 (subst (λ (x : ℕ). x < 128) (sym at.0) (plain_ascii depth part b rest t f))))
+      | inr n ↦ subst (IsCharBoundary bs) (let q : i ≡ i + gap depth part (b ∷ rest) = omega (arith, gap_no depth part b rest n) in q) (elim (cases_part part) [
+        | inl y ↦ h y
+        | inr m ↦ IsCharBoundary-before_ascii bs i at.1 (subst (λ (x : ℕ). x < 128) (sym at.0) (stop_ascii depth part b rest m n))
+      ])
     ]
-  where
-    here : (c : Bool) → (c ≡ false → IsCharBoundary bs i) → in_gap depth c b ≡ false → (get_or bs i 0 ≡ b) × (i < length bs) → IsCharBoundary bs i
-    here false h n at = h refl
-    here true h n at = IsCharBoundary-before_ascii bs i at.1 (subst (λ (x : ℕ). x < 128) (sym at.0) (stop_ascii depth b n))
 
 -- where a gap ends
-pub gap_boundary : (bs : List ℕ) (depth n : ℕ) → IsUtf8 bs → n ≡ gap depth false bs → IsCharBoundary bs n
+pub gap_boundary : (bs : List ℕ) (depth n : ℕ) → IsUtf8 bs → n ≡ gap depth Blank bs → IsCharBoundary bs n
 gap_boundary bs depth n utf8 e =
-    subst (IsCharBoundary bs) (let q : 0 + gap depth false bs ≡ n = omega (arith, e) in q)
-    (gap_cut bs utf8 depth false 0 bs refl (omega arith) (λ f. IsCharBoundary-start bs utf8))
+    subst (IsCharBoundary bs) (let q : 0 + gap depth Blank bs ≡ n = omega (arith, e) in q)
+    (gap_cut bs utf8 depth Blank 0 bs refl (omega arith) (λ f. IsCharBoundary-start bs utf8))
 
 -- where a token ends
 pub token_boundary : (bs : List ℕ) (k : Kind) (n : ℕ) → IsUtf8 bs → token_at bs ≡ Some (k, n) → IsCharBoundary bs n

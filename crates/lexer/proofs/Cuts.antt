@@ -1,22 +1,19 @@
 -- What the functions that find a token answer, case by case.
-use Rattle.std.proofs.Common.{◌≡◌, ◌≢◌, ℕ, ◌+◌, ◌-◌, ◌≤◌, ◌<◌, Bool, true, false, List, [], ◌∷◌, ◌++◌, length, take, drop, get_or, refl, sym, ap, ◌∙◌, inl, inr, arith, Some, None, Result, Ok, Err, rules}
+use Rattle.std.proofs.Common.{◌≡◌, ◌≢◌, ℕ, ◌+◌, ◌-◌, ◌≤◌, ◌<◌, true, false, List, [], ◌∷◌, ◌++◌, length, take, drop, get_or, refl, sym, ap, ◌∙◌, arith, Some, None, Result, Ok, Err}
 use Rattle.std.specs.Prelude.{◌==◌}
+use Rattle.std.specs.Char.{is_ascii_digit}
 use Rattle.std.proofs.lemmas.List.{at_drop_more, drop_all}
-use Rattle.std.proofs.lemmas.Grind.{common_steps}
 use Rattle.lexer.specs.declared.token.Kind.{Kind}
 use Rattle.lexer.specs.declared.token.Kind.TheVariants as Kinds
 use Rattle.lexer.specs.Bytes.{quote, is_letter, continues_word, is_plain, opens_raw, opens_format}
 use Rattle.lexer.specs.Kinds.{word_kind, single_kind}
-use Rattle.lexer.specs.Lexing.{gap, in_gap, commented_after, run, word_at, string_at, closed_at, double_kind, symbol_at, token_at, lex, lexed}
+use Rattle.lexer.specs.Numbers.{is_number}
+use Rattle.lexer.specs.Lexing.{run, word_at, number_at, string_at, closed_at, double_kind, symbol_at, token_at, lex, lexed}
 use Rattle.lexer.specs.declared.fault.SyntaxFault.{SyntaxFault}
 use Rattle.lexer.specs.Lexeme.{Lexeme}
 use Rattle.lexer.specs.Tokens.{Place}
-use Rattle.lexer.proofs.Gaps.{gap_yes, gap_no}
-use Rattle.lexer.proofs.Gaps.{cases_bool}
-use Rattle.lexer.proofs.Lexemes.{run_le}
-
-take_all : (s : List ℕ) → take (length s) s ≡ s
-take_all s = search (rules, common_steps)
+use Rattle.lexer.proofs.Tests.{neq_false, if_true, if_false}
+use Rattle.lexer.proofs.Runs.{run_le, take_all}
 
 -- ---- symbols
 
@@ -45,6 +42,16 @@ word_some bs n e f = rw (e, f) refl
 pub word_fits : (bs : List ℕ) (n : ℕ) → n ≡ run continues_word bs → n ≤ length bs
 word_fits bs n e = omega (arith, run_le continues_word bs)
 
+-- ---- numbers
+
+pub number_some : (bs : List ℕ) (n : ℕ) → run continues_word bs ≡ n → is_number (take n bs) ≡ true → number_at bs ≡ Some (Kinds.Number, n)
+unfolding number_at
+number_some bs n e f = rw e (if_true (is_number (take n bs)) _ _ f)
+
+pub number_none : (bs : List ℕ) (n : ℕ) → run continues_word bs ≡ n → is_number (take n bs) ≡ false → number_at bs ≡ None
+unfolding number_at
+number_none bs n e f = rw e (if_false (is_number (take n bs)) _ _ f)
+
 -- ---- strings
 
 pub string_some : (bs : List ℕ) (n : ℕ) → run is_plain bs ≡ n → n < length bs → get_or bs n 0 ≡ quote → string_at bs ≡ Some (Kinds.String, n + 2)
@@ -54,9 +61,6 @@ string_some bs n e lt q = rw e (at_drop_more (closed_at n) bs n 0 lt ∙ rw q re
 pub string_open : (bs : List ℕ) (n : ℕ) → run is_plain bs ≡ n → n < length bs → get_or bs n 0 ≢ quote → string_at bs ≡ None
 unfolding string_at
 string_open bs n e lt q = rw e (at_drop_more (closed_at n) bs n 0 lt ∙ (let f : (get_or bs n 0 == quote) ≡ false = neq_false (get_or bs n 0) quote q in rw f refl))
-  where
-    neq_false : (a b : ℕ) → a ≢ b → (a == b) ≡ false
-    neq_false a b h = search (rules, common_steps)
 
 pub string_ended : (bs : List ℕ) (n : ℕ) → run is_plain bs ≡ n → length bs ≤ n → string_at bs ≡ None
 unfolding string_at
@@ -77,30 +81,25 @@ token_word (a ∷ bs) lt e = rw e refl
 tail_is : (a : ℕ) (bs : List ℕ) → take (length (a ∷ bs) - 1) (drop 1 (a ∷ bs)) ≡ bs
 tail_is a bs = ap (λ (n : ℕ). take n bs) (let q : length (a ∷ bs) - 1 ≡ length bs = omega arith in q) ∙ take_all bs
 
-pub token_symbol : (s : List ℕ) → 0 < length s → is_letter (get_or s 0 0) ≡ false → (get_or s 0 0 == quote) ≡ false → token_at s ≡ symbol_at (get_or s 0 0) (take (length s - 1) (drop 1 s))
+pub token_number : (s : List ℕ) → 0 < length s → is_letter (get_or s 0 0) ≡ false → is_ascii_digit (get_or s 0 0) ≡ true → token_at s ≡ number_at s
 unfolding token_at
-token_symbol [] lt e q = absurd (omega arith)
-token_symbol (a ∷ bs) lt e q = rw (e, q) (ap (symbol_at a) (sym (tail_is a bs)))
+token_number [] lt e d = absurd (omega arith)
+token_number (a ∷ bs) lt e d = if_false (is_letter a) _ _ e ∙ if_true (is_ascii_digit a) _ _ d
 
-pub token_raw : (s : List ℕ) → 0 < length s → is_letter (get_or s 0 0) ≡ false → (get_or s 0 0 == quote) ≡ true → opens_raw s ≡ true → token_at s ≡ None
+pub token_symbol : (s : List ℕ) → 0 < length s → is_letter (get_or s 0 0) ≡ false → is_ascii_digit (get_or s 0 0) ≡ false → (get_or s 0 0 == quote) ≡ false → token_at s ≡ symbol_at (get_or s 0 0) (take (length s - 1) (drop 1 s))
 unfolding token_at
-token_raw [] lt e q r = absurd (omega arith)
-token_raw (a ∷ bs) lt e q r = rw (e, q, r) refl
+token_symbol [] lt e d q = absurd (omega arith)
+token_symbol (a ∷ bs) lt e d q = if_false (is_letter a) _ _ e ∙ if_false (is_ascii_digit a) _ _ d ∙ if_false (a == quote) _ _ q ∙ ap (symbol_at a) (sym (tail_is a bs))
 
-pub token_string : (s : List ℕ) → 0 < length s → is_letter (get_or s 0 0) ≡ false → (get_or s 0 0 == quote) ≡ true → opens_raw s ≡ false → token_at s ≡ string_at (take (length s - 1) (drop 1 s))
+pub token_raw : (s : List ℕ) → 0 < length s → is_letter (get_or s 0 0) ≡ false → is_ascii_digit (get_or s 0 0) ≡ false → (get_or s 0 0 == quote) ≡ true → opens_raw s ≡ true → token_at s ≡ None
 unfolding token_at
-token_string [] lt e q r = absurd (omega arith)
-token_string (a ∷ bs) lt e q r = rw (e, q, r) (ap string_at (sym (tail_is a bs)))
+token_raw [] lt e d q r = absurd (omega arith)
+token_raw (a ∷ bs) lt e d q r = if_false (is_letter a) _ _ e ∙ if_false (is_ascii_digit a) _ _ d ∙ if_true (a == quote) _ _ q ∙ if_true (opens_raw (a ∷ bs)) _ _ r
 
--- ---- where a text may be cut
-
--- what the function that measures a gap says of the text that it is in
-pub gap_within : (depth : ℕ) (c : Bool) (s : List ℕ) → gap depth c s ≤ length s
-gap_within depth c [] = omega arith
-gap_within depth c (b ∷ bs) = elim (cases_bool (in_gap depth c b)) [
-  | inl y ↦ omega (arith, gap_yes depth c b bs y, gap_within depth (commented_after c b) bs)
-  | inr n ↦ omega (arith, gap_no depth c b bs n)
-]
+pub token_string : (s : List ℕ) → 0 < length s → is_letter (get_or s 0 0) ≡ false → is_ascii_digit (get_or s 0 0) ≡ false → (get_or s 0 0 == quote) ≡ true → opens_raw s ≡ false → token_at s ≡ string_at (take (length s - 1) (drop 1 s))
+unfolding token_at
+token_string [] lt e d q r = absurd (omega arith)
+token_string (a ∷ bs) lt e d q r = if_false (is_letter a) _ _ e ∙ if_false (is_ascii_digit a) _ _ d ∙ if_true (a == quote) _ _ q ∙ if_false (opens_raw (a ∷ bs)) _ _ r ∙ ap string_at (sym (tail_is a bs))
 
 -- ---- the loop over a source
 

@@ -1,11 +1,12 @@
 -- The loop that cuts a source into tokens.
-use Rattle.std.proofs.Common.{◌≡◌, ℕ, zero, suc, ◌+◌, ◌-◌, ◌≤◌, ◌<◌, false, List, [], ◌∷◌, ◌++◌, length, take, drop, refl, sym, ap, ◌∙◌, inl, inr, arith, Some, None, Result, Ok, Err, append_assoc, length-append, length-drop}
+use Rattle.std.proofs.Common.{◌≡◌, ℕ, zero, suc, ◌+◌, ◌-◌, ◌≤◌, ◌<◌, List, [], ◌∷◌, ◌++◌, length, take, drop, refl, sym, ap, ◌∙◌, inl, inr, arith, Some, None, Result, Ok, Err, append_assoc, length-append, length-drop}
 use Rattle.std.specs.Prelude.{◌==◌, ◌||◌}
 use Rattle.std.proofs.lemmas.List.{append-nil, map-append}
 use Rattle.std.proofs.lemmas.List.Sums.{count_by-le-length}
 use Rattle.lexer.specs.declared.token.Kind.TheVariants as Kinds
 use Rattle.lexer.specs.declared.token.Token.{Token}
-use Rattle.lexer.proofs.Gaps.{cases_bool}
+use Rattle.lexer.proofs.Tests.{cases_bool}
+use Rattle.lexer.specs.declared.gap.GapPart.TheVariants.{Blank}
 use Rattle.lexer.specs.declared.token.Kind.{Kind}
 use Rattle.lexer.specs.declared.fault.SyntaxFault.{SyntaxFault}
 use Rattle.lexer.specs.declared.fault.SyntaxError.{SyntaxError}
@@ -34,11 +35,11 @@ front_more : (ts : List Lexeme) (t : Lexeme) (r : Result (List Lexeme) SyntaxFau
 front_more ts t (Ok us) = ap (λ (l : List Lexeme). Ok l) (simp append_assoc)
 front_more ts t (Err f) = refl
 
-pub still_end : (source : List ℕ) (ts : List Lexeme) (rest here : List ℕ) (line depth n : ℕ) → StillLexes source ts (place rest line depth) → n ≡ gap depth false rest → here ≡ drop n rest → length here ≡ 0
+pub still_end : (source : List ℕ) (ts : List Lexeme) (rest here : List ℕ) (line depth n : ℕ) → StillLexes source ts (place rest line depth) → n ≡ gap depth Blank rest → here ≡ drop n rest → length here ≡ 0
     → lexed source ≡ Ok ts
 still_end source ts rest here line depth n (zero, lt, e) gap_is here_is none = absurd (omega arith)
 still_end source ts rest here line depth n (suc k, lt, e) gap_is here_is none =
-    let at : drop (gap depth false rest) rest ≡ [] = ap (λ (m : ℕ). drop m rest) (sym gap_is) ∙ sym here_is ∙ empty here none in
+    let at : drop (gap depth Blank rest) rest ≡ [] = ap (λ (m : ℕ). drop m rest) (sym gap_is) ∙ sym here_is ∙ empty here none in
     e ∙ ap (with_front ts) (lex_end k (place rest line depth) at) ∙ ap (λ (l : List Lexeme). Ok l) (append-nil ts)
   where
     empty : (s : List ℕ) → length s ≡ 0 → s ≡ []
@@ -49,16 +50,16 @@ some_byte : (s : List ℕ) → (length s ≡ 0 → ⊥) → (b : ℕ) × (bs : L
 some_byte [] h = absurd (h refl)
 some_byte (b ∷ bs) h = (b, bs, refl)
 
-pub still_fault : (source : List ℕ) (ts : List Lexeme) (rest here : List ℕ) (line depth n m : ℕ) → StillLexes source ts (place rest line depth) → n ≡ gap depth false rest → here ≡ drop n rest
+pub still_fault : (source : List ℕ) (ts : List Lexeme) (rest here : List ℕ) (line depth n m : ℕ) → StillLexes source ts (place rest line depth) → n ≡ gap depth Blank rest → here ≡ drop n rest
     → (length here ≡ 0 → ⊥) → m ≡ newlines (take n rest) → token_at here ≡ None → lexed source ≡ Err (fault_at (line + m))
 still_fault source ts rest here line depth n m (zero, lt, e) gap_is here_is some lines none = absurd (omega arith)
 still_fault source ts rest here line depth n m (suc k, lt, e) gap_is here_is some lines none =
-    let at : here ≡ drop (gap depth false rest) rest = here_is ∙ ap (λ (i : ℕ). drop i rest) gap_is in
+    let at : here ≡ drop (gap depth Blank rest) rest = here_is ∙ ap (λ (i : ℕ). drop i rest) gap_is in
     let b = some_byte here some in
     let line_is : (skipped (place rest line depth)).line ≡ line + m = ap (λ (i : ℕ). line + i) (ap (λ (i : ℕ). newlines (take i rest)) (sym gap_is) ∙ sym lines) in
     e ∙ ap (with_front ts) (lex_none k (place rest line depth) b.0 b.1 (sym at ∙ b.2) (ap token_at (sym at) ∙ none)) ∙ ap (λ (i : ℕ). Err (fault_at i)) line_is
 
-pub still_more : (source : List ℕ) (ts us : List Lexeme) (rest here text after : List ℕ) (line depth n m l o d : ℕ) (k : Kind) → StillLexes source ts (place rest line depth) → n ≡ gap depth false rest → here ≡ drop n rest
+pub still_more : (source : List ℕ) (ts us : List Lexeme) (rest here text after : List ℕ) (line depth n m l o d : ℕ) (k : Kind) → StillLexes source ts (place rest line depth) → n ≡ gap depth Blank rest → here ≡ drop n rest
     → m ≡ newlines (take n rest) → token_at here ≡ Some (k, l) → text ≡ take l here → after ≡ drop l here → o ≡ newlines text → d ≡ depth_after k depth
     → us ≡ ts ++ (record { kind = k; text = text; line = line + m }) ∷ [] → StillLexes source us (place after (line + m + o) d)
 still_more source ts us rest here text after line depth n m l o d k (zero, lt, e) gap_is here_is lines found text_is after_is more_lines depth_is us_is = absurd (omega arith)

@@ -1,66 +1,111 @@
 -- The gap that is counted is the gap between two tokens.
-use Rattle.std.proofs.Common.{◌≡◌, ℕ, suc, ◌+◌, ◌≤◌, ◌<◌, Bool, true, false, List, [], ◌∷◌, ◌++◌, length, take, drop, get_or, refl, sym, ap, subst, ◌∙◌, ◌⊎◌, inl, inr, arith, nat_lt, append_assoc, length-append}
-use Rattle.std.specs.Prelude.{◌==◌, ◌||◌, not}
+use Rattle.std.proofs.Common.{◌≡◌, ◌≢◌, ℕ, suc, ◌+◌, ◌≤◌, ◌<◌, Bool, true, false, List, [], ◌∷◌, ◌++◌, length, take, drop, get_or, refl, sym, ap, subst, ◌∙◌, inl, inr, arith, nat_lt, append_assoc, length-append}
+use Rattle.std.specs.Prelude.{◌==◌, ◌||◌, ◌&&◌, not}
 use Rattle.std.specs.List.{list_all}
-use Rattle.std.proofs.lemmas.Bool.{eqb-true}
-use Rattle.std.proofs.lemmas.List.{at_drop_more, drop_all}
-use Rattle.lexer.specs.Bytes.{newline, hash, is_blank, in_line}
-use Rattle.lexer.specs.Lexing.{gap, in_gap, commented_after, run}
-use Rattle.lexer.specs.Tokens.{IsGap, nothing, blank, comment, ends_line, begins_no_gap}
-
-pub cases_bool : (b : Bool) → (b ≡ true) ⊎ (b ≡ false)
-cases_bool true = inl refl
-cases_bool false = inr refl
+use Rattle.std.proofs.lemmas.Bool.{eqb-true, eq-eqb}
+use Rattle.std.proofs.lemmas.List.{at_drop_more, drop_all, take-append-drop}
+use Rattle.lexer.specs.declared.gap.GapPart.{GapPart}
+use Rattle.lexer.specs.declared.gap.GapPart.TheVariants.{Blank, Comment, Continuation}
+use Rattle.lexer.specs.Bytes.{newline, hash, backslash, is_blank, in_line, is_line_rest}
+use Rattle.lexer.specs.Lexing.{in_line_rest, continues_line, in_gap, part_after, gap}
+use Rattle.lexer.specs.Tokens.{IsGap, nothing, blank, comment, continued, NoGap, ends_line}
+use Rattle.lexer.proofs.Tests.{cases_bool, or_left, or_true, or_right_true, or_false, neither, and_true, and_left, and_right, not_true, not_false, neq_false, if_true, if_false}
+use Rattle.lexer.proofs.Runs.{all_both, all_first}
 
 -- ---- one byte
 
-pub gap_yes : (depth : ℕ) (c : Bool) (b : ℕ) (bs : List ℕ) → in_gap depth c b ≡ true → gap depth c (b ∷ bs) ≡ suc (gap depth (commented_after c b) bs)
-gap_yes depth c b bs e = rw e refl
+pub gap_yes : (depth : ℕ) (part : GapPart) (b : ℕ) (bs : List ℕ) → in_gap depth part b bs ≡ true → gap depth part (b ∷ bs) ≡ suc (gap depth (part_after part b) bs)
+gap_yes depth part b bs e = if_true (in_gap depth part b bs) _ _ e
 
-pub gap_no : (depth : ℕ) (c : Bool) (b : ℕ) (bs : List ℕ) → in_gap depth c b ≡ false → gap depth c (b ∷ bs) ≡ 0
-gap_no depth c b bs e = rw e refl
+pub gap_no : (depth : ℕ) (part : GapPart) (b : ℕ) (bs : List ℕ) → in_gap depth part b bs ≡ false → gap depth part (b ∷ bs) ≡ 0
+gap_no depth part b bs e = if_false (in_gap depth part b bs) _ _ e
 
--- a newline
-newline_in : (depth : ℕ) (c : Bool) (b : ℕ) → (b == newline) ≡ true → in_gap depth c b ≡ nat_lt 0 depth
-newline_in depth c b e = rw e refl
+blank_is : (depth b c : ℕ) → is_blank depth b ≡ true → is_blank depth c ≡ false → (b == c) ≡ false
+blank_is depth b c h f = elim (cases_bool (b == c)) [
+  | inl y ↦ let e = ap (is_blank depth) (eqb-true b c y) in absurd cc
+  | inr n ↦ n
+]
 
-newline_after : (c : Bool) (b : ℕ) → (b == newline) ≡ true → commented_after c b ≡ false
-newline_after c b e = rw e refl
+blank_after : (depth b : ℕ) → is_blank depth b ≡ true → part_after Blank b ≡ Blank
+blank_after depth b h = if_false (b == hash) _ _ (blank_is depth b hash h refl) ∙ if_false (b == backslash) _ _ (blank_is depth b backslash h refl)
+
+gap_blank : (depth b : ℕ) (bs : List ℕ) → is_blank depth b ≡ true → gap depth Blank (b ∷ bs) ≡ suc (gap depth Blank bs)
+gap_blank depth b bs h = gap_yes depth Blank b bs (or_true (is_blank depth b) _ h) ∙ ap (λ (q : GapPart). suc (gap depth q bs)) (blank_after depth b h)
+
+gap_hash : (depth : ℕ) (bs : List ℕ) → gap depth Blank (hash ∷ bs) ≡ suc (gap depth Comment bs)
+gap_hash depth bs = refl
+
+gap_backslash : (depth : ℕ) (bs : List ℕ) → continues_line false bs ≡ true → gap depth Blank (backslash ∷ bs) ≡ suc (gap depth Continuation bs)
+gap_backslash depth bs h = gap_yes depth Blank backslash bs h
+
+-- a newline, and another byte, in a comment
+comment_newline : (depth b : ℕ) (bs : List ℕ) → (b == newline) ≡ true → in_gap depth Comment b bs ≡ nat_lt 0 depth
+comment_newline depth b bs e = rw e refl
+
+comment_other : (depth b : ℕ) (bs : List ℕ) → (b == newline) ≡ false → gap depth Comment (b ∷ bs) ≡ suc (gap depth Comment bs)
+comment_other depth b bs e = gap_yes depth Comment b bs (or_true (not (b == newline)) _ (not_false (b == newline) e)) ∙ ap (λ (q : GapPart). suc (gap depth q bs)) (if_false (b == newline) _ _ e)
 
 newline_blank : (depth b : ℕ) → (b == newline) ≡ true → is_blank depth b ≡ nat_lt 0 depth
-newline_blank depth b e = rw e refl
+newline_blank depth b e = if_true (b == newline) _ _ e
 
-newline_hash : (b : ℕ) → (b == newline) ≡ true → (b == hash) ≡ false
-newline_hash b e = subst (λ (x : ℕ). (x == hash) ≡ false) (sym (eqb-true b newline e)) refl
+-- and behind a backslash
+line_newline : (depth b : ℕ) (bs : List ℕ) → (b == newline) ≡ true → gap depth Continuation (b ∷ bs) ≡ suc (gap depth Blank bs)
+line_newline depth b bs e = ap (λ (q : GapPart). suc (gap depth q bs)) (if_true (b == newline) _ _ e)
 
--- another byte
-other_in : (depth : ℕ) (c : Bool) (b : ℕ) → (b == newline) ≡ false → in_gap depth c b ≡ (c || (is_blank depth b || (b == hash)))
-other_in depth c b e = rw e refl
+line_other : (depth b : ℕ) (bs : List ℕ) → (b == newline) ≡ false → gap depth Continuation (b ∷ bs) ≡ suc (gap depth Continuation bs)
+line_other depth b bs e = ap (λ (q : GapPart). suc (gap depth q bs)) (if_false (b == newline) _ _ e)
 
-other_after : (c : Bool) (b : ℕ) → (b == newline) ≡ false → commented_after c b ≡ (c || (b == hash))
-other_after c b e = rw e refl
+-- ---- the rest of a line that is continued
 
-or_left : (a b : Bool) → (a || b) ≡ true → b ≡ false → a ≡ true
-or_left true b e f = refl
-or_left false b e f = absurd cc
+abbrev rest_of_line : Bool → List ℕ → Bool
+rest_of_line true inside = list_all in_line inside
+rest_of_line false inside = is_line_rest inside
 
-or_true : (a b : Bool) → a ≡ true → (a || b) ≡ true
-or_true a b e = rw e refl
+continues_more : (c : Bool) (b : ℕ) (bs : List ℕ) → (b == newline) ≡ false → in_line_rest c b ≡ true → continues_line c (b ∷ bs) ≡ continues_line (c || (b == hash)) bs
+continues_more c b bs e f = if_false (b == newline) _ _ e ∙ if_true (in_line_rest c b) _ _ f
 
-not_true : (a : Bool) → not a ≡ true → a ≡ false
-not_true true e = absurd cc
-not_true false e = refl
+continues_no : (c : Bool) (b : ℕ) (bs : List ℕ) → (b == newline) ≡ false → in_line_rest c b ≡ false → continues_line c (b ∷ bs) ≡ false
+continues_no c b bs e f = if_false (b == newline) _ _ e ∙ if_false (in_line_rest c b) _ _ f
 
-not_false : (a : Bool) → a ≡ false → not a ≡ true
-not_false a e = rw e refl
+rest_more : (c : Bool) (b : ℕ) (inside : List ℕ) → (b == newline) ≡ false → in_line_rest c b ≡ true → rest_of_line (c || (b == hash)) inside ≡ true → rest_of_line c (b ∷ inside) ≡ true
+rest_more true b inside other e h = all_both in_line b inside (not_false (b == newline) other) h
+rest_more false b inside other e h = elim (cases_bool (b == hash)) [
+  | inl y ↦ if_true (b == hash) _ _ y ∙ sym (ap (λ (t : Bool). rest_of_line t inside) y) ∙ h
+  | inr n ↦ if_false (b == hash) _ _ n ∙ and_true (is_blank 0 b) (is_line_rest inside) (or_left (is_blank 0 b) (b == hash) e n) (sym (ap (λ (t : Bool). rest_of_line t inside) n) ∙ h)
+]
 
-or_false : (a b : Bool) → (a || b) ≡ false → a ≡ false
-or_false true b e = absurd cc
-or_false false b e = refl
+record Less (c : Bool) (b : ℕ) (inside : List ℕ) : Type 0 where
+  pub other : (b == newline) ≡ false
+  pub first : in_line_rest c b ≡ true
+  pub rest : rest_of_line (c || (b == hash)) inside ≡ true
 
-or_false_right : (a b : Bool) → (a || b) ≡ false → b ≡ false
-or_false_right true b e = absurd cc
-or_false_right false b e = e
+rest_less : (c : Bool) (b : ℕ) (inside : List ℕ) → rest_of_line c (b ∷ inside) ≡ true → Less c b inside
+rest_less true b inside h = let w = all_first in_line b inside h in record { other = not_true (b == newline) w.0; first = refl; rest = w.1 }
+rest_less false b inside h = elim (cases_bool (b == hash)) [
+  | inl y ↦ record {
+    other = subst (λ (x : ℕ). (x == newline) ≡ false) (sym (eqb-true b hash y)) refl;
+    first = or_right_true (is_blank 0 b) (b == hash) y;
+    rest = ap (λ (t : Bool). rest_of_line t inside) y ∙ sym (if_true (b == hash) _ _ y) ∙ h;
+  }
+  | inr n ↦
+      let h' : (is_blank 0 b && is_line_rest inside) ≡ true = sym (if_false (b == hash) _ _ n) ∙ h in
+      let bl : is_blank 0 b ≡ true = and_left (is_blank 0 b) (is_line_rest inside) h' in
+      record {
+        other = blank_is 0 b newline bl refl;
+        first = or_true (is_blank 0 b) (b == hash) bl;
+        rest = ap (λ (t : Bool). rest_of_line t inside) n ∙ and_right (is_blank 0 b) (is_line_rest inside) h';
+      }
+]
+
+continues_complete : (c : Bool) (inside more : List ℕ) → rest_of_line c inside ≡ true → continues_line c (inside ++ newline ∷ more) ≡ true
+continues_complete c [] more h = refl
+continues_complete c (b ∷ inside) more h =
+    let w = rest_less c b inside h in continues_more c b (inside ++ newline ∷ more) w.other w.first ∙ continues_complete (c || (b == hash)) inside more w.rest
+
+line_run : (depth : ℕ) (c : Bool) (inside more : List ℕ) → rest_of_line c inside ≡ true → gap depth Continuation (inside ++ newline ∷ more) ≡ length inside + suc (gap depth Blank more)
+line_run depth c [] more h = omega arith
+line_run depth c (b ∷ inside) more h =
+    let w = rest_less c b inside h in omega (arith, line_other depth b (inside ++ newline ∷ more) w.other, line_run depth (c || (b == hash)) inside more w.rest)
 
 -- ---- what is counted is a gap
 
@@ -70,135 +115,186 @@ GapAt depth s n = IsGap depth (drop n s) (take n s)
 abbrev CommentAt : ℕ → List ℕ → ℕ → Type 0
 CommentAt depth s n = (inside : List ℕ) × (text : List ℕ) × (take n s ≡ inside ++ text) × (list_all in_line inside ≡ true) × (ends_line (text ++ drop n s) ≡ true) × IsGap depth (drop n s) text
 
+abbrev LineAt : ℕ → Bool → List ℕ → ℕ → Type 0
+LineAt depth c s n = (inside : List ℕ) × (text : List ℕ) × (take n s ≡ inside ++ newline ∷ text) × (rest_of_line c inside ≡ true) × IsGap depth (drop n s) text
+
+abbrev LinesAt : ℕ → List ℕ → Type 0
+LinesAt depth s = (c : Bool) → continues_line c s ≡ true → LineAt depth c s (gap depth Continuation s)
+
 hash_step : (depth b : ℕ) (bs : List ℕ) (m : ℕ) → (b == hash) ≡ true → CommentAt depth bs m → GapAt depth (b ∷ bs) (suc m)
 hash_step depth b bs m e h =
     subst (λ (x : ℕ). IsGap depth (drop m bs) (x ∷ take m bs)) (sym (eqb-true b hash e))
     (subst (λ (l : List ℕ). IsGap depth (drop m bs) (hash ∷ l)) (sym h.2) (comment h.0 h.1 h.3 h.4 h.5))
 
-gap_step : (depth b : ℕ) (bs : List ℕ) → in_gap depth false b ≡ true → GapAt depth bs (gap depth false bs) → CommentAt depth bs (gap depth true bs)
-    → GapAt depth (b ∷ bs) (suc (gap depth (commented_after false b) bs))
-gap_step depth b bs t plain commented = elim (cases_bool (b == newline)) [
-  | inl nl ↦ subst (λ (c : Bool). GapAt depth (b ∷ bs) (suc (gap depth c bs))) (sym (newline_after false b nl)) (blank b (take (gap depth false bs) bs) (newline_blank depth b nl ∙ sym (newline_in depth false b nl) ∙ t) plain)
-  | inr other ↦ elim (cases_bool (b == hash)) [
-    | inl h ↦ subst (λ (c : Bool). GapAt depth (b ∷ bs) (suc (gap depth c bs))) (sym (other_after false b other ∙ h)) (hash_step depth b bs (gap depth true bs) h commented)
-    | inr n ↦ subst (λ (c : Bool). GapAt depth (b ∷ bs) (suc (gap depth c bs))) (sym (other_after false b other ∙ n)) (blank b (take (gap depth false bs) bs) (or_left (is_blank depth b) (b == hash) (sym (other_in depth false b other) ∙ t) n) plain)
+backslash_step : (depth b : ℕ) (bs : List ℕ) (m : ℕ) → (b == backslash) ≡ true → LineAt depth false bs m → GapAt depth (b ∷ bs) (suc m)
+backslash_step depth b bs m e h =
+    subst (λ (x : ℕ). IsGap depth (drop m bs) (x ∷ take m bs)) (sym (eqb-true b backslash e))
+    (subst (λ (l : List ℕ). IsGap depth (drop m bs) (backslash ∷ l)) (sym h.2) (continued h.0 h.1 h.3 h.4))
+
+gap_other : (depth b : ℕ) (bs : List ℕ) → is_blank depth b ≡ false → (b == hash) ≡ false → ((b == backslash) && continues_line false bs) ≡ false → GapAt depth (b ∷ bs) (gap depth Blank (b ∷ bs))
+gap_other depth b bs e f g =
+    subst (GapAt depth (b ∷ bs)) (sym (gap_no depth Blank b bs (neither (is_blank depth b) _ e (neither (b == hash) _ f g)))) nothing
+
+gap_here : (depth b : ℕ) (bs : List ℕ) → GapAt depth bs (gap depth Blank bs) → CommentAt depth bs (gap depth Comment bs) → LinesAt depth bs → GapAt depth (b ∷ bs) (gap depth Blank (b ∷ bs))
+gap_here depth b bs plain commented lines = elim (cases_bool (is_blank depth b)) [
+  | inl t ↦ subst (GapAt depth (b ∷ bs)) (sym (gap_blank depth b bs t)) (blank b (take (gap depth Blank bs) bs) t plain)
+  | inr e ↦ elim (cases_bool (b == hash)) [
+    | inl h ↦ subst (GapAt depth (b ∷ bs)) (sym (ap (λ (x : ℕ). gap depth Blank (x ∷ bs)) (eqb-true b hash h) ∙ gap_hash depth bs)) (hash_step depth b bs (gap depth Comment bs) h commented)
+    | inr f ↦ elim (cases_bool (b == backslash)) [
+      | inl h ↦ elim (cases_bool (continues_line false bs)) [
+        | inl l ↦ subst (GapAt depth (b ∷ bs)) (sym (ap (λ (x : ℕ). gap depth Blank (x ∷ bs)) (eqb-true b backslash h) ∙ gap_backslash depth bs l))
+            (backslash_step depth b bs (gap depth Continuation bs) h (lines false l))
+        | inr n ↦ gap_other depth b bs e f (and_false (b == backslash) (continues_line false bs) n)
+      ]
+      | inr n ↦ gap_other depth b bs e f (false_and (b == backslash) (continues_line false bs) n)
+    ]
   ]
 ]
+  where
+    and_false : (x y : Bool) → y ≡ false → (x && y) ≡ false
+    and_false true y e = e
+    and_false false y e = refl
 
-comment_step : (depth b : ℕ) (bs : List ℕ) → GapAt depth bs (gap depth false bs) → CommentAt depth bs (gap depth true bs) → CommentAt depth (b ∷ bs) (gap depth true (b ∷ bs))
+    false_and : (x y : Bool) → x ≡ false → (x && y) ≡ false
+    false_and x y e = rw e refl
+
+comment_step : (depth b : ℕ) (bs : List ℕ) → GapAt depth bs (gap depth Blank bs) → CommentAt depth bs (gap depth Comment bs) → CommentAt depth (b ∷ bs) (gap depth Comment (b ∷ bs))
 comment_step depth b bs plain commented = elim (cases_bool (b == newline)) [
   | inl nl ↦ elim (cases_bool (nat_lt 0 depth)) [
-    | inl t ↦ subst (CommentAt depth (b ∷ bs)) (sym (gap_yes depth true b bs (newline_in depth true b nl ∙ t) ∙ ap (λ (c : Bool). suc (gap depth c bs)) (newline_after true b nl)))
-        ([], b ∷ take (gap depth false bs) bs, refl, refl, nl, blank b (take (gap depth false bs) bs) (newline_blank depth b nl ∙ t) plain)
-    | inr f ↦ subst (CommentAt depth (b ∷ bs)) (sym (gap_no depth true b bs (newline_in depth true b nl ∙ f))) ([], [], refl, refl, nl, nothing)
+    | inl t ↦ subst (CommentAt depth (b ∷ bs)) (sym (gap_yes depth Comment b bs (comment_newline depth b bs nl ∙ t) ∙ ap (λ (q : GapPart). suc (gap depth q bs)) (if_true (b == newline) _ _ nl)))
+        ([], b ∷ take (gap depth Blank bs) bs, refl, refl, nl, blank b (take (gap depth Blank bs) bs) (newline_blank depth b nl ∙ t) plain)
+    | inr f ↦ subst (CommentAt depth (b ∷ bs)) (sym (gap_no depth Comment b bs (comment_newline depth b bs nl ∙ f))) ([], [], refl, refl, nl, nothing)
   ]
-  | inr other ↦ subst (CommentAt depth (b ∷ bs)) (sym (gap_yes depth true b bs (other_in depth true b other) ∙ ap (λ (c : Bool). suc (gap depth c bs)) (other_after true b other)))
-      (b ∷ commented.0, commented.1, ap (λ (l : List ℕ). b ∷ l) commented.2, both b commented.0 other commented.3, commented.4, commented.5)
+  | inr other ↦ subst (CommentAt depth (b ∷ bs)) (sym (comment_other depth b bs other))
+      (b ∷ commented.0, commented.1, ap (λ (l : List ℕ). b ∷ l) commented.2, all_both in_line b commented.0 (not_false (b == newline) other) commented.3, commented.4, commented.5)
 ]
+
+rest_none : (c : Bool) → rest_of_line c [] ≡ true
+rest_none true = refl
+rest_none false = refl
+
+line_step : (depth b : ℕ) (bs : List ℕ) → GapAt depth bs (gap depth Blank bs) → LinesAt depth bs → LinesAt depth (b ∷ bs)
+line_step depth b bs plain lines c h = elim (cases_bool (b == newline)) [
+  | inl nl ↦ subst (LineAt depth c (b ∷ bs)) (sym (line_newline depth b bs nl))
+      ([], take (gap depth Blank bs) bs, ap (λ (x : ℕ). x ∷ take (gap depth Blank bs) bs) (eqb-true b newline nl), rest_none c, plain)
+  | inr other ↦ elim (cases_bool (in_line_rest c b)) [
+    | inl t ↦
+        let l = lines (c || (b == hash)) (sym (continues_more c b bs other t) ∙ h) in
+        subst (LineAt depth c (b ∷ bs)) (sym (line_other depth b bs other)) (b ∷ l.0, l.1, ap (λ (x : List ℕ). b ∷ x) l.2, rest_more c b l.0 other t l.3, l.4)
+    | inr n ↦ absurd (let e = continues_no c b bs other n in cc)
+  ]
+]
+
+all_sound : (depth : ℕ) (s : List ℕ) → GapAt depth s (gap depth Blank s) × CommentAt depth s (gap depth Comment s) × LinesAt depth s
+all_sound depth [] = (nothing, ([], [], refl, refl, refl, nothing), λ c h. absurd (no_line c h))
   where
-    both : (b : ℕ) (inside : List ℕ) → (b == newline) ≡ false → list_all in_line inside ≡ true → list_all in_line (b ∷ inside) ≡ true
-    both b inside e f = rw (e, f) refl
+    no_line : (c : Bool) → continues_line c [] ≡ true → ⊥
+    no_line c h = cc
+all_sound depth (b ∷ bs) = let ih = all_sound depth bs in (gap_here depth b bs ih.0 ih.1 ih.2, comment_step depth b bs ih.0 ih.1, line_step depth b bs ih.0 ih.2)
 
-gap_here : (depth b : ℕ) (bs : List ℕ) → GapAt depth bs (gap depth false bs) → CommentAt depth bs (gap depth true bs) → GapAt depth (b ∷ bs) (gap depth false (b ∷ bs))
-gap_here depth b bs plain commented = elim (cases_bool (in_gap depth false b)) [
-  | inl t ↦ subst (GapAt depth (b ∷ bs)) (sym (gap_yes depth false b bs t)) (gap_step depth b bs t plain commented)
-  | inr n ↦ subst (GapAt depth (b ∷ bs)) (sym (gap_no depth false b bs n)) nothing
+pub gap_sound : (depth : ℕ) (s : List ℕ) → IsGap depth (drop (gap depth Blank s) s) (take (gap depth Blank s) s)
+gap_sound depth s = (all_sound depth s).0
+
+-- ---- no gap begins where it ends
+
+first_in : (depth : ℕ) (rest l : List ℕ) → IsGap depth rest l → (b : ℕ) (text : List ℕ) → l ≡ b ∷ text → in_gap depth Blank b (text ++ rest) ≡ true
+first_in depth rest _ nothing b text e = absurd cc
+first_in depth rest _ (blank c s h g) b text e = let same : c ≡ b = cc in or_true (is_blank depth b) _ (subst (λ (x : ℕ). is_blank depth x ≡ true) same h)
+first_in depth rest _ (comment inside s l ends g) b text e = let same : hash ≡ b = cc in subst (λ (x : ℕ). in_gap depth Blank x (text ++ rest) ≡ true) same refl
+first_in depth rest _ (continued inside s l g) b text e =
+    let same : backslash ≡ b = cc in
+    let after : inside ++ newline ∷ s ≡ text = cc in
+    let all : text ++ rest ≡ inside ++ newline ∷ (s ++ rest) = ap (λ (x : List ℕ). x ++ rest) (sym after) ∙ append_assoc inside (newline ∷ s) rest in
+    subst (λ (x : ℕ). in_gap depth Blank x (text ++ rest) ≡ true) same (ap (continues_line false) all ∙ continues_complete false inside (s ++ rest) l)
+
+stops_blank : (depth : ℕ) (part : GapPart) (b : ℕ) (bs : List ℕ) → in_gap depth part b bs ≡ false → in_gap depth Blank b bs ≡ false
+stops_blank depth Blank b bs e = e
+stops_blank depth Comment b bs e = elim (cases_bool (b == newline)) [
+  | inl nl ↦ subst (λ (x : ℕ). in_gap depth Blank x bs ≡ false) (sym (eqb-true b newline nl)) (neither (nat_lt 0 depth) false (sym (comment_newline depth b bs nl) ∙ e) refl)
+  | inr other ↦ absurd (let t = or_false (not (b == newline)) (nat_lt 0 depth) e in let u = not_false (b == newline) other in cc)
 ]
+stops_blank depth Continuation b bs e = absurd cc
 
-both_sound : (depth : ℕ) (s : List ℕ) → GapAt depth s (gap depth false s) × CommentAt depth s (gap depth true s)
-both_sound depth [] = (nothing, ([], [], refl, refl, refl, nothing))
-both_sound depth (b ∷ bs) = let ih = both_sound depth bs in (gap_here depth b bs ih.0 ih.1, comment_step depth b bs ih.0 ih.1)
+stops_here : (depth b : ℕ) (bs : List ℕ) → in_gap depth Blank b bs ≡ false → NoGap depth (b ∷ bs)
+stops_here depth b bs f c text rest e g =
+    let t = first_in depth rest (c ∷ text) g c text refl in
+    let first : b ≡ c = cc in
+    let after : bs ≡ text ++ rest = cc in
+    let u : in_gap depth Blank c (text ++ rest) ≡ false = subst (λ (x : ℕ). in_gap depth Blank x (text ++ rest) ≡ false) first (subst (λ (l : List ℕ). in_gap depth Blank b l ≡ false) after f) in
+    cc
 
-pub gap_sound : (depth : ℕ) (s : List ℕ) → IsGap depth (drop (gap depth false s) s) (take (gap depth false s) s)
-gap_sound depth s = (both_sound depth s).0
-
-stops_here : (depth : ℕ) (c : Bool) (b : ℕ) → in_gap depth c b ≡ false → (is_blank depth b || (b == hash)) ≡ false
-stops_here depth c b e = elim (cases_bool (b == newline)) [
-  | inl nl ↦ neither (is_blank depth b) (b == hash) (newline_blank depth b nl ∙ sym (newline_in depth c b nl) ∙ e) (newline_hash b nl)
-  | inr other ↦ or_false_right c (is_blank depth b || (b == hash)) (sym (other_in depth c b other) ∙ e)
-]
-  where
-    neither : (a b : Bool) → a ≡ false → b ≡ false → (a || b) ≡ false
-    neither a b e f = rw (e, f) refl
-
-pub gap_ends : (depth : ℕ) (c : Bool) (s : List ℕ) → begins_no_gap depth (drop (gap depth c s) s) ≡ true
-gap_ends depth c [] = refl
-gap_ends depth c (b ∷ bs) = elim (cases_bool (in_gap depth c b)) [
-  | inl t ↦ subst (λ (n : ℕ). begins_no_gap depth (drop n (b ∷ bs)) ≡ true) (sym (gap_yes depth c b bs t)) (gap_ends depth (commented_after c b) bs)
-  | inr n ↦ subst (λ (n : ℕ). begins_no_gap depth (drop n (b ∷ bs)) ≡ true) (sym (gap_no depth c b bs n)) (not_false (is_blank depth b || (b == hash)) (stops_here depth c b n))
+pub gap_ends : (depth : ℕ) (part : GapPart) (s : List ℕ) → NoGap depth (drop (gap depth part s) s)
+gap_ends depth part [] = λ b text rest e g. cc
+gap_ends depth part (b ∷ bs) = elim (cases_bool (in_gap depth part b bs)) [
+  | inl t ↦ subst (λ (n : ℕ). NoGap depth (drop n (b ∷ bs))) (sym (gap_yes depth part b bs t)) (gap_ends depth (part_after part b) bs)
+  | inr n ↦ subst (λ (n : ℕ). NoGap depth (drop n (b ∷ bs))) (sym (gap_no depth part b bs n)) (stops_here depth b bs (stops_blank depth part b bs n))
 ]
 
 -- ---- no other gap ends at such a place
 
-gap_none : (depth : ℕ) (rest : List ℕ) → begins_no_gap depth rest ≡ true → gap depth false rest ≡ 0
-gap_none depth [] e = refl
-gap_none depth (b ∷ bs) e = gap_no depth false b bs (elim (cases_bool (b == newline)) [
-  | inl nl ↦ newline_in depth false b nl ∙ sym (newline_blank depth b nl) ∙ or_false (is_blank depth b) (b == hash) (not_true (is_blank depth b || (b == hash)) e)
-  | inr other ↦ other_in depth false b other ∙ not_true (is_blank depth b || (b == hash)) e
-])
-
-blank_in : (depth b : ℕ) → is_blank depth b ≡ true → in_gap depth false b ≡ true
-blank_in depth b h = elim (cases_bool (b == newline)) [
-  | inl nl ↦ newline_in depth false b nl ∙ sym (newline_blank depth b nl) ∙ h
-  | inr other ↦ other_in depth false b other ∙ or_true (is_blank depth b) (b == hash) h
+gap_none : (depth : ℕ) (rest : List ℕ) → NoGap depth rest → gap depth Blank rest ≡ 0
+gap_none depth [] none = refl
+gap_none depth (b ∷ bs) none = elim (cases_bool (in_gap depth Blank b bs)) [
+  | inl t ↦
+      let m : ℕ = gap depth (part_after Blank b) bs in
+      let g : IsGap depth (drop m bs) (b ∷ take m bs) = subst (λ (n : ℕ). IsGap depth (drop n (b ∷ bs)) (take n (b ∷ bs))) (gap_yes depth Blank b bs t) (gap_sound depth (b ∷ bs)) in
+      absurd (none b (take m bs) (drop m bs) (ap (λ (l : List ℕ). b ∷ l) (sym (take-append-drop m bs))) g)
+  | inr n ↦ gap_no depth Blank b bs n
 ]
 
-blank_hash : (depth b : ℕ) → is_blank depth b ≡ true → (b == hash) ≡ false
-blank_hash depth b h = elim (cases_bool (b == hash)) [
-  | inl y ↦ let e = ap (is_blank depth) (eqb-true b hash y) in absurd cc
-  | inr n ↦ n
-]
-
-blank_after : (depth b : ℕ) → is_blank depth b ≡ true → commented_after false b ≡ false
-blank_after depth b h = elim (cases_bool (b == newline)) [
-  | inl nl ↦ newline_after false b nl
-  | inr other ↦ other_after false b other ∙ blank_hash depth b h
-]
-
-comment_run : (depth : ℕ) (inside s : List ℕ) → list_all in_line inside ≡ true → gap depth true (inside ++ s) ≡ length inside + gap depth true s
+comment_run : (depth : ℕ) (inside s : List ℕ) → list_all in_line inside ≡ true → gap depth Comment (inside ++ s) ≡ length inside + gap depth Comment s
 comment_run depth [] s h = omega arith
-comment_run depth (b ∷ inside) s h = elim (cases_bool (b == newline)) [
-  | inl nl ↦ absurd (let e : list_all in_line (b ∷ inside) ≡ false = rw nl refl in cc)
-  | inr other ↦
-      let h1 : list_all in_line inside ≡ true = sym (rw other refl) ∙ h in
-      let ih = comment_run depth inside s h1 in
-      let e = gap_yes depth true b (inside ++ s) (other_in depth true b other) ∙ ap (λ (c : Bool). suc (gap depth c (inside ++ s))) (other_after true b other) in
-      omega (arith, e, ih)
+comment_run depth (b ∷ inside) s h =
+    let w = all_first in_line b inside h in
+    omega (arith, comment_other depth b (inside ++ s) (not_true (b == newline) w.0), comment_run depth inside s w.1)
+
+comment_end : (depth : ℕ) (s : List ℕ) → ends_line s ≡ true → gap depth Comment s ≡ gap depth Blank s
+comment_end depth [] h = refl
+comment_end depth (b ∷ bs) nl = elim (cases_bool (nat_lt 0 depth)) [
+  | inl t ↦
+      gap_yes depth Comment b bs (comment_newline depth b bs nl ∙ t) ∙ ap (λ (q : GapPart). suc (gap depth q bs)) (if_true (b == newline) _ _ nl)
+      ∙ sym (gap_blank depth b bs (newline_blank depth b nl ∙ t))
+  | inr f ↦
+      let e : in_gap depth Comment b bs ≡ false = comment_newline depth b bs nl ∙ f in
+      gap_no depth Comment b bs e ∙ sym (gap_no depth Blank b bs (stops_blank depth Comment b bs e))
 ]
 
-comment_end : (depth : ℕ) (s : List ℕ) → ends_line s ≡ true → gap depth true s ≡ gap depth false s
-comment_end depth [] h = refl
-comment_end depth (b ∷ bs) nl = rw nl refl
-
-pub gap_complete : (depth : ℕ) (rest text : List ℕ) → IsGap depth rest text → begins_no_gap depth rest ≡ true → gap depth false (text ++ rest) ≡ length text
+pub gap_complete : (depth : ℕ) (rest text : List ℕ) → IsGap depth rest text → NoGap depth rest → gap depth Blank (text ++ rest) ≡ length text
 gap_complete depth rest _ nothing e = gap_none depth rest e
-gap_complete depth rest _ (blank b text h g) e =
-    gap_yes depth false b (text ++ rest) (blank_in depth b h) ∙ ap (λ (c : Bool). suc (gap depth c (text ++ rest))) (blank_after depth b h) ∙ ap suc (gap_complete depth rest text g e)
+gap_complete depth rest _ (blank b text h g) e = gap_blank depth b (text ++ rest) h ∙ ap suc (gap_complete depth rest text g e)
 gap_complete depth rest _ (comment inside text l ends g) e =
     let ih = gap_complete depth rest text g e in
-    let e1 = gap_yes depth false hash ((inside ++ text) ++ rest) refl in
-    let e2 = ap (λ (s : List ℕ). gap depth true s) (append_assoc inside text rest) in
+    let e2 = ap (λ (s : List ℕ). gap depth Comment s) (append_assoc inside text rest) in
     let e3 = comment_run depth inside (text ++ rest) l in
     let e4 = comment_end depth (text ++ rest) ends in
-    let e5 = length-append inside text in
-    omega (arith, e1, e2, e3, e4, e5, ih)
+    omega (arith, gap_hash depth ((inside ++ text) ++ rest), e2, e3, e4, length-append inside text, ih)
+gap_complete depth rest _ (continued inside text l g) e =
+    let ih = gap_complete depth rest text g e in
+    let all : (inside ++ newline ∷ text) ++ rest ≡ inside ++ newline ∷ (text ++ rest) = append_assoc inside (newline ∷ text) rest in
+    let e1 = gap_backslash depth ((inside ++ newline ∷ text) ++ rest) (ap (continues_line false) all ∙ continues_complete false inside (text ++ rest) l) in
+    let e2 = ap (λ (s : List ℕ). gap depth Continuation s) all in
+    omega (arith, e1, e2, line_run depth false inside (text ++ rest) l, length-append inside (newline ∷ text), ih)
 
 -- ---- the loops
 
-pub run_yes : (p : ℕ → Bool) (s : List ℕ) (i : ℕ) → i < length s → p (get_or s i 0) ≡ true → run p (drop i s) ≡ suc (run p (drop (i + 1) s))
-run_yes p s i lt e = at_drop_more (run p) s i 0 lt ∙ rw e refl
+pub gap_more : (depth : ℕ) (part : GapPart) (s : List ℕ) (i : ℕ) → i < length s → in_gap depth part (get_or s i 0) (drop (i + 1) s) ≡ true
+    → gap depth part (drop i s) ≡ suc (gap depth (part_after part (get_or s i 0)) (drop (i + 1) s))
+gap_more depth part s i lt e = at_drop_more (gap depth part) s i 0 lt ∙ gap_yes depth part (get_or s i 0) (drop (i + 1) s) e
 
-pub run_no : (p : ℕ → Bool) (s : List ℕ) (i : ℕ) → i < length s → p (get_or s i 0) ≡ false → run p (drop i s) ≡ 0
-run_no p s i lt e = at_drop_more (run p) s i 0 lt ∙ rw e refl
+pub gap_stop : (depth : ℕ) (part : GapPart) (s : List ℕ) (i : ℕ) → i < length s → in_gap depth part (get_or s i 0) (drop (i + 1) s) ≡ false → gap depth part (drop i s) ≡ 0
+gap_stop depth part s i lt e = at_drop_more (gap depth part) s i 0 lt ∙ gap_no depth part (get_or s i 0) (drop (i + 1) s) e
 
-pub run_end : (p : ℕ → Bool) (s : List ℕ) (i : ℕ) → length s ≤ i → run p (drop i s) ≡ 0
-run_end p s i le = ap (run p) (drop_all i s le)
+pub gap_end : (depth : ℕ) (part : GapPart) (s : List ℕ) (i : ℕ) → length s ≤ i → gap depth part (drop i s) ≡ 0
+gap_end depth part s i le = ap (gap depth part) (drop_all i s le)
 
-pub gap_more : (depth : ℕ) (c : Bool) (s : List ℕ) (i : ℕ) → i < length s → in_gap depth c (get_or s i 0) ≡ true → gap depth c (drop i s) ≡ suc (gap depth (commented_after c (get_or s i 0)) (drop (i + 1) s))
-gap_more depth c s i lt e = at_drop_more (gap depth c) s i 0 lt ∙ gap_yes depth c (get_or s i 0) (drop (i + 1) s) e
+pub line_yes : (c : Bool) (s : List ℕ) (i : ℕ) → i < length s → get_or s i 0 ≡ newline → continues_line c (drop i s) ≡ true
+line_yes c s i lt e = at_drop_more (continues_line c) s i 0 lt ∙ if_true (get_or s i 0 == newline) _ _ (eq-eqb (get_or s i 0) newline e)
 
-pub gap_stop : (depth : ℕ) (c : Bool) (s : List ℕ) (i : ℕ) → i < length s → in_gap depth c (get_or s i 0) ≡ false → gap depth c (drop i s) ≡ 0
-gap_stop depth c s i lt e = at_drop_more (gap depth c) s i 0 lt ∙ gap_no depth c (get_or s i 0) (drop (i + 1) s) e
+pub line_more : (c : Bool) (s : List ℕ) (i : ℕ) → i < length s → get_or s i 0 ≢ newline → in_line_rest c (get_or s i 0) ≡ true → continues_line c (drop i s) ≡ continues_line (c || (get_or s i 0 == hash)) (drop (i + 1) s)
+line_more c s i lt e f = at_drop_more (continues_line c) s i 0 lt ∙ continues_more c (get_or s i 0) (drop (i + 1) s) (neq_false (get_or s i 0) newline e) f
 
-pub gap_end : (depth : ℕ) (c : Bool) (s : List ℕ) (i : ℕ) → length s ≤ i → gap depth c (drop i s) ≡ 0
-gap_end depth c s i le = ap (gap depth c) (drop_all i s le)
+pub line_no : (c : Bool) (s : List ℕ) (i : ℕ) → i < length s → get_or s i 0 ≢ newline → in_line_rest c (get_or s i 0) ≡ false → continues_line c (drop i s) ≡ false
+line_no c s i lt e f = at_drop_more (continues_line c) s i 0 lt ∙ continues_no c (get_or s i 0) (drop (i + 1) s) (neq_false (get_or s i 0) newline e) f
+
+pub line_end : (c : Bool) (s : List ℕ) (i : ℕ) → length s ≤ i → continues_line c (drop i s) ≡ false
+line_end c s i le = ap (continues_line c) (drop_all i s le)

@@ -1,6 +1,7 @@
 -- The token that is found at a place is the longest that begins there.
-use Rattle.std.proofs.Common.{◌≡◌, ℕ, zero, suc, ◌+◌, ◌-◌, ◌≤◌, ◌<◌, Bool, true, false, List, [], ◌∷◌, ◌++◌, length, take, drop, get_or, refl, sym, ap, subst, ◌∙◌, ◌⊎◌, inl, inr, arith, lit<, Option, Some, None, append_assoc, length-append}
-use Rattle.std.specs.Prelude.{◌==◌, if◌then◌else◌}
+use Rattle.std.proofs.Common.{◌≡◌, ℕ, suc, ◌+◌, ◌-◌, ◌≤◌, ◌<◌, true, false, List, [], ◌∷◌, ◌++◌, length, take, drop, get_or, refl, sym, ap, subst, ◌∙◌, inl, inr, arith, lit<, Option, Some, None, append_assoc, length-append}
+use Rattle.std.specs.Prelude.{◌==◌}
+use Rattle.std.specs.Char.{is_ascii_digit}
 use Rattle.std.specs.List.{list_all}
 use Rattle.std.proofs.lemmas.Bool.{eqb-true}
 use Rattle.std.proofs.lemmas.List.{length-take-le, take_at, drop_at, take-append-drop}
@@ -8,168 +9,15 @@ use Rattle.std.proofs.lemmas.Bool.Decides.{nat_tests}
 use Rattle.std.proofs.Math.Seq.{get_or-append_seam}
 use Rattle.lexer.specs.declared.token.Kind.{Kind}
 use Rattle.lexer.specs.declared.token.Kind.TheVariants as Kinds
-use Rattle.lexer.specs.Bytes as byte
-use Rattle.lexer.specs.Bytes.{quote, equals, is_letter, continues_word, is_plain, opens_raw, opens_format}
+use Rattle.lexer.specs.Bytes.{quote, equals, is_letter, continues_word, ends_word, is_plain, opens_raw, opens_format}
 use Rattle.lexer.specs.Kinds.{word_kind, single_kind, with_equals_kind, symbol_kind}
-use Rattle.lexer.specs.Lexing.{run, word_at, string_at, closed_at, symbol_at, sized, or_else, token_at}
-use Rattle.lexer.specs.Tokens.{IsToken, word, quoted, symbol, is_word}
-use Rattle.lexer.proofs.Gaps.{cases_bool}
-
--- ---- how many bytes pass a test
-
-run_step : (p : ℕ → Bool) (b : ℕ) (bs : List ℕ) → p b ≡ true → run p (b ∷ bs) ≡ suc (run p bs)
-run_step p b bs e = rw e refl
-
-run_stop : (p : ℕ → Bool) (b : ℕ) (bs : List ℕ) → p b ≡ false → run p (b ∷ bs) ≡ 0
-run_stop p b bs e = rw e refl
-
-pub run_le : (p : ℕ → Bool) (s : List ℕ) → run p s ≤ length s
-run_le p [] = omega arith
-run_le p (b ∷ bs) = elim (cases_bool (p b)) [ inl y ↦ omega (arith, run_step p b bs y, run_le p bs) | inr n ↦ omega (arith, run_stop p b bs n) ]
-
-all_both : (p : ℕ → Bool) (b : ℕ) (bs : List ℕ) → p b ≡ true → list_all p bs ≡ true → list_all p (b ∷ bs) ≡ true
-all_both p b bs e f = rw (e, f) refl
-
-all_first : (p : ℕ → Bool) (b : ℕ) (bs : List ℕ) → list_all p (b ∷ bs) ≡ true → (p b ≡ true) × (list_all p bs ≡ true)
-all_first p b bs h = elim (cases_bool (p b)) [
-  | inl y ↦ (y, sym (rw y refl) ∙ h)
-  | inr n ↦ absurd (let e : list_all p (b ∷ bs) ≡ false = rw n refl in cc)
-]
-
-run_all : (p : ℕ → Bool) (s : List ℕ) → list_all p (take (run p s) s) ≡ true
-run_all p [] = refl
-run_all p (b ∷ bs) = elim (cases_bool (p b)) [
-  | inl y ↦ subst (λ (n : ℕ). list_all p (take n (b ∷ bs)) ≡ true) (sym (run_step p b bs y)) (all_both p b (take (run p bs) bs) y (run_all p bs))
-  | inr n ↦ subst (λ (n : ℕ). list_all p (take n (b ∷ bs)) ≡ true) (sym (run_stop p b bs n)) refl
-]
-
-run_at_least : (p : ℕ → Bool) (text rest : List ℕ) → list_all p text ≡ true → length text ≤ run p (text ++ rest)
-run_at_least p [] rest h = omega arith
-run_at_least p (b ∷ text) rest h = let w = all_first p b text h in omega (arith, run_step p b (text ++ rest) w.0, run_at_least p text rest w.1)
-
-run_exact : (p : ℕ → Bool) (text : List ℕ) (b : ℕ) (rest : List ℕ) → list_all p text ≡ true → p b ≡ false → run p (text ++ b ∷ rest) ≡ length text
-run_exact p [] b rest h n = run_stop p b rest n
-run_exact p (a ∷ text) b rest h n = let w = all_first p a text h in omega (arith, run_step p a (text ++ b ∷ rest) w.0, run_exact p text b rest w.1 n)
-
--- ---- symbols
-
-peel : {A : Type 0} (b : Bool) (o r : Option A) (k : A) → (if b then o else r) ≡ Some k → (b ≡ true) ⊎ (r ≡ Some k)
-peel true o r k e = inl refl
-peel false o r k e = inr e
-
-none_some : {A : Type 0} (k : A) → ◌≡◌ {A = Option A} None (Some k) → ⊥
-none_some k e = cc
-
--- neither a word nor a string begins with the byte, which is one of ASCII
-abbrev IsApart : ℕ → Type 0
-IsApart a = (is_letter a ≡ false) × ((a == quote) ≡ false) × (a < 128)
-
-at : (a b : ℕ) → (a == b) ≡ true → IsApart b → IsApart a
-at a b y h = subst IsApart (sym (eqb-true a b y)) h
-
-single_apart : (a : ℕ) (k : Kind) → single_kind a ≡ Some k → IsApart a
-single_apart a k e =
-    elim (peel (a == byte.open_parenthesis) _ _ k e) [
-      | inl y ↦ at a byte.open_parenthesis y (refl, refl, lit< tt)
-      | inr e1 ↦
-          elim (peel (a == byte.close_parenthesis) _ _ k e1) [
-            | inl y ↦ at a byte.close_parenthesis y (refl, refl, lit< tt)
-            | inr e2 ↦
-                elim (peel (a == byte.open_bracket) _ _ k e2) [
-                  | inl y ↦ at a byte.open_bracket y (refl, refl, lit< tt)
-                  | inr e3 ↦
-                      elim (peel (a == byte.close_bracket) _ _ k e3) [
-                        | inl y ↦ at a byte.close_bracket y (refl, refl, lit< tt)
-                        | inr e4 ↦
-                            elim (peel (a == byte.open_brace) _ _ k e4) [
-                              | inl y ↦ at a byte.open_brace y (refl, refl, lit< tt)
-                              | inr e5 ↦
-                                  elim (peel (a == byte.close_brace) _ _ k e5) [
-                                    | inl y ↦ at a byte.close_brace y (refl, refl, lit< tt)
-                                    | inr e6 ↦
-                                        elim (peel (a == byte.comma) _ _ k e6) [
-                                          | inl y ↦ at a byte.comma y (refl, refl, lit< tt)
-                                          | inr e7 ↦
-                                              elim (peel (a == byte.colon) _ _ k e7) [
-                                                | inl y ↦ at a byte.colon y (refl, refl, lit< tt)
-                                                | inr e8 ↦
-                                                    elim (peel (a == byte.dot) _ _ k e8) [
-                                                      | inl y ↦ at a byte.dot y (refl, refl, lit< tt)
-                                                      | inr e9 ↦
-                                                          elim (peel (a == byte.question) _ _ k e9) [
-                                                            | inl y ↦ at a byte.question y (refl, refl, lit< tt)
-                                                            | inr e10 ↦
-                                                                elim (peel (a == byte.equals) _ _ k e10) [
-                                                                  | inl y ↦ at a byte.equals y (refl, refl, lit< tt)
-                                                                  | inr e11 ↦
-                                                                      elim (peel (a == byte.less) _ _ k e11) [
-                                                                        | inl y ↦ at a byte.less y (refl, refl, lit< tt)
-                                                                        | inr e12 ↦
-                                                                            elim (peel (a == byte.greater) _ _ k e12) [
-                                                                              | inl y ↦ at a byte.greater y (refl, refl, lit< tt)
-                                                                              | inr e13 ↦
-                                                                                  elim (peel (a == byte.plus) _ _ k e13) [
-                                                                                    | inl y ↦ at a byte.plus y (refl, refl, lit< tt)
-                                                                                    | inr e14 ↦
-                                                                                        elim (peel (a == byte.minus) _ _ k e14) [
-                                                                                          | inl y ↦ at a byte.minus y (refl, refl, lit< tt)
-                                                                                          | inr e15 ↦
-                                                                                              elim (peel (a == byte.star) _ _ k e15) [
-                                                                                                | inl y ↦ at a byte.star y (refl, refl, lit< tt)
-                                                                                                | inr e16 ↦
-                                                                                                    elim (peel (a == byte.slash) _ _ k e16) [
-                                                                                                      | inl y ↦ at a byte.slash y (refl, refl, lit< tt)
-                                                                                                      | inr e17 ↦
-                                                                                                          elim (peel (a == byte.percent) _ _ k e17) [
-                                                                                                            | inl y ↦ at a byte.percent y (refl, refl, lit< tt)
-                                                                                                            | inr e18 ↦
-                                                                                                                elim (peel (a == byte.newline) _ _ k e18) [
-                                                                                                                  | inl y ↦ at a byte.newline y (refl, refl, lit< tt)
-                                                                                                                  | inr e19 ↦
-                                                                                                                      absurd (none_some k e19)
-                                                                                                                ]
-                                                                                                          ]
-                                                                                                    ]
-                                                                                              ]
-                                                                                        ]
-                                                                                  ]
-                                                                            ]
-                                                                      ]
-                                                                ]
-                                                          ]
-                                                    ]
-                                              ]
-                                        ]
-                                  ]
-                            ]
-                      ]
-                ]
-          ]
-    ]
-
-equals_apart : (a : ℕ) (k : Kind) → with_equals_kind a ≡ Some k → IsApart a
-equals_apart a k e =
-    elim (peel (a == byte.equals) _ _ k e) [
-      | inl y ↦ at a byte.equals y (refl, refl, lit< tt)
-      | inr e1 ↦
-          elim (peel (a == byte.exclamation) _ _ k e1) [
-            | inl y ↦ at a byte.exclamation y (refl, refl, lit< tt)
-            | inr e2 ↦
-                elim (peel (a == byte.less) _ _ k e2) [
-                  | inl y ↦ at a byte.less y (refl, refl, lit< tt)
-                  | inr e3 ↦
-                      elim (peel (a == byte.greater) _ _ k e3) [
-                        | inl y ↦ at a byte.greater y (refl, refl, lit< tt)
-                        | inr e4 ↦
-                            elim (peel (a == byte.plus) _ _ k e4) [
-                              | inl y ↦ at a byte.plus y (refl, refl, lit< tt)
-                              | inr e5 ↦
-                                  absurd (none_some k e5)
-                            ]
-                      ]
-                ]
-          ]
-    ]
+use Rattle.lexer.specs.Lexing.{run, word_at, number_at, string_at, closed_at, symbol_at, sized, or_else, token_at}
+use Rattle.lexer.specs.Numbers.{is_number}
+use Rattle.lexer.specs.Tokens.{IsToken, word, number, quoted, symbol, is_word}
+use Rattle.lexer.proofs.Digits.{digit_word, digit_letter, number_words, number_digit}
+use Rattle.lexer.proofs.Runs.{run_step, run_le, run_all, run_at_least, run_exact, all_both, all_at, word_ends, word_exact}
+use Rattle.lexer.proofs.Symbols.{IsApart, single_apart, equals_apart}
+use Rattle.lexer.proofs.Tests.{cases_bool, if_true, if_false}
 
 -- ---- what is found, case by case
 
@@ -177,17 +25,29 @@ found_word : (a : ℕ) (bs : List ℕ) → is_letter a ≡ true → token_at (a 
 unfolding token_at
 found_word a bs e = rw e refl
 
-found_raw : (a : ℕ) (bs : List ℕ) → is_letter a ≡ false → (a == quote) ≡ true → opens_raw (a ∷ bs) ≡ true → token_at (a ∷ bs) ≡ None
+found_number : (a : ℕ) (bs : List ℕ) → is_letter a ≡ false → is_ascii_digit a ≡ true → token_at (a ∷ bs) ≡ number_at (a ∷ bs)
 unfolding token_at
-found_raw a bs e q r = rw (e, q, r) refl
+found_number a bs e d = if_false (is_letter a) _ _ e ∙ if_true (is_ascii_digit a) _ _ d
 
-found_string : (a : ℕ) (bs : List ℕ) → is_letter a ≡ false → (a == quote) ≡ true → opens_raw (a ∷ bs) ≡ false → token_at (a ∷ bs) ≡ string_at bs
+found_raw : (a : ℕ) (bs : List ℕ) → is_letter a ≡ false → is_ascii_digit a ≡ false → (a == quote) ≡ true → opens_raw (a ∷ bs) ≡ true → token_at (a ∷ bs) ≡ None
 unfolding token_at
-found_string a bs e q r = rw (e, q, r) refl
+found_raw a bs e d q r = if_false (is_letter a) _ _ e ∙ if_false (is_ascii_digit a) _ _ d ∙ if_true (a == quote) _ _ q ∙ if_true (opens_raw (a ∷ bs)) _ _ r
 
-found_symbol : (a : ℕ) (bs : List ℕ) → is_letter a ≡ false → (a == quote) ≡ false → token_at (a ∷ bs) ≡ symbol_at a bs
+found_string : (a : ℕ) (bs : List ℕ) → is_letter a ≡ false → is_ascii_digit a ≡ false → (a == quote) ≡ true → opens_raw (a ∷ bs) ≡ false → token_at (a ∷ bs) ≡ string_at bs
 unfolding token_at
-found_symbol a bs e q = rw (e, q) refl
+found_string a bs e d q r = if_false (is_letter a) _ _ e ∙ if_false (is_ascii_digit a) _ _ d ∙ if_true (a == quote) _ _ q ∙ if_false (opens_raw (a ∷ bs)) _ _ r
+
+found_symbol : (a : ℕ) (bs : List ℕ) → is_letter a ≡ false → is_ascii_digit a ≡ false → (a == quote) ≡ false → token_at (a ∷ bs) ≡ symbol_at a bs
+unfolding token_at
+found_symbol a bs e d q = if_false (is_letter a) _ _ e ∙ if_false (is_ascii_digit a) _ _ d ∙ if_false (a == quote) _ _ q
+
+number_found : (s : List ℕ) → is_number (take (run continues_word s) s) ≡ true → number_at s ≡ Some (Kinds.Number, run continues_word s)
+unfolding number_at
+number_found s e = if_true (is_number (take (run continues_word s) s)) _ _ e
+
+number_not : (s : List ℕ) → is_number (take (run continues_word s) s) ≡ false → number_at s ≡ None
+unfolding number_at
+number_not s e = if_false (is_number (take (run continues_word s) s)) _ _ e
 
 word_format : (s : List ℕ) → opens_format s ≡ true → word_at s ≡ None
 unfolding word_at
@@ -234,6 +94,24 @@ word_sound a bs k n l e = elim (cases_bool (opens_format (a ∷ bs))) [
             (word (take m (a ∷ bs)) (drop m (a ∷ bs)) (is_word_take a bs m l step) (ap opens_format (sym parts) ∙ no_format));
       }
 ]
+
+number_sound : (a : ℕ) (bs : List ℕ) (k : Kind) (n : ℕ) → is_ascii_digit a ≡ true → number_at (a ∷ bs) ≡ Some (k, n) → IsFound (a ∷ bs) k n
+number_sound a bs k n d e =
+    let s : List ℕ = a ∷ bs in
+    let m : ℕ = run continues_word s in
+    elim (cases_bool (is_number (take m s))) [
+      | inl y ↦
+          let p = pair_is Kinds.Number m k n (sym (number_found s y) ∙ e) in
+          record {
+            text = take m s;
+            rest = drop m s;
+            parts = sym (take-append-drop m s);
+            size = sym p.1 ∙ sym (length-take-le m s (run_le continues_word s));
+            some = omega (arith, run_step continues_word a bs (digit_word a d), p.1);
+            token = subst (λ (j : Kind). IsToken j (take m s) (drop m s)) p.0 (number (take m s) (drop m s) y (word_ends s));
+          }
+      | inr other ↦ let x = number_not s other in absurd cc
+    ]
 
 closed_sound : (m : ℕ) (bs : List ℕ) (k : Kind) (n : ℕ) → closed_at m bs ≡ Some (k, n) → (more : List ℕ) × (bs ≡ quote ∷ more) × (k ≡ Kinds.String) × (n ≡ m + 2)
 closed_sound m [] k n e = absurd cc
@@ -306,12 +184,15 @@ pub token_sound : (s : List ℕ) (k : Kind) (n : ℕ) → token_at s ≡ Some (k
 token_sound [] k n e = let x = found_nothing in absurd cc
 token_sound (a ∷ bs) k n e = elim (cases_bool (is_letter a)) [
   | inl l ↦ word_sound a bs k n l (sym (found_word a bs l) ∙ e)
-  | inr other ↦ elim (cases_bool (a == quote)) [
-    | inl q ↦ elim (cases_bool (opens_raw (a ∷ bs))) [
-      | inl raw ↦ let x = found_raw a bs other q raw in absurd cc
-      | inr plain ↦ string_sound a bs k n q plain (sym (found_string a bs other q plain) ∙ e)
+  | inr other ↦ elim (cases_bool (is_ascii_digit a)) [
+    | inl d ↦ number_sound a bs k n d (sym (found_number a bs other d) ∙ e)
+    | inr no_digit ↦ elim (cases_bool (a == quote)) [
+      | inl q ↦ elim (cases_bool (opens_raw (a ∷ bs))) [
+        | inl raw ↦ let x = found_raw a bs other no_digit q raw in absurd cc
+        | inr plain ↦ string_sound a bs k n q plain (sym (found_string a bs other no_digit q plain) ∙ e)
+      ]
+      | inr apart ↦ symbol_sound a bs k n (sym (found_symbol a bs other no_digit apart) ∙ e)
     ]
-    | inr apart ↦ symbol_sound a bs k n (sym (found_symbol a bs other apart) ∙ e)
   ]
 ]
 
@@ -340,6 +221,22 @@ word_reach a others rest w f = elim (cases_bool (is_letter a)) [
   | inr n ↦ absurd (let e : is_word (a ∷ others) ≡ false = rw n refl in cc)
 ]
 
+number_reach : (text rest : List ℕ) → is_number text ≡ true → ends_word rest ≡ true → IsReached (text ++ rest) Kinds.Number text
+number_reach [] rest h e = absurd cc
+number_reach (a ∷ others) rest h e =
+    let s : List ℕ = a ∷ (others ++ rest) in
+    let text : List ℕ = a ∷ others in
+    let d : is_ascii_digit a ≡ true = number_digit a others h in
+    let size : run continues_word s ≡ length text = word_exact text rest (number_words text h) e in
+    let front : take (run continues_word s) s ≡ text = take_at text rest (run continues_word s) (sym size) in
+    record {
+      kind = Kinds.Number;
+      size = run continues_word s;
+      found = found_number a (others ++ rest) (digit_letter a d) d ∙ number_found s (ap is_number front ∙ h);
+      within = omega (arith, size);
+      same = λ x. refl;
+    }
+
 string_closed : (inside rest : List ℕ) → list_all is_plain inside ≡ true → string_at (inside ++ quote ∷ rest) ≡ Some (Kinds.String, length inside + 2)
 unfolding string_at
 string_closed inside rest p =
@@ -351,7 +248,7 @@ string_reach : (inside rest : List ℕ) → list_all is_plain inside ≡ true �
 string_reach inside rest p r = record {
   kind = Kinds.String;
   size = length inside + 2;
-  found = found_string quote (inside ++ quote ∷ rest) refl refl r ∙ string_closed inside rest p;
+  found = found_string quote (inside ++ quote ∷ rest) refl refl refl r ∙ string_closed inside rest p;
   within = omega (arith, length-append inside (quote ∷ []));
   same = λ e. refl;
 }
@@ -363,11 +260,11 @@ single_reach a rest k e = go rest refl
     apart = single_apart a k e
 
     one : (rest : List ℕ) → symbol_at a rest ≡ sized 1 (single_kind a) → IsReached (a ∷ rest) k (a ∷ [])
-    one rest h = record { kind = k; size = 1; found = found_symbol a rest apart.0 apart.1 ∙ h ∙ ap (sized 1) e; within = omega arith; same = λ x. refl }
+    one rest h = record { kind = k; size = 1; found = found_symbol a rest apart.0 apart.1 apart.2 ∙ h ∙ ap (sized 1) e; within = omega arith; same = λ x. refl }
 
     double : (b : ℕ) (bs : List ℕ) → (b == equals) ≡ true → (o : Option Kind) → with_equals_kind a ≡ o → IsReached (a ∷ b ∷ bs) k (a ∷ [])
     double b bs y None eq = one (b ∷ bs) (symbol_double a b bs y ∙ rw eq refl)
-    double b bs y (Some j) eq = record { kind = j; size = 2; found = found_symbol a (b ∷ bs) apart.0 apart.1 ∙ symbol_double a b bs y ∙ rw eq refl; within = omega arith; same = λ x. absurd (omega (arith, x)) }
+    double b bs y (Some j) eq = record { kind = j; size = 2; found = found_symbol a (b ∷ bs) apart.0 apart.1 apart.2 ∙ symbol_double a b bs y ∙ rw eq refl; within = omega arith; same = λ x. absurd (omega (arith, x)) }
 
     go : (r : List ℕ) → rest ≡ r → IsReached (a ∷ r) k (a ∷ [])
     go [] eq = one [] (symbol_last a)
@@ -378,7 +275,7 @@ double_reach a b rest k e = elim (cases_bool (b == equals)) [
   | inl y ↦
       let eq : with_equals_kind a ≡ Some k = sym (rw y refl) ∙ e in
       let apart = equals_apart a k eq in
-      record { kind = k; size = 2; found = found_symbol a (b ∷ rest) apart.0 apart.1 ∙ symbol_double a b rest y ∙ rw eq refl; within = omega arith; same = λ x. refl }
+      record { kind = k; size = 2; found = found_symbol a (b ∷ rest) apart.0 apart.1 apart.2 ∙ symbol_double a b rest y ∙ rw eq refl; within = omega arith; same = λ x. refl }
   | inr n ↦ absurd (let x : symbol_kind (a ∷ b ∷ []) ≡ None = rw n refl in cc)
 ]
 
@@ -394,21 +291,17 @@ word_text_reach (a ∷ others) rest w f = word_reach a others rest w f
 
 pub token_reach : (k : Kind) (text rest : List ℕ) → IsToken k text rest → IsReached (text ++ rest) k text
 token_reach _ _ _ (word text rest w f) = word_text_reach text rest w f
+token_reach _ _ _ (number text rest h e) = number_reach text rest h e
 token_reach _ _ _ (quoted inside rest p r) = subst (λ (l : List ℕ). IsReached (quote ∷ l) Kinds.String (quote ∷ (inside ++ quote ∷ []))) (sym (append_assoc inside (quote ∷ []) rest)) (string_reach inside rest p r)
 token_reach _ _ _ (symbol k text rest e) = symbol_reach k text rest e
 
 -- ---- a token ends with an ASCII byte
 
-all_at : (p : ℕ → Bool) (text : List ℕ) (i : ℕ) → list_all p text ≡ true → i < length text → p (get_or text i 0) ≡ true
-all_at p [] i h lt = absurd (omega arith)
-all_at p (b ∷ text) zero h lt = (all_first p b text h).0
-all_at p (b ∷ text) (suc i) h lt = all_at p text i (all_first p b text h).1 (omega arith)
-
 continues_ascii : (b : ℕ) → continues_word b ≡ true → b < 128
 continues_ascii b h = grind (arith, nat_tests)
 
 single_ascii : (a : ℕ) (k : Kind) → single_kind a ≡ Some k → a < 128
-single_ascii a k e = (single_apart a k e).2
+single_ascii a k e = (single_apart a k e).3
 
 symbol_ascii : (k : Kind) (text : List ℕ) → symbol_kind text ≡ Some k → get_or text (length text - 1) 0 < 128
 symbol_ascii k [] e = absurd cc
@@ -430,8 +323,16 @@ word_some : (text : List ℕ) → is_word text ≡ true → 0 < length text
 word_some [] w = absurd cc
 word_some (a ∷ others) w = omega arith
 
+number_some : (text : List ℕ) → is_number text ≡ true → 0 < length text
+number_some [] h = absurd cc
+number_some (a ∷ others) h = omega arith
+
+words_ascii : (text : List ℕ) → list_all continues_word text ≡ true → 0 < length text → get_or text (length text - 1) 0 < 128
+words_ascii text all some = continues_ascii (get_or text (length text - 1) 0) (all_at continues_word text (length text - 1) all (omega (arith, some)))
+
 pub token_ascii : (k : Kind) (text rest : List ℕ) → IsToken k text rest → get_or text (length text - 1) 0 < 128
-token_ascii _ _ _ (word text rest w f) = continues_ascii (get_or text (length text - 1) 0) (all_at continues_word text (length text - 1) (word_all text w) (omega (arith, word_some text w)))
+token_ascii _ _ _ (word text rest w f) = words_ascii text (word_all text w) (word_some text w)
+token_ascii _ _ _ (number text rest h e) = words_ascii text (number_words text h) (number_some text h)
 token_ascii _ _ _ (quoted inside rest p r) =
     subst (λ (x : ℕ). x < 128) (sym (ap (λ (n : ℕ). get_or (quote ∷ (inside ++ quote ∷ [])) n 0) (let q : length (quote ∷ (inside ++ quote ∷ [])) - 1 ≡ suc (length inside) = omega (arith, length-append inside (quote ∷ [])) in q) ∙ get_or-append_seam inside quote [] 0)) (lit< tt)
 token_ascii _ _ _ (symbol k text rest e) = symbol_ascii k text e

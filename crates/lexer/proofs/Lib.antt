@@ -1,6 +1,10 @@
 pub mod Boundaries
 pub mod Cuts
 pub mod Cutting
+pub mod Digits
 pub mod Gaps
 pub mod Lexemes
+pub mod Runs
 pub mod Spans
+pub mod Symbols
+pub mod Tests

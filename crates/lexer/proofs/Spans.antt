@@ -1,6 +1,7 @@
 -- The tokens that are cut are those of the source, and there are no others.
-use Rattle.std.proofs.Common.{◌≡◌, ◌≢◌, ℕ, zero, suc, ◌+◌, ◌≤◌, ◌<◌, false, List, [], ◌∷◌, ◌++◌, length, take, drop, refl, sym, ap, subst, ◌∙◌, ◌⊎◌, inl, inr, arith, Option, Some, None, Result, Ok, Err, length-append, length-drop}
+use Rattle.std.proofs.Common.{◌≡◌, ◌≢◌, ℕ, zero, suc, ◌+◌, ◌≤◌, ◌<◌, List, [], ◌∷◌, ◌++◌, length, take, drop, refl, sym, ap, subst, ◌∙◌, ◌⊎◌, inl, inr, arith, Option, Some, None, Result, Ok, Err, length-append, length-drop}
 use Rattle.std.proofs.lemmas.List.{take_at, drop_at, take-append-drop}
+use Rattle.lexer.specs.declared.gap.GapPart.TheVariants.{Blank}
 use Rattle.lexer.specs.declared.token.Kind.{Kind}
 use Rattle.lexer.specs.declared.fault.SyntaxFault.{SyntaxFault}
 use Rattle.lexer.specs.Bytes.{newlines}
@@ -15,10 +16,10 @@ use Rattle.lexer.proofs.Lexemes.{token_sound, token_reach}
 
 pub skips_skipped : (p : Place) → Skips p (skipped p)
 skips_skipped p = record {
-  gap = take (gap p.depth false p.rest) p.rest;
-  parts = sym (take-append-drop (gap p.depth false p.rest) p.rest);
+  gap = take (gap p.depth Blank p.rest) p.rest;
+  parts = sym (take-append-drop (gap p.depth Blank p.rest) p.rest);
   between = gap_sound p.depth p.rest;
-  ends = gap_ends p.depth false p.rest;
+  ends = gap_ends p.depth Blank p.rest;
   line = refl;
   depth = refl;
 }
@@ -28,13 +29,13 @@ place_is p q rest line depth = λ i. record { rest = rest i; line = line i; dept
 
 pub skips_only : (p q : Place) → Skips p q → skipped p ≡ q
 skips_only p q s =
-    let n : gap p.depth false p.rest ≡ length s.gap = ap (gap p.depth false) s.parts ∙ gap_complete p.depth q.rest s.gap s.between s.ends in
-    let front : take (gap p.depth false p.rest) p.rest ≡ s.gap = ap (λ (m : ℕ). take m p.rest) n ∙ ap (take (length s.gap)) s.parts ∙ take_at s.gap q.rest (length s.gap) refl in
-    let back : drop (gap p.depth false p.rest) p.rest ≡ q.rest = ap (λ (m : ℕ). drop m p.rest) n ∙ ap (drop (length s.gap)) s.parts ∙ drop_at s.gap q.rest (length s.gap) refl in
+    let n : gap p.depth Blank p.rest ≡ length s.gap = ap (gap p.depth Blank) s.parts ∙ gap_complete p.depth q.rest s.gap s.between s.ends in
+    let front : take (gap p.depth Blank p.rest) p.rest ≡ s.gap = ap (λ (m : ℕ). take m p.rest) n ∙ ap (take (length s.gap)) s.parts ∙ take_at s.gap q.rest (length s.gap) refl in
+    let back : drop (gap p.depth Blank p.rest) p.rest ≡ q.rest = ap (λ (m : ℕ). drop m p.rest) n ∙ ap (drop (length s.gap)) s.parts ∙ drop_at s.gap q.rest (length s.gap) refl in
     place_is (skipped p) q back (ap (λ (l : List ℕ). p.line + newlines l) front ∙ sym s.line) (sym s.depth)
 
 pub skipped_shorter : (p : Place) → length (skipped p).rest ≤ length p.rest
-skipped_shorter p = omega (arith, length-drop (gap p.depth false p.rest) p.rest)
+skipped_shorter p = omega (arith, length-drop (gap p.depth Blank p.rest) p.rest)
 
 -- ---- the next token
 

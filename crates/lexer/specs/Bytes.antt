@@ -1,6 +1,7 @@
 -- The bytes that tokens are made of.
-use Rattle.std.specs.Prelude.{ℕ, Bool, false, List, ◌∷◌, ◌==◌, ◌||◌, ◌&&◌, not, nat_lt, if◌then◌else◌, count_by}
+use Rattle.std.specs.Prelude.{ℕ, Bool, true, false, List, [], ◌∷◌, ◌==◌, ◌||◌, ◌&&◌, not, nat_lt, if◌then◌else◌, count_by}
 use Rattle.std.specs.Char.{is_ascii_alphabetic, is_ascii_digit}
+use Rattle.std.specs.List.{list_all}
 
 abbrev pub tab : ℕ
 tab = 9
@@ -50,6 +51,9 @@ dot = 46
 abbrev pub slash : ℕ
 slash = 47
 
+abbrev pub digit_zero : ℕ
+digit_zero = 48
+
 abbrev pub colon : ℕ
 colon = 58
 
@@ -94,6 +98,11 @@ is_letter b = is_ascii_alphabetic b || (b == underscore)
 abbrev pub continues_word : ℕ → Bool
 continues_word b = is_letter b || is_ascii_digit b
 
+-- neither a letter, a digit nor an underscore comes next
+abbrev pub ends_word : List ℕ → Bool
+ends_word [] = true
+ends_word (b ∷ rest) = not (continues_word b)
+
 -- what may stand between the quotes of a string
 abbrev pub is_plain : ℕ → Bool
 is_plain b = not ((b == quote) || (b == backslash))
@@ -105,6 +114,11 @@ is_blank depth b = if b == newline then nat_lt 0 depth else (b == space) || (b =
 -- what stands in a comment
 abbrev pub in_line : ℕ → Bool
 in_line b = not (b == newline)
+
+-- blanks, and then a comment or nothing
+abbrev pub is_line_rest : List ℕ → Bool
+is_line_rest [] = true
+is_line_rest (b ∷ rest) = if b == hash then list_all in_line rest else (is_blank 0 b && is_line_rest rest)
 
 -- the newlines of a text
 abbrev pub newlines : List ℕ → ℕ

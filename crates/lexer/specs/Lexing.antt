@@ -1,12 +1,16 @@
 -- Cutting a source into tokens, as a function.
-use Rattle.std.specs.Prelude.{ℕ, zero, suc, ◌+◌, Bool, false, ◌||◌, ◌==◌, nat_lt, if◌then◌else◌, List, [], ◌∷◌, length, take, drop, Option, Some, None, Result, Ok, Err}
+use Rattle.std.specs.Prelude.{ℕ, zero, suc, ◌+◌, Bool, true, false, not, ◌&&◌, ◌||◌, ◌==◌, nat_lt, if◌then◌else◌, List, [], ◌∷◌, length, take, drop, Option, Some, None, Result, Ok, Err}
 use Rattle.lexer.specs.declared.token.Kind.{Kind}
 use Rattle.lexer.specs.declared.token.Kind.TheVariants as Kinds
+use Rattle.lexer.specs.declared.gap.GapPart.{GapPart}
+use Rattle.lexer.specs.declared.gap.GapPart.TheVariants as parts
 use Rattle.lexer.specs.declared.fault.SyntaxFault.{SyntaxFault}
 use Rattle.lexer.specs.declared.fault.FaultKind.TheVariants as Faults
-use Rattle.lexer.specs.Bytes.{quote, hash, newline, equals, is_letter, continues_word, is_plain, is_blank, newlines, opens_raw, opens_format}
+use Rattle.std.specs.Char.{is_ascii_digit}
+use Rattle.lexer.specs.Bytes.{quote, hash, backslash, newline, equals, is_letter, continues_word, is_plain, is_blank, newlines, opens_raw, opens_format}
 use Rattle.lexer.specs.Kinds.{word_kind, single_kind, with_equals_kind, depth_after}
 use Rattle.lexer.specs.Lexeme.{Lexeme}
+use Rattle.lexer.specs.Numbers.{is_number}
 use Rattle.lexer.specs.Tokens.{Place, start}
 
 -- how many bytes at the front pass the test
@@ -14,22 +18,39 @@ abbrev pub run : (ℕ → Bool) → List ℕ → ℕ
 run p [] = 0
 run p (b ∷ bs) = if p b then suc (run p bs) else 0
 
--- whether the byte belongs to a gap, inside a comment or outside
-abbrev pub in_gap : ℕ → Bool → ℕ → Bool
-in_gap depth commented b = if b == newline then nat_lt 0 depth else (commented || (is_blank depth b || (b == hash)))
+-- whether the byte may stand between a backslash and the newline that it continues; `commented`: it is in the comment there
+abbrev pub in_line_rest : Bool → ℕ → Bool
+in_line_rest commented b = commented || (is_blank 0 b || (b == hash))
 
--- whether the byte after this one is inside a comment
-abbrev pub commented_after : Bool → ℕ → Bool
-commented_after commented b = if b == newline then false else (commented || (b == hash))
+-- blanks, a comment or none and a newline come next
+abbrev pub continues_line : Bool → List ℕ → Bool
+continues_line commented [] = false
+continues_line commented (b ∷ bs) = if b == newline then true else (if in_line_rest commented b then continues_line (commented || (b == hash)) bs else false)
+
+-- whether the byte belongs to a gap, in this part of it; `bs` comes after the byte
+abbrev pub in_gap : ℕ → GapPart → ℕ → List ℕ → Bool
+in_gap depth parts.Blank b bs = is_blank depth b || ((b == hash) || ((b == backslash) && continues_line false bs))
+in_gap depth parts.Comment b bs = not (b == newline) || nat_lt 0 depth
+in_gap depth parts.Continuation b bs = true
+
+-- the part of the gap that the byte after this one is in
+abbrev pub part_after : GapPart → ℕ → GapPart
+part_after parts.Blank b = if b == hash then parts.Comment else (if b == backslash then parts.Continuation else parts.Blank)
+part_after parts.Comment b = if b == newline then parts.Blank else parts.Comment
+part_after parts.Continuation b = if b == newline then parts.Blank else parts.Continuation
 
 -- how many bytes the gap at the front has
-abbrev pub gap : ℕ → Bool → List ℕ → ℕ
-gap depth commented [] = 0
-gap depth commented (b ∷ bs) = if in_gap depth commented b then suc (gap depth (commented_after commented b) bs) else 0
+abbrev pub gap : ℕ → GapPart → List ℕ → ℕ
+gap depth part [] = 0
+gap depth part (b ∷ bs) = if in_gap depth part b bs then suc (gap depth (part_after part b) bs) else 0
 
 -- the kind and length of the word at the front
 unfoldable pub word_at : List ℕ → Option (Kind × ℕ)
 word_at bs = if opens_format bs then None else Some (word_kind (take (run continues_word bs) bs), run continues_word bs)
+
+-- the number at the front, which begins with a digit
+unfoldable pub number_at : List ℕ → Option (Kind × ℕ)
+number_at bs = if is_number (take (run continues_word bs) bs) then Some (Kinds.Number, run continues_word bs) else None
 
 -- what follows the characters of a string, of which there are n
 abbrev pub closed_at : ℕ → List ℕ → Option (Kind × ℕ)
@@ -63,8 +84,9 @@ unfoldable pub token_at : List ℕ → Option (Kind × ℕ)
 token_at [] = None
 token_at (a ∷ bs) =
     if is_letter a then word_at (a ∷ bs)
+    else (if is_ascii_digit a then number_at (a ∷ bs)
     else (if a == quote then (if opens_raw (a ∷ bs) then None else string_at bs)
-    else symbol_at a bs)
+    else symbol_at a bs))
 
 -- so many bytes further on
 abbrev pub past : ℕ → Place → Place
@@ -72,7 +94,7 @@ past n p = record { rest = drop n p.rest; line = p.line + newlines (take n p.res
 
 -- where the gap from a place on ends
 abbrev pub skipped : Place → Place
-skipped p = past (gap p.depth false p.rest) p
+skipped p = past (gap p.depth parts.Blank p.rest) p
 
 abbrev pub fault_at : ℕ → SyntaxFault
 fault_at line = record { kind = Faults.Token; line = line }
@@ -88,7 +110,6 @@ lexeme_at p (k, n) = record { kind = k; text = take n p.rest; line = p.line }
 abbrev pub after_lexeme : Place → Kind × ℕ → Place
 after_lexeme p (k, n) = record { rest = drop n p.rest; line = p.line + newlines (take n p.rest); depth = depth_after k p.depth }
 
--- the tokens from a place on, at most so many
 -- the tokens from a place on, which is no gap; `go` gives those behind the first
 abbrev pub lex_found : (Place → Result (List Lexeme) SyntaxFault) → Place → Option (Kind × ℕ) → Result (List Lexeme) SyntaxFault
 lex_found go at None = Err (fault_at at.line)

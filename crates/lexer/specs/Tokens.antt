@@ -1,11 +1,12 @@
 -- The tokens of a source.
-use Rattle.std.specs.Prelude.{◌≡◌, ◌≢◌, ℕ, ◌+◌, ◌≤◌, if◌then◌else◌, Bool, true, false, ◌||◌, ◌==◌, not, List, [], ◌∷◌, ◌++◌, length, Some}
+use Rattle.std.specs.Prelude.{◌≡◌, ◌≢◌, ℕ, ◌+◌, ◌≤◌, if◌then◌else◌, Bool, true, false, ◌==◌, List, [], ◌∷◌, ◌++◌, length, Some}
 use Rattle.std.specs.List.{list_all}
 use Rattle.lexer.specs.declared.token.Kind.{Kind}
 use Rattle.lexer.specs.declared.token.Kind.TheVariants as Kinds
-use Rattle.lexer.specs.Bytes.{quote, hash, newline, is_letter, continues_word, is_plain, is_blank, in_line, newlines, opens_raw, opens_format}
+use Rattle.lexer.specs.Bytes.{quote, hash, backslash, newline, is_letter, continues_word, ends_word, is_plain, is_blank, in_line, is_line_rest, newlines, opens_raw, opens_format}
 use Rattle.lexer.specs.Kinds.{word_kind, symbol_kind, depth_after}
 use Rattle.lexer.specs.Lexeme.{Lexeme}
+use Rattle.lexer.specs.Numbers.{is_number}
 
 -- ---- one token
 
@@ -15,9 +16,10 @@ is_word [] = false
 is_word (a ∷ others) = if is_letter a then list_all continues_word others else false
 
 -- The text is a token of the kind, where `rest` comes directly after it. Where an f-string opens there is no name `f`,
--- and where a raw string opens no empty string.
+-- and where a raw string opens no empty string. No letter, digit or underscore comes directly after a number.
 pub data IsToken : Kind → List ℕ → List ℕ → Type 0 where
   word : (text rest : List ℕ) → is_word text ≡ true → opens_format (text ++ rest) ≡ false → IsToken (word_kind text) text rest
+  number : (text rest : List ℕ) → is_number text ≡ true → ends_word rest ≡ true → IsToken Kinds.Number text rest
   quoted : (inside : List ℕ) (rest : List ℕ) → list_all is_plain inside ≡ true → opens_raw (quote ∷ (inside ++ quote ∷ rest)) ≡ false
       → IsToken Kinds.String (quote ∷ (inside ++ quote ∷ [])) rest
   symbol : (k : Kind) (text rest : List ℕ) → symbol_kind text ≡ Some k → IsToken k text rest
@@ -33,18 +35,19 @@ abbrev pub ends_line : List ℕ → Bool
 ends_line [] = true
 ends_line (b ∷ rest) = b == newline
 
--- The text is blanks and comments, where so many brackets are open and `rest` comes after it. A comment goes up to
--- its line's end.
+-- The text is blanks, comments and continuations, where so many brackets are open and `rest` comes after it. A comment
+-- goes up to its line's end. A continuation is a backslash, blanks, a comment or none, and the newline.
 pub data IsGap (depth : ℕ) (rest : List ℕ) : List ℕ → Type 0 where
   nothing : IsGap depth rest []
   blank : (b : ℕ) (text : List ℕ) → is_blank depth b ≡ true → IsGap depth rest text → IsGap depth rest (b ∷ text)
   comment : (inside text : List ℕ) → list_all in_line inside ≡ true → ends_line (text ++ rest) ≡ true → IsGap depth rest text
       → IsGap depth rest (hash ∷ (inside ++ text))
+  continued : (inside text : List ℕ) → is_line_rest inside ≡ true → IsGap depth rest text
+      → IsGap depth rest (backslash ∷ (inside ++ newline ∷ text))
 
--- neither a blank nor a comment begins here
-abbrev pub begins_no_gap : ℕ → List ℕ → Bool
-begins_no_gap depth [] = true
-begins_no_gap depth (b ∷ rest) = not (is_blank depth b || (b == hash))
+-- neither a blank, a comment nor a continuation begins the source
+abbrev pub NoGap : ℕ → List ℕ → Type 0
+NoGap depth source = (b : ℕ) (text rest : List ℕ) → source ≡ b ∷ (text ++ rest) → IsGap depth rest (b ∷ text) → ⊥
 
 -- ---- the tokens of a source
 
@@ -57,12 +60,12 @@ pub record Place : Type 0 where
 abbrev pub start : List ℕ → Place
 start source = record { rest = source; line = 1; depth = 0 }
 
--- `to` is where the blanks and comments from a place on end
+-- `to` is where the blanks, comments and continuations from a place on end
 pub record Skips (from to : Place) : Type 0 where
   pub gap : List ℕ
   pub parts : from.rest ≡ gap ++ to.rest
   pub between : IsGap from.depth to.rest gap
-  pub ends : begins_no_gap from.depth to.rest ≡ true
+  pub ends : NoGap from.depth to.rest
   pub line : to.line ≡ from.line + newlines gap
   pub depth : to.depth ≡ from.depth
 

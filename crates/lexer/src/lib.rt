@@ -4,8 +4,15 @@
 //! line. The language is that of the Meson manual's page "Syntax".
 #![tactic(auto)]
 
+mod bytes;
 mod cut;
 pub mod fault;
+mod gap;
+mod number;
+mod string;
+mod symbol;
 pub mod token;
+mod word;
 
-pub use cut::{newlines, tokens};
+pub use bytes::newlines;
+pub use cut::tokens;

@@ -1,7 +1,7 @@
 use Rattle.std.proofs.Common.{length, ◌-◌, ◌≡◌, ◌+◌, ◌≤◌, drop}
 use Rattle.lexer.specs.Bytes.{is_plain}
 use Rattle.lexer.specs.Lexing.{run}
-use Rattle.lexer.proofs.cut.plain_length.Given as goal
+use Rattle.lexer.proofs.string.plain_length.Given as goal
 
 abbrev pub invariant-loop-length : goal.invariant-loop-length
 invariant-loop-length l = record { within : l.length ≤ length l.bytes; counted : run is_plain l.bytes ≡ l.length + run is_plain (drop l.length l.bytes) }

@@ -1,6 +1,6 @@
 use Rattle.std.proofs.Common.{sym}
 use Rattle.lexer.proofs.Cuts.{symbol_two, symbol_one}
-use Rattle.lexer.proofs.cut.symbol_at.Goals as goal
+use Rattle.lexer.proofs.symbol.symbol_at.Goals as goal
 
 pub returns-in-Some : goal.returns-in-Some
 returns-in-Some c = sym (symbol_two c.args.first c.args.bytes.now c.in-Some.kind (sym c.in-Some.ensures))

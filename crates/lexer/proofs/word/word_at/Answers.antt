@@ -1,7 +1,7 @@
 use Rattle.std.proofs.Common.{sym}
 use Rattle.std.proofs.lemmas.List.{length-take-le}
 use Rattle.lexer.proofs.Cuts.{word_fits}
-use Rattle.lexer.proofs.cut.word_at.Goals as goal
+use Rattle.lexer.proofs.word.word_at.Goals as goal
 
 pub slice_bounds-word_kind-end : goal.slice_bounds-word_kind-end
 slice_bounds-word_kind-end c = sym (length-take-le c.word_length-length.result c.args.bytes.now (word_fits c.args.bytes.now c.word_length-length.result c.word_length-length.ensures))

@@ -1,7 +1,7 @@
 use Rattle.std.proofs.Common.{length, ◌-◌, ◌≡◌, ◌+◌, ◌≤◌, drop}
 use Rattle.lexer.specs.Bytes.{continues_word}
 use Rattle.lexer.specs.Lexing.{run}
-use Rattle.lexer.proofs.cut.word_length.Given as goal
+use Rattle.lexer.proofs.word.word_length.Given as goal
 
 abbrev pub invariant-loop-length : goal.invariant-loop-length
 invariant-loop-length l = record { within : l.length ≤ length l.bytes; counted : run continues_word l.bytes ≡ l.length + run continues_word (drop l.length l.bytes) }
