@@ -1,0 +1,4 @@
+pub mod Cutting
+pub mod Trimming
+pub mod Digits
+pub mod Items
