@@ -2,3 +2,5 @@ pub mod Cutting
 pub mod Trimming
 pub mod Digits
 pub mod Items
+pub mod Entries
+pub mod Forms

@@ -42,12 +42,15 @@ has_key key entries = list_any (λ e. bytes_eq key e.key) entries
 abbrev pub has_name : List ℕ → List Section → Bool
 has_name name sections = list_any (λ s. bytes_eq name s.name) sections
 
+-- a dependency that has no version
+abbrev pub lacks_version : SectionKind → List Entry → Bool
+lacks_version Kinds.Dependency entries = not (has_key (codes "version") entries)
+lacks_version _ entries = false
+
 -- a dependency without a version has the version `unknown`, at the line of its section
 abbrev pub default_entries : SectionKind → ℕ → List Entry → List Entry
-default_entries Kinds.Dependency line entries =
-    if has_key (codes "version") entries then []
-    else record { key = codes "version"; value = Text (codes "unknown"); line = line } ∷ []
-default_entries _ line entries = []
+default_entries kind line entries =
+    if lacks_version kind entries then record { key = codes "version"; value = Text (codes "unknown"); line = line } ∷ [] else []
 
 -- a section at its end
 abbrev pub closed : Open → Section
@@ -69,25 +72,33 @@ abbrev pub cut_pair : SectionKind → List ℕ → Option Parts
 cut_pair kind text = option_map (λ parts. (trimmed parts.0, trimmed parts.1)) (if cuts_last kind then cut_last equals text else cut_first equals text)
 
 -- a section with a further entry; the section has to know the key and its value, and the key is new
-abbrev pub with_value : Open → ℕ → List ℕ → Option Value → Option Open
-with_value o line key None = None
-with_value o line key (Some v) =
-    if knows o.kind key v && not (has_key key o.entries) then Some (record o { entries = o.entries ++ record { key = key; value = v; line = line } ∷ [] })
-    else None
+-- whether a section of this kind with these entries takes this value at this key: it knows the key and its value, and the key is new
+abbrev pub takes : SectionKind → List Entry → List ℕ → Value → Bool
+takes kind entries key v = knows kind key v && not (has_key key entries)
 
-abbrev pub with_parts : Open → ℕ → Option Parts → Option Open
-with_parts o line None = None
-with_parts o line (Some parts) = with_value o line parts.0 (value_of parts.1)
+-- the entries of a section of this kind, and one more
+abbrev pub with_value : SectionKind → List Entry → ℕ → List ℕ → Option Value → Option (List Entry)
+with_value kind entries line key None = None
+with_value kind entries line key (Some v) =
+    if takes kind entries key v then Some (entries ++ record { key = key; value = v; line = line } ∷ []) else None
+
+abbrev pub with_parts : SectionKind → List Entry → ℕ → Option Parts → Option (List Entry)
+with_parts kind entries line None = None
+with_parts kind entries line (Some parts) = with_value kind entries line parts.0 (value_of parts.1)
+
+-- the entries of a section of this kind, and the key and value that a line gives
+unfoldable pub with_pair : SectionKind → List Entry → ℕ → List ℕ → Option (List Entry)
+with_pair kind entries line text = with_parts kind entries line (cut_pair kind text)
 
 -- a key and its value on this line; a section has to be open
-abbrev pub with_pair : Said → ℕ → List ℕ → Option Open → Option Said
-with_pair s line text None = None
-with_pair s line text (Some o) = option_map (λ new. record s { open_section = Some new }) (with_parts o line (cut_pair o.kind text))
+abbrev pub in_section : Said → ℕ → List ℕ → Option Open → Option Said
+in_section s line text None = None
+in_section s line text (Some o) = option_map (λ entries. record s { open_section = Some (record o { entries = entries }) }) (with_pair o.kind o.entries line text)
 
 abbrev pub after_form : Said → ℕ → Form → Option Said
 after_form s line Nothing = Some s
 after_form s line (Header name) = with_section s line name (kind_of name)
-after_form s line (Pair text) = with_pair s line text s.open_section
+after_form s line (Pair text) = in_section s line text s.open_section
 
 -- what is said after one more line, of this number and without blanks at its ends, if it may stand there
 unfoldable pub after : Said → ℕ → List ℕ → Option Said

@@ -5,6 +5,13 @@ use Rattle.std.specs.declared.alloc.Global.{Global}
 use Rattle.lexer.specs.Bytes.{newline}
 use Rattle.machine.specs.declared.value.MachineValue.{MachineValue}
 use Rattle.machine.specs.declared.value.MachineValue.TheVariants as given
+use Rattle.machine.specs.declared.machine.Entry.{Entry}
+use Rattle.machine.specs.declared.machine.Section.{Section}
+use Rattle.machine.specs.declared.machine.Machine.{Machine}
+use Rattle.machine.specs.declared.line.Form.{Form}
+use Rattle.machine.specs.declared.line.Form.TheVariants as form
+use Rattle.machine.specs.Files as file
+use Rattle.machine.specs.Lines as line
 use Rattle.machine.specs.Values.{Value, Text, Integer, Truth, Texts}
 
 abbrev pub strings_in : List (String Global) → List (List ℕ)
@@ -15,3 +22,24 @@ value_in (given.Text text) = Text (string_bytes text)
 value_in (given.Integer number) = Integer number
 value_in (given.Truth truth) = Truth truth
 value_in (given.Texts items) = Texts (strings_in items.items)
+
+abbrev pub entry_in : String Global × Entry → file.Entry
+entry_in e = record { key = string_bytes e.0; value = value_in e.1.value; line = e.1.line }
+
+abbrev pub entries_in : List (String Global × Entry) → List file.Entry
+entries_in entries = map entry_in entries
+
+abbrev pub section_in : String Global × Section → file.Section
+section_in s = record { name = string_bytes s.0; entries = entries_in s.1.entries.entries }
+
+abbrev pub sections_in : List (String Global × Section) → List file.Section
+sections_in sections = map section_in sections
+
+-- the sections of a machine file, in the order of their lines
+abbrev pub machine_in : Machine → List file.Section
+machine_in machine = sections_in machine.sections.entries
+
+abbrev pub form_in : Form → line.Form
+form_in form.Nothing = line.Nothing
+form_in (form.Header name) = line.Header name.now
+form_in (form.Pair text) = line.Pair text.now

@@ -1,9 +1,13 @@
 //! The machine file: what a user says of the machine, instead of programs that are asked.
 #![tactic(auto)]
 
+mod line;
+mod machine;
 mod number;
+mod reading;
 mod section;
 mod text;
 mod value;
 
+pub use machine::{Entry, Machine, Section};
 pub use value::MachineValue;
