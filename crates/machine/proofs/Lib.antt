@@ -4,3 +4,4 @@ pub mod Digits
 pub mod Items
 pub mod Entries
 pub mod Forms
+pub mod Said

@@ -1,5 +1,5 @@
 -- What the code's own types stand for.
-use Rattle.std.specs.Prelude.{ℕ, List, map, Option, Some, None, string_bytes, String}
+use Rattle.std.specs.Prelude.{ℕ, List, map, Option, Some, None, Result, Ok, Err, string_bytes, String}
 use Rattle.std.specs.Option.{option_map}
 use Rattle.std.specs.declared.alloc.Global.{Global}
 use Rattle.lexer.specs.Bytes.{newline}
@@ -8,6 +8,8 @@ use Rattle.machine.specs.declared.value.MachineValue.TheVariants as given
 use Rattle.machine.specs.declared.machine.Entry.{Entry}
 use Rattle.machine.specs.declared.machine.Section.{Section}
 use Rattle.machine.specs.declared.machine.Machine.{Machine}
+use Rattle.machine.specs.declared.state.OpenSection.{OpenSection}
+use Rattle.machine.specs.declared.state.Reading.{Reading}
 use Rattle.machine.specs.declared.line.Form.{Form}
 use Rattle.machine.specs.declared.line.Form.TheVariants as form
 use Rattle.machine.specs.Files as file
@@ -43,3 +45,16 @@ abbrev pub form_in : Form → line.Form
 form_in form.Nothing = line.Nothing
 form_in (form.Header name) = line.Header name.now
 form_in (form.Pair text) = line.Pair text.now
+
+abbrev pub open_in : OpenSection → file.Open
+open_in o = record { name = string_bytes o.name; kind = o.kind; line = o.line; entries = entries_in o.entries.entries }
+
+abbrev pub said_by : List (String Global × Section) → Option OpenSection → file.Said
+said_by ended current = record { ended = sections_in ended; open_section = option_map open_in current }
+
+abbrev pub said_in : Reading → file.Said
+said_in reading = said_by reading.ended.entries reading.current
+
+abbrev pub read_in : Result Machine ℕ → Result (List file.Section) ℕ
+read_in (Ok machine) = Ok (machine_in machine)
+read_in (Err line) = Err line

@@ -6,6 +6,7 @@ mod machine;
 mod number;
 mod reading;
 mod section;
+mod state;
 mod text;
 mod value;
 
