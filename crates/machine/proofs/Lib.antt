@@ -5,3 +5,5 @@ pub mod Items
 pub mod Entries
 pub mod Forms
 pub mod Said
+pub mod FirstBad
+pub mod Looking

@@ -5,3 +5,5 @@ pub mod Values
 pub mod Sections
 pub mod Files
 pub mod View
+pub mod Answers
+pub mod Lookups

@@ -1,6 +1,7 @@
 -- What the code's own types stand for.
 use Rattle.std.specs.Prelude.{ℕ, List, map, Option, Some, None, Result, Ok, Err, string_bytes, String}
 use Rattle.std.specs.Option.{option_map}
+use denote.Ref.{Bor}
 use Rattle.std.specs.declared.alloc.Global.{Global}
 use Rattle.lexer.specs.Bytes.{newline}
 use Rattle.machine.specs.declared.value.MachineValue.{MachineValue}
@@ -27,6 +28,10 @@ value_in (given.Texts items) = Texts (strings_in items.items)
 
 abbrev pub entry_in : String Global × Entry → file.Entry
 entry_in e = record { key = string_bytes e.0; value = value_in e.1.value; line = e.1.line }
+
+-- a key that is shown with what it has
+abbrev pub shown_in : Bor (List ℕ) × Bor Entry → file.Entry
+shown_in e = record { key = e.0.now; value = value_in e.1.now.value; line = e.1.now.line }
 
 abbrev pub entries_in : List (String Global × Entry) → List file.Entry
 entries_in entries = map entry_in entries

@@ -1,6 +1,7 @@
 //! The machine file: what a user says of the machine, instead of programs that are asked.
 #![tactic(auto)]
 
+pub mod fault;
 mod line;
 mod machine;
 mod number;

@@ -1,12 +1,14 @@
 //! What a machine file says.
 
-ghost use Rattle.std.specs.Prelude.{◌≡◌, [], None, length, slice_get};
+ghost use Rattle.std.specs.Prelude.{◌≡◌, ◌==◌, ◌+◌, [], IfOk, length, take, slice_get};
 ghost use Rattle.std.specs.Option.{option_map};
-ghost use Rattle.machine.specs.View.{value_in, entry_in, entries_in, section_in, machine_in};
+ghost use Rattle.lexer.specs.Bytes.{newlines};
 
+use crate::fault::{FaultKind, MachineFault};
+use crate::reading::read_lines;
 use crate::value::MachineValue;
 use indexmap::IndexMap;
-use std::alloc::Global;
+use std::alloc::{AllocError, Global};
 
 /// What a key has: a value, and the line, from 1, that gives it.
 #[derive(Debug, Drop)]
@@ -27,7 +29,37 @@ pub struct Machine {
     pub(crate) sections: IndexMap<String, Section>,
 }
 
+impl Section {
+    ghost use Rattle.machine.specs.View.{shown_in, entries_in};
+
+    /// How many keys the section has.
+    pub fn len(&self) -> usize
+        ensures { result ≡ length (entries_in self.now.entries.entries) }
+    {
+        self.entries.len()
+    }
+
+    /// Whether the section has no key.
+    pub fn is_empty(&self) -> bool
+        ensures { result ≡ (length (entries_in self.now.entries.entries) == 0) }
+    {
+        self.entries.is_empty()
+    }
+
+    /// The i-th key, in the order of lines, and what it has. A version that a dependency does not give stands last.
+    pub fn at(&self, i: usize) -> Option<(&str, &Entry)>
+        ensures { option_map shown_in result ≡ slice_get (entries_in self.now.entries.entries) i }
+    {
+        let (key, entry) = self.entries.get_index(i)?;
+        Some((key.as_str(), entry))
+    }
+}
+
 impl Machine {
+    ghost use Rattle.machine.specs.Answers.{Answers};
+    ghost use Rattle.machine.specs.Lookups.{entries_at, value_at};
+    ghost use Rattle.machine.specs.View.{value_in, entries_in, machine_in};
+
     /// What no file says: nothing.
     pub fn empty(alloc: Global) -> Machine
         ensures { machine_in result ≡ [] }
@@ -36,4 +68,51 @@ impl Machine {
             sections: IndexMap::new(alloc),
         }
     }
+
+    /// What these bytes say, or the fault that they have: the Meson manual's page "Machine files", without sections of
+    /// constants and paths, and with sections of this project's own for what Meson asks the machine.
+    pub fn read(alloc: Global, bytes: &[u8]) -> Result<Result<Machine, MachineFault>, AllocError>
+        ensures { IfOk result (Answers bytes.now) }
+    {
+        let text = match str::from_utf8(bytes) {
+            Ok(text) => text,
+            Err(error) => {
+                let kind = FaultKind::NotUtf8;
+                let line = newlines(&bytes[..error.valid_up_to()]) + 1;
+                return Ok(Err(MachineFault { kind, line }));
+            }
+        };
+        match read_lines(alloc, text)? {
+            Ok(machine) => Ok(Ok(machine)),
+            Err(line) => {
+                let kind = FaultKind::MachineFile;
+                Ok(Err(MachineFault { kind, line }))
+            }
+        }
+    }
+
+    /// The section with this name, as `dependency zlib`.
+    pub fn section(&self, name: &str) -> Option<&Section>
+        ensures { option_map (λ s. entries_in s.now.entries.entries) result ≡ entries_at (machine_in self.now) name.now }
+    {
+        self.sections.get(name)
+    }
+
+    /// The value that a section has at a key. It takes no memory and never fails.
+    pub fn get(&self, section: &str, key: &str) -> Option<&MachineValue>
+        ensures { option_map (λ v. value_in v.now) result ≡ value_at (machine_in self.now) section.now key.now }
+    {
+        let section = self.section(section)?;
+        match section.entries.get(key) {
+            Some(entry) => Some(&entry.value),
+            None => None,
+        }
+    }
+}
+
+// How many newlines there are.
+fn newlines(bytes: &[u8]) -> usize
+    ensures { result ≡ newlines bytes.now }
+{
+    bytes.iter().filter(|byte| **byte == b'\n').count()
 }
