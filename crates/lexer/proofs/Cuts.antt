@@ -1,14 +1,13 @@
 -- What the functions that find a token answer, case by case.
-use Rattle.std.proofs.Common.{◌≡◌, ◌≢◌, ℕ, ◌+◌, ◌-◌, ◌≤◌, ◌<◌, true, false, List, [], ◌∷◌, ◌++◌, length, take, drop, get_or, refl, sym, ap, ◌∙◌, arith, Some, None, Result, Ok, Err}
+use Rattle.std.proofs.Common.{eq-eqb, ◌≡◌, ◌≢◌, ℕ, ◌-◌, ◌≤◌, ◌<◌, true, false, List, [], ◌∷◌, ◌++◌, length, take, drop, get_or, refl, sym, ap, ◌∙◌, arith, Some, None, Result, Ok, Err}
 use Rattle.std.specs.Prelude.{◌==◌}
 use Rattle.std.specs.Char.{is_ascii_digit}
-use Rattle.std.proofs.lemmas.List.{at_drop_more, drop_all}
 use Rattle.lexer.specs.declared.token.Kind.{Kind}
 use Rattle.lexer.specs.declared.token.Kind.TheVariants as Kinds
-use Rattle.lexer.specs.Bytes.{quote, is_letter, continues_word, is_plain, opens_raw, opens_format}
+use Rattle.lexer.specs.Bytes.{quote, is_letter, continues_word, opens_format}
 use Rattle.lexer.specs.Kinds.{word_kind, single_kind}
 use Rattle.lexer.specs.Numbers.{is_number}
-use Rattle.lexer.specs.Lexing.{run, word_at, number_at, string_at, closed_at, double_kind, symbol_at, token_at, lex, lexed}
+use Rattle.lexer.specs.Lexing.{run, word_at, number_at, string_at, format_at, double_kind, symbol_at, token_at, lex, lexed}
 use Rattle.lexer.specs.declared.fault.SyntaxFault.{SyntaxFault}
 use Rattle.lexer.specs.Lexeme.{Lexeme}
 use Rattle.lexer.specs.Tokens.{Place}
@@ -31,13 +30,9 @@ symbol_none a bs e f = rw (e, f) refl
 
 -- ---- words
 
-pub word_none : (bs : List ℕ) → opens_format bs ≡ true → word_at bs ≡ None
+pub word_is : (bs : List ℕ) (n : ℕ) → run continues_word bs ≡ n → word_at bs ≡ (word_kind (take n bs), n)
 unfolding word_at
-word_none bs e = rw e refl
-
-pub word_some : (bs : List ℕ) (n : ℕ) → opens_format bs ≡ false → run continues_word bs ≡ n → word_at bs ≡ Some (word_kind (take n bs), n)
-unfolding word_at
-word_some bs n e f = rw (e, f) refl
+word_is bs n e = rw e refl
 
 pub word_fits : (bs : List ℕ) (n : ℕ) → n ≡ run continues_word bs → n ≤ length bs
 word_fits bs n e = omega (arith, run_le continues_word bs)
@@ -52,20 +47,6 @@ pub number_none : (bs : List ℕ) (n : ℕ) → run continues_word bs ≡ n → 
 unfolding number_at
 number_none bs n e f = rw e (if_false (is_number (take n bs)) _ _ f)
 
--- ---- strings
-
-pub string_some : (bs : List ℕ) (n : ℕ) → run is_plain bs ≡ n → n < length bs → get_or bs n 0 ≡ quote → string_at bs ≡ Some (Kinds.String, n + 2)
-unfolding string_at
-string_some bs n e lt q = rw e (at_drop_more (closed_at n) bs n 0 lt ∙ rw q refl)
-
-pub string_open : (bs : List ℕ) (n : ℕ) → run is_plain bs ≡ n → n < length bs → get_or bs n 0 ≢ quote → string_at bs ≡ None
-unfolding string_at
-string_open bs n e lt q = rw e (at_drop_more (closed_at n) bs n 0 lt ∙ (let f : (get_or bs n 0 == quote) ≡ false = neq_false (get_or bs n 0) quote q in rw f refl))
-
-pub string_ended : (bs : List ℕ) (n : ℕ) → run is_plain bs ≡ n → length bs ≤ n → string_at bs ≡ None
-unfolding string_at
-string_ended bs n e le = rw e (ap (closed_at n) (drop_all n bs le))
-
 -- ---- tokens
 
 pub token_nothing : (s : List ℕ) → length s ≡ 0 → token_at s ≡ None
@@ -73,10 +54,10 @@ unfolding token_at
 token_nothing [] e = refl
 token_nothing (a ∷ bs) e = absurd (omega arith)
 
-pub token_word : (s : List ℕ) → 0 < length s → is_letter (get_or s 0 0) ≡ true → token_at s ≡ word_at s
+pub token_word : (s : List ℕ) → 0 < length s → is_letter (get_or s 0 0) ≡ true → opens_format s ≡ false → token_at s ≡ Some (word_at s)
 unfolding token_at
-token_word [] lt e = absurd (omega arith)
-token_word (a ∷ bs) lt e = rw e refl
+token_word [] lt e f = absurd (omega arith)
+token_word (a ∷ bs) lt e f = if_true (is_letter a) _ _ e ∙ if_false (opens_format (a ∷ bs)) _ _ f
 
 tail_is : (a : ℕ) (bs : List ℕ) → take (length (a ∷ bs) - 1) (drop 1 (a ∷ bs)) ≡ bs
 tail_is a bs = ap (λ (n : ℕ). take n bs) (let q : length (a ∷ bs) - 1 ≡ length bs = omega arith in q) ∙ take_all bs
@@ -86,20 +67,20 @@ unfolding token_at
 token_number [] lt e d = absurd (omega arith)
 token_number (a ∷ bs) lt e d = if_false (is_letter a) _ _ e ∙ if_true (is_ascii_digit a) _ _ d
 
-pub token_symbol : (s : List ℕ) → 0 < length s → is_letter (get_or s 0 0) ≡ false → is_ascii_digit (get_or s 0 0) ≡ false → (get_or s 0 0 == quote) ≡ false → token_at s ≡ symbol_at (get_or s 0 0) (take (length s - 1) (drop 1 s))
+pub token_symbol : (s : List ℕ) → 0 < length s → is_letter (get_or s 0 0) ≡ false → is_ascii_digit (get_or s 0 0) ≡ false → get_or s 0 0 ≢ quote → token_at s ≡ symbol_at (get_or s 0 0) (take (length s - 1) (drop 1 s))
 unfolding token_at
 token_symbol [] lt e d q = absurd (omega arith)
-token_symbol (a ∷ bs) lt e d q = if_false (is_letter a) _ _ e ∙ if_false (is_ascii_digit a) _ _ d ∙ if_false (a == quote) _ _ q ∙ ap (symbol_at a) (sym (tail_is a bs))
+token_symbol (a ∷ bs) lt e d q = if_false (is_letter a) _ _ e ∙ if_false (is_ascii_digit a) _ _ d ∙ if_false (a == quote) _ _ (neq_false a quote q) ∙ ap (symbol_at a) (sym (tail_is a bs))
 
-pub token_raw : (s : List ℕ) → 0 < length s → is_letter (get_or s 0 0) ≡ false → is_ascii_digit (get_or s 0 0) ≡ false → (get_or s 0 0 == quote) ≡ true → opens_raw s ≡ true → token_at s ≡ None
+pub token_string : (s : List ℕ) → 0 < length s → is_letter (get_or s 0 0) ≡ false → is_ascii_digit (get_or s 0 0) ≡ false → get_or s 0 0 ≡ quote → token_at s ≡ string_at s
 unfolding token_at
-token_raw [] lt e d q r = absurd (omega arith)
-token_raw (a ∷ bs) lt e d q r = if_false (is_letter a) _ _ e ∙ if_false (is_ascii_digit a) _ _ d ∙ if_true (a == quote) _ _ q ∙ if_true (opens_raw (a ∷ bs)) _ _ r
+token_string [] lt e d q = absurd (omega arith)
+token_string (a ∷ bs) lt e d q = if_false (is_letter a) _ _ e ∙ if_false (is_ascii_digit a) _ _ d ∙ if_true (a == quote) _ _ (eq-eqb a quote q)
 
-pub token_string : (s : List ℕ) → 0 < length s → is_letter (get_or s 0 0) ≡ false → is_ascii_digit (get_or s 0 0) ≡ false → (get_or s 0 0 == quote) ≡ true → opens_raw s ≡ false → token_at s ≡ string_at (take (length s - 1) (drop 1 s))
+pub token_format : (s : List ℕ) → 0 < length s → is_letter (get_or s 0 0) ≡ true → opens_format s ≡ true → token_at s ≡ format_at s
 unfolding token_at
-token_string [] lt e d q r = absurd (omega arith)
-token_string (a ∷ bs) lt e d q r = if_false (is_letter a) _ _ e ∙ if_false (is_ascii_digit a) _ _ d ∙ if_true (a == quote) _ _ q ∙ if_false (opens_raw (a ∷ bs)) _ _ r ∙ ap string_at (sym (tail_is a bs))
+token_format [] lt e f = absurd (omega arith)
+token_format (a ∷ bs) lt e f = if_true (is_letter a) _ _ e ∙ if_true (opens_format (a ∷ bs)) _ _ f
 
 -- ---- the loop over a source
 
@@ -110,3 +91,11 @@ with_front ts (Err f) = Err f
 -- the tokens of the source are those that were cut and those from the place on
 abbrev pub StillLexes : List ℕ → List Lexeme → Place → Type 0
 StillLexes source ts p = (n : ℕ) × (length p.rest < n) × (lexed source ≡ with_front ts (lex n p))
+
+pub ruleset token_cases = (token_nothing, token_format, token_word, token_number, token_symbol, token_string)
+
+pub ruleset number_at_cases = (number_some, number_none, word_fits)
+
+pub ruleset symbol_cases = (symbol_two, symbol_one, symbol_none)
+
+pub ruleset word_cases = (word_is, word_fits)

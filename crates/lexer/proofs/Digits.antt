@@ -96,3 +96,5 @@ number_based [] le e = absurd (omega arith)
 number_based (a ∷ []) le e = absurd (omega arith)
 number_based (a ∷ b ∷ []) le e = absurd (omega arith)
 number_based (a ∷ b ∷ c ∷ more) le e = if_true (a == digit_zero) _ _ (eq-eqb a digit_zero e) ∙ ap (list_all (is_digit_of b)) (sym (ap (λ (n : ℕ). take n (c ∷ more)) (let q : length (a ∷ b ∷ c ∷ more) - 2 ≡ length (c ∷ more) = omega arith in q) ∙ take_all (c ∷ more)))
+
+pub ruleset number_cases = (number_none, number_short, number_based, number_decimal)

@@ -298,3 +298,7 @@ line_no c s i lt e f = at_drop_more (continues_line c) s i 0 lt ∙ continues_no
 
 pub line_end : (c : Bool) (s : List ℕ) (i : ℕ) → length s ≤ i → continues_line c (drop i s) ≡ false
 line_end c s i le = ap (continues_line c) (drop_all i s le)
+
+pub ruleset line_steps = (line_yes, line_more, line_no, line_end)
+
+pub ruleset gap_steps = (gap_more, gap_stop, gap_end)

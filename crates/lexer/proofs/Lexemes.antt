@@ -1,41 +1,41 @@
 -- The token that is found at a place is the longest that begins there.
-use Rattle.std.proofs.Common.{◌≡◌, ℕ, suc, ◌+◌, ◌-◌, ◌≤◌, ◌<◌, true, false, List, [], ◌∷◌, ◌++◌, length, take, drop, get_or, refl, sym, ap, subst, ◌∙◌, inl, inr, arith, lit<, Option, Some, None, append_assoc, length-append}
+use Rattle.std.proofs.Common.{◌≡◌, ℕ, suc, ◌+◌, ◌-◌, ◌≤◌, ◌<◌, true, false, List, [], ◌∷◌, ◌++◌, length, take, drop, get_or, refl, sym, ap, subst, ◌∙◌, inl, inr, arith, lit<, Option, Some, None, length-append}
 use Rattle.std.specs.Prelude.{◌==◌}
 use Rattle.std.specs.Char.{is_ascii_digit}
 use Rattle.std.specs.List.{list_all}
 use Rattle.std.proofs.lemmas.Bool.{eqb-true}
-use Rattle.std.proofs.lemmas.List.{length-take-le, take_at, drop_at, take-append-drop}
+use Rattle.std.proofs.lemmas.List.{length-take-le, take_at, take-append-drop}
 use Rattle.std.proofs.lemmas.Bool.Decides.{nat_tests}
-use Rattle.std.proofs.Math.Seq.{get_or-append_seam}
 use Rattle.lexer.specs.declared.token.Kind.{Kind}
 use Rattle.lexer.specs.declared.token.Kind.TheVariants as Kinds
-use Rattle.lexer.specs.Bytes.{quote, equals, is_letter, continues_word, ends_word, is_plain, opens_raw, opens_format}
-use Rattle.lexer.specs.Kinds.{word_kind, single_kind, with_equals_kind, symbol_kind}
-use Rattle.lexer.specs.Lexing.{run, word_at, number_at, string_at, closed_at, symbol_at, sized, or_else, token_at}
+use Rattle.lexer.specs.Bytes.{quote, equals, lower_f, is_letter, continues_word, ends_word, opens_format}
+use Rattle.lexer.specs.Kinds.{word_kind, format_kind, single_kind, with_equals_kind, symbol_kind}
+use Rattle.lexer.specs.Lexing.{run, word_at, number_at, string_at, formatted, format_at, symbol_at, sized, or_else, token_at}
 use Rattle.lexer.specs.Numbers.{is_number}
-use Rattle.lexer.specs.Tokens.{IsToken, word, number, quoted, symbol, is_word}
+use Rattle.lexer.specs.Tokens.{IsString, IsToken, word, number, string, format, symbol, is_word}
 use Rattle.lexer.proofs.Digits.{digit_word, digit_letter, number_words, number_digit}
-use Rattle.lexer.proofs.Runs.{run_step, run_le, run_all, run_at_least, run_exact, all_both, all_at, word_ends, word_exact}
+use Rattle.lexer.proofs.Runs.{run_step, run_le, run_all, run_at_least, all_both, all_at, word_ends, word_exact}
+use Rattle.lexer.proofs.Strings.{string_sound, string_complete, string_split, quote_ascii}
 use Rattle.lexer.proofs.Symbols.{IsApart, single_apart, equals_apart}
-use Rattle.lexer.proofs.Tests.{cases_bool, if_true, if_false}
+use Rattle.lexer.proofs.Tests.{cases_bool, and_left, and_right, if_true, if_false}
 
 -- ---- what is found, case by case
 
-found_word : (a : ℕ) (bs : List ℕ) → is_letter a ≡ true → token_at (a ∷ bs) ≡ word_at (a ∷ bs)
+found_word : (a : ℕ) (bs : List ℕ) → is_letter a ≡ true → opens_format (a ∷ bs) ≡ false → token_at (a ∷ bs) ≡ Some (word_at (a ∷ bs))
 unfolding token_at
-found_word a bs e = rw e refl
+found_word a bs e f = if_true (is_letter a) _ _ e ∙ if_false (opens_format (a ∷ bs)) _ _ f
+
+found_format : (a : ℕ) (bs : List ℕ) → is_letter a ≡ true → opens_format (a ∷ bs) ≡ true → token_at (a ∷ bs) ≡ formatted (string_at bs)
+unfolding token_at format_at
+found_format a bs e f = if_true (is_letter a) _ _ e ∙ if_true (opens_format (a ∷ bs)) _ _ f
 
 found_number : (a : ℕ) (bs : List ℕ) → is_letter a ≡ false → is_ascii_digit a ≡ true → token_at (a ∷ bs) ≡ number_at (a ∷ bs)
 unfolding token_at
 found_number a bs e d = if_false (is_letter a) _ _ e ∙ if_true (is_ascii_digit a) _ _ d
 
-found_raw : (a : ℕ) (bs : List ℕ) → is_letter a ≡ false → is_ascii_digit a ≡ false → (a == quote) ≡ true → opens_raw (a ∷ bs) ≡ true → token_at (a ∷ bs) ≡ None
+found_string : (a : ℕ) (bs : List ℕ) → is_letter a ≡ false → is_ascii_digit a ≡ false → (a == quote) ≡ true → token_at (a ∷ bs) ≡ string_at (a ∷ bs)
 unfolding token_at
-found_raw a bs e d q r = if_false (is_letter a) _ _ e ∙ if_false (is_ascii_digit a) _ _ d ∙ if_true (a == quote) _ _ q ∙ if_true (opens_raw (a ∷ bs)) _ _ r
-
-found_string : (a : ℕ) (bs : List ℕ) → is_letter a ≡ false → is_ascii_digit a ≡ false → (a == quote) ≡ true → opens_raw (a ∷ bs) ≡ false → token_at (a ∷ bs) ≡ string_at bs
-unfolding token_at
-found_string a bs e d q r = if_false (is_letter a) _ _ e ∙ if_false (is_ascii_digit a) _ _ d ∙ if_true (a == quote) _ _ q ∙ if_false (opens_raw (a ∷ bs)) _ _ r
+found_string a bs e d q = if_false (is_letter a) _ _ e ∙ if_false (is_ascii_digit a) _ _ d ∙ if_true (a == quote) _ _ q
 
 found_symbol : (a : ℕ) (bs : List ℕ) → is_letter a ≡ false → is_ascii_digit a ≡ false → (a == quote) ≡ false → token_at (a ∷ bs) ≡ symbol_at a bs
 unfolding token_at
@@ -49,13 +49,9 @@ number_not : (s : List ℕ) → is_number (take (run continues_word s) s) ≡ fa
 unfolding number_at
 number_not s e = if_false (is_number (take (run continues_word s) s)) _ _ e
 
-word_format : (s : List ℕ) → opens_format s ≡ true → word_at s ≡ None
+word_found : (s : List ℕ) → word_at s ≡ (word_kind (take (run continues_word s) s), run continues_word s)
 unfolding word_at
-word_format s e = rw e refl
-
-word_found : (s : List ℕ) → opens_format s ≡ false → word_at s ≡ Some (word_kind (take (run continues_word s) s), run continues_word s)
-unfolding word_at
-word_found s e = rw e refl
+word_found s = refl
 
 letter_continues : (a : ℕ) → is_letter a ≡ true → continues_word a ≡ true
 letter_continues a e = rw e refl
@@ -76,24 +72,59 @@ pair_is {A} a m k n e = let e' : ◌≡◌ {A = A × ℕ} (a, m) (k, n) = cc in 
 is_word_take : (a : ℕ) (bs : List ℕ) (n : ℕ) → is_letter a ≡ true → n ≡ suc (run continues_word bs) → is_word (take n (a ∷ bs)) ≡ true
 is_word_take a bs n l e = subst (λ (m : ℕ). is_word (take m (a ∷ bs)) ≡ true) (sym e) (rw (l, run_all continues_word bs) refl)
 
-word_sound : (a : ℕ) (bs : List ℕ) (k : Kind) (n : ℕ) → is_letter a ≡ true → word_at (a ∷ bs) ≡ Some (k, n) → IsFound (a ∷ bs) k n
-word_sound a bs k n l e = elim (cases_bool (opens_format (a ∷ bs))) [
-  | inl y ↦ let x = word_format (a ∷ bs) y in absurd cc
-  | inr no_format ↦
-      let m : ℕ = run continues_word (a ∷ bs) in
-      let p = pair_is (word_kind (take m (a ∷ bs))) m k n (sym (word_found (a ∷ bs) no_format) ∙ e) in
-      let step = run_step continues_word a bs (letter_continues a l) in
-      let parts : a ∷ bs ≡ take m (a ∷ bs) ++ drop m (a ∷ bs) = sym (take-append-drop m (a ∷ bs)) in
-      record {
-        text = take m (a ∷ bs);
-        rest = drop m (a ∷ bs);
-        parts = parts;
-        size = sym p.1 ∙ sym (length-take-le m (a ∷ bs) (run_le continues_word (a ∷ bs)));
-        some = omega (arith, step, p.1);
-        token = subst (λ (j : Kind). IsToken j (take m (a ∷ bs)) (drop m (a ∷ bs))) p.0
-            (word (take m (a ∷ bs)) (drop m (a ∷ bs)) (is_word_take a bs m l step) (ap opens_format (sym parts) ∙ no_format));
-      }
-]
+word_sound : (a : ℕ) (bs : List ℕ) (k : Kind) (n : ℕ) → is_letter a ≡ true → opens_format (a ∷ bs) ≡ false → ◌≡◌ {A = Option (Kind × ℕ)} (Some (word_at (a ∷ bs))) (Some (k, n)) → IsFound (a ∷ bs) k n
+word_sound a bs k n l no_format e =
+    let m : ℕ = run continues_word (a ∷ bs) in
+    let p = pair_is (word_kind (take m (a ∷ bs))) m k n (ap (λ (x : Kind × ℕ). Some x) (sym (word_found (a ∷ bs))) ∙ e) in
+    let step = run_step continues_word a bs (letter_continues a l) in
+    let parts : a ∷ bs ≡ take m (a ∷ bs) ++ drop m (a ∷ bs) = sym (take-append-drop m (a ∷ bs)) in
+    record {
+      text = take m (a ∷ bs);
+      rest = drop m (a ∷ bs);
+      parts = parts;
+      size = sym p.1 ∙ sym (length-take-le m (a ∷ bs) (run_le continues_word (a ∷ bs)));
+      some = omega (arith, step, p.1);
+      token = subst (λ (j : Kind). IsToken j (take m (a ∷ bs)) (drop m (a ∷ bs))) p.0
+          (word (take m (a ∷ bs)) (drop m (a ∷ bs)) (is_word_take a bs m l step) (ap opens_format (sym parts) ∙ no_format));
+    }
+
+opens_with : (a : ℕ) (bs : List ℕ) → opens_format (a ∷ bs) ≡ true → (more : List ℕ) × (a ≡ lower_f) × (bs ≡ quote ∷ more)
+opens_with a [] e = absurd cc
+opens_with a (b ∷ bs) e = (bs, eqb-true a lower_f (and_left (a == lower_f) (b == quote) e), ap (λ (x : ℕ). x ∷ bs) (eqb-true b quote (and_right (a == lower_f) (b == quote) e)))
+
+formatted_some : (o : Option (Kind × ℕ)) (k : Kind) (n : ℕ) → formatted o ≡ Some (k, n) → (j : Kind) × (m : ℕ) × (o ≡ Some (j, m)) × (format_kind j ≡ k) × (n ≡ m + 1)
+formatted_some None k n e = absurd cc
+formatted_some (Some (j, m)) k n e = let p = pair_is (format_kind j) (m + 1) k n e in (j, m, refl, p.0, sym p.1)
+
+string_some : (k : Kind) (text rest : List ℕ) → IsString k text rest → 0 < length text
+string_some k text rest t = let w = string_split k text rest t in omega (arith, ap length w.1, length-append w.0 (quote ∷ []))
+
+string_sounds : (a : ℕ) (bs : List ℕ) (k : Kind) (n : ℕ) → (a == quote) ≡ true → string_at (a ∷ bs) ≡ Some (k, n) → IsFound (a ∷ bs) k n
+string_sounds a bs k n q e =
+    let first : a ≡ quote = eqb-true a quote q in
+    let f = string_sound bs k n (ap (λ (x : ℕ). string_at (x ∷ bs)) (sym first) ∙ e) in
+    record {
+      text = f.text;
+      rest = f.rest;
+      parts = ap (λ (x : ℕ). x ∷ bs) first ∙ f.parts;
+      size = f.size;
+      some = omega (arith, f.size, string_some k f.text f.rest f.token);
+      token = string k f.text f.rest f.token;
+    }
+
+format_sound : (a : ℕ) (bs : List ℕ) (k : Kind) (n : ℕ) → opens_format (a ∷ bs) ≡ true → formatted (string_at bs) ≡ Some (k, n) → IsFound (a ∷ bs) k n
+format_sound a bs k n o e =
+    let w = opens_with a bs o in
+    let g = formatted_some (string_at bs) k n e in
+    let f = string_sound w.0 g.0 g.1 (ap string_at (sym w.2) ∙ g.2) in
+    record {
+      text = lower_f ∷ f.text;
+      rest = f.rest;
+      parts = ap (λ (x : ℕ). x ∷ bs) w.1 ∙ ap (λ (l : List ℕ). lower_f ∷ l) (w.2 ∙ f.parts);
+      size = omega (arith, g.4, f.size);
+      some = omega (arith, g.4);
+      token = subst (λ (j : Kind). IsToken j (lower_f ∷ f.text) f.rest) g.3 (format g.0 f.text f.rest f.token);
+    }
 
 number_sound : (a : ℕ) (bs : List ℕ) (k : Kind) (n : ℕ) → is_ascii_digit a ≡ true → number_at (a ∷ bs) ≡ Some (k, n) → IsFound (a ∷ bs) k n
 number_sound a bs k n d e =
@@ -112,31 +143,6 @@ number_sound a bs k n d e =
           }
       | inr other ↦ let x = number_not s other in absurd cc
     ]
-
-closed_sound : (m : ℕ) (bs : List ℕ) (k : Kind) (n : ℕ) → closed_at m bs ≡ Some (k, n) → (more : List ℕ) × (bs ≡ quote ∷ more) × (k ≡ Kinds.String) × (n ≡ m + 2)
-closed_sound m [] k n e = absurd cc
-closed_sound m (b ∷ bs) k n e = elim (cases_bool (b == quote)) [
-  | inl y ↦ let p = pair_is Kinds.String (m + 2) k n (sym (rw y refl) ∙ e) in (bs, ap (λ (x : ℕ). x ∷ bs) (eqb-true b quote y), sym p.0, sym p.1)
-  | inr f ↦ absurd (let x : closed_at m (b ∷ bs) ≡ None = rw f refl in cc)
-]
-
-string_sound : (a : ℕ) (bs : List ℕ) (k : Kind) (n : ℕ) → (a == quote) ≡ true → opens_raw (a ∷ bs) ≡ false → string_at bs ≡ Some (k, n) → IsFound (a ∷ bs) k n
-unfolding string_at
-string_sound a bs k n q r e =
-    let m : ℕ = run is_plain bs in
-    let w = closed_sound m (drop m bs) k n e in
-    let inside : List ℕ = take m bs in
-    let parts : bs ≡ inside ++ quote ∷ w.0 = sym (take-append-drop m bs) ∙ ap (λ (l : List ℕ). inside ++ l) w.1 in
-    let first : a ≡ quote = eqb-true a quote q in
-    let whole : a ∷ bs ≡ quote ∷ (inside ++ quote ∷ w.0) = ap (λ (x : ℕ). x ∷ bs) first ∙ ap (λ (l : List ℕ). quote ∷ l) parts in
-    record {
-      text = quote ∷ (inside ++ quote ∷ []);
-      rest = w.0;
-      parts = whole ∙ ap (λ (l : List ℕ). quote ∷ l) (sym (append_assoc inside (quote ∷ []) w.0));
-      size = omega (arith, w.3, length-take-le m bs (run_le is_plain bs), length-append inside (quote ∷ []));
-      some = omega (arith, w.3);
-      token = subst (λ (j : Kind). IsToken j (quote ∷ (inside ++ quote ∷ [])) w.0) (sym w.2) (quoted inside w.0 (run_all is_plain bs) (ap opens_raw (sym whole) ∙ r));
-    }
 
 found_single : (a : ℕ) (bs : List ℕ) (k : Kind) (n : ℕ) → sized 1 (single_kind a) ≡ Some (k, n) → IsFound (a ∷ bs) k n
 found_single a bs k n e = go (single_kind a) refl e
@@ -183,14 +189,14 @@ found_nothing = refl
 pub token_sound : (s : List ℕ) (k : Kind) (n : ℕ) → token_at s ≡ Some (k, n) → IsFound s k n
 token_sound [] k n e = let x = found_nothing in absurd cc
 token_sound (a ∷ bs) k n e = elim (cases_bool (is_letter a)) [
-  | inl l ↦ word_sound a bs k n l (sym (found_word a bs l) ∙ e)
+  | inl l ↦ elim (cases_bool (opens_format (a ∷ bs))) [
+    | inl f ↦ format_sound a bs k n f (sym (found_format a bs l f) ∙ e)
+    | inr no_format ↦ word_sound a bs k n l no_format (sym (found_word a bs l no_format) ∙ e)
+  ]
   | inr other ↦ elim (cases_bool (is_ascii_digit a)) [
     | inl d ↦ number_sound a bs k n d (sym (found_number a bs other d) ∙ e)
     | inr no_digit ↦ elim (cases_bool (a == quote)) [
-      | inl q ↦ elim (cases_bool (opens_raw (a ∷ bs))) [
-        | inl raw ↦ let x = found_raw a bs other no_digit q raw in absurd cc
-        | inr plain ↦ string_sound a bs k n q plain (sym (found_string a bs other no_digit q plain) ∙ e)
-      ]
+      | inl q ↦ string_sounds a bs k n q (sym (found_string a bs other no_digit q) ∙ e)
       | inr apart ↦ symbol_sound a bs k n (sym (found_symbol a bs other no_digit apart) ∙ e)
     ]
   ]
@@ -214,7 +220,7 @@ word_reach a others rest w f = elim (cases_bool (is_letter a)) [
       record {
         kind = word_kind (take m s);
         size = m;
-        found = found_word a (others ++ rest) l ∙ word_found s f;
+        found = found_word a (others ++ rest) l f ∙ ap (λ (x : Kind × ℕ). Some x) (word_found s);
         within = run_at_least continues_word (a ∷ others) rest all;
         same = λ e. ap word_kind (take_at (a ∷ others) rest m (sym e));
       }
@@ -237,21 +243,27 @@ number_reach (a ∷ others) rest h e =
       same = λ x. refl;
     }
 
-string_closed : (inside rest : List ℕ) → list_all is_plain inside ≡ true → string_at (inside ++ quote ∷ rest) ≡ Some (Kinds.String, length inside + 2)
-unfolding string_at
-string_closed inside rest p =
-    let e = run_exact is_plain inside quote rest p refl in
-    rw (e, drop_at inside (quote ∷ rest) (length inside) refl) refl
+string_reach : (k : Kind) (text rest : List ℕ) → IsString k text rest → IsReached (text ++ rest) k text
+string_reach k text rest t =
+    let q = string_complete k text rest t in
+    record {
+      kind = k;
+      size = length text;
+      found = ap token_at q.whole ∙ found_string quote q.more refl refl refl ∙ q.found;
+      within = omega arith;
+      same = λ e. refl;
+    }
 
-string_reach : (inside rest : List ℕ) → list_all is_plain inside ≡ true → opens_raw (quote ∷ (inside ++ quote ∷ rest)) ≡ false
-    → IsReached (quote ∷ (inside ++ quote ∷ rest)) Kinds.String (quote ∷ (inside ++ quote ∷ []))
-string_reach inside rest p r = record {
-  kind = Kinds.String;
-  size = length inside + 2;
-  found = found_string quote (inside ++ quote ∷ rest) refl refl refl r ∙ string_closed inside rest p;
-  within = omega (arith, length-append inside (quote ∷ []));
-  same = λ e. refl;
-}
+format_reach : (k : Kind) (text rest : List ℕ) → IsString k text rest → IsReached (lower_f ∷ (text ++ rest)) (format_kind k) (lower_f ∷ text)
+format_reach k text rest t =
+    let q = string_complete k text rest t in
+    record {
+      kind = format_kind k;
+      size = length text + 1;
+      found = ap (λ (l : List ℕ). token_at (lower_f ∷ l)) q.whole ∙ found_format lower_f (quote ∷ q.more) refl refl ∙ ap formatted q.found;
+      within = omega arith;
+      same = λ e. refl;
+    }
 
 single_reach : (a : ℕ) (rest : List ℕ) (k : Kind) → single_kind a ≡ Some k → IsReached (a ∷ rest) k (a ∷ [])
 single_reach a rest k e = go rest refl
@@ -292,7 +304,8 @@ word_text_reach (a ∷ others) rest w f = word_reach a others rest w f
 pub token_reach : (k : Kind) (text rest : List ℕ) → IsToken k text rest → IsReached (text ++ rest) k text
 token_reach _ _ _ (word text rest w f) = word_text_reach text rest w f
 token_reach _ _ _ (number text rest h e) = number_reach text rest h e
-token_reach _ _ _ (quoted inside rest p r) = subst (λ (l : List ℕ). IsReached (quote ∷ l) Kinds.String (quote ∷ (inside ++ quote ∷ []))) (sym (append_assoc inside (quote ∷ []) rest)) (string_reach inside rest p r)
+token_reach _ _ _ (string k text rest t) = string_reach k text rest t
+token_reach _ _ _ (format k text rest t) = format_reach k text rest t
 token_reach _ _ _ (symbol k text rest e) = symbol_reach k text rest e
 
 -- ---- a token ends with an ASCII byte
@@ -330,9 +343,12 @@ number_some (a ∷ others) h = omega arith
 words_ascii : (text : List ℕ) → list_all continues_word text ≡ true → 0 < length text → get_or text (length text - 1) 0 < 128
 words_ascii text all some = continues_ascii (get_or text (length text - 1) 0) (all_at continues_word text (length text - 1) all (omega (arith, some)))
 
+ends_ascii : (text front : List ℕ) → text ≡ front ++ quote ∷ [] → get_or text (length text - 1) 0 < 128
+ends_ascii text front e = subst (λ (l : List ℕ). get_or l (length l - 1) 0 < 128) (sym e) (quote_ascii front)
+
 pub token_ascii : (k : Kind) (text rest : List ℕ) → IsToken k text rest → get_or text (length text - 1) 0 < 128
 token_ascii _ _ _ (word text rest w f) = words_ascii text (word_all text w) (word_some text w)
 token_ascii _ _ _ (number text rest h e) = words_ascii text (number_words text h) (number_some text h)
-token_ascii _ _ _ (quoted inside rest p r) =
-    subst (λ (x : ℕ). x < 128) (sym (ap (λ (n : ℕ). get_or (quote ∷ (inside ++ quote ∷ [])) n 0) (let q : length (quote ∷ (inside ++ quote ∷ [])) - 1 ≡ suc (length inside) = omega (arith, length-append inside (quote ∷ [])) in q) ∙ get_or-append_seam inside quote [] 0)) (lit< tt)
+token_ascii _ _ _ (string k text rest t) = let w = string_split k text rest t in ends_ascii text w.0 w.1
+token_ascii _ _ _ (format k text rest t) = let w = string_split k text rest t in ends_ascii (lower_f ∷ text) (lower_f ∷ w.0) (ap (λ (l : List ℕ). lower_f ∷ l) w.1)
 token_ascii _ _ _ (symbol k text rest e) = symbol_ascii k text e

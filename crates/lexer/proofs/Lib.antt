@@ -2,9 +2,16 @@ pub mod Boundaries
 pub mod Cuts
 pub mod Cutting
 pub mod Digits
+pub mod Escapes
+pub mod Escaping
+pub mod Frames
 pub mod Gaps
 pub mod Lexemes
+pub mod Named
 pub mod Runs
 pub mod Spans
+pub mod Stands
+pub mod Strings
 pub mod Symbols
 pub mod Tests
+pub mod Texts

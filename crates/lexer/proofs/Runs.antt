@@ -76,3 +76,5 @@ run_no p s i lt e = at_drop_more (run p) s i 0 lt ∙ rw e refl
 
 pub run_end : (p : ℕ → Bool) (s : List ℕ) (i : ℕ) → length s ≤ i → run p (drop i s) ≡ 0
 run_end p s i le = ap (run p) (drop_all i s le)
+
+pub ruleset run_steps = (run_yes, run_no, run_end)

@@ -103,7 +103,7 @@ abbrev pub ends_word : List ℕ → Bool
 ends_word [] = true
 ends_word (b ∷ rest) = not (continues_word b)
 
--- what may stand between the quotes of a string
+-- what stands for itself between the quotes of a string
 abbrev pub is_plain : ℕ → Bool
 is_plain b = not ((b == quote) || (b == backslash))
 
@@ -124,7 +124,11 @@ is_line_rest (b ∷ rest) = if b == hash then list_all in_line rest else (is_bla
 abbrev pub newlines : List ℕ → ℕ
 newlines = count_by (λ b. b == newline)
 
--- a raw string begins
+-- what a raw string begins and ends with
+abbrev pub three_quotes : List ℕ
+three_quotes = quote ∷ quote ∷ quote ∷ []
+
+-- a raw string begins or ends
 abbrev pub opens_raw : List ℕ → Bool
 opens_raw (a ∷ b ∷ c ∷ more) = (a == quote) && (b == quote) && (c == quote)
 opens_raw _ = false

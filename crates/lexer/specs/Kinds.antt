@@ -75,6 +75,10 @@ word_kind text =
     else (if bytes_eq text (codes "continue") then Kinds.Continue
     else Kinds.Name)))))))))))))
 
+-- a string of this kind with an `f` before it
+abbrev pub format_kind : Kind → Kind
+format_kind k = if is k Kinds.String then Kinds.FormatString else (if is k Kinds.RawString then Kinds.RawFormatString else k)
+
 -- a symbol of one byte
 abbrev pub single_kind : ℕ → Option Kind
 single_kind b =

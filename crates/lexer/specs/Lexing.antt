@@ -7,8 +7,9 @@ use Rattle.lexer.specs.declared.gap.GapPart.TheVariants as parts
 use Rattle.lexer.specs.declared.fault.SyntaxFault.{SyntaxFault}
 use Rattle.lexer.specs.declared.fault.FaultKind.TheVariants as Faults
 use Rattle.std.specs.Char.{is_ascii_digit}
-use Rattle.lexer.specs.Bytes.{quote, hash, backslash, newline, equals, is_letter, continues_word, is_plain, is_blank, newlines, opens_raw, opens_format}
-use Rattle.lexer.specs.Kinds.{word_kind, single_kind, with_equals_kind, depth_after}
+use Rattle.lexer.specs.Bytes.{quote, hash, backslash, newline, equals, is_letter, continues_word, is_blank, newlines, opens_raw, opens_format}
+use Rattle.lexer.specs.Escapes.{is_bad_escape}
+use Rattle.lexer.specs.Kinds.{word_kind, format_kind, single_kind, with_equals_kind, depth_after}
 use Rattle.lexer.specs.Lexeme.{Lexeme}
 use Rattle.lexer.specs.Numbers.{is_number}
 use Rattle.lexer.specs.Tokens.{Place, start}
@@ -25,7 +26,10 @@ in_line_rest commented b = commented || (is_blank 0 b || (b == hash))
 -- blanks, a comment or none and a newline come next
 abbrev pub continues_line : Bool → List ℕ → Bool
 continues_line commented [] = false
-continues_line commented (b ∷ bs) = if b == newline then true else (if in_line_rest commented b then continues_line (commented || (b == hash)) bs else false)
+continues_line commented (b ∷ bs) =
+    if b == newline then true
+    else (if in_line_rest commented b then continues_line (commented || (b == hash)) bs
+    else false)
 
 -- whether the byte belongs to a gap, in this part of it; `bs` comes after the byte
 abbrev pub in_gap : ℕ → GapPart → ℕ → List ℕ → Bool
@@ -45,21 +49,47 @@ gap depth part [] = 0
 gap depth part (b ∷ bs) = if in_gap depth part b bs then suc (gap depth (part_after part b) bs) else 0
 
 -- the kind and length of the word at the front
-unfoldable pub word_at : List ℕ → Option (Kind × ℕ)
-word_at bs = if opens_format bs then None else Some (word_kind (take (run continues_word bs) bs), run continues_word bs)
+unfoldable pub word_at : List ℕ → Kind × ℕ
+word_at bs = (word_kind (take (run continues_word bs) bs), run continues_word bs)
 
 -- the number at the front, which begins with a digit
 unfoldable pub number_at : List ℕ → Option (Kind × ℕ)
 number_at bs = if is_number (take (run continues_word bs) bs) then Some (Kinds.Number, run continues_word bs) else None
 
--- what follows the characters of a string, of which there are n
-abbrev pub closed_at : ℕ → List ℕ → Option (Kind × ℕ)
-closed_at n [] = None
-closed_at n (b ∷ bs) = if b == quote then Some (Kinds.String, n + 2) else None
+-- one byte more
+abbrev pub further : Option ℕ → Option ℕ
+further None = None
+further (Some n) = Some (suc n)
 
--- the string at the front, of which bs is what follows its first quote
+-- how many bytes stand before the quote that ends a string; `escaped`: a backslash stands before these
+abbrev pub inside : Bool → List ℕ → Option ℕ
+inside escaped [] = None
+inside true (b ∷ bs) = if is_bad_escape (b ∷ bs) then None else further (inside false bs)
+inside false (b ∷ bs) = if b == quote then Some 0 else further (inside (b == backslash) bs)
+
+-- how many bytes stand before the first three quotes
+abbrev pub before_quotes : List ℕ → Option ℕ
+before_quotes [] = None
+before_quotes (b ∷ bs) = if opens_raw (b ∷ bs) then Some 0 else further (before_quotes bs)
+
+-- a string of this kind, with so many bytes inside and others round them
+abbrev pub string_of : Kind → ℕ → Option ℕ → Option (Kind × ℕ)
+string_of k round None = None
+string_of k round (Some n) = Some (k, n + round)
+
+-- the string at the front, which begins with a quote
 unfoldable pub string_at : List ℕ → Option (Kind × ℕ)
-string_at bs = closed_at (run is_plain bs) (drop (run is_plain bs) bs)
+string_at bs =
+    if opens_raw bs then string_of Kinds.RawString 6 (before_quotes (drop 3 bs))
+    else string_of Kinds.String 2 (inside false (drop 1 bs))
+
+abbrev pub formatted : Option (Kind × ℕ) → Option (Kind × ℕ)
+formatted None = None
+formatted (Some (k, n)) = Some (format_kind k, n + 1)
+
+-- the f-string at the front, which begins with `f` and a quote
+unfoldable pub format_at : List ℕ → Option (Kind × ℕ)
+format_at bs = formatted (string_at (drop 1 bs))
 
 -- a symbol of so many bytes
 abbrev pub sized : ℕ → Option Kind → Option (Kind × ℕ)
@@ -83,9 +113,9 @@ symbol_at a bs = or_else (sized 2 (double_kind a bs)) (sized 1 (single_kind a))
 unfoldable pub token_at : List ℕ → Option (Kind × ℕ)
 token_at [] = None
 token_at (a ∷ bs) =
-    if is_letter a then word_at (a ∷ bs)
+    if is_letter a then (if opens_format (a ∷ bs) then format_at (a ∷ bs) else Some (word_at (a ∷ bs)))
     else (if is_ascii_digit a then number_at (a ∷ bs)
-    else (if a == quote then (if opens_raw (a ∷ bs) then None else string_at bs)
+    else (if a == quote then string_at (a ∷ bs)
     else symbol_at a bs))
 
 -- so many bytes further on

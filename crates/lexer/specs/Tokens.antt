@@ -1,10 +1,11 @@
 -- The tokens of a source.
-use Rattle.std.specs.Prelude.{◌≡◌, ◌≢◌, ℕ, ◌+◌, ◌≤◌, if◌then◌else◌, Bool, true, false, ◌==◌, List, [], ◌∷◌, ◌++◌, length, Some}
+use Rattle.std.specs.Prelude.{◌≡◌, ◌≢◌, ℕ, ◌+◌, ◌≤◌, if◌then◌else◌, Bool, true, false, ◌==◌, List, [], ◌∷◌, ◌++◌, length, drop, EachIndex, Some}
 use Rattle.std.specs.List.{list_all}
 use Rattle.lexer.specs.declared.token.Kind.{Kind}
 use Rattle.lexer.specs.declared.token.Kind.TheVariants as Kinds
-use Rattle.lexer.specs.Bytes.{quote, hash, backslash, newline, is_letter, continues_word, ends_word, is_plain, is_blank, in_line, is_line_rest, newlines, opens_raw, opens_format}
-use Rattle.lexer.specs.Kinds.{word_kind, symbol_kind, depth_after}
+use Rattle.lexer.specs.Bytes.{quote, hash, backslash, newline, lower_f, is_letter, continues_word, ends_word, is_plain, is_blank, in_line, is_line_rest, newlines, three_quotes, opens_raw, opens_format}
+use Rattle.lexer.specs.Escapes.{NamesCharacters}
+use Rattle.lexer.specs.Kinds.{word_kind, format_kind, symbol_kind, depth_after}
 use Rattle.lexer.specs.Lexeme.{Lexeme}
 use Rattle.lexer.specs.Numbers.{is_number}
 
@@ -15,13 +16,28 @@ abbrev pub is_word : List ℕ → Bool
 is_word [] = false
 is_word (a ∷ others) = if is_letter a then list_all continues_word others else false
 
--- The text is a token of the kind, where `rest` comes directly after it. Where an f-string opens there is no name `f`,
--- and where a raw string opens no empty string. No letter, digit or underscore comes directly after a number.
+-- What may stand between the quotes of a string that is not raw: no quote but behind a backslash, each backslash with the
+-- byte behind it, and no escape of a number that no character has.
+pub data AreCharacters : List ℕ → Type 0 where
+  no_more : AreCharacters []
+  plain : (b : ℕ) (text : List ℕ) → is_plain b ≡ true → AreCharacters text → AreCharacters (b ∷ text)
+  escaped : (b : ℕ) (text : List ℕ) → NamesCharacters (b ∷ text) → AreCharacters text → AreCharacters (backslash ∷ b ∷ text)
+
+-- The text is a string of the kind, without the `f` that may stand before it, where `rest` comes directly after it. Where a
+-- raw string opens there is no empty string. A raw string ends with the first three quotes behind those that open it.
+pub data IsString : Kind → List ℕ → List ℕ → Type 0 where
+  quoted : (inside rest : List ℕ) → AreCharacters inside → opens_raw (quote ∷ (inside ++ quote ∷ rest)) ≡ false
+      → IsString Kinds.String (quote ∷ (inside ++ quote ∷ [])) rest
+  raw : (inside rest : List ℕ) → EachIndex inside (λ i. opens_raw (drop i (inside ++ three_quotes)) ≡ false)
+      → IsString Kinds.RawString (three_quotes ++ (inside ++ three_quotes)) rest
+
+-- The text is a token of the kind, where `rest` comes directly after it. Where an f-string opens there is no name `f`. No
+-- letter, digit or underscore comes directly after a number.
 pub data IsToken : Kind → List ℕ → List ℕ → Type 0 where
   word : (text rest : List ℕ) → is_word text ≡ true → opens_format (text ++ rest) ≡ false → IsToken (word_kind text) text rest
   number : (text rest : List ℕ) → is_number text ≡ true → ends_word rest ≡ true → IsToken Kinds.Number text rest
-  quoted : (inside : List ℕ) (rest : List ℕ) → list_all is_plain inside ≡ true → opens_raw (quote ∷ (inside ++ quote ∷ rest)) ≡ false
-      → IsToken Kinds.String (quote ∷ (inside ++ quote ∷ [])) rest
+  string : (k : Kind) (text rest : List ℕ) → IsString k text rest → IsToken k text rest
+  format : (k : Kind) (text rest : List ℕ) → IsString k text rest → IsToken (format_kind k) (lower_f ∷ text) rest
   symbol : (k : Kind) (text rest : List ℕ) → symbol_kind text ≡ Some k → IsToken k text rest
 
 -- no token begins the source

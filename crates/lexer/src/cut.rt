@@ -7,18 +7,18 @@ ghost use Rattle.lexer.specs.Lexing.{token_at, lexed};
 ghost use Rattle.lexer.specs.Answers.{Answers};
 ghost use Rattle.lexer.specs.Tokens.{AreTokens, IsUnreadable};
 
-use crate::bytes::{is_letter, newlines, opens_raw};
+use crate::bytes::{is_letter, newlines, opens_format};
 use crate::fault::{FaultKind, SyntaxError, SyntaxFault};
 use crate::gap::gap_length;
 use crate::number::number_at;
-use crate::string::string_at;
+use crate::string::{format_at, string_at};
 use crate::symbol::symbol_at;
 use crate::token::{Kind, Token};
 use crate::word::word_at;
 use std::alloc::Global;
 
 // The kind and length of the longest token at the front.
-#[tactic(auto, using(crate::proofs::Cuts::token_nothing, crate::proofs::Cuts::token_word, crate::proofs::Cuts::token_number, crate::proofs::Cuts::token_symbol, crate::proofs::Cuts::token_raw, crate::proofs::Cuts::token_string))]
+#[tactic(auto, using(crate::proofs::Cuts::token_cases))]
 fn token_at(bytes: &[u8]) -> Option<(Kind, usize)>
     ensures { result ≡ token_at bytes.now }
 {
@@ -27,15 +27,17 @@ fn token_at(bytes: &[u8]) -> Option<(Kind, usize)>
     }
     let first = bytes[0];
     if is_letter(first) {
-        word_at(bytes)
+        if opens_format(bytes) {
+            format_at(bytes)
+        } else {
+            Some(word_at(bytes))
+        }
     } else if first.is_ascii_digit() {
         number_at(bytes)
-    } else if first != b'\'' {
-        symbol_at(first, &bytes[1..])
-    } else if opens_raw(bytes) {
-        None
+    } else if first == b'\'' {
+        string_at(bytes)
     } else {
-        string_at(&bytes[1..])
+        symbol_at(first, &bytes[1..])
     }
 }
 
@@ -53,10 +55,11 @@ fn depth_after(kind: Kind, depth: usize) -> usize
 
 /// The tokens of a source, in order; their texts are slices of it.
 ///
-/// Names and keywords, numbers, strings `'..'` without a backslash, the symbols of the Meson manual's page "Syntax", and a
-/// token at the end of each line where no bracket is open and no backslash continues it. A number with a letter, digit or
-/// underscore directly after it, a string that opens with `'''` or `f'` or has no end, and any other byte are faults: E2,
-/// at the line of the first place where no token begins.
+/// Names and keywords, numbers of all bases, strings (`'..'`, `'''..'''`, and either with an `f` before it), the symbols of
+/// the Meson manual's page "Syntax", and a token at the end of each line where no bracket is open and no backslash continues
+/// it. A number with a letter, digit or underscore directly after it, a string without an end, a string with an escape of
+/// a surrogate or of a number past 10FFFF, and any other byte are faults: E2, at the line of the first place where no
+/// token begins.
 pub fn tokens(alloc: Global, source: &str) -> Result<Vec<Token<'_>>, SyntaxError>
     // Unless memory runs out, it is this function of the source.
     ensures reads { Answers (λ v. lexemes v.items) result (lexed source.now) }

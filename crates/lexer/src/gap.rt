@@ -24,7 +24,7 @@ fn in_line_rest(commented: bool, byte: u8) -> bool
 }
 
 // Whether blanks, a comment or none and a newline come next.
-#[tactic(auto, using(crate::proofs::Gaps::line_yes, crate::proofs::Gaps::line_more, crate::proofs::Gaps::line_no, crate::proofs::Gaps::line_end))]
+#[tactic(auto, using(crate::proofs::Gaps::line_steps))]
 fn continues_line(bytes: &[u8]) -> bool
     ensures { result ≡ continues_line false bytes.now }
 {
@@ -67,7 +67,7 @@ fn part_after(part: GapPart, byte: u8) -> GapPart
 }
 
 // How many bytes of blanks, comments and continuations are at the front, where so many brackets are open.
-#[tactic(auto, using(crate::proofs::Gaps::gap_more, crate::proofs::Gaps::gap_stop, crate::proofs::Gaps::gap_end))]
+#[tactic(auto, using(crate::proofs::Gaps::gap_steps))]
 pub(crate) fn gap_length(bytes: &[u8], depth: usize) -> usize
     ensures { result ≡ gap depth GapPart.Blank bytes.now }
 {

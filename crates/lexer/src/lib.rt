@@ -6,13 +6,16 @@
 
 mod bytes;
 mod cut;
+mod escape;
 pub mod fault;
 mod gap;
 mod number;
 mod string;
 mod symbol;
+mod text;
 pub mod token;
 mod word;
 
 pub use bytes::newlines;
 pub use cut::tokens;
+pub use text::text_of;

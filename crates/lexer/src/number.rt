@@ -36,7 +36,7 @@ fn are_digits_of(letter: u8, digits: &[u8]) -> bool
 }
 
 // Whether the text is a number: 0, a decimal number without a 0 in front, or a number of another base.
-#[tactic(auto, using(crate::proofs::Digits::number_none, crate::proofs::Digits::number_short, crate::proofs::Digits::number_based, crate::proofs::Digits::number_decimal))]
+#[tactic(auto, using(crate::proofs::Digits::number_cases))]
 pub(crate) fn is_number(text: &[u8]) -> bool
     ensures { result ≡ is_number text.now }
 {
@@ -52,7 +52,7 @@ pub(crate) fn is_number(text: &[u8]) -> bool
 }
 
 // The kind and length of the number at the front, which begins with a digit.
-#[tactic(auto, using(crate::proofs::Cuts::number_some, crate::proofs::Cuts::number_none, crate::proofs::Cuts::word_fits))]
+#[tactic(auto, using(crate::proofs::Cuts::number_at_cases))]
 pub(crate) fn number_at(bytes: &[u8]) -> Option<(Kind, usize)>
     ensures { result ≡ number_at bytes.now }
 {

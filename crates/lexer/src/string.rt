@@ -1,33 +1,82 @@
 //! Strings.
 
-ghost use Rattle.std.specs.Prelude.{◌≡◌};
-ghost use Rattle.lexer.specs.Bytes.{is_plain};
-ghost use Rattle.lexer.specs.Lexing.{run, string_at};
+ghost use Rattle.std.specs.Prelude.{◌≡◌, ◌+◌, ◌<◌, ◌≤◌, false, length, IfSome};
+ghost use Rattle.lexer.specs.Kinds.{format_kind};
+ghost use Rattle.lexer.specs.Lexing.{inside, before_quotes, string_at, format_at};
 
-use crate::bytes::is_plain;
+use crate::bytes::opens_raw;
+use crate::escape::is_bad_escape;
 use crate::token::Kind;
 
-// How many bytes at the front may stand between the quotes of a string.
-#[tactic(auto, using(crate::proofs::Runs::run_yes, crate::proofs::Runs::run_no, crate::proofs::Runs::run_end))]
-fn plain_length(bytes: &[u8]) -> usize
-    ensures { result ≡ run is_plain bytes.now }
+// How many bytes stand before the quote that ends a string.
+#[tactic(auto, using(crate::proofs::Strings::inside_steps))]
+fn inside_length(bytes: &[u8]) -> Option<usize>
+    ensures found { result ≡ inside false bytes.now }
+    ensures within { IfSome result (λ n. n + 1 ≤ length bytes.now) }
 {
-    let mut length = 0;
-    while length < bytes.len() && is_plain(bytes[length]) {
-        length += 1;
+    let mut escaped = false;
+    for (length, byte) in bytes.iter().enumerate() {
+        if escaped {
+            if is_bad_escape(&bytes[length..]) {
+                return None;
+            }
+            escaped = false;
+        } else if *byte == b'\'' {
+            return Some(length);
+        } else {
+            escaped = *byte == b'\\';
+        }
     }
-    length
+    None
 }
 
-// The kind and length of a string, after its first quote.
-#[tactic(auto, using(crate::proofs::Cuts::string_some, crate::proofs::Cuts::string_open, crate::proofs::Cuts::string_ended))]
-pub(crate) fn string_at(bytes: &[u8]) -> Option<(Kind, usize)>
-    ensures { result ≡ string_at bytes.now }
+// How many bytes stand before the first three quotes.
+#[tactic(auto, using(crate::proofs::Strings::quotes_steps))]
+fn length_before_quotes(bytes: &[u8]) -> Option<usize>
+    ensures found { result ≡ before_quotes bytes.now }
+    ensures within { IfSome result (λ n. n + 3 ≤ length bytes.now) }
 {
-    let length = plain_length(bytes);
-    if length < bytes.len() && bytes[length] == b'\'' {
-        Some((Kind::String, length + 2))
-    } else {
-        None
+    for length in 0..bytes.len() {
+        if opens_raw(&bytes[length..]) {
+            return Some(length);
+        }
     }
+    None
+}
+
+// The kind and length of the string at the front, which begins with a quote.
+#[tactic(auto, using(crate::proofs::Strings::string_cases))]
+pub(crate) fn string_at(bytes: &[u8]) -> Option<(Kind, usize)>
+    requires { 0 < length bytes.now }
+    ensures found { result ≡ string_at bytes.now }
+    ensures within { IfSome result (λ t. t.1 ≤ length bytes.now) }
+{
+    if opens_raw(bytes) {
+        let length = length_before_quotes(&bytes[3..])?;
+        Some((Kind::RawString, length + 6))
+    } else {
+        let length = inside_length(&bytes[1..])?;
+        Some((Kind::String, length + 2))
+    }
+}
+
+// The kind of a string of this kind with an `f` before it.
+fn format_kind(kind: Kind) -> Kind
+    ensures { result ≡ format_kind kind }
+{
+    match kind {
+        Kind::String => Kind::FormatString,
+        Kind::RawString => Kind::RawFormatString,
+        other => other,
+    }
+}
+
+// The kind and length of the f-string at the front, which begins with `f` and a quote.
+#[tactic(auto, using(crate::proofs::Strings::format_cases))]
+pub(crate) fn format_at(bytes: &[u8]) -> Option<(Kind, usize)>
+    requires { 1 < length bytes.now }
+    ensures { result ≡ format_at bytes.now }
+{
+    let (kind, length) = string_at(&bytes[1..])?;
+    Some((format_kind(kind), length + 1))
 }

@@ -60,7 +60,7 @@ fn double_kind(first: u8, bytes: &[u8]) -> Option<Kind>
 }
 
 // The kind and length of the symbol that begins with this byte.
-#[tactic(auto, using(crate::proofs::Cuts::symbol_two, crate::proofs::Cuts::symbol_one, crate::proofs::Cuts::symbol_none))]
+#[tactic(auto, using(crate::proofs::Cuts::symbol_cases))]
 pub(crate) fn symbol_at(first: u8, bytes: &[u8]) -> Option<(Kind, usize)>
     ensures { result ≡ symbol_at first bytes.now }
 {

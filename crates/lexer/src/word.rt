@@ -5,11 +5,11 @@ ghost use Rattle.lexer.specs.Bytes.{continues_word};
 ghost use Rattle.lexer.specs.Kinds.{word_kind};
 ghost use Rattle.lexer.specs.Lexing.{run, word_at};
 
-use crate::bytes::{continues_word, opens_format};
+use crate::bytes::continues_word;
 use crate::token::Kind;
 
 // How many bytes at the front go on with a word.
-#[tactic(auto, using(crate::proofs::Runs::run_yes, crate::proofs::Runs::run_no, crate::proofs::Runs::run_end))]
+#[tactic(auto, using(crate::proofs::Runs::run_steps))]
 pub(crate) fn word_length(bytes: &[u8]) -> usize
     ensures { result ≡ run continues_word bytes.now }
 {
@@ -44,13 +44,10 @@ fn word_kind(word: &[u8]) -> Kind
 }
 
 // The kind and length of the word at the front.
-#[tactic(auto, using(crate::proofs::Cuts::word_none, crate::proofs::Cuts::word_some, crate::proofs::Cuts::word_fits))]
-pub(crate) fn word_at(bytes: &[u8]) -> Option<(Kind, usize)>
+#[tactic(auto, using(crate::proofs::Cuts::word_cases))]
+pub(crate) fn word_at(bytes: &[u8]) -> (Kind, usize)
     ensures { result ≡ word_at bytes.now }
 {
-    if opens_format(bytes) {
-        return None;
-    }
     let length = word_length(bytes);
-    Some((word_kind(&bytes[..length]), length))
+    (word_kind(&bytes[..length]), length)
 }

@@ -1,10 +1,10 @@
 use Rattle.std.proofs.Common.{length, ◌-◌, ◌≡◌, ◌+◌, ◌≤◌, drop}
-use Rattle.lexer.specs.Bytes.{is_plain}
 use Rattle.lexer.specs.Lexing.{run}
-use Rattle.lexer.proofs.string.plain_length.Given as goal
+use Rattle.lexer.specs.Texts.{is_no_backslash}
+use Rattle.lexer.proofs.text.plain_length.Given as goal
 
 abbrev pub invariant-loop-length : goal.invariant-loop-length
-invariant-loop-length l = record { within : l.length ≤ length l.bytes; counted : run is_plain l.bytes ≡ l.length + run is_plain (drop l.length l.bytes) }
+invariant-loop-length l = record { within : l.length ≤ length l.bytes; counted : run is_no_backslash l.bytes ≡ l.length + run is_no_backslash (drop l.length l.bytes) }
 
 abbrev pub decreases-loop-length : goal.decreases-loop-length
 decreases-loop-length l = length l.bytes - l.length

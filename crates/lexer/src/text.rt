@@ -1,0 +1,115 @@
+//! What tokens stand for.
+
+ghost use Rattle.std.specs.Prelude.{◌≡◌, ℕ, ◌<◌, List, IfOk, string_bytes};
+ghost use Rattle.lexer.specs.Lexing.{run};
+ghost use Rattle.lexer.specs.Texts.{escaped_by, is_no_backslash, unescaped, is_framed, between, text_of, TokenStandsFor};
+ghost use Rattle.lexer.specs.Tokens.{IsToken};
+
+use crate::escape::escape_at;
+use crate::token::{Kind, Token};
+use std::alloc::{AllocError, Global};
+
+// The character that a backslash stands for, of which these come behind it, and how many of these belong to it.
+#[tactic(auto, using(crate::proofs::Texts::escaped_cases))]
+fn escaped_by(bytes: &[u8]) -> (char, usize)
+    ensures { result ≡ escaped_by bytes.now }
+{
+    let Some((code, size)) = escape_at(bytes) else {
+        return ('\\', 0);
+    };
+    match char::from_u32(code) {
+        Some(character) => (character, size),
+        None => ('\\', 0),
+    }
+}
+
+// How many bytes stand before the first backslash.
+#[tactic(auto, using(crate::proofs::Runs::run_steps))]
+fn plain_length(bytes: &[u8]) -> usize
+    ensures { result ≡ run is_no_backslash bytes.now }
+{
+    let mut length = 0;
+    while length < bytes.len() && bytes[length] != b'\\' {
+        length += 1;
+    }
+    length
+}
+
+// The text that characters between quotes stand for.
+fn unescaped(alloc: Global, text: &str) -> Result<String, AllocError>
+    ensures { IfOk result (λ s. string_bytes s ≡ unescaped text.now) }
+{
+    let mut whole = String::new(alloc);
+    let mut rest = text;
+    loop {
+        let (plain, marked) = rest.split_at(plain_length(rest.as_bytes()));
+        whole.push_str(plain)?;
+        if marked.is_empty() {
+            return Ok(whole);
+        }
+        let (_, behind) = marked.split_at(1);
+        let (character, size) = escaped_by(behind.as_bytes());
+        whole.push(character)?;
+        let (_, after) = behind.split_at(size);
+        rest = after;
+    }
+}
+
+// Whether so many bytes in front end with a quote, and so many others behind begin with one.
+#[tactic(auto, using(crate::proofs::Frames::framed_cases))]
+fn is_framed(bytes: &[u8], front: usize, back: usize) -> bool
+    requires before { 0 < front }
+    requires few { front < 8 }
+    requires behind { 0 < back }
+    requires not_many { back < 8 }
+    ensures { result ≡ is_framed front back bytes.now }
+{
+    if bytes.len() < front + back {
+        return false;
+    }
+    bytes[front - 1] == b'\'' && bytes[bytes.len() - back] == b'\''
+}
+
+// What stands behind the first bytes and before the last ones, so many each; all of a text without quotes at these places.
+fn between(text: &str, front: usize, back: usize) -> &str
+    requires before { 0 < front }
+    requires few { front < 8 }
+    requires behind { 0 < back }
+    requires not_many { back < 8 }
+    ensures { result.now ≡ between front back text.now }
+{
+    if is_framed(text.as_bytes(), front, back) {
+        &text[front..text.len() - back]
+    } else {
+        text
+    }
+}
+
+// What a token of this kind and slice stands for.
+fn stood_for(alloc: Global, kind: Kind, text: &str) -> Result<String, AllocError>
+    ensures { IfOk result (λ s. string_bytes s ≡ text_of kind text.now) }
+{
+    match kind {
+        Kind::String => unescaped(alloc, between(text, 1, 1)),
+        Kind::FormatString => unescaped(alloc, between(text, 2, 1)),
+        Kind::RawString => String::from_str(alloc, between(text, 3, 3)),
+        Kind::RawFormatString => String::from_str(alloc, between(text, 4, 3)),
+        _ => String::from_str(alloc, text),
+    }
+}
+
+/// The text of a string token after its escapes, as the Meson manual's page "Syntax" has them; of any other token its slice.
+///
+/// A raw string's text is what stands between its quotes. A token that was not made by [`crate::tokens`] has a text too: an
+/// escape that names no character stays with its backslash, and a string without its quotes is taken as it stands.
+pub fn text_of(alloc: Global, token: &Token<'_>) -> Result<String, AllocError>
+    // Unless memory runs out, it is this function of the token, whatever the token is.
+    ensures value { IfOk result (λ s. string_bytes s ≡ text_of token.now.kind token.now.text.now) }
+
+    // It is what a token of a source stands for, and the only text that a token stands for.
+    ensures source { (rest : List ℕ) → IsToken token.now.kind token.now.text.now rest
+        → IfOk result (λ s. TokenStandsFor token.now.kind token.now.text.now (string_bytes s)) }
+    ensures only { (text : List ℕ) → TokenStandsFor token.now.kind token.now.text.now text → IfOk result (λ s. string_bytes s ≡ text) }
+{
+    stood_for(alloc, token.kind, token.text)
+}
