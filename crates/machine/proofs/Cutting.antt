@@ -1,14 +1,13 @@
 -- Texts cut by the methods of `str`.
-use Rattle.std.proofs.Common.{◌≡◌, ◌≢◌, ℕ, suc, ◌+◌, ◌-◌, ◌<◌, ◌≤◌, Bool, true, false, List, [], ◌∷◌, ◌++◌, length, take, drop, get_or, Option, Some, None, refl, sym, ap, ◌∙◌, arith, eqb, if◌then◌else◌}
+use Rattle.std.proofs.Common.{◌≡◌, ◌≢◌, ℕ, suc, ◌+◌, ◌<◌, ◌≤◌, true, false, List, [], ◌∷◌, ◌++◌, length, take, drop, get_or, Option, Some, None, refl, sym, ap, ◌∙◌, arith, if◌then◌else◌}
 use Rattle.std.specs.Prelude.{MatchOption, ◌==◌}
 use denote.Ref.{Bor}
-use Rattle.std.specs.Str.Pattern.{RFindsChar, HasCharAt}
+use Rattle.std.specs.Str.Pattern.{RFindsChar}
 use Rattle.std.proofs.lemmas.Str.Pattern.{NoCharPasses-char, drop_at_char}
 use Rattle.std.proofs.lemmas.List.{take-append-drop}
 use Rattle.std.specs.Option.{option_map}
-use Rattle.std.proofs.lemmas.Bool.{eqb-true}
 use Rattle.std.proofs.lemmas.Bool.Decides.{nat_tests}
-use Rattle.machine.specs.Texts.{Parts, with_front, before_last_byte, between, cut_first, or_here, cut_last}
+use Rattle.machine.specs.Texts.{with_front, before_last_byte, cut_first, or_here, cut_last}
 
 same_byte : (c : ℕ) → (c == c) ≡ true
 same_byte c = grind (arith, nat_tests)
@@ -31,13 +30,6 @@ pub before_last_byte-none : (c : ℕ) (text : List ℕ) → ((front : List ℕ) 
 before_last_byte-none c [] h = refl
 before_last_byte-none c (a ∷ []) h = if_other a c (Some []) None (λ e. h [] (ap (λ x. x ∷ []) e))
 before_last_byte-none c (a ∷ b ∷ bs) h = ap (option_map (λ f. a ∷ f)) (before_last_byte-none c (b ∷ bs) (λ front e. h (a ∷ front) (ap (λ l. a ∷ l) e)))
-
-pub between-first : (c d : ℕ) (rest : List ℕ) → between c d (c ∷ rest) ≡ before_last_byte d rest
-between-first c d rest = if_same c (before_last_byte d rest) None
-
-pub between-none : (c d : ℕ) (text : List ℕ) → ((rest : List ℕ) → text ≢ c ∷ rest) → between c d text ≡ None
-between-none c d [] h = refl
-between-none c d (b ∷ bs) h = if_other b c (before_last_byte d bs) None (λ e. h bs (ap (λ x. x ∷ bs) e))
 
 -- no byte is c
 abbrev pub Lacks : ℕ → List ℕ → Type 0
@@ -72,9 +64,6 @@ pub stripped_last : (c : ℕ) (bs : List ℕ) (r : Option (Bor (List ℕ))) → 
     → option_map (λ t. t.now) r ≡ before_last_byte c bs
 stripped_last c bs None h = sym (before_last_byte-none c bs h)
 stripped_last c bs (Some x) h = sym (ap (before_last_byte c) h ∙ before_last_byte-some c x.now)
-
-pub between_stripped : (c d : ℕ) (bs rest : List ℕ) → bs ≡ c ∷ rest → between c d bs ≡ before_last_byte d rest
-between_stripped c d bs rest h = ap (between c d) h ∙ between-first c d rest
 
 pub split_first : (c : ℕ) (bs : List ℕ) (r : Option (Bor (List ℕ) × Bor (List ℕ))) → MatchOption r (Lacks c bs) (λ x. (bs ≡ x.0.now ++ (c ∷ x.1.now)) × Lacks c x.0.now)
     → option_map (λ parts. (parts.0.now, parts.1.now)) r ≡ cut_first c bs

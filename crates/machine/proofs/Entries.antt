@@ -4,7 +4,7 @@ use Rattle.std.specs.Prelude.{◌||◌, ◌&&◌, not, if◌then◌else◌, code
 use Rattle.std.specs.declared.alloc.Global.{Global}
 use Rattle.std.specs.Map.{lookup}
 use Rattle.std.specs.Str.{bytes_eq}
-use Rattle.std.proofs.lemmas.List.{map-append, append-nil}
+use Rattle.std.proofs.lemmas.List.{map-append}
 use Rattle.machine.specs.Files.{has_key, has_name, cut_pair, takes, with_value, with_parts, with_pair, lacks_version}
 use Rattle.machine.specs.Sections.{knows}
 use Rattle.machine.specs.Values.{Value, value_of}

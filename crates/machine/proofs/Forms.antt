@@ -1,10 +1,10 @@
 -- The forms of lines.
-use Rattle.std.proofs.Common.{◌≡◌, ◌≢◌, ℕ, Bool, false, List, [], ◌∷◌, length, get_or, refl, sym, ap, ◌∙◌, arith, if◌then◌else◌, Some}
+use Rattle.std.proofs.Common.{◌≡◌, ◌≢◌, ℕ, Bool, false, List, [], ◌∷◌, length, get_or, refl, sym, ap, ◌∙◌, arith, if◌then◌else◌}
 use Rattle.std.proofs.lemmas.Bool.Decides.{nat_tests}
 use Rattle.std.specs.Prelude.{◌==◌}
 use Rattle.lexer.specs.Bytes.{hash, open_bracket, close_bracket}
 use Rattle.machine.specs.Texts.{before_last_byte}
-use Rattle.machine.specs.Lines.{Form, Nothing, Header, Pair, bracketed, form_of}
+use Rattle.machine.specs.Lines.{Nothing, Pair, bracketed, form_of}
 
 other_byte : (a c : ℕ) → a ≢ c → (a == c) ≡ false
 other_byte a c n = grind (arith, nat_tests)

@@ -1,5 +1,5 @@
 -- What the lines so far say, in the code's own types and as plain data.
-use Rattle.std.proofs.Common.{◌≡◌, ℕ, suc, ◌+◌, ◌<◌, ◌≤◌, Bool, true, false, List, [], ◌∷◌, ◌++◌, length, drop, get_or, Option, Some, None, Result, Ok, Err, String, string_bytes, refl, sym, ap, ◌∙◌, is_some, subst, arith, add-one, length-drop, map, if◌then◌else◌}
+use Rattle.std.proofs.Common.{◌≡◌, ℕ, ◌+◌, ◌<◌, ◌≤◌, Bool, false, List, [], ◌∷◌, ◌++◌, length, drop, get_or, Option, Some, None, Result, Ok, Err, String, string_bytes, refl, sym, ap, ◌∙◌, is_some, arith, add-one, length-drop, map, if◌then◌else◌}
 use Rattle.std.specs.Option.{option_map, option_to_list}
 use Rattle.std.specs.declared.alloc.Global.{Global}
 use Rattle.std.specs.Map.{lookup}
@@ -14,7 +14,7 @@ use Rattle.machine.specs.Files as file
 use Rattle.machine.specs.Files.{Said, has_name, default_entries, closed, sections_said, with_section, with_pair, in_section, after, go_on, said_from, all_sections, machine_of, nothing_said}
 use Rattle.machine.specs.Sections.{kind_of}
 use Rattle.machine.specs.Texts.{trimmed}
-use Rattle.machine.specs.View.{entries_in, section_in, sections_in, open_in, said_in}
+use Rattle.machine.specs.View.{entries_in, sections_in, open_in, said_in}
 use Rattle.machine.proofs.Entries.{has_name_lookup, sections_in-append}
 
 pub said_none : (r : Reading) → r.current ≡ None → sections_in r.ended.entries ≡ sections_said (said_in r)

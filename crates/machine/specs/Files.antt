@@ -1,7 +1,7 @@
 -- What the lines of a machine file say.
-use Rattle.std.specs.Prelude.{ℕ, suc, Bool, true, false, not, ◌&&◌, ◌||◌, List, [], ◌∷◌, ◌++◌, map, Option, Some, None, Result, Ok, Err, codes, if◌then◌else◌, bytes_eq}
+use Rattle.std.specs.Prelude.{ℕ, suc, Bool, false, not, ◌&&◌, List, [], ◌∷◌, ◌++◌, Option, Some, None, Result, Ok, Err, codes, if◌then◌else◌, bytes_eq}
 use Rattle.std.specs.List.{list_any}
-use Rattle.std.specs.Option.{option_map, option_and_then, option_to_list}
+use Rattle.std.specs.Option.{option_map, option_to_list}
 use Rattle.lexer.specs.Bytes.{equals}
 use Rattle.machine.specs.Texts.{Parts, trimmed, cut_first, cut_last}
 use Rattle.machine.specs.Lines.{Form, Nothing, Header, Pair, form_of}

@@ -1,7 +1,7 @@
 -- What the digits of a number token stand for.
 use Rattle.std.specs.Prelude.{ℕ, ◌+◌, ◌-◌, ◌*◌, ◌^◌, ℤ, pos, neg_ℤ, Bool, ◌||◌, List, [], ◌∷◌, Option, Some, None, ◌==◌, nat_lt, nat_le, if◌then◌else◌}
 use Rattle.lexer.specs.Bytes.{digit_zero}
-use Rattle.lexer.specs.Numbers.{lower_b, lower_o, lower_x, upper_b, upper_o, upper_x}
+use Rattle.lexer.specs.Numbers.{lower_o, lower_x, upper_o, upper_x}
 
 -- what a digit stands for: 0 to 9, and then the letters, from 10 on
 abbrev pub digit : ℕ → ℕ

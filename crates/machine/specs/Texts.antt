@@ -1,4 +1,4 @@
--- Texts without blanks at their ends, between two bytes, and cut in two.
+-- Texts without blanks at their ends, without a last byte, and cut in two.
 use Rattle.std.specs.Prelude.{ℕ, Bool, ◌||◌, ◌==◌, List, [], ◌∷◌, Option, Some, None, if◌then◌else◌}
 use Rattle.std.specs.Option.{option_map}
 use Rattle.lexer.specs.Bytes.{space, tab, carriage_return}
@@ -31,11 +31,6 @@ abbrev pub before_last_byte : ℕ → List ℕ → Option (List ℕ)
 before_last_byte c [] = None
 before_last_byte c (a ∷ []) = if a == c then Some [] else None
 before_last_byte c (a ∷ b ∷ bs) = option_map (λ front. a ∷ front) (before_last_byte c (b ∷ bs))
-
--- what stands behind a first byte c and before a last byte d
-abbrev pub between : ℕ → ℕ → List ℕ → Option (List ℕ)
-between c d [] = None
-between c d (b ∷ bs) = if b == c then before_last_byte d bs else None
 
 -- a text in two parts
 abbrev pub Parts : Type 0

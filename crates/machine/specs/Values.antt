@@ -1,14 +1,12 @@
 -- What the text of a value says, by its tokens.
 use Rattle.std.specs.Prelude.{ℕ, ℤ, Bool, true, false, List, [], ◌∷◌, Option, Some, None, Result, Ok, Err, if◌then◌else◌}
 use Rattle.std.specs.Option.{option_map, option_and_then}
-use Rattle.lexer.specs.declared.token.Kind.{Kind}
 use Rattle.lexer.specs.declared.token.Kind.TheVariants as Kinds
 use Rattle.lexer.specs.declared.fault.SyntaxFault.{SyntaxFault}
-use Rattle.lexer.specs.Bytes.{quote}
 use Rattle.lexer.specs.Kinds.{is}
 use Rattle.lexer.specs.Lexeme.{Lexeme}
 use Rattle.lexer.specs.Lexing.{lexed}
-use Rattle.machine.specs.Texts.{between}
+use Rattle.lexer.specs.Texts.{text_of}
 use Rattle.machine.specs.Numbers.{magnitude, integer_of}
 
 -- a value of a machine file
@@ -18,9 +16,9 @@ pub data Value : Type 0 where
   Truth : (truth : Bool) → Value
   Texts : (items : List (List ℕ)) → Value
 
--- the text of a plain string
+-- the text of a plain string, after its escapes
 abbrev pub plain_text : Lexeme → Option (List ℕ)
-plain_text t = if is t.kind Kinds.String then between quote quote t.text else None
+plain_text t = if is t.kind Kinds.String then Some (text_of t.kind t.text) else None
 
 -- a text in front of a list
 abbrev pub with_item : Option (List ℕ) → Option (List (List ℕ)) → Option (List (List ℕ))

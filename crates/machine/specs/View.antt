@@ -1,9 +1,8 @@
 -- What the code's own types stand for.
-use Rattle.std.specs.Prelude.{ℕ, List, map, Option, Some, None, Result, Ok, Err, string_bytes, String}
+use Rattle.std.specs.Prelude.{ℕ, List, map, Option, Result, Ok, Err, string_bytes, String}
 use Rattle.std.specs.Option.{option_map}
 use denote.Ref.{Bor}
 use Rattle.std.specs.declared.alloc.Global.{Global}
-use Rattle.lexer.specs.Bytes.{newline}
 use Rattle.machine.specs.declared.value.MachineValue.{MachineValue}
 use Rattle.machine.specs.declared.value.MachineValue.TheVariants as given
 use Rattle.machine.specs.declared.machine.Entry.{Entry}

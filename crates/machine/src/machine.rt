@@ -1,13 +1,13 @@
 //! What a machine file says.
 
-ghost use Rattle.std.specs.Prelude.{◌≡◌, ◌==◌, ◌+◌, [], IfOk, length, take, slice_get};
+ghost use Rattle.std.specs.Prelude.{◌≡◌, ◌==◌, [], IfOk, length, slice_get};
 ghost use Rattle.std.specs.Option.{option_map};
-ghost use Rattle.lexer.specs.Bytes.{newlines};
 
 use crate::fault::{FaultKind, MachineFault};
 use crate::reading::read_lines;
 use crate::value::MachineValue;
 use indexmap::IndexMap;
+use lexer::newlines;
 use std::alloc::{AllocError, Global};
 
 /// What a key has: a value, and the line, from 1, that gives it.
@@ -108,11 +108,4 @@ impl Machine {
             None => None,
         }
     }
-}
-
-// How many newlines there are.
-fn newlines(bytes: &[u8]) -> usize
-    ensures { result ≡ newlines bytes.now }
-{
-    bytes.iter().filter(|byte| **byte == b'\n').count()
 }

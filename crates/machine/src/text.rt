@@ -1,8 +1,8 @@
-//! Texts without blanks at their ends, between two bytes, and cut in two.
+//! Texts without blanks at their ends, without a last character, and cut in two.
 
 ghost use Rattle.std.specs.Prelude.{◌≡◌, ◌<◌};
 ghost use Rattle.std.specs.Option.{option_map};
-ghost use Rattle.machine.specs.Texts.{is_blank, from_word, to_word, trimmed, between, before_last_byte, cut_first, cut_last};
+ghost use Rattle.machine.specs.Texts.{is_blank, from_word, to_word, trimmed, before_last_byte, cut_first, cut_last};
 
 // A space, a tab or a carriage return.
 fn is_blank(byte: u8) -> bool
@@ -50,15 +50,6 @@ pub fn before_last_byte(text: &str, last: char) -> Option<&str>
     ensures { option_map (λ t. t.now) result ≡ before_last_byte last text.now }
 {
     text.strip_suffix(last)
-}
-
-/// What stands between a first and a last character, if they are these two of ASCII.
-pub fn between(text: &str, first: char, last: char) -> Option<&str>
-    requires first { first < 128 }
-    requires last { last < 128 }
-    ensures { option_map (λ t. t.now) result ≡ between first last text.now }
-{
-    before_last_byte(text.strip_prefix(first)?, last)
 }
 
 /// The parts before and behind the first such character of ASCII.

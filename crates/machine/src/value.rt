@@ -7,10 +7,9 @@ ghost use Rattle.machine.specs.Values.{plain_text, closing, items_of, of_word, n
 ghost use Rattle.machine.specs.View.{value_in, strings_in};
 
 use crate::number::integer;
-use crate::text::between;
 use lexer::fault::SyntaxError;
 use lexer::token::{Kind, Token};
-use lexer::tokens;
+use lexer::{text_of, tokens};
 use std::alloc::{AllocError, Global};
 
 /// A value of a machine file.
@@ -29,10 +28,7 @@ fn plain_text(alloc: Global, token: &Token<'_>) -> Result<Option<String>, AllocE
     if !token.is(Kind::String) {
         return Ok(None);
     }
-    match between(token.text, '\'', '\'') {
-        Some(text) => Ok(Some(String::from_str(alloc, text)?)),
-        None => Ok(None),
-    }
+    Ok(Some(text_of(alloc, token)?))
 }
 
 // Whether these tokens are a closing bracket, and no more.

@@ -1,4 +1,4 @@
-use Rattle.std.proofs.Common.{◌≡◌, ◌∙◌, ◌+◌, ◌*◌, ◌≤◌, ◌^◌, sym, ap, arith, drop, get_or, length}
+use Rattle.std.proofs.Common.{◌≡◌, ◌∙◌, ◌+◌, ◌*◌, ◌^◌, sym, ap, arith, drop, get_or}
 use Rattle.machine.specs.Numbers.{digit, spelled}
 use Rattle.machine.proofs.Digits.{overflows, spelled-step, spelled-nil}
 use Rattle.machine.proofs.number.spelled.Goals as goal

@@ -1,4 +1,4 @@
-use Rattle.std.proofs.Common.{◌≡◌, ◌∙◌, ◌+◌, ◌<◌, ◌≤◌, ℕ, List, [], None, length, get_or, refl, sym, ap, subst, arith}
+use Rattle.std.proofs.Common.{◌≡◌, ◌∙◌, ◌+◌, ◌<◌, ◌≤◌, ℕ, List, None, length, get_or, refl, sym, ap, subst, arith}
 use Rattle.std.specs.Option.{option_map}
 use Rattle.std.specs.Str.Lines.{lines}
 use Rattle.std.proofs.lemmas.Iterator.Consumers.{YieldsList-turn, YieldsList-end}
@@ -7,7 +7,7 @@ use Rattle.std.proofs.lemmas.List.{length_push}
 use Rattle.machine.specs.Files as file
 use Rattle.machine.specs.Files.{after, said_from, nothing_said}
 use Rattle.machine.specs.Lines.{file_lines}
-use Rattle.machine.specs.View.{section_in, sections_in, said_in, said_by}
+use Rattle.machine.specs.View.{sections_in, said_in, said_by}
 use Rattle.machine.proofs.Said.{line_refused, line_taken, lines_end}
 use Rattle.machine.proofs.reading.read_lines.Goals as goal
 

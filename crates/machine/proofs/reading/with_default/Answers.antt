@@ -1,4 +1,4 @@
-use Rattle.std.proofs.Common.{◌≡◌, ◌∙◌, ap, sym, List, ℕ, string_bytes, codes}
+use Rattle.std.proofs.Common.{◌∙◌, ap, sym, List, ℕ, string_bytes}
 use Rattle.machine.specs.Files.{has_key}
 use Rattle.machine.specs.View.{entries_in}
 use Rattle.machine.proofs.Entries.{has_key_lookup, lacking}

@@ -1,8 +1,8 @@
-use Rattle.std.proofs.Common.{◌≡◌, ◌∙◌, ◌++◌, ◌∷◌, [], ap, sym, Some, List, ℕ, string_bytes}
+use Rattle.std.proofs.Common.{◌∙◌, ◌++◌, ◌∷◌, [], ap, sym, Some, List, ℕ, string_bytes}
 use Rattle.std.specs.Option.{option_map}
 use Rattle.machine.specs.Files.{has_key}
 use Rattle.machine.specs.Files as file
-use Rattle.machine.specs.View.{value_in, entry_in, entries_in}
+use Rattle.machine.specs.View.{value_in, entries_in}
 use Rattle.machine.proofs.Entries.{pair_none, pair_no_value, pair_not_taken, pair_taken, taken_new, has_key_lookup, entries_in-append}
 use Rattle.machine.proofs.reading.with_pair.Goals as goal
 

@@ -1,4 +1,4 @@
-use Rattle.std.proofs.Common.{◌∙◌, refl, sym, ap, arith, ◌≡◌, true, get_or}
+use Rattle.std.proofs.Common.{◌∙◌, refl, arith, ◌≡◌, true, get_or}
 use Rattle.std.proofs.lemmas.Str.{IsCharBoundary-start}
 use Rattle.machine.specs.Texts.{is_blank}
 use Rattle.machine.proofs.Trimming.{from_blank, start_after}

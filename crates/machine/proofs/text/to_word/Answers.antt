@@ -1,4 +1,4 @@
-use Rattle.std.proofs.Common.{◌∙◌, refl, sym, ap, arith, ◌≡◌, ◌-◌, true, false, get_or}
+use Rattle.std.proofs.Common.{◌∙◌, sym, arith, ◌≡◌, ◌-◌, true, false, get_or}
 use Rattle.machine.specs.Texts.{is_blank}
 use Rattle.machine.proofs.Trimming.{to_less, to_same, to_start, end_before}
 use Rattle.machine.proofs.text.to_word.Goals as goal

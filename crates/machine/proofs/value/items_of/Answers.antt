@@ -1,7 +1,7 @@
-use Rattle.std.proofs.Common.{◌≡◌, ◌∙◌, sym, ap, arith, None, Some, is_ok, string_bytes}
+use Rattle.std.proofs.Common.{◌∙◌, sym, ap, arith, is_ok, string_bytes}
 use Rattle.std.proofs.ResultArms.{chosen}
 use Rattle.std.specs.Option.{option_map}
-use Rattle.machine.proofs.Items.{found, seen, found_first, found_more, found_close, found_end, found_none}
+use Rattle.machine.proofs.Items.{seen, found_first, found_more, found_close, found_end, found_none}
 use Rattle.machine.proofs.value.items_of.Goals as goal
 
 pub loop-rest-init : goal.loop-rest-init
