@@ -2,6 +2,7 @@
 use Rattle.std.proofs.Common.{◌≡◌, ℕ, suc, ◌+◌, List, [], ◌∷◌, ◌++◌, length, Option, Some, None, Result, Ok, Err, refl, sym, ap, ◌∙◌, arith}
 use Rattle.machine.specs.Files.{Said, Section, nothing_said, after, go_on, said_from, sections_said, all_sections, machine_of}
 use Rattle.machine.specs.Answers.{IsFirstBad}
+use Rattle.machine.proofs.SaysLemmas.{said_sound, said_complete}
 
 -- from what was said on, the lines up to a first bad one, of this number
 record Stops (ls : List (List ℕ)) (n line : ℕ) (s : Said) : Type 0 where
@@ -71,9 +72,9 @@ first_bad ls line h =
       parts = w.parts;
       number = omega (arith, w.number);
       sections = sections_said w.said;
-      good = ap all_sections w.good;
-      bad = λ more others e. let f : all_sections (said_from (w.before ++ w.here ∷ more) 0 nothing_said) ≡ Err line = ap all_sections (w.bad more) in absurd (wrong others (sym e ∙ f));
+      good = record { said = w.said; reads = said_sound w.before 0 nothing_said w.said w.good; all = refl };
+      bad = λ more others e. absurd (apart e.said (sym (said_complete (w.before ++ w.here ∷ more) 0 nothing_said e.said e.reads) ∙ w.bad more));
     }
   where
-    wrong : (others : List Section) → Ok others ≡ Err line → ⊥
-    wrong others e = cc
+    apart : (t : Said) → Ok t ≡ failed line → ⊥
+    apart t e = cc

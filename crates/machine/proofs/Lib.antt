@@ -5,5 +5,6 @@ pub mod Items
 pub mod Entries
 pub mod Forms
 pub mod Said
+pub mod SaysLemmas
 pub mod FirstBad
 pub mod Looking

@@ -7,13 +7,10 @@ use Rattle.machine.specs.declared.fault.FaultKind.{FaultKind}
 use Rattle.machine.specs.declared.fault.FaultKind.TheVariants.{NotUtf8, MachineFile}
 use Rattle.machine.specs.declared.fault.MachineFault.{MachineFault}
 use Rattle.machine.specs.declared.machine.Machine.{Machine}
-use Rattle.machine.specs.Files.{Section, machine_of}
+use Rattle.machine.specs.Files.{Section}
+use Rattle.machine.specs.Reads.{AreSections}
 use Rattle.machine.specs.Lines.{file_lines}
 use Rattle.machine.specs.View.{machine_in}
-
--- the lines are a machine file that has these sections
-abbrev pub AreSections : List (List ℕ) → List Section → Type 0
-AreSections ls sections = machine_of ls ≡ Ok sections
 
 -- the line of this number is the first up to which the lines begin no machine file
 pub record IsFirstBad (ls : List (List ℕ)) (line : ℕ) : Type 0 where

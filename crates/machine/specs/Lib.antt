@@ -4,6 +4,7 @@ pub mod Numbers
 pub mod Values
 pub mod Sections
 pub mod Files
+pub mod Reads
 pub mod View
 pub mod Answers
 pub mod Lookups

@@ -56,7 +56,12 @@ impl Section {
 }
 
 impl Machine {
+    ghost use Rattle.std.specs.Prelude.{List, MatchResult};
+    ghost use Rattle.std.specs.Str.{IsUtf8};
     ghost use Rattle.machine.specs.Answers.{Answers};
+    ghost use Rattle.machine.specs.Files.{Section as SectionSaid};
+    ghost use Rattle.machine.specs.Lines.{file_lines};
+    ghost use Rattle.machine.specs.Reads.{AreSections};
     ghost use Rattle.machine.specs.Lookups.{entries_at, value_at};
     ghost use Rattle.machine.specs.View.{value_in, entries_in, machine_in};
 
@@ -72,7 +77,12 @@ impl Machine {
     /// What these bytes say, or the fault that they have: the Meson manual's page "Machine files", without sections of
     /// constants and paths, and with sections of this project's own for what Meson asks the machine.
     pub fn read(alloc: Global, bytes: &[u8]) -> Result<Result<Machine, MachineFault>, AllocError>
-        ensures { IfOk result (Answers bytes.now) }
+        // The answer is what the lines say, or a fault at its line.
+        ensures answer { IfOk result (Answers bytes.now) }
+
+        // Where the lines are a machine file, its sections are the answer, so they are no other file's.
+        ensures only { (sections : List SectionSaid) → IsUtf8 bytes.now → AreSections (file_lines bytes.now) sections
+            → IfOk result (λ answer. MatchResult answer (λ machine. machine_in machine ≡ sections) (λ _. ⊥)) }
     {
         let text = match str::from_utf8(bytes) {
             Ok(text) => text,
