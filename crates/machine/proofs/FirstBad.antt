@@ -1,6 +1,6 @@
 -- The first line that may not stand where it does.
 use Rattle.std.proofs.Common.{◌≡◌, ℕ, suc, ◌+◌, List, [], ◌∷◌, ◌++◌, length, Option, Some, None, Result, Ok, Err, refl, sym, ap, ◌∙◌, arith}
-use Rattle.machine.specs.Files.{Said, Section, nothing_said, after, go_on, said_from, sections_said, all_sections, machine_of}
+use Rattle.machine.specs.Files.{Said, nothing_said, after, go_on, said_from, sections_said, all_sections, machine_of}
 use Rattle.machine.specs.Answers.{IsFirstBad}
 use Rattle.machine.proofs.SaysLemmas.{said_sound, said_complete}
 

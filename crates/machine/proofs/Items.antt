@@ -76,8 +76,8 @@ found_close tokens rest items more text d e v b n h l within p c f m g =
     ap (λ w. seen (then_some w more)) (g ∙ ap (λ ts. is_some (closing (lexemes ts))) (take_all (n - 1) (drop 1 rest) (omega (arith, length-drop 1 rest))))
     ∙ closed_is (lexemes (drop 1 rest)) more
     ∙ sym (h ∙ two items text rest d e v l p c
-      ∙ ap (λ w. option_map (λ others. strings_in (items ++ text ∷ []) ++ others) (if w then items_of (lexemes (drop 2 rest)) else closing (lexemes (drop 1 rest)))) f
-      ∙ ap (λ xs. option_map (λ others. strings_in xs ++ others) (closing (lexemes (drop 1 rest)))) (sym m))
+    ∙ ap (λ w. option_map (λ others. strings_in (items ++ text ∷ []) ++ others) (if w then items_of (lexemes (drop 2 rest)) else closing (lexemes (drop 1 rest)))) f
+    ∙ ap (λ xs. option_map (λ others. strings_in xs ++ others) (closing (lexemes (drop 1 rest)))) (sym m))
 
 short : (rest : List Token) → length rest ≤ 1 → items_of (lexemes rest) ≡ closing (lexemes rest)
 unfolding items_of

@@ -65,11 +65,15 @@ abbrev pub with_section : Said → ℕ → List ℕ → Option SectionKind → O
 with_section s line name None = None
 with_section s line name (Some kind) =
     if has_name name (sections_said s) then None
-    else Some (record { ended = sections_said s; open_section = Some (record { name = name; kind = kind; line = line; entries = [] }) })
+    else Some (record {
+      ended = sections_said s;
+      open_section = Some (record { name = name; kind = kind; line = line; entries = [] });
+    })
 
 -- a key and its value, without blanks at their ends, as a section of this kind cuts them
 abbrev pub cut_pair : SectionKind → List ℕ → Option Parts
-cut_pair kind text = option_map (λ parts. (trimmed parts.0, trimmed parts.1)) (if cuts_last kind then cut_last equals text else cut_first equals text)
+cut_pair kind text =
+    option_map (λ parts. (trimmed parts.0, trimmed parts.1)) (if cuts_last kind then cut_last equals text else cut_first equals text)
 
 -- a section with a further entry; the section has to know the key and its value, and the key is new
 -- whether a section of this kind with these entries takes this value at this key: it knows the key and its value, and the key is new
@@ -93,7 +97,8 @@ with_pair kind entries line text = with_parts kind entries line (cut_pair kind t
 -- a key and its value on this line; a section has to be open
 abbrev pub in_section : Said → ℕ → List ℕ → Option Open → Option Said
 in_section s line text None = None
-in_section s line text (Some o) = option_map (λ entries. record s { open_section = Some (record o { entries = entries }) }) (with_pair o.kind o.entries line text)
+in_section s line text (Some o) =
+    option_map (λ entries. record s { open_section = Some (record o { entries = entries }) }) (with_pair o.kind o.entries line text)
 
 abbrev pub after_form : Said → ℕ → Form → Option Said
 after_form s line Nothing = Some s

@@ -16,4 +16,5 @@ entry_at (e ∷ es) key = if bytes_eq key e.key then Some e else entry_at es key
 
 -- the value at a section and a key
 abbrev pub value_at : List Section → List ℕ → List ℕ → Option Value
-value_at sections section key = option_map (λ e. e.value) (option_and_then (λ entries. entry_at entries key) (entries_at sections section))
+value_at sections section key =
+    option_map (λ e. e.value) (option_and_then (λ entries. entry_at entries key) (entries_at sections section))

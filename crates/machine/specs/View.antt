@@ -35,8 +35,12 @@ shown_in e = record { key = e.0.now; value = value_in e.1.now.value; line = e.1.
 abbrev pub entries_in : List (String Global × Entry) → List file.Entry
 entries_in entries = map entry_in entries
 
+-- the entries of a section, in the order of their lines; a dependency's version that no line gives stands last
+abbrev pub entries_of : Section → List file.Entry
+entries_of section = entries_in section.entries.entries
+
 abbrev pub section_in : String Global × Section → file.Section
-section_in s = record { name = string_bytes s.0; entries = entries_in s.1.entries.entries }
+section_in s = record { name = string_bytes s.0; entries = entries_of s.1 }
 
 abbrev pub sections_in : List (String Global × Section) → List file.Section
 sections_in sections = map section_in sections

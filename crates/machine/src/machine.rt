@@ -30,25 +30,25 @@ pub struct Machine {
 }
 
 impl Section {
-    ghost use Rattle.machine.specs.View.{shown_in, entries_in};
+    ghost use Rattle.machine.specs.View.{shown_in, entries_of};
 
     /// How many keys the section has.
     pub fn len(&self) -> usize
-        ensures { result ≡ length (entries_in self.now.entries.entries) }
+        ensures { result ≡ length (entries_of self.now) }
     {
         self.entries.len()
     }
 
     /// Whether the section has no key.
     pub fn is_empty(&self) -> bool
-        ensures { result ≡ (length (entries_in self.now.entries.entries) == 0) }
+        ensures { result ≡ (length (entries_of self.now) == 0) }
     {
         self.entries.is_empty()
     }
 
     /// The i-th key, in the order of lines, and what it has. A version that a dependency does not give stands last.
     pub fn at(&self, i: usize) -> Option<(&str, &Entry)>
-        ensures { option_map shown_in result ≡ slice_get (entries_in self.now.entries.entries) i }
+        ensures { option_map shown_in result ≡ slice_get (entries_of self.now) i }
     {
         let (key, entry) = self.entries.get_index(i)?;
         Some((key.as_str(), entry))
@@ -63,7 +63,7 @@ impl Machine {
     ghost use Rattle.machine.specs.Lines.{file_lines};
     ghost use Rattle.machine.specs.Reads.{AreSections};
     ghost use Rattle.machine.specs.Lookups.{entries_at, value_at};
-    ghost use Rattle.machine.specs.View.{value_in, entries_in, machine_in};
+    ghost use Rattle.machine.specs.View.{value_in, entries_of, machine_in};
 
     /// What no file says: nothing.
     pub fn empty(alloc: Global) -> Machine
@@ -103,7 +103,7 @@ impl Machine {
 
     /// The section with this name, as `dependency zlib`.
     pub fn section(&self, name: &str) -> Option<&Section>
-        ensures { option_map (λ s. entries_in s.now.entries.entries) result ≡ entries_at (machine_in self.now) name.now }
+        ensures { option_map (λ s. entries_of s.now) result ≡ entries_at (machine_in self.now) name.now }
     {
         self.sections.get(name)
     }

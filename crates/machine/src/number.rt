@@ -23,7 +23,9 @@ fn spelled(base: u64, digits: &[u8]) -> Option<u64>
 {
     let mut value: u64 = 0;
     for byte in digits {
-        value = value.checked_mul(base)?.checked_add(u64::from(digit(*byte)))?;
+        value = value
+            .checked_mul(base)?
+            .checked_add(u64::from(digit(*byte)))?;
     }
     Some(value)
 }

@@ -34,7 +34,12 @@ fn has_key(entries: &IndexMap<String, Entry>, key: &str) -> bool
 }
 
 // Whether a section of this kind with these entries takes this value at this key.
-fn takes(kind: SectionKind, entries: &IndexMap<String, Entry>, key: &str, value: &MachineValue) -> bool
+fn takes(
+    kind: SectionKind,
+    entries: &IndexMap<String, Entry>,
+    key: &str,
+    value: &MachineValue,
+) -> bool
     ensures { result ≡ takes kind (entries_in entries.now.entries) key.now (value_in value.now) }
 {
     kind.knows(key, value) && !has_key(entries, key)
@@ -48,7 +53,8 @@ fn with_pair(
     line: usize,
     text: &str,
 ) -> Result<Option<IndexMap<String, Entry>>, AllocError>
-    ensures { IfOk result (λ more. option_map (λ m. entries_in m.entries) more ≡ with_pair kind (entries_in entries.entries) line text.now) }
+    ensures { IfOk result (λ more. option_map (λ m. entries_in m.entries) more
+        ≡ with_pair kind (entries_in entries.entries) line text.now) }
 {
     let Some((key, value)) = cut_pair(kind, text) else {
         return Ok(None);
@@ -78,7 +84,8 @@ fn with_default(
     line: usize,
     mut entries: IndexMap<String, Entry>,
 ) -> Result<IndexMap<String, Entry>, AllocError>
-    ensures { IfOk result (λ m. entries_in m.entries ≡ entries_in entries.entries ++ default_entries kind line (entries_in entries.entries)) }
+    ensures { IfOk result (λ m. entries_in m.entries
+        ≡ entries_in entries.entries ++ default_entries kind line (entries_in entries.entries)) }
 {
     if !lacks_version(kind, &entries) {
         return Ok(entries);
@@ -104,14 +111,24 @@ fn all_sections(alloc: Global, reading: Reading) -> Result<IndexMap<String, Sect
     let Some(current) = current else {
         return Ok(ended);
     };
-    let OpenSection { name, kind, line, entries } = current;
+    let OpenSection {
+        name,
+        kind,
+        line,
+        entries,
+    } = current;
     let entries = with_default(alloc, kind, line, entries)?;
     put(&mut ended, name, Section { entries })?;
     Ok(ended)
 }
 
 // A section begins on this line; nothing where there is no such section, or a second of this name.
-fn with_section(alloc: Global, reading: Reading, line: usize, name: &str) -> Result<Option<Reading>, AllocError>
+fn with_section(
+    alloc: Global,
+    reading: Reading,
+    line: usize,
+    name: &str,
+) -> Result<Option<Reading>, AllocError>
     ensures { IfOk result (λ more. option_map said_in more ≡ with_section (said_in reading) line name.now (kind_of name.now)) }
 {
     let Some(kind) = SectionKind::of(name) else {
@@ -127,28 +144,54 @@ fn with_section(alloc: Global, reading: Reading, line: usize, name: &str) -> Res
         line,
         entries: IndexMap::new(alloc),
     };
-    Ok(Some(Reading { ended, current: Some(current) }))
+    Ok(Some(Reading {
+        ended,
+        current: Some(current),
+    }))
 }
 
 // A key and its value on this line; nothing where no section is open, or this one does not take them.
-fn in_section(alloc: Global, reading: Reading, line: usize, text: &str) -> Result<Option<Reading>, AllocError>
+fn in_section(
+    alloc: Global,
+    reading: Reading,
+    line: usize,
+    text: &str,
+) -> Result<Option<Reading>, AllocError>
     ensures { IfOk result (λ more. option_map said_in more ≡ in_section (said_in reading) line text.now (said_in reading).open_section) }
 {
     let Reading { ended, current } = reading;
     let Some(current) = current else {
         return Ok(None);
     };
-    let OpenSection { name, kind, line: begun, entries } = current;
+    let OpenSection {
+        name,
+        kind,
+        line: begun,
+        entries,
+    } = current;
     let Some(entries) = with_pair(alloc, kind, entries, line, text)? else {
         return Ok(None);
     };
-    let current = OpenSection { name, kind, line: begun, entries };
-    Ok(Some(Reading { ended, current: Some(current) }))
+    let current = OpenSection {
+        name,
+        kind,
+        line: begun,
+        entries,
+    };
+    Ok(Some(Reading {
+        ended,
+        current: Some(current),
+    }))
 }
 
 // What is said after one more line; nothing where the line may not stand there.
 #[tactic(auto, unfolding(crate::specs::Files::after))]
-fn after(alloc: Global, reading: Reading, line: usize, text: &str) -> Result<Option<Reading>, AllocError>
+fn after(
+    alloc: Global,
+    reading: Reading,
+    line: usize,
+    text: &str,
+) -> Result<Option<Reading>, AllocError>
     ensures { IfOk result (λ more. option_map said_in more ≡ after (said_in reading) line text.now) }
 {
     match form_of(text) {

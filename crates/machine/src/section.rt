@@ -114,13 +114,21 @@ fn is_dependency(name: &str) -> bool
 fn of_host_machine(key: &str) -> Option<Expected>
     ensures { result ≡ of_host_machine key.now }
 {
-    if is_among(&["system", "cpu_family", "cpu", "endian"], key) { Some(Expected::Text) } else { None }
+    if is_among(&["system", "cpu_family", "cpu", "endian"], key) {
+        Some(Expected::Text)
+    } else {
+        None
+    }
 }
 
 fn of_compiler(key: &str) -> Option<Expected>
     ensures { result ≡ of_compiler key.now }
 {
-    if is_among(&["id", "version"], key) { Some(Expected::Text) } else { None }
+    if is_among(&["id", "version"], key) {
+        Some(Expected::Text)
+    } else {
+        None
+    }
 }
 
 fn of_dependency(key: &str) -> Option<Expected>

@@ -23,6 +23,6 @@ put-requires c = has_key_lookup (string_bytes c.in_ok-key.key) c.args.entries.en
 
 pub returns : goal.returns
 returns c = ap (λ (es : List file.Entry). Some es) (ap entries_in c.in_ok-put.ensures ∙ entries_in-append c.args.entries.entries (c.in_ok-key.key, record { value = c.in-Some-2.value; line = c.args.line })
-      ∙ ap (λ (k : List ℕ). entries_in c.args.entries.entries ++ record { key = k; value = value_in c.in-Some-2.value; line = c.args.line } ∷ []) c.in_ok-key.ensures.ok)
+    ∙ ap (λ (k : List ℕ). entries_in c.args.entries.entries ++ record { key = k; value = value_in c.in-Some-2.value; line = c.args.line } ∷ []) c.in_ok-key.ensures.ok)
     ∙ pair_taken c.args.kind (entries_in c.args.entries.entries) c.args.line c.args.text.now c.in-Some.key.now c.in-Some.value.now (value_in c.in-Some-2.value) c.in-Some.ensures
-      (ap (option_map value_in) (sym c.in-Some-2.is) ∙ c.in_ok-value.ensures) c.if-not-takes.ensures
+    (ap (option_map value_in) (sym c.in-Some-2.is) ∙ c.in_ok-value.ensures) c.if-not-takes.ensures

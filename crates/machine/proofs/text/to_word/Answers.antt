@@ -15,8 +15,8 @@ loop-end-preserved c =
 
 pub returns : goal.returns
 returns c = c.split_at.ensures.front ∙ elim c.loop-end-test.branch [
-      | then-loop-end-test+else-is_blank w ↦
-        let other : is_blank (get_or c.args.text.now (c.loop-end.end - 1) 0) ≡ false = cc in
-        sym (to_same c.args.text.now c.loop-end.end (omega arith) (omega arith) other) ∙ c.loop-end.invariant.same
-      | else-loop-end-test w ↦ sym (to_start c.args.text.now c.loop-end.end (omega arith)) ∙ c.loop-end.invariant.same
-    ]
+  | then-loop-end-test+else-is_blank w ↦
+      let other : is_blank (get_or c.args.text.now (c.loop-end.end - 1) 0) ≡ false = cc in
+      sym (to_same c.args.text.now c.loop-end.end (omega arith) (omega arith) other) ∙ c.loop-end.invariant.same
+  | else-loop-end-test w ↦ sym (to_start c.args.text.now c.loop-end.end (omega arith)) ∙ c.loop-end.invariant.same
+]

@@ -10,20 +10,22 @@ pub returns-in-Err-clause-only : goal.returns-in-Err-clause-only
 returns-in-Err-clause-only c = λ sections utf8 are. c.in-Err.ensures.cases.0 utf8
 
 pub returns-in-Ok-2-clause-answer : goal.returns-in-Ok-2-clause-answer
-returns-in-Ok-2-clause-answer c =
-    (c.in-Ok.ensures.cases.1,
-      machine_sound (file_lines c.args.bytes.now) (machine_in c.in-Ok-2.machine)
-      (sym (ap read_in (sym c.in-Ok-2.is) ∙ c.in_ok-machine.ensures ∙ ap (λ b. machine_of (file_lines b)) c.in-Ok.ensures.cases.0)))
+returns-in-Ok-2-clause-answer c = (
+  c.in-Ok.ensures.cases.1,
+  machine_sound (file_lines c.args.bytes.now) (machine_in c.in-Ok-2.machine)
+      (sym (ap read_in (sym c.in-Ok-2.is) ∙ c.in_ok-machine.ensures ∙ ap (λ b. machine_of (file_lines b)) c.in-Ok.ensures.cases.0)),
+)
 
 pub returns-in-Ok-2-clause-only : goal.returns-in-Ok-2-clause-only
 returns-in-Ok-2-clause-only c = λ sections utf8 are. same_sections (file_lines c.args.bytes.now) (machine_in c.in-Ok-2.machine) sections
     (sym (ap read_in (sym c.in-Ok-2.is) ∙ c.in_ok-machine.ensures ∙ ap (λ b. machine_of (file_lines b)) c.in-Ok.ensures.cases.0)) are
 
 pub returns-in-Err-2-clause-answer : goal.returns-in-Err-2-clause-answer
-returns-in-Err-2-clause-answer c =
-    (c.in-Ok.ensures.cases.1,
-      first_bad (file_lines c.args.bytes.now) c.in-Err-2.line
-      (ap read_in (sym c.in-Err-2.is) ∙ c.in_ok-machine.ensures ∙ ap (λ b. machine_of (file_lines b)) c.in-Ok.ensures.cases.0))
+returns-in-Err-2-clause-answer c = (
+  c.in-Ok.ensures.cases.1,
+  first_bad (file_lines c.args.bytes.now) c.in-Err-2.line
+      (ap read_in (sym c.in-Err-2.is) ∙ c.in_ok-machine.ensures ∙ ap (λ b. machine_of (file_lines b)) c.in-Ok.ensures.cases.0),
+)
 
 pub returns-in-Err-2-clause-only : goal.returns-in-Err-2-clause-only
 returns-in-Err-2-clause-only c = λ sections utf8 are. no_sections (file_lines c.args.bytes.now) c.in-Err-2.line sections
