@@ -75,7 +75,6 @@ abbrev pub cut_pair : SectionKind → List ℕ → Option Parts
 cut_pair kind text =
     option_map (λ parts. (trimmed parts.0, trimmed parts.1)) (if cuts_last kind then cut_last equals text else cut_first equals text)
 
--- a section with a further entry; the section has to know the key and its value, and the key is new
 -- whether a section of this kind with these entries takes this value at this key: it knows the key and its value, and the key is new
 abbrev pub takes : SectionKind → List Entry → List ℕ → Value → Bool
 takes kind entries key v = knows kind key v && not (has_key key entries)
