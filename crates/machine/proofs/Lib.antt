@@ -1,0 +1,10 @@
+pub mod Cutting
+pub mod Trimming
+pub mod Digits
+pub mod Items
+pub mod Entries
+pub mod Forms
+pub mod Said
+pub mod SaysLemmas
+pub mod FirstBad
+pub mod Looking

@@ -1,0 +1,121 @@
+//! What a machine file says.
+
+ghost use Rattle.std.specs.Prelude.{◌≡◌, ◌==◌, [], IfOk, length, slice_get};
+ghost use Rattle.std.specs.Option.{option_map};
+
+use crate::fault::{FaultKind, MachineFault};
+use crate::reading::read_lines;
+use crate::value::MachineValue;
+use indexmap::IndexMap;
+use lexer::newlines;
+use std::alloc::{AllocError, Global};
+
+/// What a key has: a value, and the line, from 1, that gives it.
+#[derive(Debug, Drop)]
+pub struct Entry {
+    pub value: MachineValue,
+    pub line: usize,
+}
+
+/// The keys of a section, in the order of their lines.
+#[derive(Drop)]
+pub struct Section {
+    pub(crate) entries: IndexMap<String, Entry>,
+}
+
+/// What a machine file says, by section and key.
+#[derive(Drop)]
+pub struct Machine {
+    pub(crate) sections: IndexMap<String, Section>,
+}
+
+impl Section {
+    ghost use Rattle.machine.specs.View.{shown_in, entries_of};
+
+    /// How many keys the section has.
+    pub fn len(&self) -> usize
+        ensures { result ≡ length (entries_of self.now) }
+    {
+        self.entries.len()
+    }
+
+    /// Whether the section has no key.
+    pub fn is_empty(&self) -> bool
+        ensures { result ≡ (length (entries_of self.now) == 0) }
+    {
+        self.entries.is_empty()
+    }
+
+    /// The i-th key, in the order of lines, and what it has. A version that a dependency does not give stands last.
+    pub fn at(&self, i: usize) -> Option<(&str, &Entry)>
+        ensures { option_map shown_in result ≡ slice_get (entries_of self.now) i }
+    {
+        let (key, entry) = self.entries.get_index(i)?;
+        Some((key.as_str(), entry))
+    }
+}
+
+impl Machine {
+    ghost use Rattle.std.specs.Prelude.{List, MatchResult};
+    ghost use Rattle.std.specs.Str.{IsUtf8};
+    ghost use Rattle.machine.specs.Answers.{Answers};
+    ghost use Rattle.machine.specs.Files.{Section as SectionSaid};
+    ghost use Rattle.machine.specs.Lines.{file_lines};
+    ghost use Rattle.machine.specs.Reads.{AreSections};
+    ghost use Rattle.machine.specs.Lookups.{entries_at, value_at};
+    ghost use Rattle.machine.specs.View.{value_in, entries_of, machine_in};
+
+    /// What no file says: nothing.
+    pub fn empty(alloc: Global) -> Machine
+        ensures { machine_in result ≡ [] }
+    {
+        Machine {
+            sections: IndexMap::new(alloc),
+        }
+    }
+
+    /// What these bytes say, or the fault that they have: the Meson manual's page "Machine files", without sections of
+    /// constants and paths, and with sections of this project's own for what Meson asks the machine.
+    pub fn read(alloc: Global, bytes: &[u8]) -> Result<Result<Machine, MachineFault>, AllocError>
+        // The answer is what the lines say, or a fault at its line.
+        ensures answer { IfOk result (Answers bytes.now) }
+
+        // Where the lines are a machine file, its sections are the answer, so they are no other file's.
+        ensures only { (sections : List SectionSaid) → IsUtf8 bytes.now → AreSections (file_lines bytes.now) sections
+            → IfOk result (λ answer. MatchResult answer (λ machine. machine_in machine ≡ sections) (λ _. ⊥)) }
+    {
+        let text = match str::from_utf8(bytes) {
+            Ok(text) => text,
+            Err(error) => {
+                let kind = FaultKind::NotUtf8;
+                let line = newlines(&bytes[..error.valid_up_to()]) + 1;
+                return Ok(Err(MachineFault { kind, line }));
+            }
+        };
+        match read_lines(alloc, text)? {
+            Ok(machine) => Ok(Ok(machine)),
+            Err(line) => {
+                let kind = FaultKind::MachineFile;
+                Ok(Err(MachineFault { kind, line }))
+            }
+        }
+    }
+
+    /// The section with this name, as `dependency zlib`.
+    pub fn section(&self, name: &str) -> Option<&Section>
+        ensures { option_map (λ s. entries_of s.now) result ≡ entries_at (machine_in self.now) name.now }
+    {
+        self.sections.get(name)
+    }
+
+    /// The value that a section has at a key. It takes no memory and never fails.
+    pub fn get(&self, section: &str, key: &str) -> Option<&MachineValue>
+        ensures { option_map (λ v. value_in v.now) result ≡ value_at (machine_in self.now) section.now key.now }
+    {
+        let section = self.section(section)?;
+        match section.entries.get(key) {
+            Some(entry) => Some(&entry.value),
+            None => None,
+        }
+    }
+}
