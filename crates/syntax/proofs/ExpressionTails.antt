@@ -20,26 +20,9 @@ use Rattle.syntax.specs.declared.tree.Literal.{Literal}
 use Rattle.syntax.specs.declared.tree.Operator.{Operator}
 use Rattle.syntax.specs.Expressions.{comparative, literal_of}
 use Rattle.syntax.specs.Parts.{after_as, opened_at, stands_for, taken, token_as_at}
-use Rattle.syntax.specs.ReadingExpressions.{argument_at, arguments_at, arguments_in, atom_at, base_at, call_at, choice_at, comparison_operator_at, dictionary_at, disjunction_at, enter_at, entered_at, group_at, index_at, inner_at, items_at, link_at, list_at, literal_at, method_at, name_at, named_at, not_in_at, operand_at, plain_comparison_at, positional_at, postfix_at, prefixed_at, unary_at, unary_in_at}
+use Rattle.syntax.specs.ReadingExpressions.{argument_at, atom_at, base_at, call_at, choice_at, comparison_operator_at, dictionary_at, disjunction_at, enter_at, entered_at, group_at, index_at, inner_at, items_at, link_at, list_at, literal_at, method_at, name_at, named_at, not_in_at, operand_at, plain_comparison_at, positional_at, postfix_at, prefixed_at, unary_at, unary_in_at}
 use Rattle.syntax.proofs.Steps.{cases_option}
 use Rattle.syntax.proofs.Tails.{length_lexemes}
-
--- ---- arguments
-
-pub arguments_group : (n : ℕ) (ts : List Lexeme) → 0 < n → arguments_at n ts ≡ arguments_in (n - 1) ts
-unfolding arguments_at
-arguments_group zero ts lt = absurd (omega arith)
-arguments_group (suc n) ts lt = rw sub-one refl
-
-pub arguments_deep : (n : ℕ) (ts : List Token) → n ≤ 0 → begins Kinds.OpenParenthesis (lexemes ts) ≡ true → arguments_at n (lexemes ts) ≡ Err (TooDeep (length ts))
-unfolding arguments_at deep_at
-arguments_deep zero ts lt o = rw o (ap (λ (k : ℕ). Err (TooDeep k)) (length_lexemes ts))
-arguments_deep (suc n) ts lt o = absurd (omega arith)
-
-pub arguments_unexpected : (n : ℕ) (ts : List Token) → n ≤ 0 → begins Kinds.OpenParenthesis (lexemes ts) ≡ false → arguments_at n (lexemes ts) ≡ Err (Unexpected (length ts))
-unfolding arguments_at deep_at
-arguments_unexpected zero ts lt o = rw o (ap (λ (k : ℕ). Err (Unexpected k)) (length_lexemes ts))
-arguments_unexpected (suc n) ts lt o = absurd (omega arith)
 
 -- ---- tokens that stand for something
 

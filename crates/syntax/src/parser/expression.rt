@@ -8,7 +8,7 @@ ghost use Rattle.syntax.specs.Expressions.{comparative, is_named, literal_of};
 ghost use Rattle.syntax.specs.Form.{same_state};
 ghost use Rattle.syntax.specs.Parts.{first_line, taken};
 ghost use Rattle.syntax.specs.Reading.{Gives, head_is, listed_at, two_begin};
-ghost use Rattle.syntax.specs.ReadingExpressions.{argument_at, arguments_at, atom_at, base_at, call_at, chain_at, choice_at, comparison_at, comparison_operator_at, compares, dictionary_at, enter_at, entered_at, entry_at, expr_at, group_at, index_at, inner_at, items_at, items_of, link_at, links_at, links_on, list_at, literal_at, method_at, name_at, named_at, not_in_at, operands_at, operator_of, part_at, positional_at, postfix_at, prefixed_at, unary_at};
+ghost use Rattle.syntax.specs.ReadingExpressions.{argument_at, atom_at, base_at, call_at, chain_at, choice_at, comparison_at, comparison_operator_at, compares, dictionary_at, enter_at, entered_at, entry_at, expr_at, group_at, index_at, inner_at, items_at, link_at, links_at, links_on, list_at, literal_at, method_at, name_at, named_at, not_in_at, operands_at, operator_of, part_at, positional_at, postfix_at, prefixed_at, unary_at};
 
 use super::Parser;
 use crate::stop::{ReadError, Stop};
@@ -813,43 +813,5 @@ impl<'a> Parser<'_, 'a> {
         ensures shorter { OnOk result (length self.new.rest.now < length self.old.rest.now) }
     {
         self.ternary(alloc, levels)
-    }
-
-    // The expressions up to a closing parenthesis, with commas between them and perhaps after the last.
-    fn plain_items(&mut self, alloc: Global, levels: u32) -> Result<Vec<Expression<'a>>, ReadError>
-        ensures read { Gives (λ v. map expression_of v.items) result (lexemes self.new.rest.now) (items_of levels (lexemes self.old.rest.now)) }
-        ensures shorter { OnOk result (length self.new.rest.now ≤ length self.old.rest.now) }
-    {
-        let mut items = Vec::new(alloc);
-        while !self.begins(Kind::CloseParenthesis) {
-            items.push(self.expression(alloc, levels)?)?;
-            if !self.begins(Kind::Comma) {
-                return Ok(items);
-            }
-            self.take(Kind::Comma)?;
-        }
-        Ok(items)
-    }
-
-    // The arguments of a call, in their parentheses.
-    #[tactic(auto, using(crate::proofs::ExpressionTails::arguments_group, crate::proofs::ExpressionTails::arguments_deep, crate::proofs::ExpressionTails::arguments_unexpected, crate::proofs::Tails::fails_at), unfolding(crate::specs::ReadingExpressions::arguments_in))]
-    pub(super) fn plain_arguments(
-        &mut self,
-        alloc: Global,
-        levels: u32,
-    ) -> Result<Vec<Expression<'a>>, ReadError>
-        ensures read { Gives (λ v. map expression_of v.items) result (lexemes self.new.rest.now) (arguments_at levels (lexemes self.old.rest.now)) }
-        ensures shorter { OnOk result (length self.new.rest.now < length self.old.rest.now) }
-    {
-        if levels > 0 {
-            self.take(Kind::OpenParenthesis)?;
-            let items = self.plain_items(alloc, levels - 1)?;
-            self.take(Kind::CloseParenthesis)?;
-            Ok(items)
-        } else if self.begins(Kind::OpenParenthesis) {
-            Err(ReadError::Stop(Stop::TooDeep(self.rest.len())))
-        } else {
-            Err(self.unexpected())
-        }
     }
 }
