@@ -1,28 +1,28 @@
 -- The lines of the grammar of expressions, from atoms to whole expressions.
-use Rattle.std.proofs.Common.{◌≡◌, ℕ, zero, suc, ◌+◌, ◌≤◌, ◌<◌, Bool, true, false, cond, List, [], ◌∷◌, length, Option, Some, None, refl, sym, ap, subst, ◌∙◌, inl, inr, lit≤, arith}
+use Rattle.std.proofs.Common.{◌≡◌, ℕ, zero, suc, ◌+◌, ◌<◌, Bool, true, false, List, [], ◌∷◌, Option, Some, None, refl, sym, ap, subst, ◌∙◌, inl, inr, lit≤, arith}
 use Rattle.lexer.specs.Lexeme.{Lexeme}
 use Rattle.lexer.specs.Kinds.{is}
 use Rattle.lexer.specs.declared.token.Kind.{Kind}
 use Rattle.lexer.specs.declared.token.Kind.TheVariants as Kinds
 use Rattle.syntax.specs.declared.tree.Prefix.{Prefix}
 use Rattle.syntax.specs.declared.tree.Prefix.TheVariants as prefixes
-use Rattle.syntax.specs.ExpressionTree.{ExpressionTree, NameTree, FunctionTree, ArgumentTree, LinkTree, MethodTree, IndexTree, PrefixTree, arguments}
-use Rattle.syntax.specs.Form.{Form, token, give, listed, same_state, many, ◌>>=◌, ◌or◌}
-use Rattle.syntax.specs.Parts.{Inner, Closed, Inside, here, here_at, opened, opened_at, stands_for}
-use Rattle.syntax.specs.Expressions.{atom, call, choice, dictionary, expr, group, in_parentheses, index, is_named, items, link, list, literal, literal_of, method, name, plain_arguments, postfix, postfix_tree, prefixed, unary, unary_in, argument}
-use Rattle.syntax.specs.Reading.{Reader, begins, listed_at, or_at, token_at}
-use Rattle.syntax.specs.ReadingExpressions.{argument_at, arguments_at, arguments_in, atom_at, base_at, call_at, choice_at, dictionary_at, expr_at, group_at, in_parentheses_at, index_at, items_at, items_of, link_at, links_at, links_on, list_at, literal_at, method_at, name_at, postfix_at, prefixed_at, unary_at, unary_in_at}
+use Rattle.syntax.specs.ExpressionTree.{ExpressionTree, NameTree, FunctionTree, MethodTree, IndexTree, PrefixTree, arguments}
+use Rattle.syntax.specs.Form.{Form, token, give, ◌or◌}
+use Rattle.syntax.specs.Parts.{Inner, Closed, Inside, here, here_at, opened, stands_for}
+use Rattle.syntax.specs.Expressions.{atom, call, choice, dictionary, expr, group, in_parentheses, index, is_named, items, link, list, literal, literal_of, method, name, postfix, postfix_tree, prefixed, unary, unary_in, argument}
+use Rattle.syntax.specs.Reading.{Reader, begins, token_at}
+use Rattle.syntax.specs.ReadingExpressions.{argument_at, atom_at, base_at, call_at, choice_at, dictionary_at, expr_at, group_at, in_parentheses_at, index_at, items_at, link_at, links_at, links_on, list_at, literal_at, method_at, name_at, postfix_at, prefixed_at, unary_at, unary_in_at}
 use Rattle.syntax.proofs.Alike.{line-alike}
 use Rattle.syntax.proofs.Atoms.{either, inside, line-argument, line-closed, line-dictionary, line-group, line-list, line-literal, line-name, of_kind, starts-either, starts-weaker, starts-inside, starts-literal, starts-name, AfterArgument}
-use Rattle.syntax.proofs.Binding.{After, AfterExpression, after_kind, binding, head_binding}
+use Rattle.syntax.proofs.Binding.{After, AfterExpression, after_kind, binding}
 use Rattle.syntax.proofs.Chains.{line-map, line-then-many}
-use Rattle.syntax.proofs.ChoiceLines.{line-before, line-choice-of, single_choice, starts-choice}
-use Rattle.syntax.proofs.Laws.{bind_at, give_at}
-use Rattle.syntax.proofs.Line.{Line, Any, line-bind, line-choice, line-give, line-stops, line-then, line-token, begins_token, begun_token}
+use Rattle.syntax.proofs.ChoiceLines.{line-before, single_choice}
+use Rattle.syntax.proofs.Laws.{give_at}
+use Rattle.syntax.proofs.Line.{Line, Any, line-choice, line-give, line-stops, line-then, line-token}
 use Rattle.syntax.proofs.Numbers.{is-true}
 use Rattle.syntax.proofs.Operators.{after_less, head_binds, head_ends}
-use Rattle.syntax.proofs.Starts.{Starts, begins-head, starts-bind, starts-never, starts-or, starts-token}
-use Rattle.syntax.proofs.Steps.{IsInside, IsUnary, line-deep, line-here, line-opened, opens_expr, starts-here, starts-opened}
+use Rattle.syntax.proofs.Starts.{Starts, begins-head, starts-bind, starts-or, starts-token}
+use Rattle.syntax.proofs.Steps.{IsInside, IsUnary, line-here, line-opened, opens_expr, starts-here, starts-opened}
 
 -- ---- atoms
 
@@ -227,28 +227,3 @@ starts-expr n = starts-inside (unary n) (unary (suc n)) (unary_at n) (unary_at (
 pub name-is-expr : (n : ℕ) (t : Lexeme) (us : List Lexeme) → t.kind ≡ Kinds.Name → (expr n).spells (NameTree t.text t.line) (t ∷ us) us
 unfolding expr
 name-is-expr n t us k = single_choice (unary n) true (NameTree t.text t.line) (t ∷ us) us ((is-unary n true).single t us k)
-
--- ---- arguments of a statement
-
-abbrev inside_of : ℕ → Lexeme → Form (List ExpressionTree)
-inside_of n o = listed (expr n) >>= λ xs. token Kinds.CloseParenthesis >>= λ c. give xs
-
-abbrev inside_at : ℕ → Lexeme → Reader (List ExpressionTree)
-inside_at n o = bind_at (items_of n) (λ xs. bind_at (token_at Kinds.CloseParenthesis) (λ c. give_at xs))
-
-line-inside : (n : ℕ) (o : Lexeme) → Line (inside_of n o) (inside_of (suc n) o) (inside_at n o) (inside_at (suc n) o) Any 0
-unfolding items_of
-line-inside n o = line-closed Kinds.CloseParenthesis (λ s. expr n) (λ s. expr (suc n)) (λ s. expr_at n) (λ s. expr_at (suc n)) same_state (λ xs. xs) (After 7) refl refl (λ ts b. after_kind Kinds.Comma 7 ts (lit≤ tt) b) (λ ts b. after_kind Kinds.CloseParenthesis 7 ts (lit≤ tt) b) (λ s. starts-expr n) (λ s. line-expr n) tt
-
-pub line-arguments : (n : ℕ) → Line (plain_arguments n) (plain_arguments (suc n)) (arguments_at n) (arguments_at (suc n)) Any 1
-unfolding plain_arguments arguments_at arguments_in
-line-arguments zero = line-deep Kinds.OpenParenthesis (inside_of 0) (inside_at 0) Any
-line-arguments (suc n) = line-then (token Kinds.OpenParenthesis) (token Kinds.OpenParenthesis) (inside_of n) (inside_of (suc n)) (token_at Kinds.OpenParenthesis) (token_at Kinds.OpenParenthesis) (inside_at n) (inside_at (suc n)) Any 1 0 (line-token Kinds.OpenParenthesis) (line-inside n)
-
-abbrev pub opens_group : Kind → Bool
-opens_group = of_kind Kinds.OpenParenthesis
-
-pub starts-arguments : (n : ℕ) → Starts (plain_arguments n) opens_group
-unfolding plain_arguments
-starts-arguments zero = starts-never opens_group
-starts-arguments (suc n) = starts-bind (token Kinds.OpenParenthesis) (inside_of n) opens_group (starts-token Kinds.OpenParenthesis)

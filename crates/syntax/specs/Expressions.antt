@@ -12,7 +12,7 @@ use Rattle.syntax.specs.declared.tree.Operator.TheVariants as operators
 use Rattle.syntax.specs.declared.tree.Prefix.{Prefix}
 use Rattle.syntax.specs.declared.tree.Prefix.TheVariants as prefixes
 use Rattle.syntax.specs.ExpressionTree.{ExpressionTree, NameTree, LiteralTree, ListTree, DictionaryTree, FunctionTree, PostfixTree, PrefixTree, ChainTree, ChoiceTree, ArgumentTree, EntryTree, LinkTree, MethodTree, IndexTree, OperandTree, arguments, entries, expressions, links, operands}
-use Rattle.syntax.specs.Form.{Form, token, give, ◌>>=◌, ◌or◌, never, many, optional, listed, listed_by}
+use Rattle.syntax.specs.Form.{Form, token, give, ◌>>=◌, ◌or◌, many, optional, listed, listed_by}
 use Rattle.syntax.specs.Parts.{Inner, Closed, Inside, here, opened, token_as}
 
 -- ---- what tokens stand for
@@ -297,14 +297,3 @@ unary (suc n) b = unary_in (Inside (unary n)) b
 -- expr
 unfoldable pub expr : ℕ → Form ExpressionTree
 expr n = choice (unary n) true
-
--- ---- arguments of a statement
-
--- "(" [expr {"," expr} [","]] ")"
-unfoldable pub plain_arguments : ℕ → Form (List ExpressionTree)
-plain_arguments zero = never
-plain_arguments (suc n) = do
-  o ← token Kinds.OpenParenthesis
-  xs ← listed (expr n)
-  c ← token Kinds.CloseParenthesis
-  give xs

@@ -1,5 +1,5 @@
 -- Reading expressions, as functions.
-use Rattle.std.specs.Prelude.{ℕ, zero, suc, ◌+◌, Bool, true, false, cond, List, length, Ok, Option, Some, None}
+use Rattle.std.specs.Prelude.{ℕ, zero, suc, Bool, true, false, cond, List, length, Ok, Option, Some, None}
 use Rattle.std.specs.Option.{option_to_list}
 use Rattle.lexer.specs.Lexeme.{Lexeme}
 use Rattle.lexer.specs.Kinds.{is}
@@ -260,19 +260,3 @@ part_at ranks.Or unary = conjunction_at unary
 part_at ranks.And unary = comparison_at unary
 part_at ranks.Sum unary = product_at unary
 part_at ranks.Product unary = unary
-
--- ---- arguments of a statement
-
-unfoldable pub items_of : ℕ → Reader (List ExpressionTree)
-items_of n ts = listed_at Kinds.CloseParenthesis (λ s. expr_at n) same_state tt ts
-
-unfoldable pub arguments_in : ℕ → Reader (List ExpressionTree)
-arguments_in n ts = do
-  o ← token_at Kinds.OpenParenthesis ts
-  xs ← items_of n o.1
-  c ← token_at Kinds.CloseParenthesis xs.1
-  Ok (xs.0, c.1)
-
-unfoldable pub arguments_at : ℕ → Reader (List ExpressionTree)
-arguments_at zero ts = deep_at Kinds.OpenParenthesis ts
-arguments_at (suc n) ts = arguments_in n ts

@@ -85,3 +85,68 @@ fn comparisons_and_choices_stand_alone(rt: HostRuntime) -> Result<(), Fail> {
     ];
     check(&rt, rt.alloc(), &rows)
 }
+
+#[test]
+fn brackets_hold_lists_and_dictionaries(rt: HostRuntime) -> Result<(), Fail> {
+    let rows = [
+        ("x = []", "1 x = []@1;"),
+        ("x = [a, b]", "1 x = [a@1,b@1,]@1;"),
+        ("x = [\na,\n[b],\n]", "1 x = [a@2,[b@3,]@3,]@1;"),
+        ("x = {}", "1 x = {}@1;"),
+        ("x = {'a' : b, c : d,}", "1 x = {'a'@1:b@1,c@1:d@1,}@1;"),
+        ("x = {\n'a' : [b]}", "1 x = {'a'@2:[b@2,]@2,}@1;"),
+        ("x = [a ? b : c]", "1 x = [(a@1 ? b@1 : c@1)@1,]@1;"),
+        ("x = [,]", "E3 at 1"),
+        ("x = [a\nb]", "E3 at 2"),
+        ("x = {a}", "E3 at 1"),
+        ("x = {a : b\n: c}", "E3 at 2"),
+        ("x = {a : }", "E3 at 1"),
+        ("x = [a", "E3 at 1"),
+    ];
+    check(&rt, rt.alloc(), &rows)
+}
+
+#[test]
+fn prefixes_bind_tighter_than_operators(rt: HostRuntime) -> Result<(), Fail> {
+    let rows = [
+        ("x = not a", "1 x = (not a@1)@1;"),
+        ("x = -a", "1 x = (- a@1)@1;"),
+        ("x = not not a", "1 x = (not (not a@1)@1)@1;"),
+        ("x = not a == b", "1 x = ((not a@1)@1 == b@1)@1;"),
+        ("x = -a * b", "1 x = ((- a@1)@1 * b@1)@1;"),
+        ("x = a - -b", "1 x = (a@1 - (- b@1)@1)@1;"),
+        ("x = -a.b()", "1 x = (- (a@1.b())@1)@1;"),
+        ("x = (\nnot a)", "1 x = (not a@2)@2;"),
+        ("x = not", "E3 at 1"),
+        ("x = (-\n)", "E3 at 2"),
+    ];
+    check(&rt, rt.alloc(), &rows)
+}
+
+#[test]
+fn calls_methods_and_indices(rt: HostRuntime) -> Result<(), Fail> {
+    let rows = [
+        ("x = f(a)", "1 x = f(a@1,)@1;"),
+        ("x = f(k: a, l: b)", "1 x = f(k:a@1,l:b@1,)@1;"),
+        ("x = a.m()", "1 x = (a@1.m())@1;"),
+        ("x = a.m(b).n()[c]", "1 x = (a@1.m(b@1,).n()[c@1])@1;"),
+        ("x = f()[a][b]", "1 x = (f()@1[a@1][b@1])@1;"),
+        ("x = 'a'.m()", "1 x = ('a'@1.m())@1;"),
+        ("x = (\na).m()", "1 x = (a@2.m())@1;"),
+        ("x = (a\n.m())", "1 x = (a@1.m())@1;"),
+        ("x = [a].m()", "1 x = ([a@1,]@1.m())@1;"),
+        ("f(a: b,\nc\n)", "E3 at 3"),
+        ("f(a: b, c)", "E3 at 1"),
+        ("f('a': b)", "E3 at 1"),
+        ("x = a()()", "E3 at 1"),
+        ("x = a.b", "E3 at 1"),
+        ("x = a.b\n", "E3 at 1"),
+        ("x = a[]", "E3 at 1"),
+        ("x = a[b\n, c]", "E3 at 2"),
+        ("x = (a)()", "E3 at 1"),
+        ("x = a ? f(\nb ? c : d) : e", "E3 at 2"),
+        ("x = a ? b : [\n\nc ? d : e]", "E3 at 3"),
+        ("x = f(a ? b : c)", "1 x = f((a@1 ? b@1 : c@1)@1,)@1;"),
+    ];
+    check(&rt, rt.alloc(), &rows)
+}

@@ -47,6 +47,32 @@ fn brackets_open_levels(rt: HostRuntime) -> Result<(), Fail> {
 }
 
 #[test]
+fn each_kind_of_bracket_and_prefix_opens_a_level(rt: HostRuntime) -> Result<(), Fail> {
+    let alloc = rt.alloc();
+    for (first, last) in [
+        ("[", "]"),
+        ("{a : ", "}"),
+        ("f(", ")"),
+        ("a[", "]"),
+        ("-", ""),
+        ("not ", ""),
+    ] {
+        let parts = (first, "y", last);
+        assert_eq!(rt;
+            outcome(alloc, 64, parts)?.as_str(),
+            "a tree",
+            "of {first:?}"
+        );
+        assert_eq!(rt;
+            outcome(alloc, 65, parts)?.as_str(),
+            "E4 at 1",
+            "of {first:?}"
+        );
+    }
+    Ok(())
+}
+
+#[test]
 fn blocks_open_levels(rt: HostRuntime) -> Result<(), Fail> {
     let alloc = rt.alloc();
     let conditional = ("if a\n", "x = y\n", "endif\n");

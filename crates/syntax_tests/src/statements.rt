@@ -101,13 +101,20 @@ fn an_if_has_parts(rt: HostRuntime) -> Result<(), Fail> {
 }
 
 #[test]
-fn a_call_has_arguments(rt: HostRuntime) -> Result<(), Fail> {
+fn an_expression_alone_is_a_statement(rt: HostRuntime) -> Result<(), Fail> {
     let rows = [
-        ("f()", "1 f();"),
-        ("f(a)", "1 f(a@1,);"),
-        ("f(a, 'b',)", "1 f(a@1,'b'@1,);"),
-        ("f(\na,\n# why\nb\n)\nx = a", "1 f(a@2,b@4,);6 x = a@6;"),
-        ("if a\nf(a)\nendif", "1 if [1] a@1 {2 f(a@2,);} else {};"),
+        ("f()", "1 f()@1;"),
+        ("f(a)", "1 f(a@1,)@1;"),
+        ("f(a, 'b',)", "1 f(a@1,'b'@1,)@1;"),
+        ("f(a, b: c)", "1 f(a@1,b:c@1,)@1;"),
+        ("f(\na,\n# why\nb\n)\nx = a", "1 f(a@2,b@4,)@1;6 x = a@6;"),
+        ("if a\nf(a)\nendif", "1 if [1] a@1 {2 f(a@2,)@2;} else {};"),
+        ("a", "1 a@1;"),
+        ("'a'\n(\na)", "1 'a'@1;2 a@3;"),
+        ("(\nf(a))", "1 f(a@2,)@2;"),
+        ("a == b", "1 (a@1 == b@1)@1;"),
+        ("a.b()\nnot a", "1 (a@1.b())@1;2 (not a@2)@2;"),
+        ("[a]\n{a : b}", "1 [a@1,]@1;2 {a@2:b@2,}@2;"),
     ];
     check(&rt, rt.alloc(), &rows)
 }

@@ -3,7 +3,9 @@ use std::process::Abort;
 use std::test::Fail;
 use syntax::fault::SyntaxError;
 use syntax::parse;
-use syntax::tree::{Branch, Expression, Operand, Operator, Statement};
+use syntax::tree::{
+    Argument, Branch, Entry, Expression, Link, Operand, Operator, Prefix, Statement,
+};
 
 /// Each row is a source, and what is shown of it.
 pub fn check(rt: &impl Abort, alloc: Global, rows: &[(&str, &str)]) -> Result<(), Fail> {
@@ -58,11 +60,44 @@ fn put_expression(
     value: &Expression<'_>,
 ) -> Result<(), AllocError> {
     match value {
-        Expression::Name { name, line } => out.push_str(format!(in alloc;
-            "{name}@{line}"
-        )?.as_str()),
-        Expression::Literal { text, line, .. } => {
-            out.push_str(format!(in alloc; "{text}@{line}")?.as_str())
+        Expression::Name { name, line } => put_text(alloc, out, name, *line),
+        Expression::Literal { text, line, .. } => put_text(alloc, out, text, *line),
+        Expression::List { items, line } => {
+            out.push_str("[")?;
+            put_expressions(alloc, out, items)?;
+            put_text(alloc, out, "]", *line)
+        }
+        Expression::Dictionary { entries, line } => {
+            out.push_str("{")?;
+            put_entries(alloc, out, entries)?;
+            put_text(alloc, out, "}", *line)
+        }
+        Expression::Call {
+            name,
+            arguments,
+            line,
+        } => {
+            out.push_str(name)?;
+            put_arguments(alloc, out, arguments)?;
+            put_text(alloc, out, "", *line)
+        }
+        Expression::Postfix { first, links, line } => {
+            out.push_str("(")?;
+            put_expression(alloc, out, first)?;
+            put_links(alloc, out, links)?;
+            put_text(alloc, out, ")", *line)
+        }
+        Expression::Prefix {
+            prefix,
+            value,
+            line,
+        } => {
+            out.push_str(match prefix {
+                Prefix::Not => "(not ",
+                Prefix::Negative => "(- ",
+            })?;
+            put_expression(alloc, out, value)?;
+            put_text(alloc, out, ")", *line)
         }
         Expression::Chain {
             first,
@@ -72,7 +107,7 @@ fn put_expression(
             out.push_str("(")?;
             put_expression(alloc, out, first)?;
             put_operands(alloc, out, others)?;
-            out.push_str(format!(in alloc; ")@{line}")?.as_str())
+            put_text(alloc, out, ")", *line)
         }
         Expression::Choice {
             test,
@@ -86,9 +121,79 @@ fn put_expression(
             put_expression(alloc, out, yes)?;
             out.push_str(" : ")?;
             put_expression(alloc, out, no)?;
-            out.push_str(format!(in alloc; ")@{line}")?.as_str())
+            put_text(alloc, out, ")", *line)
         }
     }
+}
+
+// A text, and behind it its line.
+fn put_text(alloc: Global, out: &mut String, text: &str, line: usize) -> Result<(), AllocError> {
+    out.push_str(format!(in alloc; "{text}@{line}")?.as_str())
+}
+
+#[cycle(expression)]
+fn put_expressions(
+    alloc: Global,
+    out: &mut String,
+    items: &Vec<Expression<'_>>,
+) -> Result<(), AllocError> {
+    for item in items {
+        put_expression(alloc, out, item)?;
+        out.push_str(",")?;
+    }
+    Ok(())
+}
+
+#[cycle(expression)]
+fn put_entries(
+    alloc: Global,
+    out: &mut String,
+    entries: &Vec<Entry<'_>>,
+) -> Result<(), AllocError> {
+    for entry in entries {
+        put_expression(alloc, out, &entry.key)?;
+        out.push_str(":")?;
+        put_expression(alloc, out, &entry.value)?;
+        out.push_str(",")?;
+    }
+    Ok(())
+}
+
+#[cycle(expression)]
+fn put_arguments(
+    alloc: Global,
+    out: &mut String,
+    arguments: &Vec<Argument<'_>>,
+) -> Result<(), AllocError> {
+    out.push_str("(")?;
+    for argument in arguments {
+        if let Some(name) = argument.name {
+            out.push_str(name)?;
+            out.push_str(":")?;
+        }
+        put_expression(alloc, out, &argument.value)?;
+        out.push_str(",")?;
+    }
+    out.push_str(")")
+}
+
+#[cycle(expression)]
+fn put_links(alloc: Global, out: &mut String, links: &Vec<Link<'_>>) -> Result<(), AllocError> {
+    for link in links {
+        match link {
+            Link::Method { name, arguments } => {
+                out.push_str(".")?;
+                out.push_str(name)?;
+                put_arguments(alloc, out, arguments)?;
+            }
+            Link::Index { index } => {
+                out.push_str("[")?;
+                put_expression(alloc, out, index)?;
+                out.push_str("]")?;
+            }
+        }
+    }
+    Ok(())
 }
 
 #[cycle(expression)]
@@ -117,11 +222,7 @@ fn put_head(
 
 // Statements in braces.
 #[cycle(put)]
-fn put_body(
-    alloc: Global,
-    out: &mut String,
-    body: &Vec<Statement<'_>>,
-) -> Result<(), AllocError> {
+fn put_body(alloc: Global, out: &mut String, body: &Vec<Statement<'_>>) -> Result<(), AllocError> {
     out.push_str(" {")?;
     put_statements(alloc, out, body)?;
     out.push_str("}")
@@ -189,17 +290,9 @@ fn put_statement(
                 value,
             )
         }
-        Statement::Call {
-            name,
-            line,
-            arguments,
-        } => {
-            out.push_str(format!(in alloc; "{line} {name}(")?.as_str())?;
-            for argument in arguments {
-                put_expression(alloc, out, argument)?;
-                out.push_str(",")?;
-            }
-            out.push_str(")")
+        Statement::Expression { value, line } => {
+            out.push_str(format!(in alloc; "{line} ")?.as_str())?;
+            put_expression(alloc, out, value)
         }
         Statement::Break { line } => out.push_str(format!(in alloc; "{line} break")?.as_str()),
         Statement::Continue { line } => out.push_str(format!(in alloc;

@@ -8,7 +8,7 @@ ghost use Rattle.syntax.specs.Expressions.{comparative, is_named, literal_of};
 ghost use Rattle.syntax.specs.Form.{same_state};
 ghost use Rattle.syntax.specs.Parts.{first_line, taken};
 ghost use Rattle.syntax.specs.Reading.{Gives, head_is, listed_at, two_begin};
-ghost use Rattle.syntax.specs.ReadingExpressions.{argument_at, arguments_at, atom_at, base_at, call_at, chain_at, choice_at, comparison_at, comparison_operator_at, compares, dictionary_at, enter_at, entered_at, entry_at, expr_at, group_at, index_at, inner_at, items_at, items_of, link_at, links_at, links_on, list_at, literal_at, method_at, name_at, named_at, not_in_at, operands_at, operator_of, part_at, positional_at, postfix_at, prefixed_at, unary_at};
+ghost use Rattle.syntax.specs.ReadingExpressions.{argument_at, atom_at, base_at, call_at, chain_at, choice_at, comparison_at, comparison_operator_at, compares, dictionary_at, enter_at, entered_at, entry_at, expr_at, group_at, index_at, inner_at, items_at, link_at, links_at, links_on, list_at, literal_at, method_at, name_at, named_at, not_in_at, operands_at, operator_of, part_at, positional_at, postfix_at, prefixed_at, unary_at};
 
 use super::Parser;
 use crate::stop::{ReadError, Stop};
@@ -234,7 +234,12 @@ impl<'a> Parser<'_, 'a> {
     // An expression in parentheses.
     #[cycle(expression)]
     #[tactic(auto, unfolding(crate::specs::ReadingExpressions::entered_at, crate::specs::ReadingExpressions::group_at))]
-    fn group(&mut self, alloc: Global, levels: u32, choices: bool) -> Result<Expression<'a>, ReadError>
+    fn group(
+        &mut self,
+        alloc: Global,
+        levels: u32,
+        choices: bool,
+    ) -> Result<Expression<'a>, ReadError>
         ensures read { Gives expression_of result (lexemes self.new.rest.now)
             (entered_at Kind.OpenParenthesis levels (λ e. group_at e choices) (lexemes self.old.rest.now)) }
         ensures shorter { OnOk result (length self.new.rest.now < length self.old.rest.now) }
@@ -247,7 +252,12 @@ impl<'a> Parser<'_, 'a> {
 
     // The values of a list, up to its closing bracket.
     #[cycle(expression)]
-    fn values(&mut self, alloc: Global, levels: u32, choices: bool) -> Result<Vec<Expression<'a>>, ReadError>
+    fn values(
+        &mut self,
+        alloc: Global,
+        levels: u32,
+        choices: bool,
+    ) -> Result<Vec<Expression<'a>>, ReadError>
         ensures read { Gives (λ v. map expression_of v.items) result (lexemes self.new.rest.now)
             (listed_at Kind.CloseBracket (λ s. choice_at (unary_at levels) choices) same_state tt (lexemes self.old.rest.now)) }
         ensures shorter { OnOk result (length self.new.rest.now ≤ length self.old.rest.now) }
@@ -266,7 +276,12 @@ impl<'a> Parser<'_, 'a> {
     // A list.
     #[cycle(expression)]
     #[tactic(auto, unfolding(crate::specs::ReadingExpressions::entered_at, crate::specs::ReadingExpressions::list_at))]
-    fn list(&mut self, alloc: Global, levels: u32, choices: bool) -> Result<Expression<'a>, ReadError>
+    fn list(
+        &mut self,
+        alloc: Global,
+        levels: u32,
+        choices: bool,
+    ) -> Result<Expression<'a>, ReadError>
         ensures read { Gives expression_of result (lexemes self.new.rest.now)
             (entered_at Kind.OpenBracket levels (λ e. list_at e choices) (lexemes self.old.rest.now)) }
         ensures shorter { OnOk result (length self.new.rest.now < length self.old.rest.now) }
@@ -296,7 +311,12 @@ impl<'a> Parser<'_, 'a> {
 
     // The entries of a dictionary, up to its closing brace.
     #[cycle(expression)]
-    fn entries(&mut self, alloc: Global, levels: u32, choices: bool) -> Result<Vec<Entry<'a>>, ReadError>
+    fn entries(
+        &mut self,
+        alloc: Global,
+        levels: u32,
+        choices: bool,
+    ) -> Result<Vec<Entry<'a>>, ReadError>
         ensures read { Gives (λ v. map entry_of v.items) result (lexemes self.new.rest.now)
             (listed_at Kind.CloseBrace (λ s. entry_at (choice_at (unary_at levels) choices)) same_state tt (lexemes self.old.rest.now)) }
         ensures shorter { OnOk result (length self.new.rest.now ≤ length self.old.rest.now) }
@@ -315,7 +335,12 @@ impl<'a> Parser<'_, 'a> {
     // A dictionary.
     #[cycle(expression)]
     #[tactic(auto, unfolding(crate::specs::ReadingExpressions::entered_at, crate::specs::ReadingExpressions::dictionary_at))]
-    fn dictionary(&mut self, alloc: Global, levels: u32, choices: bool) -> Result<Expression<'a>, ReadError>
+    fn dictionary(
+        &mut self,
+        alloc: Global,
+        levels: u32,
+        choices: bool,
+    ) -> Result<Expression<'a>, ReadError>
         ensures read { Gives expression_of result (lexemes self.new.rest.now)
             (entered_at Kind.OpenBrace levels (λ e. dictionary_at e choices) (lexemes self.old.rest.now)) }
         ensures shorter { OnOk result (length self.new.rest.now < length self.old.rest.now) }
@@ -332,7 +357,12 @@ impl<'a> Parser<'_, 'a> {
     // An atom.
     #[cycle(expression)]
     #[tactic(auto, using(crate::proofs::ExpressionTails::atom_name, crate::proofs::ExpressionTails::atom_group, crate::proofs::ExpressionTails::atom_list, crate::proofs::ExpressionTails::atom_dictionary, crate::proofs::ExpressionTails::atom_literal))]
-    fn atom(&mut self, alloc: Global, levels: u32, choices: bool) -> Result<Expression<'a>, ReadError>
+    fn atom(
+        &mut self,
+        alloc: Global,
+        levels: u32,
+        choices: bool,
+    ) -> Result<Expression<'a>, ReadError>
         ensures read { Gives expression_of result (lexemes self.new.rest.now)
             (atom_at (inner_at levels) choices (lexemes self.old.rest.now)) }
         ensures shorter { OnOk result (length self.new.rest.now < length self.old.rest.now) }
@@ -353,7 +383,12 @@ impl<'a> Parser<'_, 'a> {
     // An argument that is given by its name.
     #[cycle(expression)]
     #[tactic(auto, unfolding(crate::specs::ReadingExpressions::named_at))]
-    fn named(&mut self, alloc: Global, levels: u32, choices: bool) -> Result<Argument<'a>, ReadError>
+    fn named(
+        &mut self,
+        alloc: Global,
+        levels: u32,
+        choices: bool,
+    ) -> Result<Argument<'a>, ReadError>
         ensures read { Gives argument_of result (lexemes self.new.rest.now)
             (named_at (choice_at (unary_at levels) choices) (lexemes self.old.rest.now)) }
         ensures shorter { OnOk result (length self.new.rest.now < length self.old.rest.now) }
@@ -370,7 +405,12 @@ impl<'a> Parser<'_, 'a> {
     // An argument that is given by its place.
     #[cycle(expression)]
     #[tactic(auto, unfolding(crate::specs::ReadingExpressions::positional_at))]
-    fn positional(&mut self, alloc: Global, levels: u32, choices: bool) -> Result<Argument<'a>, ReadError>
+    fn positional(
+        &mut self,
+        alloc: Global,
+        levels: u32,
+        choices: bool,
+    ) -> Result<Argument<'a>, ReadError>
         ensures read { Gives argument_of result (lexemes self.new.rest.now)
             (positional_at (choice_at (unary_at levels) choices) (lexemes self.old.rest.now)) }
         ensures shorter { OnOk result (length self.new.rest.now < length self.old.rest.now) }
@@ -382,7 +422,13 @@ impl<'a> Parser<'_, 'a> {
     // An argument, which has to have a name behind one that has.
     #[cycle(expression)]
     #[tactic(auto, using(crate::proofs::ExpressionTails::argument_named, crate::proofs::ExpressionTails::argument_behind, crate::proofs::ExpressionTails::argument_positional))]
-    fn argument(&mut self, alloc: Global, levels: u32, choices: bool, behind: bool) -> Result<Argument<'a>, ReadError>
+    fn argument(
+        &mut self,
+        alloc: Global,
+        levels: u32,
+        choices: bool,
+        behind: bool,
+    ) -> Result<Argument<'a>, ReadError>
         ensures read { Gives argument_of result (lexemes self.new.rest.now)
             (argument_at (choice_at (unary_at levels) choices) behind (lexemes self.old.rest.now)) }
         ensures shorter { OnOk result (length self.new.rest.now < length self.old.rest.now) }
@@ -396,7 +442,12 @@ impl<'a> Parser<'_, 'a> {
 
     // The arguments of a call, up to the closing parenthesis.
     #[cycle(expression)]
-    fn items(&mut self, alloc: Global, levels: u32, choices: bool) -> Result<Vec<Argument<'a>>, ReadError>
+    fn items(
+        &mut self,
+        alloc: Global,
+        levels: u32,
+        choices: bool,
+    ) -> Result<Vec<Argument<'a>>, ReadError>
         ensures read { Gives (λ v. map argument_of v.items) result (lexemes self.new.rest.now)
             (listed_at Kind.CloseParenthesis (argument_at (choice_at (unary_at levels) choices)) is_named false (lexemes self.old.rest.now)) }
         ensures shorter { OnOk result (length self.new.rest.now ≤ length self.old.rest.now) }
@@ -418,7 +469,12 @@ impl<'a> Parser<'_, 'a> {
     // The arguments of a call, in their parentheses.
     #[cycle(expression)]
     #[tactic(auto, unfolding(crate::specs::ReadingExpressions::entered_at, crate::specs::ReadingExpressions::items_at))]
-    fn arguments(&mut self, alloc: Global, levels: u32, choices: bool) -> Result<Vec<Argument<'a>>, ReadError>
+    fn arguments(
+        &mut self,
+        alloc: Global,
+        levels: u32,
+        choices: bool,
+    ) -> Result<Vec<Argument<'a>>, ReadError>
         ensures read { Gives (λ v. map argument_of v.items) result (lexemes self.new.rest.now)
             (entered_at Kind.OpenParenthesis levels (λ e. items_at e choices) (lexemes self.old.rest.now)) }
         ensures shorter { OnOk result (length self.new.rest.now < length self.old.rest.now) }
@@ -432,7 +488,12 @@ impl<'a> Parser<'_, 'a> {
     // A call of a function.
     #[cycle(expression)]
     #[tactic(auto, unfolding(crate::specs::ReadingExpressions::call_at))]
-    fn call_of(&mut self, alloc: Global, levels: u32, choices: bool) -> Result<Expression<'a>, ReadError>
+    fn call_of(
+        &mut self,
+        alloc: Global,
+        levels: u32,
+        choices: bool,
+    ) -> Result<Expression<'a>, ReadError>
         ensures read { Gives expression_of result (lexemes self.new.rest.now)
             (call_at (entered_at Kind.OpenParenthesis levels (λ e. items_at e choices)) (lexemes self.old.rest.now)) }
         ensures shorter { OnOk result (length self.new.rest.now < length self.old.rest.now) }
@@ -449,7 +510,12 @@ impl<'a> Parser<'_, 'a> {
     // A call of a function, or an atom.
     #[cycle(expression)]
     #[tactic(auto, using(crate::proofs::ExpressionTails::base_call, crate::proofs::ExpressionTails::base_atom))]
-    fn base(&mut self, alloc: Global, levels: u32, choices: bool) -> Result<Expression<'a>, ReadError>
+    fn base(
+        &mut self,
+        alloc: Global,
+        levels: u32,
+        choices: bool,
+    ) -> Result<Expression<'a>, ReadError>
         ensures read { Gives expression_of result (lexemes self.new.rest.now)
             (base_at (inner_at levels) choices (lexemes self.old.rest.now)) }
         ensures shorter { OnOk result (length self.new.rest.now < length self.old.rest.now) }
@@ -509,7 +575,12 @@ impl<'a> Parser<'_, 'a> {
 
     // All that is asked of a value in turn.
     #[cycle(expression)]
-    fn links(&mut self, alloc: Global, levels: u32, choices: bool) -> Result<Vec<Link<'a>>, ReadError>
+    fn links(
+        &mut self,
+        alloc: Global,
+        levels: u32,
+        choices: bool,
+    ) -> Result<Vec<Link<'a>>, ReadError>
         ensures read { Gives (λ v. map link_of v.items) result (lexemes self.new.rest.now)
             (links_at (inner_at levels) choices (lexemes self.old.rest.now)) }
         ensures shorter { OnOk result (length self.new.rest.now ≤ length self.old.rest.now) }
@@ -524,7 +595,12 @@ impl<'a> Parser<'_, 'a> {
     // A value and what is asked of it.
     #[cycle(expression)]
     #[tactic(auto, unfolding(crate::specs::ReadingExpressions::postfix_at))]
-    fn postfix(&mut self, alloc: Global, levels: u32, choices: bool) -> Result<Expression<'a>, ReadError>
+    fn postfix(
+        &mut self,
+        alloc: Global,
+        levels: u32,
+        choices: bool,
+    ) -> Result<Expression<'a>, ReadError>
         ensures read { Gives expression_of result (lexemes self.new.rest.now)
             (postfix_at (inner_at levels) choices (lexemes self.old.rest.now)) }
         ensures shorter { OnOk result (length self.new.rest.now < length self.old.rest.now) }
@@ -542,7 +618,14 @@ impl<'a> Parser<'_, 'a> {
     // A prefix operator and the value behind it.
     #[cycle(expression)]
     #[tactic(auto, unfolding(crate::specs::ReadingExpressions::entered_at, crate::specs::ReadingExpressions::prefixed_at))]
-    fn prefixed(&mut self, alloc: Global, levels: u32, choices: bool, kind: Kind, prefix: Prefix) -> Result<Expression<'a>, ReadError>
+    fn prefixed(
+        &mut self,
+        alloc: Global,
+        levels: u32,
+        choices: bool,
+        kind: Kind,
+        prefix: Prefix,
+    ) -> Result<Expression<'a>, ReadError>
         ensures read { Gives expression_of result (lexemes self.new.rest.now)
             (entered_at kind levels (λ e. prefixed_at prefix e choices) (lexemes self.old.rest.now)) }
         ensures shorter { OnOk result (length self.new.rest.now < length self.old.rest.now) }
@@ -559,7 +642,12 @@ impl<'a> Parser<'_, 'a> {
     // What stands between operators, where so many levels may still be opened.
     #[cycle(expression)]
     #[tactic(auto, using(crate::proofs::ExpressionTails::unary_not, crate::proofs::ExpressionTails::unary_minus, crate::proofs::ExpressionTails::unary_postfix))]
-    fn unary(&mut self, alloc: Global, levels: u32, choices: bool) -> Result<Expression<'a>, ReadError>
+    fn unary(
+        &mut self,
+        alloc: Global,
+        levels: u32,
+        choices: bool,
+    ) -> Result<Expression<'a>, ReadError>
         ensures read { Gives expression_of result (lexemes self.new.rest.now)
             (unary_at levels choices (lexemes self.old.rest.now)) }
         ensures shorter { OnOk result (length self.new.rest.now < length self.old.rest.now) }
@@ -725,43 +813,5 @@ impl<'a> Parser<'_, 'a> {
         ensures shorter { OnOk result (length self.new.rest.now < length self.old.rest.now) }
     {
         self.ternary(alloc, levels)
-    }
-
-    // The expressions up to a closing parenthesis, with commas between them and perhaps after the last.
-    fn plain_items(&mut self, alloc: Global, levels: u32) -> Result<Vec<Expression<'a>>, ReadError>
-        ensures read { Gives (λ v. map expression_of v.items) result (lexemes self.new.rest.now) (items_of levels (lexemes self.old.rest.now)) }
-        ensures shorter { OnOk result (length self.new.rest.now ≤ length self.old.rest.now) }
-    {
-        let mut items = Vec::new(alloc);
-        while !self.begins(Kind::CloseParenthesis) {
-            items.push(self.expression(alloc, levels)?)?;
-            if !self.begins(Kind::Comma) {
-                return Ok(items);
-            }
-            self.take(Kind::Comma)?;
-        }
-        Ok(items)
-    }
-
-    // The arguments of a call, in their parentheses.
-    #[tactic(auto, using(crate::proofs::ExpressionTails::arguments_group, crate::proofs::ExpressionTails::arguments_deep, crate::proofs::ExpressionTails::arguments_unexpected, crate::proofs::Tails::fails_at), unfolding(crate::specs::ReadingExpressions::arguments_in))]
-    pub(super) fn plain_arguments(
-        &mut self,
-        alloc: Global,
-        levels: u32,
-    ) -> Result<Vec<Expression<'a>>, ReadError>
-        ensures read { Gives (λ v. map expression_of v.items) result (lexemes self.new.rest.now) (arguments_at levels (lexemes self.old.rest.now)) }
-        ensures shorter { OnOk result (length self.new.rest.now < length self.old.rest.now) }
-    {
-        if levels > 0 {
-            self.take(Kind::OpenParenthesis)?;
-            let items = self.plain_items(alloc, levels - 1)?;
-            self.take(Kind::CloseParenthesis)?;
-            Ok(items)
-        } else if self.begins(Kind::OpenParenthesis) {
-            Err(ReadError::Stop(Stop::TooDeep(self.rest.len())))
-        } else {
-            Err(self.unexpected())
-        }
     }
 }
