@@ -1,25 +1,24 @@
 -- Atoms, lists, dictionaries and arguments.
-use Rattle.std.proofs.Common.{◌≡◌, ℕ, ◌+◌, ◌≤◌, ◌<◌, Bool, true, false, cond, List, [], ◌∷◌, length, Option, Some, None, refl, sym, ap, subst, ◌∙◌, inl, inr, lit≤, arith}
+use Rattle.std.proofs.Common.{◌≡◌, ◌+◌, Bool, true, false, cond, List, [], ◌∷◌, Some, None, refl, inl, inr, lit≤, arith}
 use Rattle.lexer.specs.Lexeme.{Lexeme}
 use Rattle.lexer.specs.Kinds.{is}
 use Rattle.lexer.specs.declared.token.Kind.{Kind}
 use Rattle.lexer.specs.declared.token.Kind.TheVariants as Kinds
-use Rattle.syntax.specs.ExpressionTree.{ExpressionTree, NameTree, LiteralTree, ListTree, DictionaryTree, ArgumentTree, EntryTree, entries, expressions}
-use Rattle.syntax.specs.Form.{Form, token, give, listed, listed_by, same_state, ◌>>=◌, ◌or◌}
-use Rattle.syntax.specs.Parts.{Inner, opened, opened_at, stands_for, token_as, token_as_at}
-use Rattle.syntax.specs.Expressions.{argument, atom, choice, dictionary, entry, group, in_parentheses, is_named, items, list, literal, literal_of, name, named, positional}
-use Rattle.syntax.specs.Reading.{Reader, begins, head_is, listed_at, or_at, token_at}
-use Rattle.syntax.specs.ReadingExpressions.{argument_at, atom_at, choice_at, dictionary_at, entry_at, group_at, in_parentheses_at, items_at, list_at, literal_at, name_at, named_at, positional_at}
+use Rattle.syntax.specs.ExpressionTree.{ExpressionTree, NameTree, LiteralTree, ListTree, DictionaryTree, ArgumentTree, entries, expressions}
+use Rattle.syntax.specs.Form.{Form, token, give, listed_by, same_state, ◌>>=◌, ◌or◌}
+use Rattle.syntax.specs.Parts.{stands_for, token_as, token_as_at}
+use Rattle.syntax.specs.Expressions.{argument, choice, dictionary, entry, group, list, literal, literal_of, name, positional}
+use Rattle.syntax.specs.Reading.{Reader, begins, head_is, listed_at, token_at}
+use Rattle.syntax.specs.ReadingExpressions.{argument_at, choice_at, dictionary_at, entry_at, group_at, list_at, literal_at, name_at, named_at, positional_at}
 use Rattle.syntax.proofs.Alike.{line-alike}
 use Rattle.syntax.proofs.Binding.{After, after_kind}
 use Rattle.syntax.proofs.Chains.{line-map}
 use Rattle.syntax.proofs.ChoiceLines.{line-before, line-choice-of, single_choice, starts-choice}
 use Rattle.syntax.proofs.Laws.{bind_at, give_at}
-use Rattle.syntax.proofs.Line.{Line, Any, line-bind, line-choice, line-give, line-stops, line-then, line-token, begins_token, begun_token}
+use Rattle.syntax.proofs.Line.{Line, Any, line-bind, line-give, line-stops, line-then, line-token, begins_token, begun_token}
 use Rattle.syntax.proofs.Lists.{line-listed}
-use Rattle.syntax.proofs.Numbers.{is-true}
 use Rattle.syntax.proofs.Starts.{Starts, starts-bind, starts-or, starts-token}
-use Rattle.syntax.proofs.Steps.{IsInside, IsUnary, line-as, line-opened, opens_expr, starts-as, starts-opened}
+use Rattle.syntax.proofs.Steps.{IsUnary, line-as, opens_expr, starts-as}
 
 -- ---- what forms begin with
 

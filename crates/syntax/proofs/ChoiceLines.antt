@@ -1,5 +1,5 @@
 -- The lines from products to choices, over the unary expressions.
-use Rattle.std.proofs.Common.{[], ◌≡◌, ℕ, zero, suc, ◌+◌, ◌≤◌, ◌<◌, Bool, true, false, cond, List, Option, Some, None, refl, ap, ◌∙◌, inl, inr, lit≤, arith}
+use Rattle.std.proofs.Common.{[], ◌≡◌, ℕ, ◌+◌, ◌≤◌, ◌<◌, Bool, true, false, List, Option, None, refl, ap, ◌∙◌, inl, inr, lit≤, arith}
 use Rattle.std.specs.Option.{option_to_list}
 use Rattle.lexer.specs.Lexeme.{Lexeme}
 use Rattle.lexer.specs.Kinds.{is}
@@ -7,21 +7,20 @@ use Rattle.lexer.specs.declared.token.Kind.{Kind}
 use Rattle.lexer.specs.declared.token.Kind.TheVariants as Kinds
 use Rattle.syntax.specs.declared.tree.Operator.{Operator}
 use Rattle.syntax.specs.declared.tree.Operator.TheVariants as operators
-use Rattle.syntax.specs.ExpressionTree.{ExpressionTree, NameTree, LiteralTree}
-use Rattle.syntax.specs.Form.{Form, token, give, listed, ◌>>=◌, ◌or◌}
-use Rattle.syntax.specs.Parts.{Inner, Closed, Inside, here, here_at, opened, opened_at, stands_for, token_as, token_as_at}
+use Rattle.syntax.specs.ExpressionTree.{ExpressionTree}
+use Rattle.syntax.specs.Form.{Form, token, give, ◌>>=◌}
+use Rattle.syntax.specs.Parts.{here, here_at, stands_for, token_as, token_as_at}
 use Rattle.syntax.specs.Expressions.{additive, comparative, conjunctive, disjunctive, multiplicative, chain, chain_tree, choice_tree, product, sum, comparison, conjunction, disjunction, compared, comparison_operator, not_in, branches, choice}
-use Rattle.syntax.specs.Reading.{Reader, begins, token_at}
+use Rattle.syntax.specs.Reading.{Reader, token_at}
 use Rattle.syntax.specs.ReadingExpressions.{asks, branches_at, choice_at, compared_at, compares, comparison_at, comparison_operator_at, conjunction_at, disjunction_at, not_in_at, plain_comparison_at, product_at, sum_at}
-use Rattle.syntax.proofs.Binding.{After, AfterExpression, after_kind, binding}
+use Rattle.syntax.proofs.Binding.{After, after_kind, binding}
 use Rattle.syntax.proofs.Chains.{line-either, line-map, line-then-optional}
 use Rattle.syntax.proofs.Laws.{bind_at, give_at}
-use Rattle.syntax.proofs.Line.{Line, Any, line-token, line-give, line-then, line-choice, line-bind, line-stops, begins_token, begun_token}
-use Rattle.syntax.proofs.Lists.{line-listed}
+use Rattle.syntax.proofs.Line.{Line, Any, line-token, line-then, line-bind, line-stops, begins_token, begun_token}
 use Rattle.syntax.proofs.Numbers.{is-true}
 use Rattle.syntax.proofs.Operators.{after_less, head_binds, head_ends, line-chain, rank-additive, rank-conjunctive, rank-disjunctive, rank-multiplicative}
-use Rattle.syntax.proofs.Starts.{Starts, begins-head, starts-bind, starts-or, starts-never, starts-token}
-use Rattle.syntax.proofs.Steps.{IsInside, line-as, line-deep, line-here, line-opened, starts-as, starts-here, starts-opened}
+use Rattle.syntax.proofs.Starts.{Starts, begins-head, starts-bind, starts-or, starts-token}
+use Rattle.syntax.proofs.Steps.{line-as, line-here, starts-as, starts-here}
 
 -- ---- comparisons
 

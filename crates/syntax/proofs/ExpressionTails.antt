@@ -1,12 +1,10 @@
 -- What the functions that read expressions answer, case by case.
-use Rattle.std.proofs.Common.{inl, inr, take, drop, get_or, Bool, Option, Some, None, ◌≡◌, ℕ, zero, suc, ◌+◌, ◌-◌, ◌≤◌, ◌<◌, true, false, List, [], ◌∷◌, ◌++◌, length, Result, Ok, Err, refl, sym, ap, ◌∙◌, arith, sub-one, append_assoc}
+use Rattle.std.proofs.Common.{inl, inr, take, drop, get_or, Bool, Option, Some, None, ◌≡◌, ℕ, zero, suc, ◌+◌, ◌-◌, ◌≤◌, ◌<◌, true, false, List, [], ◌∷◌, length, Ok, Err, refl, sym, ap, ◌∙◌, arith, sub-one}
 use Rattle.std.proofs.Common.{rules}
 use Rattle.std.proofs.lemmas.Grind.{common_steps}
-use Rattle.std.proofs.lemmas.List.{append-nil}
 use Rattle.lexer.specs.declared.token.Kind.{Kind}
 use Rattle.lexer.specs.declared.token.Token.{Token}
 use Rattle.lexer.specs.declared.token.Kind.TheVariants as Kinds
-use Rattle.syntax.specs.declared.stop.Stop.{Stop}
 use Rattle.syntax.specs.declared.stop.Stop.TheVariants.{Unexpected, TooDeep}
 use Rattle.syntax.specs.declared.stop.ReadError.{ReadError}
 use Rattle.syntax.specs.declared.stop.ReadError.TheVariants as errors
@@ -14,7 +12,7 @@ use Rattle.lexer.specs.Lexeme.{Lexeme, lexeme_of, lexemes}
 use Rattle.syntax.specs.ExpressionTree.{ArgumentTree, ExpressionTree, LiteralTree}
 use Rattle.syntax.specs.declared.tree.Prefix.TheVariants as prefixes
 use Rattle.syntax.proofs.Laws.{cases_bool, cases_result}
-use Rattle.syntax.specs.Reading.{Reader, ◌>>=◌, Fails, begins, deep_at, head_is, or_at, token_at, two_begin}
+use Rattle.syntax.specs.Reading.{Reader, Fails, begins, deep_at, head_is, or_at, token_at, two_begin}
 use Rattle.syntax.specs.declared.parser.expression.Rank.{Rank}
 use Rattle.syntax.specs.declared.parser.expression.Rank.TheVariants as ranks
 use Rattle.std.specs.Option.{is_some}
@@ -22,7 +20,7 @@ use Rattle.syntax.specs.declared.tree.Literal.{Literal}
 use Rattle.syntax.specs.declared.tree.Operator.{Operator}
 use Rattle.syntax.specs.Expressions.{comparative, literal_of}
 use Rattle.syntax.specs.Parts.{after_as, opened_at, stands_for, taken, token_as_at}
-use Rattle.syntax.specs.ReadingExpressions.{argument_at, arguments_at, arguments_in, atom_at, base_at, call_at, choice_at, comparison_operator_at, dictionary_at, disjunction_at, enter_at, entered_at, expr_at, group_at, index_at, inner_at, items_at, items_of, link_at, list_at, literal_at, method_at, name_at, named_at, not_in_at, operand_at, plain_comparison_at, positional_at, postfix_at, prefixed_at, unary_at, unary_in_at}
+use Rattle.syntax.specs.ReadingExpressions.{argument_at, arguments_at, arguments_in, atom_at, base_at, call_at, choice_at, comparison_operator_at, dictionary_at, disjunction_at, enter_at, entered_at, group_at, index_at, inner_at, items_at, link_at, list_at, literal_at, method_at, name_at, named_at, not_in_at, operand_at, plain_comparison_at, positional_at, postfix_at, prefixed_at, unary_at, unary_in_at}
 use Rattle.syntax.proofs.Steps.{cases_option}
 use Rattle.syntax.proofs.Tails.{length_lexemes}
 

@@ -1,24 +1,24 @@
 -- The lines of the grammar of expressions, from atoms to whole expressions.
-use Rattle.std.proofs.Common.{◌≡◌, ℕ, zero, suc, ◌+◌, ◌≤◌, ◌<◌, Bool, true, false, cond, List, [], ◌∷◌, length, Option, Some, None, refl, sym, ap, subst, ◌∙◌, inl, inr, lit≤, arith}
+use Rattle.std.proofs.Common.{◌≡◌, ℕ, zero, suc, ◌+◌, ◌<◌, Bool, true, false, List, [], ◌∷◌, Option, Some, None, refl, sym, ap, subst, ◌∙◌, inl, inr, lit≤, arith}
 use Rattle.lexer.specs.Lexeme.{Lexeme}
 use Rattle.lexer.specs.Kinds.{is}
 use Rattle.lexer.specs.declared.token.Kind.{Kind}
 use Rattle.lexer.specs.declared.token.Kind.TheVariants as Kinds
 use Rattle.syntax.specs.declared.tree.Prefix.{Prefix}
 use Rattle.syntax.specs.declared.tree.Prefix.TheVariants as prefixes
-use Rattle.syntax.specs.ExpressionTree.{ExpressionTree, NameTree, FunctionTree, ArgumentTree, LinkTree, MethodTree, IndexTree, PrefixTree, arguments}
-use Rattle.syntax.specs.Form.{Form, token, give, listed, same_state, many, ◌>>=◌, ◌or◌}
-use Rattle.syntax.specs.Parts.{Inner, Closed, Inside, here, here_at, opened, opened_at, stands_for}
+use Rattle.syntax.specs.ExpressionTree.{ExpressionTree, NameTree, FunctionTree, MethodTree, IndexTree, PrefixTree, arguments}
+use Rattle.syntax.specs.Form.{Form, token, give, listed, same_state, ◌>>=◌, ◌or◌}
+use Rattle.syntax.specs.Parts.{Inner, Closed, Inside, here, here_at, opened, stands_for}
 use Rattle.syntax.specs.Expressions.{atom, call, choice, dictionary, expr, group, in_parentheses, index, is_named, items, link, list, literal, literal_of, method, name, plain_arguments, postfix, postfix_tree, prefixed, unary, unary_in, argument}
-use Rattle.syntax.specs.Reading.{Reader, begins, listed_at, or_at, token_at}
+use Rattle.syntax.specs.Reading.{Reader, begins, token_at}
 use Rattle.syntax.specs.ReadingExpressions.{argument_at, arguments_at, arguments_in, atom_at, base_at, call_at, choice_at, dictionary_at, expr_at, group_at, in_parentheses_at, index_at, items_at, items_of, link_at, links_at, links_on, list_at, literal_at, method_at, name_at, postfix_at, prefixed_at, unary_at, unary_in_at}
 use Rattle.syntax.proofs.Alike.{line-alike}
 use Rattle.syntax.proofs.Atoms.{either, inside, line-argument, line-closed, line-dictionary, line-group, line-list, line-literal, line-name, of_kind, starts-either, starts-weaker, starts-inside, starts-literal, starts-name, AfterArgument}
-use Rattle.syntax.proofs.Binding.{After, AfterExpression, after_kind, binding, head_binding}
+use Rattle.syntax.proofs.Binding.{After, AfterExpression, after_kind, binding}
 use Rattle.syntax.proofs.Chains.{line-map, line-then-many}
-use Rattle.syntax.proofs.ChoiceLines.{line-before, line-choice-of, single_choice, starts-choice}
+use Rattle.syntax.proofs.ChoiceLines.{line-before, single_choice}
 use Rattle.syntax.proofs.Laws.{bind_at, give_at}
-use Rattle.syntax.proofs.Line.{Line, Any, line-bind, line-choice, line-give, line-stops, line-then, line-token, begins_token, begun_token}
+use Rattle.syntax.proofs.Line.{Line, Any, line-choice, line-give, line-stops, line-then, line-token}
 use Rattle.syntax.proofs.Numbers.{is-true}
 use Rattle.syntax.proofs.Operators.{after_less, head_binds, head_ends}
 use Rattle.syntax.proofs.Starts.{Starts, begins-head, starts-bind, starts-never, starts-or, starts-token}

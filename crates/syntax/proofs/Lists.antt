@@ -10,12 +10,12 @@ use Rattle.syntax.specs.Form.{◌>>=◌ as ◌then◌}
 use Rattle.lexer.specs.Kinds.{is}
 use Rattle.syntax.specs.Reading.{Reader, ◌>>=◌, begins, token_at, tail_at, items_by, listed_at}
 use Rattle.syntax.proofs.Ends.{Ends, IsEnd, end_then, ends-bind, ends-give, ends-or, ends-token}
-use Rattle.syntax.proofs.Laws.{IsForm, IsForm-bind, IsForm-give, IsForm-many, IsForm-optional, IsForm-or, IsForm-token, bind_err, cases_bool, reads-token}
+use Rattle.syntax.proofs.Laws.{IsForm, IsForm-bind, IsForm-give, IsForm-optional, IsForm-or, IsForm-token, bind_err, cases_bool, reads-token}
 use Rattle.syntax.proofs.Line.{Line}
 use Rattle.syntax.proofs.Listed.{reads-listed}
 use Rattle.syntax.proofs.Numbers.{is-true}
 use Rattle.syntax.proofs.Raises.{Raises, TooDeepAt}
-use Rattle.syntax.proofs.Starts.{Starts, Takes, head_is, takes-bind, takes-give, takes-less, takes-many, takes-or, takes-token}
+use Rattle.syntax.proofs.Starts.{Starts, Takes, head_is, takes-bind, takes-give, takes-less, takes-or, takes-token}
 
 comma_yes : (ts : List Lexeme) → begins Kinds.Comma ts ≡ true → (c : Lexeme) × (rest : List Lexeme) × (ts ≡ c ∷ rest) × (c.kind ≡ Kinds.Comma) × (token_at Kinds.Comma ts ≡ Ok (c, rest))
 comma_yes [] b = absurd cc

@@ -1,5 +1,5 @@
 -- The trees of what the code makes.
-use Rattle.std.proofs.Common.{◌≡◌, ℕ, List, map, [], ◌∷◌, ◌++◌, refl, ap, sym, ◌∙◌, Bor, Vec, Global, Option, Some, None}
+use Rattle.std.proofs.Common.{◌≡◌, ℕ, List, map, [], ◌∷◌, ◌++◌, refl, ap, sym, ◌∙◌, Bor, Option, Some, None}
 use Rattle.std.proofs.lemmas.List.{map_push}
 use Rattle.std.specs.Option.{is_some, option_map}
 use Rattle.syntax.specs.declared.tree.Expression.{Expression}
@@ -11,7 +11,7 @@ use Rattle.syntax.specs.declared.tree.Argument.{Argument}
 use Rattle.syntax.specs.declared.tree.Operand.{Operand}
 use Rattle.syntax.specs.declared.tree.Literal.{Literal}
 use Rattle.syntax.specs.declared.tree.Operator.{Operator}
-use Rattle.syntax.specs.ExpressionTree.{ArgumentTree, EntryTree, ExpressionTree, LinkTree, LiteralTree, OperandTree, argument_of, argument_step, entry_of, entry_step, expression_of, expression_step, link_step, operand_of, operand_step}
+use Rattle.syntax.specs.ExpressionTree.{ArgumentTree, EntryTree, ExpressionTree, LinkTree, LiteralTree, OperandTree, argument_of, argument_step, entry_step, expression_of, expression_step, link_step, operand_of, operand_step}
 
 pub operand_of-made : (o : Operator) (e : Expression) → operand_of (Views.roll-Operand record { operator = o; value = e }) ≡ (o, expression_of e)
 operand_of-made o e = fold-roll-Operand ExpressionTree LinkTree ArgumentTree EntryTree OperandTree expression_step link_step argument_step entry_step operand_step record { operator = o; value = e }

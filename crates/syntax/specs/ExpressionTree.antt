@@ -24,21 +24,27 @@ mutual
     PrefixTree : Prefix → ExpressionTree → ℕ → ExpressionTree
     ChainTree : ExpressionTree → OperandTrees → ℕ → ExpressionTree
     ChoiceTree : ExpressionTree → ExpressionTree → ExpressionTree → ℕ → ExpressionTree
+
   pub data ExpressionTrees : Type 0 where
     NoExpression : ExpressionTrees
     MoreExpressions : ExpressionTree → ExpressionTrees → ExpressionTrees
+
   pub data EntryTrees : Type 0 where
     NoEntry : EntryTrees
     MoreEntries : ExpressionTree → ExpressionTree → EntryTrees → EntryTrees
+
   pub data ArgumentTrees : Type 0 where
     NoArgument : ArgumentTrees
     MoreArguments : Option (List ℕ) → ExpressionTree → ArgumentTrees → ArgumentTrees
+
   pub data LinkTree : Type 0 where
     MethodTree : List ℕ → ArgumentTrees → LinkTree
     IndexTree : ExpressionTree → LinkTree
+
   pub data LinkTrees : Type 0 where
     NoLink : LinkTrees
     MoreLinks : LinkTree → LinkTrees → LinkTrees
+
   pub data OperandTrees : Type 0 where
     NoOperand : OperandTrees
     MoreOperands : Operator → ExpressionTree → OperandTrees → OperandTrees

@@ -12,7 +12,9 @@ ghost use Rattle.syntax.specs.ReadingExpressions.{arguments_at, expr_at};
 ghost use Rattle.syntax.specs.ReadingStatements.{assign_at, call_at, file_at, line_at, stmt_at};
 ghost use Rattle.syntax.specs.Tree.{FileTree, file_of, statement_of};
 
+mod atom;
 mod expression;
+mod postfix;
 
 use crate::stop::{ReadError, Stop};
 use crate::tree::{Expression, File, Statement};
@@ -192,9 +194,11 @@ fn located(source: &str, tokens: &[Token<'_>], stop: Stop) -> SyntaxFault
 /// The file that a source spells.
 ///
 /// A file is lines with a statement each, or none: an assignment `name = expression`, or a call `name(expression, ..)`;
-/// an expression is a name, a string, or an expression in parentheses. What is no file has a fault at the line of a
-/// token, where the end counts as one: E2 where the source has no tokens; E3 at the first token up to which the tokens
-/// begin no file; E4 at the first that opens level 65, where that comes before.
+/// expressions are those of the Meson manual's page "Syntax": names, literals, lists, dictionaries, calls, methods,
+/// indexes, operators and choices. Two comparisons do not follow one another, no choice stands inside the branches of
+/// another, and arguments with a name stand behind the others. What is no file has a fault at the line of a token,
+/// where the end counts as one: E2 where the source has no tokens; E3 at the first token up to which the tokens begin
+/// no file; E4 at the first that opens level 65, where that comes before. A bracket and a prefix operator open a level.
 pub fn parse(alloc: Global, source: &str) -> Result<File<'_>, SyntaxError>
     // Unless memory runs out, it is this function of the source.
     ensures reads { Answers file_of result (parsed source.now) }

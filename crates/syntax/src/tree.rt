@@ -45,7 +45,10 @@ pub enum Expression<'a> {
         line: usize,
     },
     /// `{key : value, key : value}`
-    Dictionary { entries: Vec<Entry<'a>>, line: usize },
+    Dictionary {
+        entries: Vec<Entry<'a>>,
+        line: usize,
+    },
     /// `name(argument, name: argument)`
     Call {
         name: &'a str,
@@ -161,5 +164,7 @@ pub enum Link<'a> {
         arguments: Vec<Argument<'a>>,
     },
     /// `[index]`
-    Index { index: Expression<'a> },
+    Index {
+        index: Expression<'a>,
+    },
 }
