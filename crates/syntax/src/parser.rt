@@ -11,7 +11,9 @@ ghost use Rattle.syntax.specs.Reading.{Gives, GivesAll, all_of, begins, tokens_l
 ghost use Rattle.syntax.specs.ReadingStatements.{file_at, next_line_at};
 ghost use Rattle.syntax.specs.Tree.{FileTree, file_of, statement_of};
 
+mod atom;
 mod expression;
+mod postfix;
 mod statement;
 
 use crate::stop::{ReadError, Stop};
@@ -136,11 +138,15 @@ fn located(source: &str, tokens: &[Token<'_>], stop: Stop) -> SyntaxFault
 /// The file that a source spells.
 ///
 /// A file is lines with a statement each, or none, of the forms of the Meson manual's page "Syntax": `name = expression`,
-/// `name += expression`, a call `name(expression, ..)`, `break` and `continue` inside a `foreach`, `if` with its `elif` and
-/// `else` parts up to `endif`, and `foreach` up to `endforeach`; so are expressions. What is no file has a fault at the line
-/// of a token, where the end counts as one: E2 where the source has no tokens; E3 at the first token up to which the tokens
-/// begin no file; E4 at the first that opens level 65, where that comes before. A bracket opens a level, and so does a
-/// block at its first word, with its condition or list inside; `elif` and `else` open none.
+/// `name += expression`, an expression alone, `break` and `continue` inside a `foreach`, `if` with its `elif` and `else`
+/// parts up to `endif`, and `foreach` up to `endforeach`. Expressions are names, literals, lists, dictionaries, calls,
+/// methods, indexes, operators and choices. Two comparisons do not follow one another, no choice stands inside the
+/// branches of another, and arguments with a name stand behind the others.
+///
+/// What is no file has a fault at the line of a token, where the end counts as one: E2 where the source has no tokens; E3
+/// at the first token up to which the tokens begin no file; E4 at the first that opens level 65, where that comes before.
+/// A bracket and a prefix operator open a level, and so does a block at its first word, with its condition or list
+/// inside; `elif` and `else` open none.
 pub fn parse(alloc: Global, source: &str) -> Result<File<'_>, SyntaxError>
     // Unless memory runs out, it is this function of the source.
     ensures reads { Answers file_of result (parsed source.now) }

@@ -75,3 +75,61 @@ fn refuses(rt: HostRuntime) -> Result<(), Fail> {
     assert_eq!(rt; FaultKind::Grammar.number(), 3);
     Ok(())
 }
+
+#[test]
+fn reads_expressions(rt: HostRuntime) -> Result<(), Fail> {
+    let file = parse(
+        rt.alloc(),
+        "x = not a == b ? [c, ('d'\n) + e].f(g, h : i)[j] : {'k' : -l}",
+    )?;
+    assert_eq!(rt; file.statements.len(), 1);
+    assert!(rt;
+        matches!(
+            &file.statements[0],
+            Statement::Assign {
+                value: Expression::Choice { line: 1, .. },
+                ..
+            }
+        )
+    );
+    let file = parse(rt.alloc(), "x = a.b()[c] - (\nd) + 'e' / f")?;
+    assert_eq!(rt; file.statements.len(), 1);
+    if let Statement::Assign {
+        value: Expression::Chain {
+            first,
+            others,
+            line,
+        },
+        ..
+    } = &file.statements[0]
+    {
+        assert_eq!(rt; *line, 1);
+        assert!(rt; matches!(&**first, Expression::Postfix { line: 1, .. }));
+        assert_eq!(rt; others.len(), 2);
+        assert!(rt; matches!(&others[0].value, Expression::Name { name: "d", line: 2 }));
+        assert!(rt; matches!(&others[1].value, Expression::Chain { line: 2, .. }));
+    } else {
+        assert!(rt; false);
+    }
+    Ok(())
+}
+
+#[test]
+fn refuses_expressions(rt: HostRuntime) -> Result<(), Fail> {
+    let alloc = rt.alloc();
+    // No comparison stands behind another, no choice in a choice, no value without a name behind one that has it.
+    assert_eq!(rt;
+        parse(alloc, "x = (a ==\nb\n== c)").err(),
+        Some(fault(FaultKind::Grammar, 3))
+    );
+    assert_eq!(rt;
+        parse(alloc, "x = (a ? b : [(c\n? d : e)])").err(),
+        Some(fault(FaultKind::Grammar, 2))
+    );
+    assert_eq!(rt;
+        parse(alloc, "f(g(n : a,\n'b'))").err(),
+        Some(fault(FaultKind::Grammar, 2))
+    );
+    assert!(rt; parse(alloc, "x = (a ? b : c) ? d : e").is_ok());
+    Ok(())
+}
