@@ -4,11 +4,11 @@ use crate::given::{Given, with_definitions};
 use std::alloc::{AllocError, Global};
 use std::test::Fail;
 
-// Definitions behind the call of `project`, and what is said of them behind `meson.build:`.
-type Row = (&'static str, &'static str);
+/// Definitions behind the call of `project`, and what is said of them behind `meson.build:`.
+pub type Row = (&'static str, &'static str);
 
-// Whether definitions are refused with this, said behind `meson.build:`.
-fn is_refused(
+/// Whether definitions are refused with this, said behind `meson.build:`.
+pub fn is_refused(
     alloc: Global,
     definitions: &[u8],
     others: &[&str],
@@ -19,8 +19,8 @@ fn is_refused(
     comes_to(alloc, &given, Expected::Fault(&line))
 }
 
-// Whether a row is right, where these files are there.
-fn is_right(alloc: Global, row: Row, others: &[&str]) -> Result<bool, AllocError> {
+/// Whether a row is right, where these files are there.
+pub fn is_right(alloc: Global, row: Row, others: &[&str]) -> Result<bool, AllocError> {
     let (rest, said) = row;
     let definitions = format!(in alloc; "project('p','c')\n{rest}")?;
     is_refused(alloc, definitions.as_bytes(), others, said)

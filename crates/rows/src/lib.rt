@@ -16,6 +16,8 @@ mod faults;
 #[cfg(test)]
 mod given;
 #[cfg(test)]
+mod language;
+#[cfg(test)]
 mod memory;
 #[cfg(test)]
 mod program;

@@ -6,6 +6,8 @@ mod expressions;
 #[cfg(test)]
 mod faults;
 #[cfg(test)]
+mod fronts;
+#[cfg(test)]
 mod levels;
 #[cfg(test)]
 mod statements;
