@@ -13,9 +13,9 @@ mod printable;
 mod write;
 
 use crate::page::{Page, Stop};
-use crate::printable::is_printable;
 use crate::write::write;
 use data::{Refusal, Value};
+pub use printable::is_printable;
 use std::alloc::{AllocError, Global};
 
 /// The text that a value is printed as.
