@@ -1,2 +1,3 @@
+mod FormattedLemmas
 mod KeyLemmas
 mod TextListLemmas

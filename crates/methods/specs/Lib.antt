@@ -5,4 +5,7 @@ pub mod Truths
 pub mod Lists
 pub mod TextLists
 pub mod Dictionaries
+pub mod Flat
+pub mod Formatted
+pub mod TextMethods
 pub mod Methods

@@ -1,8 +1,8 @@
 //! What the arguments of a call are.
 
-ghost use Rattle.std.specs.Prelude.{◌≡◌, MatchResult, Ok, Err, option_map, map};
+ghost use Rattle.std.specs.Prelude.{◌≡◌, MatchResult, Ok, Err, Some, None, option_map, map};
 ghost use Rattle.data.specs.View.{data_of};
-ghost use Rattle.methods.specs.Arguments.{no_arguments, one_argument, key_and_fallback, text_argument, integer_argument};
+ghost use Rattle.methods.specs.Arguments.{no_arguments, one_argument, key_and_fallback, text_argument, integer_argument, one_text, two_texts, bounds};
 
 use data::{Refusal, Value};
 
@@ -60,6 +60,39 @@ pub fn integer(argument: &Value) -> Result<i128, Refusal>
 {
     match argument {
         Value::Integer(integer) => Ok(*integer),
+        _ => Err(Refusal::Arguments),
+    }
+}
+
+/// The text that the only argument is.
+pub fn one_text(arguments: &[Value]) -> Result<&str, Refusal>
+    ensures { MatchResult result
+        (λ t. one_text (map data_of arguments.now) ≡ Ok t.now)
+        (λ e. one_text (map data_of arguments.now) ≡ Err e) }
+{
+    text(one(arguments)?)
+}
+
+/// The texts that the only two arguments are.
+pub fn two_texts(arguments: &[Value]) -> Result<(&str, &str), Refusal>
+    ensures { MatchResult result
+        (λ p. two_texts (map data_of arguments.now) ≡ Ok (p.0.now, p.1.now))
+        (λ e. two_texts (map data_of arguments.now) ≡ Err e) }
+{
+    match arguments {
+        [first, second] => Ok((text(first)?, text(second)?)),
+        _ => Err(Refusal::Arguments),
+    }
+}
+
+/// Two integers, of which the second or both may be left out.
+pub fn bounds(arguments: &[Value]) -> Result<(Option<i128>, Option<i128>), Refusal>
+    ensures { result ≡ bounds (map data_of arguments.now) }
+{
+    match arguments {
+        [] => Ok((None, None)),
+        [from] => Ok((Some(integer(from)?), None)),
+        [from, to] => Ok((Some(integer(from)?), Some(integer(to)?))),
         _ => Err(Refusal::Arguments),
     }
 }

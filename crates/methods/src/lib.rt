@@ -5,11 +5,15 @@
 
 mod arguments;
 mod dictionaries;
+mod flat;
+mod formatted;
 mod integers;
 mod lists;
 mod methods;
 mod stop;
 mod text_lists;
+mod text_methods;
 mod truths;
 
+pub use formatted::format_text;
 pub use methods::{has_method, method};

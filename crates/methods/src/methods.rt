@@ -9,6 +9,7 @@ use crate::dictionaries::{DictionaryMethod, dictionary_method};
 use crate::integers::{IntegerMethod, integer_method};
 use crate::lists::{ListMethod, list_method};
 use crate::stop::Stop;
+use crate::text_methods::{TextMethod, text_method};
 use crate::truths::{TruthMethod, truth_method};
 use data::{Refusal, Value};
 use std::alloc::{AllocError, Global};
@@ -30,7 +31,8 @@ pub fn method(
         Value::Integer(integer) => integer_method(alloc, *integer, name, arguments),
         Value::List(list) => list_method(list, name, arguments),
         Value::Dictionary(dictionary) => dictionary_method(alloc, dictionary, name, arguments),
-        Value::Text(_) | Value::Object(_) => Err(Stop::Refused(Refusal::UnknownMethod)),
+        Value::Text(text) => text_method(alloc, text.as_str(), name, arguments),
+        Value::Object(_) => Err(Stop::Refused(Refusal::UnknownMethod)),
     };
     match answer {
         Ok(value) => Ok(Ok(value)),
@@ -48,6 +50,7 @@ pub fn has_method(receiver: &Value, name: &str) -> bool
         Value::Integer(_) => IntegerMethod::named(name).is_some(),
         Value::List(_) => ListMethod::named(name).is_some(),
         Value::Dictionary(_) => DictionaryMethod::named(name).is_some(),
-        Value::Text(_) | Value::Object(_) => false,
+        Value::Text(_) => TextMethod::named(name).is_some(),
+        Value::Object(_) => false,
     }
 }

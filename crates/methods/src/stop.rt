@@ -1,9 +1,9 @@
 //! Why a call gives no value.
 
-ghost use Rattle.std.specs.Prelude.{◌≡◌};
+ghost use Rattle.std.specs.Prelude.{◌≡◌, alloc_error};
 
 use data::Refusal;
-use std::alloc::AllocError;
+use std::alloc::{AllocError, AllocFailed};
 
 /// Why a call gives no value.
 #[derive(Drop)]
@@ -29,5 +29,15 @@ impl From<AllocError> for Stop {
 
     fn from(error: AllocError) -> Stop {
         Stop::Memory(error)
+    }
+}
+
+impl<T: Drop> From<AllocFailed<T>> for Stop {
+    ghost use Rattle.methods.specs.declared.stop.Stop.TheVariants.{Memory};
+
+    ghost from_gives = { λ _ s. s ≡ Memory alloc_error };
+
+    fn from(failed: AllocFailed<T>) -> Stop {
+        Stop::Memory(AllocError::from(failed))
     }
 }
