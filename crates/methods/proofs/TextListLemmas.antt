@@ -1,11 +1,11 @@
 -- Lists of texts as they grow.
-use Rattle.std.proofs.Common.{◌≡◌, ℕ, ◌+◌, ◌<◌, ◌≤◌, Bool, true, false, Bor, List, [], ◌∷◌, Ok, Err, map, length, drop, get_or, refl, sym, ap, subst, ◌∙◌}
+use Rattle.std.proofs.Common.{◌≡◌, ℕ, ◌+◌, ◌<◌, Bool, true, false, Bor, List, [], ◌∷◌, Ok, Err, map, length, drop, get_or, refl, sym}
+use Rattle.std.proofs.Common.{ap, subst, ◌∙◌}
 use Rattle.std.specs.Prelude.{◌&&◌, if◌then◌else◌}
 use Rattle.std.specs.List.{list_all}
-use Rattle.std.proofs.lemmas.List.{drop_more, drop_all}
-use Rattle.data.specs.declared.refusal.Refusal.{Refusal}
+use Rattle.std.proofs.lemmas.List.{drop_more}
 use Rattle.data.specs.declared.refusal.Refusal.TheVariants as refusal
-use Rattle.data.specs.Data.{Data, text, list, Items, no_items, item, items_append}
+use Rattle.data.specs.Data.{text, list, Items, no_items, item, items_append}
 use Rattle.data.specs.Limits.{items_fit}
 use Rattle.data.proofs.ItemsLemmas.{items_append_assoc, items_append_none, front_fits}
 use Rattle.methods.specs.declared.stop.Stop.{Stop}
@@ -47,7 +47,8 @@ next_text : (ts : List (Bor (List ℕ))) (i : ℕ) (x : Bor (List ℕ)) → i < 
     → map (λ t. t.now) (drop i ts) ≡ (get_or ts i x).now ∷ map (λ t. t.now) (drop (i + 1) ts)
 next_text ts i x h = ap (map (λ t. t.now)) (drop_more ts i x h)
 
-appended : (ds : Items) (t : List ℕ) (rest : List (List ℕ)) → items_append (items_append ds (item (text t) no_items)) (texts rest) ≡ items_append ds (texts (t ∷ rest))
+appended : (ds : Items) (t : List ℕ) (rest : List (List ℕ))
+    → items_append (items_append ds (item (text t) no_items)) (texts rest) ≡ items_append ds (texts (t ∷ rest))
 appended ds t rest = items_append_assoc ds (item (text t) no_items) (texts rest)
 
 -- a text that does not fit leaves no list
@@ -68,31 +69,37 @@ refused ds t rest all grows bad =
 grown : (ds more : Items) (t : List ℕ) (rest all : List (List ℕ)) → Grows ds (t ∷ rest) all
     → more ≡ items_append ds (item (text t) no_items) → is_short t ≡ true → items_fit more ≡ true → Grows more rest all
 grown ds more t rest all grows is short fit = record {
-    whole = ap (λ x. items_append x (texts rest)) is ∙ appended ds t rest ∙ grows.whole;
-    short = sym (ap (λ b. b && list_all is_short rest) short) ∙ grows.short;
-    fit = fit;
-  }
+  whole = ap (λ x. items_append x (texts rest)) is ∙ appended ds t rest ∙ grows.whole;
+  short = sym (ap (λ b. b && list_all is_short rest) short) ∙ grows.short;
+  fit = fit;
+}
 
 pub finished : (ds : Items) (all : List (List ℕ)) → Grows ds [] all → text_list all ≡ Ok (list ds)
 finished ds all grows =
     let is : texts all ≡ ds = sym grows.whole ∙ items_append_none ds in
-    when (list_all is_short all && items_fit (texts all)) (Ok (list (texts all))) (Err refusal.Limit) (both_true (list_all is_short all) (items_fit (texts all)) (sym grows.short) (ap items_fit is ∙ grows.fit))
+    when (list_all is_short all && items_fit (texts all)) (Ok (list (texts all))) (Err refusal.Limit)
+    (both_true (list_all is_short all) (items_fit (texts all)) (sym grows.short) (ap items_fit is ∙ grows.fit))
     ∙ ap (λ x. Ok (list x)) is
 
-refused_by : (s : Stop) (ds after : Items) (t : List ℕ) (rest all : List (List ℕ)) → Grows ds (t ∷ rest) all → Puts ds t after (Err s) → Gives (text_list all) (Err s)
+refused_by : (s : Stop) (ds after : Items) (t : List ℕ) (rest all : List (List ℕ)) → Grows ds (t ∷ rest) all → Puts ds t after (Err s)
+    → Gives (text_list all) (Err s)
 refused_by (stop.Refused r) ds after t rest all grows bad = refused ds t rest all grows bad.1 ∙ ap (λ e. Err e) (sym bad.0)
 refused_by (stop.Memory e) ds after t rest all grows bad = tt
 
-grows_next : (ts : List (Bor (List ℕ))) (i : ℕ) (x : Bor (List ℕ)) (ds : Items) → i < length ts → Grows ds (map (λ t. t.now) (drop i ts)) (map (λ t. t.now) ts)
+grows_next : (ts : List (Bor (List ℕ))) (i : ℕ) (x : Bor (List ℕ)) (ds : Items) → i < length ts
+    → Grows ds (map (λ t. t.now) (drop i ts)) (map (λ t. t.now) ts)
     → Grows ds ((get_or ts i x).now ∷ map (λ t. t.now) (drop (i + 1) ts)) (map (λ t. t.now) ts)
 grows_next ts i x ds h grows = subst (λ (left : List (List ℕ)). Grows ds left (map (λ t. t.now) ts)) (next_text ts i x h) grows
 
 pub refused_at : (ts : List (Bor (List ℕ))) (i : ℕ) (x : Bor (List ℕ)) (s : Stop) (ds after : Items) → i < length ts
-    → Grows ds (map (λ t. t.now) (drop i ts)) (map (λ t. t.now) ts) → Puts ds (get_or ts i x).now after (Err s) → Gives (text_list (map (λ t. t.now) ts)) (Err s)
+    → Grows ds (map (λ t. t.now) (drop i ts)) (map (λ t. t.now) ts) → Puts ds (get_or ts i x).now after (Err s)
+    → Gives (text_list (map (λ t. t.now) ts)) (Err s)
 refused_at ts i x s ds after h grows bad =
     refused_by s ds after (get_or ts i x).now (map (λ t. t.now) (drop (i + 1) ts)) (map (λ t. t.now) ts) (grows_next ts i x ds h grows) bad
 
 pub grown_at : (ts : List (Bor (List ℕ))) (i : ℕ) (x : Bor (List ℕ)) (ds after : Items) → i < length ts
-    → Grows ds (map (λ t. t.now) (drop i ts)) (map (λ t. t.now) ts) → Puts ds (get_or ts i x).now after (Ok tt) → Grows after (map (λ t. t.now) (drop (i + 1) ts)) (map (λ t. t.now) ts)
+    → Grows ds (map (λ t. t.now) (drop i ts)) (map (λ t. t.now) ts) → Puts ds (get_or ts i x).now after (Ok tt)
+    → Grows after (map (λ t. t.now) (drop (i + 1) ts)) (map (λ t. t.now) ts)
 grown_at ts i x ds after h grows put =
-    grown ds after (get_or ts i x).now (map (λ t. t.now) (drop (i + 1) ts)) (map (λ t. t.now) ts) (grows_next ts i x ds h grows) put.0 put.1 put.2
+    grown ds after (get_or ts i x).now (map (λ t. t.now) (drop (i + 1) ts)) (map (λ t. t.now) ts) (grows_next ts i x ds h grows) put.0
+    put.1 put.2

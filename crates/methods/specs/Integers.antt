@@ -1,5 +1,6 @@
 -- The methods of integers: the type `int` of the page "Reference manual".
-use Rattle.std.specs.Prelude.{ℕ, ℤ, ◌%◌, ◌==◌, not, unsigned_abs, List, Option, Some, None, ok_or, codes, bytes_eq, Result, Ok, Err, if◌then◌else◌}
+use Rattle.std.specs.Prelude.{ℕ, ℤ, ◌%◌, ◌==◌, not, unsigned_abs, List, Option, Some, None, ok_or, codes, bytes_eq, Result, Ok}
+use Rattle.std.specs.Prelude.{if◌then◌else◌}
 use Rattle.std.specs.Fmt.{signed_decimal}
 use Rattle.data.specs.declared.refusal.Refusal.{Refusal}
 use Rattle.data.specs.declared.refusal.Refusal.TheVariants as refusal

@@ -23,5 +23,6 @@ text_list ts = if list_all is_short ts && items_fit (texts ts) then Ok (list (te
 -- a list has a text more and is within the limits, or it would have passed them, or memory ran out
 abbrev pub Puts : Items → List ℕ → Items → Result (Unit {0}) Stop → Type 0
 Puts before t after (Ok done) = (after ≡ items_append before (item (text t) no_items)) × (is_short t ≡ true) × (items_fit after ≡ true)
-Puts before t after (Err (stop.Refused r)) = (r ≡ refusal.Limit) × (is_short t && items_fit (items_append before (item (text t) no_items)) ≡ false)
+Puts before t after (Err (stop.Refused r)) = (r ≡ refusal.Limit) ×
+    (is_short t && items_fit (items_append before (item (text t) no_items)) ≡ false)
 Puts before t after (Err (stop.Memory e)) = Unit {0}

@@ -1,5 +1,5 @@
 -- The methods of texts: the type `str` of the page "Reference manual".
-use Rattle.std.specs.Prelude.{ℕ, List, [], Option, Some, None, ok_or, map, nat_eq, codes, bytes_eq, Result, Ok, Err, if◌then◌else◌}
+use Rattle.std.specs.Prelude.{ℕ, List, [], Option, Some, None, ok_or, map, nat_eq, codes, bytes_eq, Result, Ok, if◌then◌else◌}
 use Rattle.std.specs.Char.{to_ascii_lowercase, to_ascii_uppercase}
 use Rattle.std.specs.List as lists
 use Rattle.data.specs.declared.refusal.Refusal.{Refusal}

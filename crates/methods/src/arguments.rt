@@ -2,7 +2,8 @@
 
 ghost use Rattle.std.specs.Prelude.{◌≡◌, MatchResult, Ok, Err, Some, None, option_map, map};
 ghost use Rattle.data.specs.View.{data_of};
-ghost use Rattle.methods.specs.Arguments.{no_arguments, one_argument, key_and_fallback, text_argument, integer_argument, one_text, two_texts, bounds};
+ghost use Rattle.methods.specs.Arguments.{no_arguments, one_argument, key_and_fallback, text_argument, integer_argument};
+ghost use Rattle.methods.specs.Arguments.{one_text, two_texts, bounds};
 
 use data::{Refusal, Value};
 

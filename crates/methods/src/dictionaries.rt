@@ -68,11 +68,7 @@ fn has_key(dictionary: &Dictionary, arguments: &[Value]) -> Result<Value, Stop>
     Ok(Value::Truth(dictionary.get(key).is_some()))
 }
 
-fn keys(
-    alloc: Global,
-    dictionary: &Dictionary,
-    arguments: &[Value],
-) -> Result<Value, Stop>
+fn keys(alloc: Global, dictionary: &Dictionary, arguments: &[Value]) -> Result<Value, Stop>
     ensures { Gives (keys dictionary.now (map data_of arguments.now)) result }
 {
     none(arguments)?;

@@ -5,7 +5,8 @@ ghost use Rattle.data.specs.Data.{text as text_data};
 ghost use Rattle.data.specs.Limits.{within};
 ghost use Rattle.data.specs.View.{data_of};
 ghost use Rattle.methods.specs.Steps.{Gives};
-ghost use Rattle.methods.specs.TextMethods.{named, answer, contains, starts_with, ends_with, format, join, replace, split, split_lines, strip, substring, to_int, to_lower, to_upper, underscorify, version_compare};
+ghost use Rattle.methods.specs.TextMethods.{named, answer, contains, starts_with, ends_with, format, join, replace, split};
+ghost use Rattle.methods.specs.TextMethods.{split_lines, strip, substring, to_int, to_lower, to_upper, underscorify, version_compare};
 
 use crate::arguments::{bounds, none, one_text, two_texts};
 use crate::flat::flat_texts;
