@@ -16,4 +16,4 @@ pub use literal::dictionary;
 pub use logic::{Left, left_side, right_side};
 pub use operations::{binary, unary};
 pub use operator::{Binary, Connective, Unary};
-pub use parts::index;
+pub use parts::{index, indexed_item};

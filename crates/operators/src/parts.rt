@@ -58,7 +58,8 @@ fn place(index: i128, len: usize) -> Option<usize>
     }
 }
 
-fn indexed_item(list: &List, index: i128) -> Option<&Value>
+/// The item of a list that an index means. Negative ones count from the end.
+pub fn indexed_item(list: &List, index: i128) -> Option<&Value>
     ensures { option_map (λ v. data_of v.now) result ≡ indexed_item list.now index }
 {
     let at = place(index, list.len())?;

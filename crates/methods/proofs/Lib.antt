@@ -1,0 +1,3 @@
+mod FormattedLemmas
+mod KeyLemmas
+mod TextListLemmas

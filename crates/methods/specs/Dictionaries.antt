@@ -1,0 +1,56 @@
+-- The methods of dictionaries: the type `dict` of the page "Reference manual".
+use Rattle.std.specs.Prelude.{ℕ, List, [], ◌∷◌, Option, Some, None, ok_or, is_some, codes, bytes_eq, Result, Ok, if◌then◌else◌}
+use Rattle.std.specs.Ordering.{nat_cmp}
+use Rattle.std.specs.Cmp.Lexicographic.{slice_cmp}
+use Rattle.std.specs.BTreeSet.{insert_key}
+use Rattle.data.specs.declared.refusal.Refusal.{Refusal}
+use Rattle.data.specs.declared.refusal.Refusal.TheVariants as refusal
+use Rattle.data.specs.Data.{Data, truth, Entries, find, keys_in}
+use Rattle.methods.specs.declared.dictionaries.DictionaryMethod.{DictionaryMethod}
+use Rattle.methods.specs.declared.dictionaries.DictionaryMethod.TheVariants.{Get, HasKey, Keys}
+use Rattle.methods.specs.Steps.{◌>>=◌}
+use Rattle.methods.specs.Arguments.{no_arguments, one_argument, key_and_fallback, text_argument}
+use Rattle.methods.specs.Lists.{found_or}
+use Rattle.methods.specs.TextLists.{text_list}
+
+-- the method of a name
+abbrev pub named : List ℕ → Option DictionaryMethod
+named name =
+    if bytes_eq name (codes "get") then Some Get
+    else if bytes_eq name (codes "has_key") then Some HasKey
+    else if bytes_eq name (codes "keys") then Some Keys
+    else None
+
+-- the value at a key
+abbrev pub get : Entries → List Data → Result Data Refusal
+get es arguments = do
+  asked ← key_and_fallback arguments
+  k ← text_argument asked.0
+  found_or (find k es) asked.1
+
+abbrev pub has_key : Entries → List Data → Result Data Refusal
+has_key es arguments = do
+  d ← one_argument arguments
+  k ← text_argument d
+  Ok (truth (is_some (find k es)))
+
+-- ordered keys and further ones, each at its place in the order of bytes
+abbrev pub sorted_with : List (List ℕ) → List (List ℕ) → List (List ℕ)
+sorted_with sorted [] = sorted
+sorted_with sorted (k ∷ ks) = sorted_with (insert_key (slice_cmp nat_cmp) sorted k) ks
+
+-- the keys, in the order of their bytes
+abbrev pub keys : Entries → List Data → Result Data Refusal
+keys es arguments = do
+  _ ← no_arguments arguments
+  text_list (sorted_with [] (keys_in es))
+
+abbrev pub call : DictionaryMethod → Entries → List Data → Result Data Refusal
+call Get es arguments = get es arguments
+call HasKey es arguments = has_key es arguments
+call Keys es arguments = keys es arguments
+
+abbrev pub answer : Entries → List ℕ → List Data → Result Data Refusal
+answer es name arguments = do
+  method ← ok_or (named name) refusal.UnknownMethod
+  call method es arguments

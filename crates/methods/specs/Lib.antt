@@ -1,0 +1,11 @@
+pub mod Steps
+pub mod Arguments
+pub mod Integers
+pub mod Truths
+pub mod Lists
+pub mod TextLists
+pub mod Dictionaries
+pub mod Flat
+pub mod Formatted
+pub mod TextMethods
+pub mod Methods

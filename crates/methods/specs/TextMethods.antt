@@ -1,0 +1,163 @@
+-- The methods of texts: the type `str` of the page "Reference manual".
+use Rattle.std.specs.Prelude.{ℕ, List, [], Option, Some, None, ok_or, map, nat_eq, codes, bytes_eq, Result, Ok, if◌then◌else◌}
+use Rattle.std.specs.Char.{to_ascii_lowercase, to_ascii_uppercase}
+use Rattle.std.specs.List as lists
+use Rattle.data.specs.declared.refusal.Refusal.{Refusal}
+use Rattle.data.specs.declared.refusal.Refusal.TheVariants as refusal
+use Rattle.data.specs.Data.{Data, truth, integer, text}
+use Rattle.data.specs.Limits.{within}
+use Rattle.texts.specs.Search as search
+use Rattle.texts.specs.Joined.{joined, replaced}
+use Rattle.texts.specs.Letters.{underscorified}
+use Rattle.texts.specs.Number.{integer_of}
+use Rattle.texts.specs.Part.{part}
+use Rattle.texts.specs.Pieces as pieces
+use Rattle.texts.specs.Strip.{stripped, is_blank, is_among}
+use Rattle.versions.specs.Condition.{meets}
+use Rattle.methods.specs.declared.text_methods.TextMethod.{TextMethod}
+use Rattle.methods.specs.declared.text_methods.TextMethod.TheVariants as method
+use Rattle.methods.specs.Steps.{◌>>=◌}
+use Rattle.methods.specs.Arguments.{no_arguments, one_text, two_texts, bounds}
+use Rattle.methods.specs.Flat.{flat_texts}
+use Rattle.methods.specs.Formatted.{formatted_text}
+use Rattle.methods.specs.TextLists.{text_list}
+
+-- the method of a name
+abbrev pub named : List ℕ → Option TextMethod
+named name =
+    if bytes_eq name (codes "contains") then Some method.Contains
+    else if bytes_eq name (codes "startswith") then Some method.StartsWith
+    else if bytes_eq name (codes "endswith") then Some method.EndsWith
+    else if bytes_eq name (codes "format") then Some method.Format
+    else if bytes_eq name (codes "join") then Some method.Join
+    else if bytes_eq name (codes "replace") then Some method.Replace
+    else if bytes_eq name (codes "split") then Some method.Split
+    else if bytes_eq name (codes "splitlines") then Some method.SplitLines
+    else if bytes_eq name (codes "strip") then Some method.Strip
+    else if bytes_eq name (codes "substring") then Some method.Substring
+    else if bytes_eq name (codes "to_int") then Some method.ToInt
+    else if bytes_eq name (codes "to_lower") then Some method.ToLower
+    else if bytes_eq name (codes "to_upper") then Some method.ToUpper
+    else if bytes_eq name (codes "underscorify") then Some method.Underscorify
+    else if bytes_eq name (codes "version_compare") then Some method.VersionCompare
+    else None
+
+-- `contains`
+abbrev pub contains : List ℕ → List Data → Result Data Refusal
+contains t arguments = do
+  s ← one_text arguments
+  Ok (truth (search.contains t s))
+
+-- `startswith`
+abbrev pub starts_with : List ℕ → List Data → Result Data Refusal
+starts_with t arguments = do
+  s ← one_text arguments
+  Ok (truth (lists.starts_with nat_eq t s))
+
+-- `endswith`
+abbrev pub ends_with : List ℕ → List Data → Result Data Refusal
+ends_with t arguments = do
+  s ← one_text arguments
+  Ok (truth (lists.ends_with nat_eq t s))
+
+-- `format`
+abbrev pub format : List ℕ → List Data → Result Data Refusal
+format t arguments = do
+  s ← formatted_text t arguments
+  within (text s)
+
+-- `join`: the text stands between each two texts of the arguments
+abbrev pub join : List ℕ → List Data → Result Data Refusal
+join t arguments = do
+  ts ← flat_texts arguments
+  within (text (joined t ts))
+
+-- `replace`
+abbrev pub replace : List ℕ → List Data → Result Data Refusal
+replace t arguments = do
+  both ← two_texts arguments
+  s ← replaced t both.0 both.1
+  within (text s)
+
+-- `split`: without an argument at white space
+abbrev pub split : List ℕ → List Data → Result Data Refusal
+split t [] = do
+  found ← pieces.within_items (pieces.words t)
+  text_list found
+split t arguments = do
+  separator ← one_text arguments
+  found ← pieces.split_at t separator
+  text_list found
+
+-- `splitlines`
+abbrev pub split_lines : List ℕ → List Data → Result Data Refusal
+split_lines t arguments = do
+  _ ← no_arguments arguments
+  found ← pieces.within_items (pieces.lines t)
+  text_list found
+
+-- `strip`: without an argument white space is taken away
+abbrev pub strip : List ℕ → List Data → Result Data Refusal
+strip t [] = within (text (stripped is_blank t))
+strip t arguments = do
+  set ← one_text arguments
+  within (text (stripped (is_among set) t))
+
+-- `substring`
+abbrev pub substring : List ℕ → List Data → Result Data Refusal
+substring t arguments = do
+  ends ← bounds arguments
+  within (text (part ends.0 ends.1 t))
+
+-- `to_int`
+abbrev pub to_int : List ℕ → List Data → Result Data Refusal
+to_int t arguments = do
+  _ ← no_arguments arguments
+  z ← integer_of t
+  Ok (integer z)
+
+-- `to_lower`
+abbrev pub to_lower : List ℕ → List Data → Result Data Refusal
+to_lower t arguments = do
+  _ ← no_arguments arguments
+  within (text (map to_ascii_lowercase t))
+
+-- `to_upper`
+abbrev pub to_upper : List ℕ → List Data → Result Data Refusal
+to_upper t arguments = do
+  _ ← no_arguments arguments
+  within (text (map to_ascii_uppercase t))
+
+-- `underscorify`
+abbrev pub underscorify : List ℕ → List Data → Result Data Refusal
+underscorify t arguments = do
+  _ ← no_arguments arguments
+  within (text (underscorified t))
+
+-- `version_compare`
+abbrev pub version_compare : List ℕ → List Data → Result Data Refusal
+version_compare t arguments = do
+  condition ← one_text arguments
+  Ok (truth (meets t condition))
+
+abbrev pub call : TextMethod → List ℕ → List Data → Result Data Refusal
+call method.Contains t arguments = contains t arguments
+call method.StartsWith t arguments = starts_with t arguments
+call method.EndsWith t arguments = ends_with t arguments
+call method.Format t arguments = format t arguments
+call method.Join t arguments = join t arguments
+call method.Replace t arguments = replace t arguments
+call method.Split t arguments = split t arguments
+call method.SplitLines t arguments = split_lines t arguments
+call method.Strip t arguments = strip t arguments
+call method.Substring t arguments = substring t arguments
+call method.ToInt t arguments = to_int t arguments
+call method.ToLower t arguments = to_lower t arguments
+call method.ToUpper t arguments = to_upper t arguments
+call method.Underscorify t arguments = underscorify t arguments
+call method.VersionCompare t arguments = version_compare t arguments
+
+abbrev pub answer : List ℕ → List ℕ → List Data → Result Data Refusal
+answer t name arguments = do
+  called ← ok_or (named name) refusal.UnknownMethod
+  call called t arguments

@@ -1,0 +1,94 @@
+//! The methods of dictionaries: the type `dict` of the page "Reference manual".
+
+ghost use Rattle.std.specs.Prelude.{◌≡◌, [], map, IfOk};
+ghost use Rattle.data.specs.Data.{keys_in};
+ghost use Rattle.data.specs.View.{data_of};
+ghost use Rattle.methods.specs.Steps.{Gives};
+ghost use Rattle.methods.specs.Dictionaries.{named, get, has_key, keys, sorted_with, answer};
+
+use crate::arguments::{key_and_fallback, none, one, text};
+use crate::lists::found_or;
+use crate::stop::Stop;
+use crate::text_lists::text_list;
+use data::{Dictionary, Refusal, Value};
+use std::alloc::{AllocError, Global};
+use std::collections::BTreeSet;
+
+/// A method of dictionaries.
+#[derive(Clone, Copy)]
+pub enum DictionaryMethod {
+    Get,
+    HasKey,
+    Keys,
+}
+
+impl DictionaryMethod {
+    /// The method of a name.
+    pub fn named(name: &str) -> Option<DictionaryMethod>
+        ensures { result ≡ named name.now }
+    {
+        match name {
+            "get" => Some(DictionaryMethod::Get),
+            "has_key" => Some(DictionaryMethod::HasKey),
+            "keys" => Some(DictionaryMethod::Keys),
+            _ => None,
+        }
+    }
+}
+
+/// What the method with a name gives for a dictionary.
+pub fn dictionary_method(
+    alloc: Global,
+    dictionary: &Dictionary,
+    name: &str,
+    arguments: &[Value],
+) -> Result<Value, Stop>
+    ensures { Gives (answer dictionary.now name.now (map data_of arguments.now)) result }
+{
+    let method = DictionaryMethod::named(name).ok_or(Refusal::UnknownMethod)?;
+    match method {
+        DictionaryMethod::Get => get(dictionary, arguments),
+        DictionaryMethod::HasKey => has_key(dictionary, arguments),
+        DictionaryMethod::Keys => keys(alloc, dictionary, arguments),
+    }
+}
+
+fn get(dictionary: &Dictionary, arguments: &[Value]) -> Result<Value, Stop>
+    ensures { Gives (get dictionary.now (map data_of arguments.now)) result }
+{
+    let (key, fallback) = key_and_fallback(arguments)?;
+    let key = text(key)?;
+    found_or(dictionary.get(key), fallback)
+}
+
+fn has_key(dictionary: &Dictionary, arguments: &[Value]) -> Result<Value, Stop>
+    ensures { Gives (has_key dictionary.now (map data_of arguments.now)) result }
+{
+    let key = text(one(arguments)?)?;
+    Ok(Value::Truth(dictionary.get(key).is_some()))
+}
+
+fn keys(alloc: Global, dictionary: &Dictionary, arguments: &[Value]) -> Result<Value, Stop>
+    ensures { Gives (keys dictionary.now (map data_of arguments.now)) result }
+{
+    none(arguments)?;
+    text_list(alloc, &sorted_keys(alloc, dictionary)?)
+}
+
+// The keys, in the order of their bytes.
+fn sorted_keys(alloc: Global, dictionary: &Dictionary) -> Result<Vec<&str>, AllocError>
+    ensures { IfOk result (λ ks. map (λ k. k.now) ks.items ≡ sorted_with [] (keys_in dictionary.now)) }
+{
+    let sorted = key_set(alloc, dictionary)?;
+    sorted.into_iter().collect(alloc)
+}
+
+fn key_set(alloc: Global, dictionary: &Dictionary) -> Result<BTreeSet<&str>, AllocError>
+    ensures { IfOk result (λ s. map (λ k. k.now) s.keys ≡ sorted_with [] (keys_in dictionary.now)) }
+{
+    let mut sorted = BTreeSet::new(alloc);
+    for i in 0..dictionary.len() {
+        sorted.insert(dictionary.key(i))?;
+    }
+    Ok(sorted)
+}

@@ -1,0 +1,73 @@
+//! The methods of integers: the type `int` of the page "Reference manual".
+
+ghost use Rattle.std.specs.Prelude.{◌≡◌, map};
+ghost use Rattle.data.specs.View.{data_of};
+ghost use Rattle.methods.specs.Steps.{Gives};
+ghost use Rattle.methods.specs.Integers.{named, is_even, is_odd, to_string, answer};
+
+use crate::arguments::none;
+use crate::stop::Stop;
+use data::{Refusal, Value};
+use printing::printed;
+use std::alloc::Global;
+
+/// A method of integers.
+#[derive(Clone, Copy)]
+pub enum IntegerMethod {
+    IsEven,
+    IsOdd,
+    ToString,
+}
+
+impl IntegerMethod {
+    /// The method of a name.
+    pub fn named(name: &str) -> Option<IntegerMethod>
+        ensures { result ≡ named name.now }
+    {
+        match name {
+            "is_even" => Some(IntegerMethod::IsEven),
+            "is_odd" => Some(IntegerMethod::IsOdd),
+            "to_string" => Some(IntegerMethod::ToString),
+            _ => None,
+        }
+    }
+}
+
+/// What the method with a name gives for an integer.
+pub fn integer_method(
+    alloc: Global,
+    integer: i128,
+    name: &str,
+    arguments: &[Value],
+) -> Result<Value, Stop>
+    ensures { Gives (answer integer name.now (map data_of arguments.now)) result }
+{
+    let method = IntegerMethod::named(name).ok_or(Refusal::UnknownMethod)?;
+    match method {
+        IntegerMethod::IsEven => is_even(integer, arguments),
+        IntegerMethod::IsOdd => is_odd(integer, arguments),
+        IntegerMethod::ToString => to_string(alloc, integer, arguments),
+    }
+}
+
+fn is_even(integer: i128, arguments: &[Value]) -> Result<Value, Stop>
+    ensures { Gives (is_even integer (map data_of arguments.now)) result }
+{
+    none(arguments)?;
+    Ok(Value::Truth(integer.unsigned_abs() % 2 == 0))
+}
+
+fn is_odd(integer: i128, arguments: &[Value]) -> Result<Value, Stop>
+    ensures { Gives (is_odd integer (map data_of arguments.now)) result }
+{
+    none(arguments)?;
+    Ok(Value::Truth(integer.unsigned_abs() % 2 != 0))
+}
+
+fn to_string(alloc: Global, integer: i128, arguments: &[Value]) -> Result<Value, Stop>
+    ensures { Gives (to_string integer (map data_of arguments.now)) result }
+{
+    none(arguments)?;
+    let text = printed(alloc, &Value::Integer(integer))??;
+    Ok(Value::of_string(alloc, text)??)
+}

@@ -1,0 +1,222 @@
+//! The methods of texts: the type `str` of the page "Reference manual".
+
+ghost use Rattle.std.specs.Prelude.{◌≡◌, map, string_bytes};
+ghost use Rattle.data.specs.Data.{text as text_data};
+ghost use Rattle.data.specs.Limits.{within};
+ghost use Rattle.data.specs.View.{data_of};
+ghost use Rattle.methods.specs.Steps.{Gives};
+ghost use Rattle.methods.specs.TextMethods.{named, answer, contains, starts_with, ends_with, format, join, replace, split};
+ghost use Rattle.methods.specs.TextMethods.{split_lines, strip, substring, to_int, to_lower, to_upper, underscorify, version_compare};
+
+use crate::arguments::{bounds, none, one_text, two_texts};
+use crate::flat::flat_texts;
+use crate::formatted::format_text;
+use crate::stop::Stop;
+use crate::text_lists::text_list;
+use data::{Refusal, Value};
+use std::alloc::Global;
+
+/// A method of texts.
+#[derive(Clone, Copy)]
+pub enum TextMethod {
+    Contains,
+    StartsWith,
+    EndsWith,
+    Format,
+    Join,
+    Replace,
+    Split,
+    SplitLines,
+    Strip,
+    Substring,
+    ToInt,
+    ToLower,
+    ToUpper,
+    Underscorify,
+    VersionCompare,
+}
+
+impl TextMethod {
+    /// The method of a name.
+    pub fn named(name: &str) -> Option<TextMethod>
+        ensures { result ≡ named name.now }
+    {
+        match name {
+            "contains" => Some(TextMethod::Contains),
+            "startswith" => Some(TextMethod::StartsWith),
+            "endswith" => Some(TextMethod::EndsWith),
+            "format" => Some(TextMethod::Format),
+            "join" => Some(TextMethod::Join),
+            "replace" => Some(TextMethod::Replace),
+            "split" => Some(TextMethod::Split),
+            "splitlines" => Some(TextMethod::SplitLines),
+            "strip" => Some(TextMethod::Strip),
+            "substring" => Some(TextMethod::Substring),
+            "to_int" => Some(TextMethod::ToInt),
+            "to_lower" => Some(TextMethod::ToLower),
+            "to_upper" => Some(TextMethod::ToUpper),
+            "underscorify" => Some(TextMethod::Underscorify),
+            "version_compare" => Some(TextMethod::VersionCompare),
+            _ => None,
+        }
+    }
+}
+
+/// What the method with a name gives for a text.
+pub fn text_method(
+    alloc: Global,
+    text: &str,
+    name: &str,
+    arguments: &[Value],
+) -> Result<Value, Stop>
+    ensures { Gives (answer text.now name.now (map data_of arguments.now)) result }
+{
+    let method = TextMethod::named(name).ok_or(Refusal::UnknownMethod)?;
+    match method {
+        TextMethod::Contains => contains(text, arguments),
+        TextMethod::StartsWith => starts_with(text, arguments),
+        TextMethod::EndsWith => ends_with(text, arguments),
+        TextMethod::Format => format(alloc, text, arguments),
+        TextMethod::Join => join(alloc, text, arguments),
+        TextMethod::Replace => replace(alloc, text, arguments),
+        TextMethod::Split => split(alloc, text, arguments),
+        TextMethod::SplitLines => split_lines(alloc, text, arguments),
+        TextMethod::Strip => strip(alloc, text, arguments),
+        TextMethod::Substring => substring(alloc, text, arguments),
+        TextMethod::ToInt => to_int(text, arguments),
+        TextMethod::ToLower => to_lower(alloc, text, arguments),
+        TextMethod::ToUpper => to_upper(alloc, text, arguments),
+        TextMethod::Underscorify => underscorify(alloc, text, arguments),
+        TextMethod::VersionCompare => version_compare(text, arguments),
+    }
+}
+
+fn contains(text: &str, arguments: &[Value]) -> Result<Value, Stop>
+    ensures { Gives (contains text.now (map data_of arguments.now)) result }
+{
+    let part = one_text(arguments)?;
+    Ok(Value::Truth(texts::contains(text, part)))
+}
+
+fn starts_with(text: &str, arguments: &[Value]) -> Result<Value, Stop>
+    ensures { Gives (starts_with text.now (map data_of arguments.now)) result }
+{
+    let part = one_text(arguments)?;
+    Ok(Value::Truth(texts::starts_with(text, part)))
+}
+
+fn ends_with(text: &str, arguments: &[Value]) -> Result<Value, Stop>
+    ensures { Gives (ends_with text.now (map data_of arguments.now)) result }
+{
+    let part = one_text(arguments)?;
+    Ok(Value::Truth(texts::ends_with(text, part)))
+}
+
+fn format(alloc: Global, text: &str, arguments: &[Value]) -> Result<Value, Stop>
+    ensures { Gives (format text.now (map data_of arguments.now)) result }
+{
+    let formatted = format_text(alloc, text, arguments)??;
+    value_of(alloc, formatted)
+}
+
+fn join(alloc: Global, text: &str, arguments: &[Value]) -> Result<Value, Stop>
+    ensures { Gives (join text.now (map data_of arguments.now)) result }
+{
+    let pieces = flat_texts(alloc, arguments)?;
+    let joined = texts::join(alloc, text, &pieces)??;
+    value_of(alloc, joined)
+}
+
+fn replace(alloc: Global, text: &str, arguments: &[Value]) -> Result<Value, Stop>
+    ensures { Gives (replace text.now (map data_of arguments.now)) result }
+{
+    let (old, new) = two_texts(arguments)?;
+    let replaced = texts::replace(alloc, text, old, new)??;
+    value_of(alloc, replaced)
+}
+
+fn split(alloc: Global, text: &str, arguments: &[Value]) -> Result<Value, Stop>
+    ensures { Gives (split text.now (map data_of arguments.now)) result }
+{
+    if arguments.is_empty() {
+        let words = texts::split_blank(alloc, text)??;
+        return text_list(alloc, &words);
+    }
+    let separator = one_text(arguments)?;
+    let parts = texts::split_at(alloc, text, separator)??;
+    text_list(alloc, &parts)
+}
+
+fn split_lines(alloc: Global, text: &str, arguments: &[Value]) -> Result<Value, Stop>
+    ensures { Gives (split_lines text.now (map data_of arguments.now)) result }
+{
+    none(arguments)?;
+    let lines = texts::split_lines(alloc, text)??;
+    text_list(alloc, &lines)
+}
+
+fn strip(alloc: Global, text: &str, arguments: &[Value]) -> Result<Value, Stop>
+    ensures { Gives (strip text.now (map data_of arguments.now)) result }
+{
+    if arguments.is_empty() {
+        return value_of_slice(alloc, texts::strip(text));
+    }
+    let set = one_text(arguments)?;
+    value_of_slice(alloc, texts::strip_of(alloc, text, set)?)
+}
+
+fn substring(alloc: Global, text: &str, arguments: &[Value]) -> Result<Value, Stop>
+    ensures { Gives (substring text.now (map data_of arguments.now)) result }
+{
+    let (from, to) = bounds(arguments)?;
+    value_of_slice(alloc, texts::substring(text, from, to))
+}
+
+fn to_int(text: &str, arguments: &[Value]) -> Result<Value, Stop>
+    ensures { Gives (to_int text.now (map data_of arguments.now)) result }
+{
+    none(arguments)?;
+    let integer = texts::to_int(text)?;
+    Ok(Value::Integer(integer))
+}
+
+fn to_lower(alloc: Global, text: &str, arguments: &[Value]) -> Result<Value, Stop>
+    ensures { Gives (to_lower text.now (map data_of arguments.now)) result }
+{
+    none(arguments)?;
+    value_of(alloc, texts::to_lower(alloc, text)?)
+}
+
+fn to_upper(alloc: Global, text: &str, arguments: &[Value]) -> Result<Value, Stop>
+    ensures { Gives (to_upper text.now (map data_of arguments.now)) result }
+{
+    none(arguments)?;
+    value_of(alloc, texts::to_upper(alloc, text)?)
+}
+
+fn underscorify(alloc: Global, text: &str, arguments: &[Value]) -> Result<Value, Stop>
+    ensures { Gives (underscorify text.now (map data_of arguments.now)) result }
+{
+    none(arguments)?;
+    value_of(alloc, texts::underscorify(alloc, text)?)
+}
+
+fn version_compare(text: &str, arguments: &[Value]) -> Result<Value, Stop>
+    ensures { Gives (version_compare text.now (map data_of arguments.now)) result }
+{
+    let condition = one_text(arguments)?;
+    Ok(Value::Truth(versions::version_compare(text, condition)))
+}
+
+fn value_of(alloc: Global, string: String) -> Result<Value, Stop>
+    ensures { Gives (within (text_data (string_bytes string))) result }
+{
+    let value = Value::of_string(alloc, string)??;
+    Ok(value)
+}
+
+fn value_of_slice(alloc: Global, text: &str) -> Result<Value, Stop>
+    ensures { Gives (within (text_data text.now)) result }
+{
+    value_of(alloc, String::from_str(alloc, text)?)
+}
