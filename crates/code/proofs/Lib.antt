@@ -1,0 +1,4 @@
+pub mod Made
+pub mod NameLists
+pub mod Parts
+pub mod Trees

@@ -1,0 +1,3 @@
+pub mod Draft
+pub mod Names
+pub mod Nodes
