@@ -25,6 +25,7 @@ pub record Stands (ts : List ExpressionTree) (i : ℕ) (t : ExpressionTree) : Ty
   pub is : tree_at ts i ≡ t
 
 -- of these parts all nodes are there, and they are what is wanted
-pub record Parts {N T : Type 0} (test : ℕ → N → Bool) (at : List ExpressionTree → N → T) (ts : List ExpressionTree) (parts : List N) (wanted : List T) : Type 0 where
+pub record Parts {N T : Type 0} (test : ℕ → N → Bool) (at : List ExpressionTree → N
+    → T) (ts : List ExpressionTree) (parts : List N) (wanted : List T) : Type 0 where
   pub within : IsTrue (list_all (test (length ts)) parts)
   pub are : map (at ts) parts ≡ wanted

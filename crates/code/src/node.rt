@@ -5,7 +5,10 @@ use syntax::tree::{Literal, Operator, Prefix};
 #[derive(Drop)]
 pub enum Node {
     /// A name, by its number in the table of names.
-    Name { number: usize, line: usize },
+    Name {
+        number: usize,
+        line: usize,
+    },
     /// A literal, as it stands in the source: a string has its quotes.
     Literal {
         literal: Literal,
@@ -13,9 +16,15 @@ pub enum Node {
         line: usize,
     },
     /// `[first, second]`
-    List { items: Vec<usize>, line: usize },
+    List {
+        items: Vec<usize>,
+        line: usize,
+    },
     /// `{key : value, key : value}`
-    Dictionary { entries: Vec<EntryNode>, line: usize },
+    Dictionary {
+        entries: Vec<EntryNode>,
+        line: usize,
+    },
     /// `name(argument, name: argument)`
     Call {
         name: String,
@@ -79,5 +88,63 @@ pub enum LinkNode {
         arguments: Vec<ArgumentNode>,
     },
     /// `[index]`
-    Index { index: usize },
+    Index {
+        index: usize,
+    },
+}
+
+/// A statement, whose parts are named by their numbers. Each has the line of its first token.
+#[derive(Drop)]
+pub enum StatementNode {
+    /// `name = value`
+    Assign {
+        name: usize,
+        line: usize,
+        value: usize,
+    },
+    /// `name += value`
+    Append {
+        name: usize,
+        line: usize,
+        value: usize,
+    },
+    /// An expression alone.
+    Expression {
+        value: usize,
+        line: usize,
+    },
+    /// `break`
+    Break {
+        line: usize,
+    },
+    /// `continue`
+    Continue {
+        line: usize,
+    },
+    /// `if`, with a part for each `elif`, up to `endif`.
+    If {
+        line: usize,
+        branches: Vec<BranchNode>,
+        /// What stands behind `else`.
+        otherwise: Vec<usize>,
+    },
+    /// `foreach first, second : list`, up to `endforeach`.
+    Foreach {
+        line: usize,
+        first: usize,
+        second: Option<usize>,
+        list: usize,
+        /// The line of the list's first token.
+        list_line: usize,
+        body: Vec<usize>,
+    },
+}
+
+/// A part of an `if`: a condition, and the statements that are run where it holds.
+#[derive(Drop)]
+pub struct BranchNode {
+    pub condition: usize,
+    /// The line of the condition's first token.
+    pub line: usize,
+    pub body: Vec<usize>,
 }

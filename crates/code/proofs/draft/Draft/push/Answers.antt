@@ -1,13 +1,14 @@
-use Rattle.std.proofs.Common.{◌≡◌, length, sym, ◌∙◌, is_ok, arith}
-use Rattle.code.specs.Nodes.{trees}
-use Rattle.code.proofs.Parts.{begins_same}
-use Rattle.code.proofs.Trees.{length-trees, ordered_put, begins_node, stands_last}
+use Rattle.std.proofs.Common.{is_ok, arith}
+use Rattle.code.proofs.Trees.{length-trees, ordered_put, stands_last}
 use Rattle.code.proofs.draft.Draft.push.Goals as goal
 
 pub invariant_of-self : goal.invariant_of-self
 invariant_of-self c =
     let d = c.args.self.now in
-    record { ordered = ordered_put (is_ok c.push.result) d.names d.nodes.items c.push.new.self.items c.args.node c.push.ensures.items d.ordered c.requires }
+    record {
+      ordered = ordered_put (is_ok c.push.result) d.names d.nodes.items c.push.new.self.items c.args.node c.push.ensures.items
+          d.ordered c.requires;
+    }
 
 pub returns-clause-stands : goal.returns-clause-stands
 returns-clause-stands c =

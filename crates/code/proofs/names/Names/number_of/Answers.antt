@@ -4,4 +4,5 @@ use Rattle.code.proofs.NameLists.{position_texts}
 use Rattle.code.proofs.names.Names.number_of.Goals as goal
 
 pub returns : goal.returns
-returns c = c.get_index_of.ensures.index ∙ sym (position_texts c.args.name.now c.self.inside.names.keys) ∙ ap (number_in c.args.name.now) c.self.view_is
+returns c = c.get_index_of.ensures.index ∙ sym (position_texts c.args.name.now c.self.inside.names.keys)
+    ∙ ap (number_in c.args.name.now) c.self.view_is

@@ -5,11 +5,13 @@ use Rattle.code.proofs.names.Names.put.Goals as goal
 
 pub returns-in-Some-clause-names : goal.returns-in-Some-clause-names
 returns-in-Some-clause-names c =
-    sym c.self.view_is ∙ put_known c.args.name.now c.self.inside.names.keys c.in-Some.ensures.found ∙ ap (with_name c.args.name.now) c.self.view_is
+    sym c.self.view_is ∙ put_known c.args.name.now c.self.inside.names.keys c.in-Some.ensures.found
+    ∙ ap (with_name c.args.name.now) c.self.view_is
 
 pub returns-in-Some-clause-number : goal.returns-in-Some-clause-number
 returns-in-Some-clause-number c =
-    ap (number_in c.args.name.now) (sym c.self.view_is) ∙ position_texts c.args.name.now c.self.inside.names.keys ∙ sym c.in-Some.ensures.index
+    ap (number_in c.args.name.now) (sym c.self.view_is) ∙ position_texts c.args.name.now c.self.inside.names.keys
+    ∙ sym c.in-Some.ensures.index
 
 pub returns-in_ok-number-in-None-clause-names : goal.returns-in_ok-number-in-None-clause-names
 returns-in_ok-number-in-None-clause-names c =
