@@ -1,0 +1,61 @@
+use Rattle.std.proofs.Common.{map, nat_lt, length, refl, option_map}
+use Rattle.std.specs.List.{list_all}
+use Rattle.syntax.specs.ExpressionTree.{expression_of}
+use Rattle.syntax.specs.Tree.{ForeachTree, statements}
+use Rattle.code.specs.declared.node.StatementNode.TheVariants as flat
+use Rattle.code.specs.Nodes.{tree_at}
+use Rattle.code.specs.Draft.{trees_in}
+use Rattle.code.specs.Statements.{name_at, statement_at, statement_tree, second_within}
+use Rattle.code.specs.FileDraft.{AreStatements, statements_in}
+use Rattle.code.proofs.Parts.{stands_more}
+use Rattle.code.proofs.Placed.{extends_trans, are_more, and_three, foreach_made, statement_as}
+use Rattle.code.proofs.StatementTrees.{name_kept}
+use Rattle.code.proofs.file_draft.FileDraft.foreach.Goals as goal
+
+pub push-requires : goal.push-requires
+push-requires c =
+    let old = c.args.self.now in
+    let mid = c.expression.new.self in
+    let late = c.name.new.self in
+    let new = c.second_name.new.self in
+    let whole = extends_trans old mid new c.expression.ensures.extends (extends_trans mid late new c.name.ensures.extends
+    c.second_name.ensures.extends) in
+    let after = extends_trans mid late new c.name.ensures.extends c.second_name.ensures.extends in
+    let first = name_kept late.draft.names new.draft.names c.in_ok-first.first c.args.first.now
+    c.second_name.ensures.extends.draft.names c.in_ok-first.ensures.within c.in_ok-first.ensures.is in
+    let list = stands_more (trees_in mid.draft) (trees_in new.draft) c.in_ok-list.list (expression_of c.args.list.now)
+    after.draft.trees c.in_ok-list.ensures.stands in
+    let body : AreStatements new c.args.body.items (map (statement_at (statements_in old)) c.args.body.items) =
+    are_more old new c.args.body.items (map (statement_at (statements_in old)) c.args.body.items) whole record
+    { within = c.requires; are = refl } in
+    and_three (nat_lt c.in_ok-first.first (length new.draft.names)) (second_within (length new.draft.names) c.in_ok-second.second)
+    (nat_lt c.in_ok-list.list (length (trees_in new.draft)))
+    (list_all (λ i. nat_lt i (length (statements_in new))) c.args.body.items) first.0 c.in_ok-second.ensures.within list.within body.within
+
+pub returns-clause-is : goal.returns-clause-is
+returns-clause-is c =
+    let old = c.args.self.now in
+    let mid = c.expression.new.self in
+    let late = c.name.new.self in
+    let new = c.second_name.new.self in
+    let whole = extends_trans old mid new c.expression.ensures.extends (extends_trans mid late new c.name.ensures.extends
+    c.second_name.ensures.extends) in
+    let after = extends_trans mid late new c.name.ensures.extends c.second_name.ensures.extends in
+    let first = name_kept late.draft.names new.draft.names c.in_ok-first.first c.args.first.now
+    c.second_name.ensures.extends.draft.names c.in_ok-first.ensures.within c.in_ok-first.ensures.is in
+    let list = stands_more (trees_in mid.draft) (trees_in new.draft) c.in_ok-list.list (expression_of c.args.list.now)
+    after.draft.trees c.in_ok-list.ensures.stands in
+    let body : AreStatements new c.args.body.items (map (statement_at (statements_in old)) c.args.body.items) =
+    are_more old new c.args.body.items (map (statement_at (statements_in old)) c.args.body.items) whole record
+    { within = c.requires; are = refl } in
+    statement_as c.push.result c.push.new.self
+    (statement_tree new.draft.names (trees_in new.draft) (statements_in new)
+    (flat.Foreach c.args.line c.in_ok-first.first c.in_ok-second.second c.in_ok-list.list c.args.list_line c.args.body))
+    (ForeachTree c.args.line c.args.first.now (option_map (λ n. n.now) c.args.second) (expression_of c.args.list.now) c.args.list_line
+    (statements (map (statement_at (statements_in old)) c.args.body.items)))
+    c.push.ensures.is
+    (foreach_made c.args.line c.args.list_line (name_at new.draft.names c.in_ok-first.first) c.args.first.now
+    (option_map (name_at new.draft.names) c.in_ok-second.second) (option_map (λ n. n.now) c.args.second)
+    (tree_at (trees_in new.draft) c.in_ok-list.list) (expression_of c.args.list.now)
+    (map (statement_at (statements_in new)) c.args.body.items) (map (statement_at (statements_in old)) c.args.body.items)
+    first.1 c.in_ok-second.ensures.is list.is body.are)

@@ -1,0 +1,6 @@
+pub mod Code
+pub mod Draft
+pub mod FileDraft
+pub mod Names
+pub mod Nodes
+pub mod Statements

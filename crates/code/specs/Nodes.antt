@@ -1,0 +1,80 @@
+-- The trees of expressions that a list of nodes stands for: each node names its parts by their numbers, and stands after them.
+use Rattle.std.specs.Prelude.{ℕ, ◌+◌, Bool, true, ◌&&◌, nat_lt, List, [], ◌∷◌, ◌++◌, map, fold, slice_index_or, string_bytes}
+use Rattle.std.specs.List.{list_all}
+use Rattle.std.specs.Option.{option_map}
+use Rattle.syntax.specs.ExpressionTree.{ExpressionTree, EntryTree, ArgumentTree, OperandTree, LinkTree, NameTree, LiteralTree, ListTree, DictionaryTree, FunctionTree, PostfixTree, PrefixTree, ChainTree, ChoiceTree, MethodTree, IndexTree, expressions, entries, arguments, links, operands}
+use Rattle.code.specs.declared.node.Node.{Node}
+use Rattle.code.specs.declared.node.Node.TheVariants as flat
+use Rattle.code.specs.declared.node.EntryNode.{EntryNode}
+use Rattle.code.specs.declared.node.ArgumentNode.{ArgumentNode}
+use Rattle.code.specs.declared.node.OperandNode.{OperandNode}
+use Rattle.code.specs.declared.node.LinkNode.{LinkNode}
+use Rattle.code.specs.declared.node.LinkNode.TheVariants.{Method, Index}
+
+-- the tree of the node with a number, where those before it have these trees; there is always one
+abbrev pub tree_at : List ExpressionTree → ℕ → ExpressionTree
+tree_at ts i = slice_index_or ts i (NameTree [] 0)
+
+abbrev pub entry_at : List ExpressionTree → EntryNode → EntryTree
+entry_at ts e = (tree_at ts e.key, tree_at ts e.value)
+
+abbrev pub argument_at : List ExpressionTree → ArgumentNode → ArgumentTree
+argument_at ts a = (option_map string_bytes a.name, tree_at ts a.value)
+
+abbrev pub operand_at : List ExpressionTree → OperandNode → OperandTree
+operand_at ts o = (o.operator, tree_at ts o.value)
+
+abbrev pub link_at : List ExpressionTree → LinkNode → LinkTree
+link_at ts (Method name items) = MethodTree (string_bytes name) (arguments (map (argument_at ts) items.items))
+link_at ts (Index i) = IndexTree (tree_at ts i)
+
+-- the tree of a node, by the table of names and the trees of the nodes before it
+abbrev pub tree_of : List (List ℕ) → List ExpressionTree → Node → ExpressionTree
+tree_of names ts (flat.Name number line) = NameTree (slice_index_or names number []) line
+tree_of names ts (flat.Literal literal text line) = LiteralTree literal (string_bytes text) line
+tree_of names ts (flat.List items line) = ListTree (expressions (map (tree_at ts) items.items)) line
+tree_of names ts (flat.Dictionary es line) = DictionaryTree (entries (map (entry_at ts) es.items)) line
+tree_of names ts (flat.Call name items line) = FunctionTree (string_bytes name) (arguments (map (argument_at ts) items.items)) line
+tree_of names ts (flat.Postfix first ls line) = PostfixTree (tree_at ts first) (links (map (link_at ts) ls.items)) line
+tree_of names ts (flat.Prefix prefix value line) = PrefixTree prefix (tree_at ts value) line
+tree_of names ts (flat.Chain first others line) = ChainTree (tree_at ts first) (operands (map (operand_at ts) others.items)) line
+tree_of names ts (flat.Choice test one other line) = ChoiceTree (tree_at ts test) (tree_at ts one) (tree_at ts other) line
+
+-- the trees with that of one node more
+abbrev pub with_node : List (List ℕ) → List ExpressionTree → Node → List ExpressionTree
+with_node names ts n = ts ++ tree_of names ts n ∷ []
+
+-- the trees of all nodes, in their order
+abbrev pub trees : List (List ℕ) → List Node → List ExpressionTree
+trees names nodes = fold (with_node names) [] nodes
+
+-- ---- Tests: all parts are among the first n nodes, and a name among the first k names.
+
+abbrev pub entry_within : ℕ → EntryNode → Bool
+entry_within n e = nat_lt e.key n && nat_lt e.value n
+
+abbrev pub argument_within : ℕ → ArgumentNode → Bool
+argument_within n a = nat_lt a.value n
+
+abbrev pub operand_within : ℕ → OperandNode → Bool
+operand_within n o = nat_lt o.value n
+
+abbrev pub link_within : ℕ → LinkNode → Bool
+link_within n (Method name items) = list_all (argument_within n) items.items
+link_within n (Index i) = nat_lt i n
+
+abbrev pub within : ℕ → ℕ → Node → Bool
+within k n (flat.Name number line) = nat_lt number k
+within k n (flat.Literal literal text line) = true
+within k n (flat.List items line) = list_all (λ i. nat_lt i n) items.items
+within k n (flat.Dictionary es line) = list_all (entry_within n) es.items
+within k n (flat.Call name items line) = list_all (argument_within n) items.items
+within k n (flat.Postfix first ls line) = nat_lt first n && list_all (link_within n) ls.items
+within k n (flat.Prefix prefix value line) = nat_lt value n
+within k n (flat.Chain first others line) = nat_lt first n && list_all (operand_within n) others.items
+within k n (flat.Choice test one other line) = nat_lt test n && (nat_lt one n && nat_lt other n)
+
+-- each node stands after its parts, where the first of these has the number n
+abbrev pub all_within : ℕ → ℕ → List Node → Bool
+all_within k n [] = true
+all_within k n (x ∷ xs) = within k n x && all_within k (n + 1) xs

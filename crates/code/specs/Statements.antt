@@ -1,0 +1,68 @@
+-- The trees of statements that a list of nodes stands for, and the file that code stands for.
+use Rattle.std.specs.Prelude.{ℕ, ◌+◌, Bool, true, ◌&&◌, nat_lt, List, [], ◌∷◌, ◌++◌, map, fold, slice_index_or, Option, Some, None}
+use Rattle.std.specs.List.{list_all}
+use Rattle.std.specs.Option.{option_map}
+use Rattle.syntax.specs.ExpressionTree.{ExpressionTree}
+use Rattle.syntax.specs.Tree.{StatementTree, BranchTree, AssignTree, AppendTree, ValueTree, BreakTree, ContinueTree, IfTree, ForeachTree, statements, branches}
+use Rattle.code.specs.declared.node.StatementNode.{StatementNode}
+use Rattle.code.specs.declared.node.StatementNode.TheVariants as flat
+use Rattle.code.specs.declared.node.BranchNode.{BranchNode}
+use Rattle.code.specs.Nodes.{tree_at}
+
+-- the name with a number; there is always one
+abbrev pub name_at : List (List ℕ) → ℕ → List ℕ
+name_at names i = slice_index_or names i []
+
+-- the tree of the statement with a number, where those before it have these trees; there is always one
+abbrev pub statement_at : List StatementTree → ℕ → StatementTree
+statement_at ss i = slice_index_or ss i (BreakTree 0)
+
+abbrev pub branch_at : List ExpressionTree → List StatementTree → BranchNode → BranchTree
+branch_at ts ss b = (tree_at ts b.condition, b.line, statements (map (statement_at ss) b.body.items))
+
+-- the tree of a statement, by the table of names, the trees of the expressions and those of the statements before it
+abbrev pub statement_tree : List (List ℕ) → List ExpressionTree → List StatementTree → StatementNode → StatementTree
+statement_tree names ts ss (flat.Assign name line value) = AssignTree (name_at names name) line (tree_at ts value)
+statement_tree names ts ss (flat.Append name line value) = AppendTree (name_at names name) line (tree_at ts value)
+statement_tree names ts ss (flat.Expression value line) = ValueTree (tree_at ts value) line
+statement_tree names ts ss (flat.Break line) = BreakTree line
+statement_tree names ts ss (flat.Continue line) = ContinueTree line
+statement_tree names ts ss (flat.If line parts otherwise) = IfTree line (branches (map (branch_at ts ss) parts.items))
+    (statements (map (statement_at ss) otherwise.items))
+statement_tree names ts ss (flat.Foreach line first second list list_line body) =
+    ForeachTree line (name_at names first) (option_map (name_at names) second) (tree_at ts list) list_line
+    (statements (map (statement_at ss) body.items))
+
+-- the trees with that of one statement more
+abbrev pub with_statement : List (List ℕ) → List ExpressionTree → List StatementTree → StatementNode → List StatementTree
+with_statement names ts ss s = ss ++ statement_tree names ts ss s ∷ []
+
+-- the trees of all statements, in their order
+abbrev pub statement_trees : List (List ℕ) → List ExpressionTree → List StatementNode → List StatementTree
+statement_trees names ts nodes = fold (with_statement names ts) [] nodes
+
+-- ---- Tests: all parts are among the first n statements, expressions among the first m, names among the first k.
+
+abbrev pub branch_within : ℕ → ℕ → BranchNode → Bool
+branch_within m n b = nat_lt b.condition m && list_all (λ i. nat_lt i n) b.body.items
+
+-- a name, where there is one
+abbrev pub second_within : ℕ → Option ℕ → Bool
+second_within k None = true
+second_within k (Some i) = nat_lt i k
+
+abbrev pub statement_within : ℕ → ℕ → ℕ → StatementNode → Bool
+statement_within k m n (flat.Assign name line value) = nat_lt name k && nat_lt value m
+statement_within k m n (flat.Append name line value) = nat_lt name k && nat_lt value m
+statement_within k m n (flat.Expression value line) = nat_lt value m
+statement_within k m n (flat.Break line) = true
+statement_within k m n (flat.Continue line) = true
+statement_within k m n (flat.If line parts otherwise) = list_all (branch_within m n) parts.items && list_all (λ i. nat_lt i n)
+    otherwise.items
+statement_within k m n (flat.Foreach line first second list list_line body) =
+    nat_lt first k && (second_within k second && (nat_lt list m && list_all (λ i. nat_lt i n) body.items))
+
+-- each statement stands after its parts, where the first of these has the number n
+abbrev pub all_placed : ℕ → ℕ → ℕ → List StatementNode → Bool
+all_placed k m n [] = true
+all_placed k m n (s ∷ ss) = statement_within k m n s && all_placed k m (n + 1) ss

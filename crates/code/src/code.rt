@@ -1,0 +1,22 @@
+//! The code of a file.
+ghost use Rattle.std.specs.Prelude.{IsTrue, length, nat_lt};
+ghost use Rattle.std.specs.List.{list_all};
+ghost use Rattle.code.specs.Nodes.{all_within};
+ghost use Rattle.code.specs.Statements.{all_placed};
+
+use crate::node::{Node, StatementNode};
+
+/// A definition file, kept flat. An expression is named by its number among `nodes` and a statement by its number among `statements`;
+/// each stands after its parts, so a walk over parts ends. Names are numbers of a table of names.
+#[derive(Drop)]
+pub struct Code {
+    pub nodes: Vec<Node>,
+    pub statements: Vec<StatementNode>,
+    /// The statements of the file itself, in their order.
+    pub body: Vec<usize>,
+    /// How many names the table had when the code was made: each name's number is below.
+    pub names: usize,
+    pub ghost ordered: { IsTrue (all_within names 0 nodes.items) },
+    pub ghost placed: { IsTrue (all_placed names (length nodes.items) 0 statements.items) },
+    pub ghost whole: { IsTrue (list_all (λ i. nat_lt i (length statements.items)) body.items) },
+}

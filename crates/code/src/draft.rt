@@ -1,0 +1,52 @@
+//! Code as it is made: nodes are put at the end, each after its parts.
+ghost use Rattle.std.specs.Prelude.{◌≡◌, [], IsTrue, IfOk, length, nat_lt, slice_index_or};
+ghost use Rattle.code.specs.Nodes.{all_within, within, tree_of};
+
+use crate::names::Names;
+use crate::node::Node;
+use std::alloc::{AllocError, Global};
+
+/// The nodes so far, with the table of the names that they use.
+#[derive(Drop)]
+pub struct Draft {
+    pub alloc: Global,
+    pub names: Names,
+    pub nodes: Vec<Node>,
+    pub ghost ordered: { IsTrue (all_within (length names) 0 nodes.items) },
+}
+
+impl Draft {
+    ghost use Rattle.code.specs.Draft.{trees_in, Grows, Stands};
+
+    pub fn new(alloc: Global, names: Names) -> Draft
+        ensures names { result.names ≡ names }
+        ensures trees { trees_in result ≡ [] }
+    {
+        Draft {
+            alloc,
+            names,
+            nodes: Vec::new(alloc),
+        }
+    }
+
+    /// Puts a node at the end, and answers its number.
+    pub fn push(&mut self, node: Node) -> Result<usize, AllocError>
+        requires { IsTrue (within (length self.old.names) (length (trees_in self.old)) node) }
+        ensures grows { Grows self.old self.new }
+        ensures stands { IfOk result (λ number. Stands (trees_in self.new) number (tree_of self.old.names (trees_in self.old) node)) }
+    {
+        let number = self.nodes.len();
+        self.nodes.push(node)?;
+        Ok(number)
+    }
+
+    /// The number of a name, which may be new.
+    pub fn name(&mut self, name: &str) -> Result<usize, AllocError>
+        ensures grows { Grows self.old self.new }
+        ensures trees { trees_in self.new ≡ trees_in self.old }
+        ensures within { IfOk result (λ number. IsTrue (nat_lt number (length self.new.names))) }
+        ensures is { IfOk result (λ number. slice_index_or self.new.names number [] ≡ name.now) }
+    {
+        self.names.put(name)
+    }
+}

@@ -1,0 +1,216 @@
+//! Expressions, made flat.
+ghost use Rattle.std.specs.Prelude.{◌≡◌, IfOk, IsTrue, map, length, nat_lt, option_map, string_bytes};
+ghost use Rattle.syntax.specs.ExpressionTree.{expression_of, entry_of, argument_of, operand_of, link_of};
+ghost use Rattle.code.specs.Nodes.{tree_at, entry_at, argument_at, operand_at, link_at, entry_within, argument_within, operand_within, link_within};
+
+use crate::draft::Draft;
+use crate::node::{ArgumentNode, EntryNode, LinkNode, Node, OperandNode};
+use std::alloc::{AllocError, Global};
+use syntax::tree::{Argument, Entry, Expression, Link, Operand};
+
+// The name of an argument, where it has one.
+fn own_name(alloc: Global, name: Option<&str>) -> Result<Option<String>, AllocError>
+    ensures { IfOk result (λ own. option_map string_bytes own ≡ option_map (λ n. n.now) name.entry) }
+{
+    match name {
+        Some(name) => Ok(Some(String::from_str(alloc, name)?)),
+        None => Ok(None),
+    }
+}
+
+impl Draft {
+    ghost use Rattle.code.specs.Draft.{trees_in, Grows, Stands, Parts};
+
+    /// Puts the nodes of an expression, its own last, and answers its number.
+    #[cycle(flatten)]
+    pub fn expression(&mut self, expression: &Expression<'_>) -> Result<usize, AllocError>
+        ensures grows { Grows self.old self.new }
+        ensures stands { IfOk result (λ number. Stands (trees_in self.new) number (expression_of expression.now)) }
+    {
+        match expression {
+            Expression::Name { name, line } => {
+                let number = self.name(name)?;
+                self.push(Node::Name {
+                    number,
+                    line: *line,
+                })
+            }
+            Expression::Literal {
+                literal,
+                text,
+                line,
+            } => {
+                let text = String::from_str(self.alloc, text)?;
+                self.push(Node::Literal {
+                    literal: *literal,
+                    text,
+                    line: *line,
+                })
+            }
+            Expression::List { items, line } => {
+                let items = self.items(items)?;
+                self.push(Node::List { items, line: *line })
+            }
+            Expression::Dictionary { entries, line } => {
+                let entries = self.entries(entries)?;
+                self.push(Node::Dictionary {
+                    entries,
+                    line: *line,
+                })
+            }
+            Expression::Call {
+                name,
+                arguments,
+                line,
+            } => {
+                let name = String::from_str(self.alloc, name)?;
+                let arguments = self.arguments(arguments)?;
+                self.push(Node::Call {
+                    name,
+                    arguments,
+                    line: *line,
+                })
+            }
+            Expression::Postfix { first, links, line } => {
+                let first = self.expression(first)?;
+                let links = self.links(links)?;
+                self.push(Node::Postfix {
+                    first,
+                    links,
+                    line: *line,
+                })
+            }
+            Expression::Prefix {
+                prefix,
+                value,
+                line,
+            } => {
+                let value = self.expression(value)?;
+                self.push(Node::Prefix {
+                    prefix: *prefix,
+                    value,
+                    line: *line,
+                })
+            }
+            Expression::Chain {
+                first,
+                others,
+                line,
+            } => {
+                let first = self.expression(first)?;
+                let others = self.operands(others)?;
+                self.push(Node::Chain {
+                    first,
+                    others,
+                    line: *line,
+                })
+            }
+            Expression::Choice {
+                test,
+                yes,
+                no,
+                line,
+            } => {
+                let test = self.expression(test)?;
+                let yes = self.expression(yes)?;
+                let no = self.expression(no)?;
+                self.push(Node::Choice {
+                    test,
+                    yes,
+                    no,
+                    line: *line,
+                })
+            }
+        }
+    }
+
+    // The items of a list, by their numbers.
+    #[cycle(flatten)]
+    fn items(&mut self, items: &[Expression<'_>]) -> Result<Vec<usize>, AllocError>
+        ensures grows { Grows self.old self.new }
+        ensures parts { IfOk result (λ v. Parts (λ n i. nat_lt i n) tree_at (trees_in self.new) v.items (map expression_of items.now)) }
+    {
+        let mut numbers = Vec::new(self.alloc);
+        for item in items {
+            let number = self.expression(item)?;
+            numbers.push(number)?;
+        }
+        Ok(numbers)
+    }
+
+    #[cycle(flatten)]
+    fn entries(&mut self, entries: &[Entry<'_>]) -> Result<Vec<EntryNode>, AllocError>
+        ensures grows { Grows self.old self.new }
+        ensures parts { IfOk result (λ v. Parts entry_within entry_at (trees_in self.new) v.items (map entry_of entries.now)) }
+    {
+        let mut nodes = Vec::new(self.alloc);
+        for entry in entries {
+            let key = self.expression(&entry.key)?;
+            let value = self.expression(&entry.value)?;
+            nodes.push(EntryNode { key, value })?;
+        }
+        Ok(nodes)
+    }
+
+    #[cycle(flatten)]
+    fn arguments(&mut self, arguments: &[Argument<'_>]) -> Result<Vec<ArgumentNode>, AllocError>
+        ensures grows { Grows self.old self.new }
+        ensures parts { IfOk result (λ v. Parts argument_within argument_at (trees_in self.new) v.items (map argument_of arguments.now)) }
+    {
+        let mut nodes = Vec::new(self.alloc);
+        for argument in arguments {
+            let name = own_name(self.alloc, argument.name)?;
+            let value = self.expression(&argument.value)?;
+            nodes.push(ArgumentNode { name, value })?;
+        }
+        Ok(nodes)
+    }
+
+    #[cycle(flatten)]
+    fn operands(&mut self, operands: &[Operand<'_>]) -> Result<Vec<OperandNode>, AllocError>
+        ensures grows { Grows self.old self.new }
+        ensures parts { IfOk result (λ v. Parts operand_within operand_at (trees_in self.new) v.items (map operand_of operands.now)) }
+    {
+        let mut nodes = Vec::new(self.alloc);
+        for operand in operands {
+            let value = self.expression(&operand.value)?;
+            nodes.push(OperandNode {
+                operator: operand.operator,
+                value,
+            })?;
+        }
+        Ok(nodes)
+    }
+
+    #[cycle(flatten)]
+    fn links(&mut self, links: &[Link<'_>]) -> Result<Vec<LinkNode>, AllocError>
+        ensures grows { Grows self.old self.new }
+        ensures parts { IfOk result (λ v. Parts link_within link_at (trees_in self.new) v.items (map link_of links.now)) }
+    {
+        let mut nodes = Vec::new(self.alloc);
+        for link in links {
+            let node = self.link(link)?;
+            nodes.push(node)?;
+        }
+        Ok(nodes)
+    }
+
+    #[cycle(flatten)]
+    fn link(&mut self, link: &Link<'_>) -> Result<LinkNode, AllocError>
+        ensures grows { Grows self.old self.new }
+        ensures within { IfOk result (λ node. IsTrue (link_within (length (trees_in self.new)) node)) }
+        ensures is { IfOk result (λ node. link_at (trees_in self.new) node ≡ link_of link.now) }
+    {
+        match link {
+            Link::Method { name, arguments } => {
+                let name = String::from_str(self.alloc, name)?;
+                let arguments = self.arguments(arguments)?;
+                Ok(LinkNode::Method { name, arguments })
+            }
+            Link::Index { index } => {
+                let index = self.expression(index)?;
+                Ok(LinkNode::Index { index })
+            }
+        }
+    }
+}

@@ -1,0 +1,63 @@
+//! The code of a file as it is made.
+ghost use Rattle.std.specs.Prelude.{◌≡◌, [], IsTrue, IfOk, length, nat_lt};
+ghost use Rattle.syntax.specs.ExpressionTree.{expression_of};
+ghost use Rattle.code.specs.Statements.{all_placed, statement_within, statement_tree, name_at};
+
+use crate::draft::Draft;
+use crate::names::Names;
+use crate::node::StatementNode;
+use std::alloc::{AllocError, Global};
+use syntax::tree::Expression;
+
+/// The expressions and statements so far.
+#[derive(Drop)]
+pub struct FileDraft {
+    pub draft: Draft,
+    pub statements: Vec<StatementNode>,
+    pub ghost placed: { IsTrue (all_placed (length draft.names) (length draft.nodes.items) 0 statements.items) },
+}
+
+impl FileDraft {
+    ghost use Rattle.code.specs.Draft.{trees_in, Stands};
+    ghost use Rattle.code.specs.FileDraft.{statements_in, Extends, IsStatement};
+
+    pub fn new(alloc: Global, names: Names) -> FileDraft
+        ensures names { result.draft.names ≡ names }
+        ensures statements { statements_in result ≡ [] }
+    {
+        FileDraft {
+            draft: Draft::new(alloc, names),
+            statements: Vec::new(alloc),
+        }
+    }
+
+    /// The number of a name, which may be new.
+    pub fn name(&mut self, name: &str) -> Result<usize, AllocError>
+        ensures extends { Extends self.old self.new }
+        ensures within { IfOk result (λ number. IsTrue (nat_lt number (length self.new.draft.names))) }
+        ensures is { IfOk result (λ number. name_at self.new.draft.names number ≡ name.now) }
+    {
+        self.draft.name(name)
+    }
+
+    /// Puts the nodes of an expression, and answers the number of its own.
+    pub fn expression(&mut self, expression: &Expression<'_>) -> Result<usize, AllocError>
+        ensures extends { Extends self.old self.new }
+        ensures stands { IfOk result (λ number. Stands (trees_in self.new.draft) number (expression_of expression.now)) }
+    {
+        self.draft.expression(expression)
+    }
+
+    /// Puts a statement at the end, and answers its number.
+    pub fn push(&mut self, statement: StatementNode) -> Result<usize, AllocError>
+        requires { IsTrue (statement_within (length self.old.draft.names) (length (trees_in self.old.draft)) (length (statements_in self.old))
+            statement) }
+        ensures extends { Extends self.old self.new }
+        ensures is { IfOk result (λ number. IsStatement self.new number
+            (statement_tree self.old.draft.names (trees_in self.old.draft) (statements_in self.old) statement)) }
+    {
+        let number = self.statements.len();
+        self.statements.push(statement)?;
+        Ok(number)
+    }
+}

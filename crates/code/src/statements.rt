@@ -1,0 +1,167 @@
+//! Statements, made flat.
+ghost use Rattle.std.specs.Prelude.{◌≡◌, IsTrue, IfOk, map, length, nat_lt};
+ghost use Rattle.std.specs.List.{list_all};
+ghost use Rattle.std.specs.Option.{option_map};
+ghost use Rattle.syntax.specs.ExpressionTree.{expression_of};
+ghost use Rattle.syntax.specs.Tree.{AssignTree, AppendTree, ValueTree, ForeachTree, statement_of, branch_of, statements};
+ghost use Rattle.code.specs.Statements.{statement_at, name_at, second_within};
+
+use crate::file_draft::FileDraft;
+use crate::node::{BranchNode, StatementNode};
+use std::alloc::AllocError;
+use syntax::tree::{Branch, Expression, Statement};
+
+impl FileDraft {
+    ghost use Rattle.code.specs.FileDraft.{statements_in, Extends, IsStatement, AreStatements, AreBranches};
+
+    // `name = value`
+    fn assign(
+        &mut self,
+        name: &str,
+        line: usize,
+        value: &Expression<'_>,
+    ) -> Result<usize, AllocError>
+        ensures extends { Extends self.old self.new }
+        ensures is { IfOk result (λ i. IsStatement self.new i (AssignTree name.now line (expression_of value.now))) }
+    {
+        let value = self.expression(value)?;
+        let name = self.name(name)?;
+        self.push(StatementNode::Assign { name, line, value })
+    }
+
+    // `name += value`
+    fn append(
+        &mut self,
+        name: &str,
+        line: usize,
+        value: &Expression<'_>,
+    ) -> Result<usize, AllocError>
+        ensures extends { Extends self.old self.new }
+        ensures is { IfOk result (λ i. IsStatement self.new i (AppendTree name.now line (expression_of value.now))) }
+    {
+        let value = self.expression(value)?;
+        let name = self.name(name)?;
+        self.push(StatementNode::Append { name, line, value })
+    }
+
+    // An expression alone.
+    fn value(&mut self, value: &Expression<'_>, line: usize) -> Result<usize, AllocError>
+        ensures extends { Extends self.old self.new }
+        ensures is { IfOk result (λ i. IsStatement self.new i (ValueTree (expression_of value.now) line)) }
+    {
+        let value = self.expression(value)?;
+        self.push(StatementNode::Expression { value, line })
+    }
+
+    // The second name of a `foreach`, where it has one.
+    fn second_name(&mut self, name: Option<&str>) -> Result<Option<usize>, AllocError>
+        ensures extends { Extends self.old self.new }
+        ensures within { IfOk result (λ number. IsTrue (second_within (length self.new.draft.names) number)) }
+        ensures is { IfOk result (λ number. option_map (name_at self.new.draft.names) number ≡ option_map (λ n. n.now) name.entry) }
+    {
+        match name {
+            Some(name) => Ok(Some(self.name(name)?)),
+            None => Ok(None),
+        }
+    }
+
+    // `foreach first, second : list`, over a body that is there.
+    fn foreach(
+        &mut self,
+        line: usize,
+        first: &str,
+        second: Option<&str>,
+        list: &Expression<'_>,
+        list_line: usize,
+        body: Vec<usize>,
+    ) -> Result<usize, AllocError>
+        requires { IsTrue (list_all (λ i. nat_lt i (length (statements_in self.old))) body.items) }
+        ensures extends { Extends self.old self.new }
+        ensures is { IfOk result (λ i. IsStatement self.new i
+            (ForeachTree line first.now (option_map (λ n. n.now) second.entry) (expression_of list.now) list_line
+            (statements (map (statement_at (statements_in self.old)) body.items)))) }
+    {
+        let list = self.expression(list)?;
+        let first = self.name(first)?;
+        let second = self.second_name(second)?;
+        self.push(StatementNode::Foreach {
+            line,
+            first,
+            second,
+            list,
+            list_line,
+            body,
+        })
+    }
+
+    // Puts the nodes of a statement, its own last, and answers its number.
+    #[cycle(flatten_statement)]
+    fn statement(&mut self, statement: &Statement<'_>) -> Result<usize, AllocError>
+        ensures extends { Extends self.old self.new }
+        ensures is { IfOk result (λ i. IsStatement self.new i (statement_of statement.now)) }
+    {
+        match statement {
+            Statement::Assign { name, line, value } => self.assign(name, *line, value),
+            Statement::Append { name, line, value } => self.append(name, *line, value),
+            Statement::Expression { value, line } => self.value(value, *line),
+            Statement::Break { line } => self.push(StatementNode::Break { line: *line }),
+            Statement::Continue { line } => self.push(StatementNode::Continue { line: *line }),
+            Statement::If {
+                line,
+                branches,
+                otherwise,
+            } => {
+                let branches = self.branches(branches)?;
+                let otherwise = self.body(otherwise)?;
+                self.push(StatementNode::If {
+                    line: *line,
+                    branches,
+                    otherwise,
+                })
+            }
+            Statement::Foreach {
+                line,
+                first,
+                second,
+                list,
+                list_line,
+                body,
+            } => {
+                let body = self.body(body)?;
+                self.foreach(*line, first, *second, list, *list_line, body)
+            }
+        }
+    }
+
+    /// Puts the nodes of these statements, and answers their numbers.
+    #[cycle(flatten_statement)]
+    pub fn body(&mut self, body: &[Statement<'_>]) -> Result<Vec<usize>, AllocError>
+        ensures extends { Extends self.old self.new }
+        ensures are { IfOk result (λ v. AreStatements self.new v.items (map statement_of body.now)) }
+    {
+        let mut numbers = Vec::new(self.draft.alloc);
+        for statement in body {
+            let number = self.statement(statement)?;
+            numbers.push(number)?;
+        }
+        Ok(numbers)
+    }
+
+    #[cycle(flatten_statement)]
+    fn branches(&mut self, branches: &[Branch<'_>]) -> Result<Vec<BranchNode>, AllocError>
+        ensures extends { Extends self.old self.new }
+        ensures are { IfOk result (λ v. AreBranches self.new v.items (map branch_of branches.now)) }
+    {
+        let mut nodes = Vec::new(self.draft.alloc);
+        for branch in branches {
+            let condition = self.expression(&branch.condition)?;
+            let body = self.body(&branch.body)?;
+            nodes.push(BranchNode {
+                condition,
+                line: branch.line,
+                body,
+            })?;
+        }
+        Ok(nodes)
+    }
+}
