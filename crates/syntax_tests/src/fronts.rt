@@ -11,26 +11,20 @@ const LIBRARY: &str = "project('p','c')\nsubdir('lib')\nsubdir('app')\n";
 const SHARED: &str = "foo = shared_library('foo', 'foo.c', version: '1.2.3')\n\
 executable('run', 'run.c', link_with: foo)\n";
 
-// How many fronts of a source, cut at each byte, have no tree and no fault.
-fn unread_fronts(alloc: Global, source: &str) -> usize {
-    let mut unread = 0;
-    for end in 0..source.len() + 1 {
-        let Some(front) = source.get(..end) else {
-            continue;
-        };
-        match parse(alloc, front) {
-            Ok(_) => {}
-            Err(SyntaxError::Fault(_)) => {}
-            Err(SyntaxError::Memory) => unread += 1,
-        }
-    }
-    unread
+fn has_tree_or_fault(alloc: Global, source: &str) -> bool {
+    !matches!(parse(alloc, source), Err(SyntaxError::Memory))
 }
 
 #[test]
 fn fronts(rt: HostRuntime) -> Result<(), Fail> {
+    let alloc = rt.alloc();
     for source in [TWO_FOLDERS, LIBRARY, SHARED] {
-        assert_eq!(rt; unread_fronts(rt.alloc(), source), 0, "of {source:?}");
+        assert!(rt; has_tree_or_fault(alloc, source), "of {source:?}");
+        for end in 0..source.len() {
+            if let Some(front) = source.get(..end) {
+                assert!(rt; has_tree_or_fault(alloc, front), "of {front:?}");
+            }
+        }
     }
     Ok(())
 }
