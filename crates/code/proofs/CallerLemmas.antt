@@ -3,8 +3,8 @@ use Rattle.std.proofs.Common.{◌≡◌, ℕ, zero, suc, ◌+◌, ◌<◌, List,
 use Rattle.std.specs.Prelude.{nat_lt, ◌&&◌, IsTrue}
 use Rattle.std.specs.List.{list_all}
 use Rattle.std.specs.Option.{option_map}
-use Rattle.syntax.specs.ExpressionTree.{ExpressionTree, NameTree, ListTree, DictionaryTree, FunctionTree, PostfixTree, PrefixTree, ChainTree, ChoiceTree, expressions, entries, arguments, links, operands}
-use Rattle.syntax.specs.Tree.{StatementTree, BreakTree, IfTree, ForeachTree, branches, statements}
+use Rattle.grammar.specs.ExpressionTree.{ExpressionTree, NameTree, ListTree, DictionaryTree, FunctionTree, PostfixTree, PrefixTree, ChainTree, ChoiceTree, expressions, entries, arguments, links, operands}
+use Rattle.grammar.specs.Tree.{StatementTree, BreakTree, IfTree, ForeachTree, branches, statements}
 use Rattle.code.specs.declared.node.Node.{Node}
 use Rattle.code.specs.declared.node.Node.TheVariants as flat
 use Rattle.code.specs.declared.node.StatementNode.{StatementNode}

@@ -2,15 +2,15 @@
 use Rattle.std.proofs.Common.{◌≡◌, ℕ, List, map, ap, sym, ◌∙◌, subst, Box, Vec, Global, Result, IfOk}
 use Rattle.std.specs.Option.{option_map}
 use Rattle.std.specs.declared.alloc.AllocError.{AllocError}
-use Rattle.syntax.specs.declared.tree.Expression.{Expression}
-use Rattle.syntax.specs.declared.tree.Expression.TheVariants as Variants
-use Rattle.syntax.specs.declared.tree.Expression.TheOpen as Open
-use Rattle.syntax.specs.declared.tree.Expression.TheFolds.{fold_out-Argument, fold_out-Entry, fold_out-Operand, fold-roll-Expression}
-use Rattle.syntax.specs.declared.tree.Argument.{Argument}
-use Rattle.syntax.specs.declared.tree.Entry.{Entry}
-use Rattle.syntax.specs.declared.tree.Link.{Link}
-use Rattle.syntax.specs.declared.tree.Operand.{Operand}
-use Rattle.syntax.specs.ExpressionTree.{ArgumentTree, ChainTree, ChoiceTree, EntryTree, ExpressionTree, LinkTree, OperandTree, PostfixTree, argument_of, argument_step, entry_of, entry_step, expression_of, expression_step, link_of, link_step, links, operand_of, operand_step, operands}
+use Rattle.grammar.specs.declared.tree.Expression.{Expression}
+use Rattle.grammar.specs.declared.tree.Expression.TheVariants as Variants
+use Rattle.grammar.specs.declared.tree.Expression.TheOpen as Open
+use Rattle.grammar.specs.declared.tree.Expression.TheFolds.{fold_out-Argument, fold_out-Entry, fold_out-Operand, fold-roll-Expression}
+use Rattle.grammar.specs.declared.tree.Argument.{Argument}
+use Rattle.grammar.specs.declared.tree.Entry.{Entry}
+use Rattle.grammar.specs.declared.tree.Link.{Link}
+use Rattle.grammar.specs.declared.tree.Operand.{Operand}
+use Rattle.grammar.specs.ExpressionTree.{ArgumentTree, ChainTree, ChoiceTree, EntryTree, ExpressionTree, LinkTree, OperandTree, PostfixTree, argument_of, argument_step, entry_of, entry_step, expression_of, expression_step, link_of, link_step, links, operand_of, operand_step, operands}
 use Rattle.code.specs.Draft.{Stands}
 
 pub stands_as : (r : Result ℕ AllocError) (ts : List ExpressionTree) (t u : ExpressionTree) → IfOk r (λ n. Stands ts n t) → t ≡ u

@@ -7,7 +7,7 @@ use Rattle.std.specs.String.{string_bytes}
 use Rattle.std.proofs.lemmas.List.{map_push}
 use Rattle.std.proofs.lemmas.Grind.{common_steps}
 use Rattle.std.proofs.lemmas.List.Folds.{list_all-append}
-use Rattle.syntax.specs.ExpressionTree.{ExpressionTree, NameTree, MethodTree, IndexTree, arguments}
+use Rattle.grammar.specs.ExpressionTree.{ExpressionTree, NameTree, MethodTree, IndexTree, arguments}
 use Rattle.code.specs.Nodes.{tree_at, entry_at, argument_at, operand_at, link_at, entry_within, argument_within, operand_within, link_within}
 use Rattle.code.specs.Draft.{Begins, Stands, Parts, Grows, trees_in}
 use Rattle.code.specs.declared.draft.Draft.{Draft}

@@ -5,13 +5,13 @@ use Rattle.std.specs.List.{list_all}
 use Rattle.std.specs.declared.alloc.AllocError.{AllocError}
 use Rattle.std.proofs.lemmas.List.{map_push}
 use Rattle.std.proofs.lemmas.List.Folds.{list_all-append}
-use Rattle.syntax.specs.ExpressionTree.{ExpressionTree, expression_of}
-use Rattle.syntax.specs.Tree.{StatementTree, BranchTree, IfTree, ForeachTree, statement_of, branch_of, statement_step, branch_step, statements, branches}
-use Rattle.syntax.specs.declared.tree.Statement.{Statement}
-use Rattle.syntax.specs.declared.tree.Statement.TheVariants as Variants
-use Rattle.syntax.specs.declared.tree.Statement.TheOpen as Open
-use Rattle.syntax.specs.declared.tree.Statement.TheFolds.{fold_out-Branch, fold-roll-Statement}
-use Rattle.syntax.specs.declared.tree.Branch.{Branch}
+use Rattle.grammar.specs.ExpressionTree.{ExpressionTree, expression_of}
+use Rattle.grammar.specs.Tree.{StatementTree, BranchTree, IfTree, ForeachTree, statement_of, branch_of, statement_step, branch_step, statements, branches}
+use Rattle.grammar.specs.declared.tree.Statement.{Statement}
+use Rattle.grammar.specs.declared.tree.Statement.TheVariants as Variants
+use Rattle.grammar.specs.declared.tree.Statement.TheOpen as Open
+use Rattle.grammar.specs.declared.tree.Statement.TheFolds.{fold_out-Branch, fold-roll-Statement}
+use Rattle.grammar.specs.declared.tree.Branch.{Branch}
 use Rattle.code.specs.declared.file_draft.FileDraft.{FileDraft}
 use Rattle.code.specs.declared.node.BranchNode.{BranchNode}
 use Rattle.code.specs.Nodes.{tree_at}

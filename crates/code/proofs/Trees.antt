@@ -3,7 +3,7 @@ use Rattle.std.proofs.Common.{◌≡◌, ℕ, zero, suc, ◌+◌, ◌<◌, ◌�
 use Rattle.std.specs.Prelude.{nat_lt, ◌&&◌, IsTrue, if◌then◌else◌}
 use Rattle.std.proofs.lemmas.Bool.Decides.{nat_tests}
 use Rattle.std.proofs.lemmas.List.Sums.{fold_push}
-use Rattle.syntax.specs.ExpressionTree.{ExpressionTree, NameTree}
+use Rattle.grammar.specs.ExpressionTree.{ExpressionTree, NameTree}
 use Rattle.code.specs.Nodes.{tree_of, with_node, trees, within, all_within}
 use Rattle.code.specs.Draft.{Begins, Stands}
 use Rattle.code.specs.declared.node.Node.{Node}

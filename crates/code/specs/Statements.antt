@@ -2,8 +2,8 @@
 use Rattle.std.specs.Prelude.{ℕ, ◌+◌, Bool, true, ◌&&◌, nat_lt, List, [], ◌∷◌, ◌++◌, map, fold, slice_index_or, Option, Some, None}
 use Rattle.std.specs.List.{list_all}
 use Rattle.std.specs.Option.{option_map}
-use Rattle.syntax.specs.ExpressionTree.{ExpressionTree}
-use Rattle.syntax.specs.Tree.{StatementTree, BranchTree, AssignTree, AppendTree, ValueTree, BreakTree, ContinueTree, IfTree, ForeachTree, statements, branches}
+use Rattle.grammar.specs.ExpressionTree.{ExpressionTree}
+use Rattle.grammar.specs.Tree.{StatementTree, BranchTree, AssignTree, AppendTree, ValueTree, BreakTree, ContinueTree, IfTree, ForeachTree, statements, branches}
 use Rattle.code.specs.declared.node.StatementNode.{StatementNode}
 use Rattle.code.specs.declared.node.StatementNode.TheVariants as flat
 use Rattle.code.specs.declared.node.BranchNode.{BranchNode}

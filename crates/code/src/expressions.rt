@@ -1,12 +1,12 @@
 //! Expressions, made flat.
 ghost use Rattle.std.specs.Prelude.{◌≡◌, IfOk, IsTrue, map, length, nat_lt, option_map, string_bytes};
-ghost use Rattle.syntax.specs.ExpressionTree.{expression_of, entry_of, argument_of, operand_of, link_of};
+ghost use Rattle.grammar.specs.ExpressionTree.{expression_of, entry_of, argument_of, operand_of, link_of};
 ghost use Rattle.code.specs.Nodes.{tree_at, entry_at, argument_at, operand_at, link_at, entry_within, argument_within, operand_within, link_within};
 
 use crate::draft::Draft;
 use crate::node::{ArgumentNode, EntryNode, LinkNode, Node, OperandNode};
 use std::alloc::{AllocError, Global};
-use syntax::tree::{Argument, Entry, Expression, Link, Operand};
+use grammar::tree::{Argument, Entry, Expression, Link, Operand};
 
 // The name of an argument, where it has one.
 fn own_name(alloc: Global, name: Option<&str>) -> Result<Option<String>, AllocError>

@@ -1,13 +1,13 @@
 //! The code of a file as it is made.
 ghost use Rattle.std.specs.Prelude.{◌≡◌, [], IsTrue, IfOk, length, nat_lt};
-ghost use Rattle.syntax.specs.ExpressionTree.{expression_of};
+ghost use Rattle.grammar.specs.ExpressionTree.{expression_of};
 ghost use Rattle.code.specs.Statements.{all_placed, statement_within, statement_tree, name_at};
 
 use crate::draft::Draft;
 use crate::names::Names;
 use crate::node::StatementNode;
 use std::alloc::{AllocError, Global};
-use syntax::tree::Expression;
+use grammar::tree::Expression;
 
 /// The expressions and statements so far.
 #[derive(Drop)]

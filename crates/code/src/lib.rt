@@ -1,6 +1,6 @@
 //! Definition files as code: the tree of a file kept flat, each part named by a number, and the names that it uses in one table.
 //!
-//! [`flatten`] makes the [`Code`] of a [`syntax::tree::File`]. The code owns its literals, so the source can go. It is what evaluation
+//! [`flatten`] makes the [`Code`] of a [`grammar::tree::File`]. The code owns its literals, so the source can go. It is what evaluation
 //! walks: a frame there holds the code and numbers, and no reference into a tree.
 #![tactic(auto)]
 

@@ -1,6 +1,6 @@
 //! From the tree of a file to its code.
 ghost use Rattle.std.specs.Prelude.{◌≡◌, IfOk, length};
-ghost use Rattle.syntax.specs.Tree.{file_of};
+ghost use Rattle.grammar.specs.Tree.{file_of};
 ghost use Rattle.code.specs.Draft.{Begins};
 ghost use Rattle.code.specs.Code.{code_tree, KeepsTree};
 
@@ -10,7 +10,7 @@ use crate::file_draft::FileDraft;
 use crate::names::Names;
 use std::alloc::{AllocError, Global};
 use std::mem;
-use syntax::tree::File;
+use grammar::tree::File;
 
 /// The code of a file. Names of variables that the table lacks go behind the others, and what was there keeps its number, also where
 /// memory is refused. The work is linear in the size of the file.

@@ -1,5 +1,5 @@
 //! The nodes of expressions.
-use syntax::tree::{Literal, Operator, Prefix};
+use grammar::tree::{Literal, Operator, Prefix};
 
 /// An expression whose parts are named by their numbers in the list of nodes. Each node has the line of its first token.
 #[derive(Drop)]

@@ -2,14 +2,14 @@
 ghost use Rattle.std.specs.Prelude.{◌≡◌, IsTrue, IfOk, map, length, nat_lt};
 ghost use Rattle.std.specs.List.{list_all};
 ghost use Rattle.std.specs.Option.{option_map};
-ghost use Rattle.syntax.specs.ExpressionTree.{expression_of};
-ghost use Rattle.syntax.specs.Tree.{AssignTree, AppendTree, ValueTree, ForeachTree, statement_of, branch_of, statements};
+ghost use Rattle.grammar.specs.ExpressionTree.{expression_of};
+ghost use Rattle.grammar.specs.Tree.{AssignTree, AppendTree, ValueTree, ForeachTree, statement_of, branch_of, statements};
 ghost use Rattle.code.specs.Statements.{statement_at, name_at, second_within};
 
 use crate::file_draft::FileDraft;
 use crate::node::{BranchNode, StatementNode};
 use std::alloc::AllocError;
-use syntax::tree::{Branch, Expression, Statement};
+use grammar::tree::{Branch, Expression, Statement};
 
 impl FileDraft {
     ghost use Rattle.code.specs.FileDraft.{statements_in, Extends, IsStatement, AreStatements, AreBranches};

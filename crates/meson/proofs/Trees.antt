@@ -3,11 +3,11 @@ use Rattle.std.proofs.Common.{◌≡◌, ℕ, List, [], ◌∷◌, map, refl, ap
 use Rattle.std.specs.Prelude.{◌||◌, is_some}
 use Rattle.std.specs.List.{list_any}
 use Rattle.std.specs.Global.{Global}
-use Rattle.syntax.specs.ExpressionTree.{ExpressionTree, LinkTree, ArgumentTree, EntryTree, OperandTree, FunctionTree, arguments, argument_of, argument_trees, expression_of, expression_step, link_step, argument_step, entry_step, operand_step}
-use Rattle.syntax.specs.declared.tree.Argument.{Argument}
-use Rattle.syntax.specs.declared.tree.Expression.TheVariants.{Call, rolls-Call}
-use Rattle.syntax.specs.declared.tree.Expression.TheOpen as opened
-use Rattle.syntax.specs.declared.tree.Expression.TheFolds.{fold-roll-Expression}
+use Rattle.grammar.specs.ExpressionTree.{ExpressionTree, LinkTree, ArgumentTree, EntryTree, OperandTree, FunctionTree, arguments, argument_of, argument_trees, expression_of, expression_step, link_step, argument_step, entry_step, operand_step}
+use Rattle.grammar.specs.declared.tree.Argument.{Argument}
+use Rattle.grammar.specs.declared.tree.Expression.TheVariants.{Call, rolls-Call}
+use Rattle.grammar.specs.declared.tree.Expression.TheOpen as opened
+use Rattle.grammar.specs.declared.tree.Expression.TheFolds.{fold-roll-Expression}
 use Rattle.meson.specs.Evaluation.{has_named}
 
 pub expression_of-Call : (name : Bor (List ℕ)) (items : Vec Argument Global) (line : ℕ) → expression_of (Call name items line) ≡ FunctionTree name.now (arguments (map argument_of items.items)) line

@@ -4,13 +4,13 @@ use Rattle.std.specs.List.{list_any, list_all, ends_with, starts_with}
 use Rattle.std.specs.Str.{bytes_eq, is_utf8}
 use Rattle.std.specs.Str.Lossy.{utf8_valid_len}
 use Rattle.ports.specs.Tree.{file_at}
-use Rattle.syntax.specs.declared.tree.Literal.{Literal}
-use Rattle.syntax.specs.declared.tree.Literal.TheVariants as literals
-use Rattle.syntax.specs.ExpressionTree.{ExpressionTree, NameTree, LiteralTree, FunctionTree, ArgumentTrees, NoArgument, MoreArguments, line_of}
-use Rattle.syntax.specs.Tree.{StatementTree, AssignTree, AppendTree, ValueTree, BreakTree, ContinueTree, IfTree, ForeachTree, FileTree}
+use Rattle.grammar.specs.declared.tree.Literal.{Literal}
+use Rattle.grammar.specs.declared.tree.Literal.TheVariants as literals
+use Rattle.grammar.specs.ExpressionTree.{ExpressionTree, NameTree, LiteralTree, FunctionTree, ArgumentTrees, NoArgument, MoreArguments, line_of}
+use Rattle.grammar.specs.Tree.{StatementTree, AssignTree, AppendTree, ValueTree, BreakTree, ContinueTree, IfTree, ForeachTree, FileTree}
 use Rattle.lexer.specs.Texts.{text_of}
 use Rattle.lexer.specs.declared.token.Kind.TheVariants as Kinds
-use Rattle.syntax.specs.Parsed.{parsed}
+use Rattle.grammar.specs.Parsed.{parsed}
 use Rattle.lexer.specs.declared.fault.SyntaxFault.{SyntaxFault}
 use Rattle.lexer.specs.declared.fault.FaultKind.{FaultKind}
 use Rattle.lexer.specs.declared.fault.FaultKind.TheVariants as kinds

@@ -2,8 +2,8 @@
 ghost use Rattle.std.specs.Prelude.{◌≡◌, ℕ, ◌+◌, ◌^◌, ◌<◌};
 ghost use Rattle.ports.specs.Outputs.{OutputState};
 ghost use Rattle.ports.specs.Tree.{Stays};
-ghost use Rattle.syntax.specs.Parsed.{parsed};
-ghost use Rattle.syntax.specs.Tree.{file_of};
+ghost use Rattle.grammar.specs.Parsed.{parsed};
+ghost use Rattle.grammar.specs.Tree.{file_of};
 ghost use Rattle.meson.specs.Evaluation.{Files, definition_bytes, evaluation, refusal_of, root_file, spelled, tree_or_fault};
 ghost use Rattle.meson.specs.Gives.{Gives, Holds, failures_after};
 ghost use Rattle.meson.specs.Run.{World};
@@ -23,9 +23,9 @@ use ports::Tree;
 use std::alloc::Global;
 use std::str;
 use std::sync::ledger::Ledger;
-use syntax::fault::{FaultKind, SyntaxError};
-use syntax::parse;
-use syntax::tree::File;
+use grammar::fault::{FaultKind, SyntaxError};
+use grammar::parse;
+use grammar::tree::File;
 
 /// The most bytes of a definition file.
 const MOST_BYTES: u64 = 16_777_216;

@@ -4,7 +4,7 @@ ghost use Rattle.std.specs.List.{ends_with};
 ghost use Rattle.ports.specs.Outputs.{OutputState};
 ghost use Rattle.ports.specs.Tree.{Stays};
 ghost use Rattle.build.specs.View.{target_view};
-ghost use Rattle.syntax.specs.ExpressionTree.{argument_trees};
+ghost use Rattle.grammar.specs.ExpressionTree.{argument_trees};
 ghost use Rattle.meson.specs.Evaluation.{Files, checked_target, count_fault, declared, executable_call, first_target, held, is_target_name, target_at, target_from, target_named, target_of};
 ghost use Rattle.meson.specs.Data.{text_in};
 ghost use Rattle.meson.specs.Paths.{tree_path};
@@ -30,7 +30,7 @@ use ninja::can_hold_edges;
 use ports::Tree;
 use std::alloc::Global;
 use std::sync::ledger::Ledger;
-use syntax::tree::Argument;
+use grammar::tree::Argument;
 
 // Whether a target can have this name, and the source is one of C.
 fn fit(name: &str, source: &str) -> bool

@@ -2,7 +2,7 @@
 ghost use Rattle.std.specs.Prelude.{◌≡◌, ℕ, [], is_some};
 ghost use Rattle.std.specs.List.{list_any};
 ghost use Rattle.ports.specs.Outputs.{OutputState};
-ghost use Rattle.syntax.specs.ExpressionTree.{argument_of, argument_trees, expression_of};
+ghost use Rattle.grammar.specs.ExpressionTree.{argument_of, argument_trees, expression_of};
 ghost use Rattle.lexer.specs.Texts.{text_of};
 ghost use Rattle.meson.specs.Evaluation.{arguments_of, left_out, literal_value, unnamed, value_of, values_of, variable};
 ghost use Rattle.meson.specs.Gives.{Gives, failures_after};
@@ -23,7 +23,7 @@ use lexer::text_of;
 use lexer::token::{Kind, Token};
 use std::alloc::Global;
 use std::sync::ledger::Ledger;
-use syntax::tree::{Argument, Expression, Literal};
+use grammar::tree::{Argument, Expression, Literal};
 
 fn variable(
     alloc: Global,

@@ -3,7 +3,7 @@ ghost use Rattle.std.specs.Prelude.{◌≡◌, ℕ, ◌+◌, ◌^◌, ◌<◌, m
 ghost use Rattle.std.specs.List.{list_all};
 ghost use Rattle.ports.specs.Outputs.{OutputState};
 ghost use Rattle.ports.specs.Tree.{Stays};
-ghost use Rattle.syntax.specs.ExpressionTree.{argument_trees};
+ghost use Rattle.grammar.specs.ExpressionTree.{argument_trees};
 ghost use Rattle.meson.specs.Evaluation.{Files, is_c, languages_taken, no_option_file, no_option_words, again_called, options_read, project_again_fault, project_call, project_taken};
 ghost use Rattle.meson.specs.Gives.{Gives, Holds, IsRefusal, failures_after};
 ghost use Rattle.meson.specs.Run.{World};
@@ -24,7 +24,7 @@ use crate::value::Value;
 use ports::Tree;
 use std::alloc::Global;
 use std::sync::ledger::Ledger;
-use syntax::tree::Argument;
+use grammar::tree::Argument;
 
 fn is_c(value: &Value) -> bool
     ensures { result ≡ is_c (view value.now) }

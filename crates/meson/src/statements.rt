@@ -2,8 +2,8 @@
 ghost use Rattle.std.specs.Prelude.{◌≡◌, ℕ, ◌+◌, ◌^◌, ◌<◌, map};
 ghost use Rattle.ports.specs.Outputs.{OutputState};
 ghost use Rattle.ports.specs.Tree.{Stays};
-ghost use Rattle.syntax.specs.ExpressionTree.{argument_trees, expression_of};
-ghost use Rattle.syntax.specs.Tree.{file_of, statement_of};
+ghost use Rattle.grammar.specs.ExpressionTree.{argument_trees, expression_of};
+ghost use Rattle.grammar.specs.Tree.{file_of, statement_of};
 ghost use Rattle.meson.specs.Evaluation.{Files, assignment, begins, begins_with, called, carried_out, do_all, does, left_out, no_project_call, project_call, root};
 ghost use Rattle.meson.specs.Gives.{Gives, Holds, failures_after};
 ghost use Rattle.meson.specs.Names.{function_named};
@@ -25,7 +25,7 @@ use crate::store::{Store, set_variable};
 use ports::Tree;
 use std::alloc::Global;
 use std::sync::ledger::Ledger;
-use syntax::tree::{Argument, Expression, File, Statement};
+use grammar::tree::{Argument, Expression, File, Statement};
 
 fn assign<L: Ledger>(
     alloc: Global,

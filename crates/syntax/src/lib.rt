@@ -1,15 +1,11 @@
-//! The tokens, the grammar and the trees of Meson definition files.
+//! The language of Meson definition files: tokens, trees and code. The public surface of the crates below, under one name.
 //!
-//! [`tokens`] cuts a source into its tokens, [`parse`] reads the file that they spell. Both refuse a source with a
-//! [`fault::SyntaxFault`], which names what is wrong and the line. The language is that of the Meson manual's page
-//! "Syntax"; nothing here knows what a name or a call means.
+//! [`tokens`] cuts a source into its tokens, and [`text_of`] gives what a token stands for. [`parse`] reads the file that the tokens
+//! spell, and [`flatten`] keeps that file as [`Code`], which owns its literals and numbers its names in [`Names`]. A source that spells
+//! no file is refused with a [`fault::SyntaxFault`] at its line. The language is that of the Meson manual's page
+//! [Syntax](https://mesonbuild.com/Syntax.html); nothing here knows what a name or a call means.
 #![tactic(auto)]
 
-mod parser;
-mod stop;
-#[cfg(test)]
-mod tests;
-pub mod tree;
-
-pub use lexer::{fault, token, tokens};
-pub use parser::{LEVELS, parse};
+pub use code::{Code, Names, flatten, names_may_grow, node};
+pub use grammar::{LEVELS, parse, tree};
+pub use lexer::{fault, newlines, text_of, token, tokens};

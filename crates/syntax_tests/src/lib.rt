@@ -1,10 +1,12 @@
-//! Tests of the crate `syntax`: sources with their trees, or with their faults.
+//! Tests of the crate `syntax`: sources with their trees, or with their faults, and files made flat.
 #![tactic(auto)]
 
 #[cfg(test)]
 mod expressions;
 #[cfg(test)]
 mod faults;
+#[cfg(test)]
+mod flattening;
 #[cfg(test)]
 mod fronts;
 #[cfg(test)]

@@ -1,5 +1,5 @@
 use Rattle.std.proofs.Common.{ℕ, List, Vec, Global, Err, subst}
-use Rattle.syntax.specs.Tree.{FileTree, file_of}
+use Rattle.grammar.specs.Tree.{FileTree, file_of}
 use Rattle.meson.specs.Evaluation.{definition_bytes, spelled, root, root_file, main_file}
 use Rattle.meson.specs.Gives.{Gives, Ends}
 use Rattle.meson.specs.Run.{Act, Done, rule, follow}

@@ -2,8 +2,8 @@ use Rattle.std.proofs.Common.{◌≡◌, ℕ, List, Bool, true, false, refl, sym
 use Rattle.std.specs.Str.{IsUtf8, is_utf8}
 use Rattle.std.specs.Str.Lossy.{utf8_valid_len}
 use Rattle.std.proofs.lemmas.Str.{IsUtf8-from_is_utf8, is_utf8-from_IsUtf8}
-use Rattle.syntax.specs.Parsed.{parsed}
-use Rattle.syntax.specs.Tree.{file_of}
+use Rattle.grammar.specs.Parsed.{parsed}
+use Rattle.grammar.specs.Tree.{file_of}
 use Rattle.meson.specs.Evaluation.{spelled, tree_or_fault, line_at, plain_fault}
 use Rattle.meson.specs.Gives.{Gives}
 use Rattle.meson.specs.Run.{World, refuse}

@@ -1,7 +1,7 @@
 use Rattle.std.proofs.Common.{◌≡◌, Result, Err, refl, sym, ap, subst, ◌∙◌}
 use Rattle.lexer.specs.Answers.{Refuses}
-use Rattle.syntax.specs.Parsed.{parsed}
-use Rattle.syntax.specs.Tree.{FileTree, file_of}
+use Rattle.grammar.specs.Parsed.{parsed}
+use Rattle.grammar.specs.Tree.{FileTree, file_of}
 use Rattle.lexer.specs.declared.fault.SyntaxFault.{SyntaxFault}
 use Rattle.meson.specs.Evaluation.{tree_or_fault, plain_fault}
 use Rattle.meson.specs.Run.{refuse}

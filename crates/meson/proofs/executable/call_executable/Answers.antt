@@ -1,5 +1,5 @@
 use Rattle.std.proofs.Common.{List, [], map, Err, subst}
-use Rattle.syntax.specs.ExpressionTree.{argument_trees}
+use Rattle.grammar.specs.ExpressionTree.{argument_trees}
 use Rattle.build.specs.View.{target_view}
 use Rattle.meson.specs.Evaluation.{first_target, arguments_of, target_of, checked_target, described_target, executable_call}
 use Rattle.meson.specs.Gives.{Gives, Ends}

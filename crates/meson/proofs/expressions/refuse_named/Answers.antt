@@ -1,5 +1,5 @@
 use Rattle.std.proofs.Common.{◌≡◌, ℕ, List, true, false, refl, sym, ap, ◌∙◌}
-use Rattle.syntax.specs.ExpressionTree.{ArgumentTrees, argument_trees}
+use Rattle.grammar.specs.ExpressionTree.{ArgumentTrees, argument_trees}
 use Rattle.meson.specs.Evaluation.{has_named, left_out, plain_fault, unnamed}
 use Rattle.meson.specs.Run.{World, pure}
 use Rattle.meson.specs.declared.refusal.Refusal.TheVariants as refusals

@@ -1,4 +1,4 @@
-use Rattle.syntax.specs.ExpressionTree.{expression_of}
+use Rattle.grammar.specs.ExpressionTree.{expression_of}
 use Rattle.meson.specs.Evaluation.{value_of}
 use Rattle.meson.specs.Store.{world_of}
 use Rattle.meson.specs.Trace.{seen}

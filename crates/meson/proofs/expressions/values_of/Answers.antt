@@ -1,6 +1,6 @@
 use Rattle.std.proofs.Common.{◌+◌, [], ◌∷◌, ◌++◌, Err, map, drop, refl, ap, subst, ◌∙◌}
 use Rattle.std.proofs.lemmas.List.{map-append}
-use Rattle.syntax.specs.ExpressionTree.{ExpressionTree, argument_of, arguments}
+use Rattle.grammar.specs.ExpressionTree.{ExpressionTree, argument_of, arguments}
 use Rattle.meson.specs.Evaluation.{value_of, values_of}
 use Rattle.meson.specs.Gives.{Gives}
 use Rattle.meson.specs.Run.{rule}

@@ -1,5 +1,5 @@
 use Rattle.std.proofs.Common.{[], map}
-use Rattle.syntax.specs.ExpressionTree.{argument_trees}
+use Rattle.grammar.specs.ExpressionTree.{argument_trees}
 use Rattle.meson.specs.Evaluation.{arguments_of, project_again_fault, again_called}
 use Rattle.meson.specs.Run.{refuse}
 use Rattle.meson.specs.Store.{world_of}

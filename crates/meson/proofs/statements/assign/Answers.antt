@@ -1,5 +1,5 @@
 use Rattle.std.proofs.Common.{◌≡◌, ℕ, List, [], true, false, refl, sym, ap, ◌∙◌}
-use Rattle.syntax.specs.ExpressionTree.{expression_of}
+use Rattle.grammar.specs.ExpressionTree.{expression_of}
 use Rattle.meson.specs.Data.{Data}
 use Rattle.meson.specs.Evaluation.{value_of, assigned, assignment, setting, plain_fault}
 use Rattle.meson.specs.Names.{is_predefined}

@@ -1,7 +1,7 @@
 use Rattle.std.proofs.Common.{◌≡◌, ℕ, List, true, codes, sym, refl, subst, ◌∙◌, bytes_eq}
-use Rattle.syntax.specs.ExpressionTree.{ExpressionTree, FunctionTree, ArgumentTrees, argument_trees, expression_of}
-use Rattle.syntax.specs.declared.tree.Argument.{Argument}
-use Rattle.syntax.specs.declared.tree.Expression.{Expression}
+use Rattle.grammar.specs.ExpressionTree.{ExpressionTree, FunctionTree, ArgumentTrees, argument_trees, expression_of}
+use Rattle.grammar.specs.declared.tree.Argument.{Argument}
+use Rattle.grammar.specs.declared.tree.Expression.{Expression}
 use Rattle.meson.specs.Evaluation.{Files, begins_with, project_call}
 use Rattle.meson.specs.Gives.{Gives}
 use Rattle.meson.specs.Run.{World, rule}

@@ -1,7 +1,7 @@
 use Rattle.std.proofs.Common.{List, sym, subst}
-use Rattle.syntax.specs.ExpressionTree.{ExpressionTree, argument_trees, expression_of}
-use Rattle.syntax.specs.declared.tree.Argument.{Argument}
-use Rattle.syntax.specs.declared.tree.Expression.{Expression}
+use Rattle.grammar.specs.ExpressionTree.{ExpressionTree, argument_trees, expression_of}
+use Rattle.grammar.specs.declared.tree.Argument.{Argument}
+use Rattle.grammar.specs.declared.tree.Expression.{Expression}
 use Rattle.meson.specs.Evaluation.{called, carried_out}
 use Rattle.meson.specs.Gives.{Gives}
 use Rattle.meson.specs.Names.{function_named}

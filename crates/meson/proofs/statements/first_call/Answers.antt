@@ -1,5 +1,5 @@
 use Rattle.std.proofs.Common.{map}
-use Rattle.syntax.specs.ExpressionTree.{argument_trees}
+use Rattle.grammar.specs.ExpressionTree.{argument_trees}
 use Rattle.meson.specs.Evaluation.{project_call}
 use Rattle.meson.specs.SettingsView.{settings_view}
 use Rattle.meson.specs.Store.{world_of}

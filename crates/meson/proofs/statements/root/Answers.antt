@@ -1,6 +1,6 @@
 use Rattle.std.proofs.Common.{List, map, subst}
-use Rattle.syntax.specs.Tree.{statement_of}
-use Rattle.syntax.specs.declared.tree.Statement.{Statement}
+use Rattle.grammar.specs.Tree.{statement_of}
+use Rattle.grammar.specs.declared.tree.Statement.{Statement}
 use Rattle.meson.specs.Evaluation.{root}
 use Rattle.meson.specs.Gives.{Gives}
 use Rattle.meson.specs.SettingsView.{settings_view}

@@ -1,7 +1,7 @@
 use Rattle.std.proofs.Common.{◌≡◌, ◌==◌, List, [], ◌∷◌, Bool, false, length, drop, get_or, map, sym, ap}
 use Rattle.std.proofs.lemmas.List.{take_rest}
-use Rattle.syntax.specs.Tree.{statement_of}
-use Rattle.syntax.specs.declared.tree.Statement.{Statement}
+use Rattle.grammar.specs.Tree.{statement_of}
+use Rattle.grammar.specs.declared.tree.Statement.{Statement}
 use Rattle.meson.specs.Evaluation.{begins, do_all, root, plain_fault}
 use Rattle.meson.specs.SettingsView.{settings_view}
 use Rattle.meson.specs.Store.{world_of}

@@ -1,4 +1,4 @@
-use Rattle.syntax.specs.Tree.{statement_of}
+use Rattle.grammar.specs.Tree.{statement_of}
 use Rattle.meson.specs.Evaluation.{does}
 use Rattle.meson.specs.SettingsView.{settings_view}
 use Rattle.meson.specs.Store.{world_of}

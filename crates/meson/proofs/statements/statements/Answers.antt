@@ -1,5 +1,5 @@
 use Rattle.std.proofs.Common.{◌+◌, drop, map, refl, ◌∙◌}
-use Rattle.syntax.specs.Tree.{statement_of}
+use Rattle.grammar.specs.Tree.{statement_of}
 use Rattle.meson.specs.Evaluation.{does, do_all}
 use Rattle.meson.specs.Run.{rule}
 use Rattle.meson.specs.SettingsView.{settings_view}

@@ -1,7 +1,7 @@
 use Rattle.std.proofs.Common.{◌≡◌, drop, map}
 use Rattle.ports.specs.Outputs.{OutputState}
 use Rattle.ports.specs.Tree.{Stays}
-use Rattle.syntax.specs.Tree.{statement_of}
+use Rattle.grammar.specs.Tree.{statement_of}
 use Rattle.meson.specs.Evaluation.{Files, do_all}
 use Rattle.meson.specs.Gives.{Continues, Holds}
 use Rattle.meson.specs.SettingsView.{settings_view}

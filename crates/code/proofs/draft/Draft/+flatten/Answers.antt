@@ -1,5 +1,5 @@
 use Rattle.std.proofs.Common.{sym, ap, ◌∙◌, length, nat_lt, option_map}
-use Rattle.syntax.specs.ExpressionTree.{ExpressionTree, expression_of, entry_of, argument_of, operand_of, link_of}
+use Rattle.grammar.specs.ExpressionTree.{ExpressionTree, expression_of, entry_of, argument_of, operand_of, link_of}
 use Rattle.code.specs.Nodes.{tree_at, tree_of, entry_at, argument_at, operand_at, link_at, entry_within, argument_within, operand_within, link_within}
 use Rattle.code.specs.Draft.{trees_in}
 use Rattle.code.specs.declared.node.Node.TheVariants as flat

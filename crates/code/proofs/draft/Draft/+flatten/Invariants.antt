@@ -1,5 +1,5 @@
 use Rattle.std.proofs.Common.{map, nat_lt, take}
-use Rattle.syntax.specs.ExpressionTree.{expression_of, entry_of, argument_of, operand_of, link_of}
+use Rattle.grammar.specs.ExpressionTree.{expression_of, entry_of, argument_of, operand_of, link_of}
 use Rattle.code.specs.Nodes.{tree_at, entry_at, argument_at, operand_at, link_at, entry_within, argument_within, operand_within, link_within}
 use Rattle.code.specs.Draft.{trees_in, Grows, Parts}
 use Rattle.code.proofs.draft.Draft.+flatten.Given as goal

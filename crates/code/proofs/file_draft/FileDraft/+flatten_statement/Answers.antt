@@ -1,7 +1,7 @@
 use Rattle.std.proofs.Common.{map, nat_lt, length, sym, ap, ◌∙◌}
 use Rattle.std.specs.List.{list_all}
-use Rattle.syntax.specs.ExpressionTree.{ExpressionTree, expression_of}
-use Rattle.syntax.specs.Tree.{statement_of, branch_of, statements}
+use Rattle.grammar.specs.ExpressionTree.{ExpressionTree, expression_of}
+use Rattle.grammar.specs.Tree.{statement_of, branch_of, statements}
 use Rattle.code.specs.declared.node.StatementNode.TheVariants as flat
 use Rattle.code.specs.Draft.{trees_in}
 use Rattle.code.specs.Statements.{statement_at, statement_tree, branch_at, branch_within}

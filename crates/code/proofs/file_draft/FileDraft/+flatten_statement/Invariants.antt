@@ -1,5 +1,5 @@
 use Rattle.std.proofs.Common.{map, take}
-use Rattle.syntax.specs.Tree.{statement_of, branch_of}
+use Rattle.grammar.specs.Tree.{statement_of, branch_of}
 use Rattle.code.specs.FileDraft.{Extends, AreStatements, AreBranches}
 use Rattle.code.proofs.file_draft.FileDraft.+flatten_statement.Given as goal
 

@@ -1,0 +1,67 @@
+use Rattle.std.proofs.Common.{◌≡◌, ◌≤◌, ◌∙◌, sym, ap, subst, List, length, Ok, Err}
+use Rattle.std.proofs.lemmas.Result.{err_from_is_err_and}
+use Rattle.lexer.specs.declared.fault.SyntaxFault.{SyntaxFault}
+use Rattle.lexer.specs.declared.fault.SyntaxError.TheVariants as errors
+use Rattle.lexer.specs.declared.token.Token.{Token}
+use Rattle.grammar.specs.Grammar.{most_levels}
+use Rattle.lexer.specs.Lexeme.{lexemes}
+use Rattle.lexer.specs.Answers.{Answers}
+use Rattle.grammar.specs.Parsed.{located, parsed}
+use Rattle.grammar.specs.Reading.{all_of, tokens_left}
+use Rattle.grammar.specs.ReadingStatements.{file_at}
+use Rattle.grammar.specs.Tree.{file_of}
+use Rattle.grammar.proofs.Parses.{complete_all, no_tokens, only_all, read_all, refused_all, spelled_all, stop_is, stop_within, stopped}
+use Rattle.grammar.proofs.parser.parse.Goals as goal
+use Rattle.grammar.proofs.parser.parse.Goals.{After-from_residual, After-drop-tokens, After-drop-tokens-2}
+
+no_tokens_here : (c : After-from_residual) → Answers file_of c.from_residual.result (parsed c.args.source.now)
+no_tokens_here c =
+    let p = err_from_is_err_and c.from_residual.result c.from_residual.ensures.1 in
+    rw (p.1, p.2) (no_tokens c.args.source.now c.in_err-tokens.field-0.0 c.in_err-tokens.ensures.reads)
+
+pub returns-in_err-tokens-clause-reads : goal.returns-in_err-tokens-clause-reads
+returns-in_err-tokens-clause-reads c = no_tokens_here c
+
+pub returns-in_err-tokens-clause-complete : goal.returns-in_err-tokens-clause-complete
+returns-in_err-tokens-clause-complete c = complete_all c.args.source.now c.from_residual.result (no_tokens_here c)
+
+pub returns-in_err-tokens-clause-refused : goal.returns-in_err-tokens-clause-refused
+returns-in_err-tokens-clause-refused c = refused_all c.args.source.now c.from_residual.result (no_tokens_here c)
+
+read_here : (c : After-drop-tokens) → parsed c.args.source.now ≡ Ok (file_of c.in-Ok.file)
+read_here c = read_all c.args.source.now (lexemes c.in_ok-tokens.tokens.items) (file_of c.in-Ok.file) c.in_ok-tokens.ensures.reads
+    (ap (λ (ts : List Token). all_of (file_at most_levels) (lexemes ts)) (sym c.deref.ensures.value) ∙ c.in-Ok.ensures)
+
+pub returns-in-Ok-clause-reads : goal.returns-in-Ok-clause-reads
+returns-in-Ok-clause-reads c = read_here c
+
+pub returns-in-Ok-clause-spelled : goal.returns-in-Ok-clause-spelled
+returns-in-Ok-clause-spelled c = spelled_all c.args.source.now (Ok c.in-Ok.file) (read_here c)
+
+pub returns-in-Ok-clause-complete : goal.returns-in-Ok-clause-complete
+returns-in-Ok-clause-complete c = complete_all c.args.source.now (Ok c.in-Ok.file) (read_here c)
+
+pub returns-in-Ok-clause-only : goal.returns-in-Ok-clause-only
+returns-in-Ok-clause-only c = only_all c.args.source.now (Ok c.in-Ok.file) (read_here c)
+
+pub located-requires : goal.located-requires
+located-requires c =
+    let e = stop_is c.in-Err-Stop.field-0 c.in-Err-Stop.stop _ c.in-Err-Stop.field-0-is c.in-Err-Stop.ensures in
+    let same = c.deref.ensures.value ∙ sym c.deref-in-Err-Stop.ensures.value in
+    subst (λ (ts : List Token). tokens_left c.in-Err-Stop.stop ≤ length ts) same (stop_within c.args.source.now c.deref.result.now c.in-Err-Stop.stop e)
+
+stop_here : (c : After-drop-tokens-2) → parsed c.args.source.now ≡ Err c.located.result
+stop_here c =
+    let e = stop_is c.in-Err-Stop.field-0 c.in-Err-Stop.stop _ c.in-Err-Stop.field-0-is c.in-Err-Stop.ensures in
+    let same = sym c.deref.ensures.value in
+    stopped c.args.source.now (lexemes c.in_ok-tokens.tokens.items) c.in-Err-Stop.stop c.in_ok-tokens.ensures.reads (ap (λ (ts : List Token). all_of (file_at most_levels) (lexemes ts)) same ∙ e)
+    ∙ ap (λ (ts : List Token). Err (located c.args.source.now (lexemes ts) c.in-Err-Stop.stop)) (sym c.deref-in-Err-Stop.ensures.value) ∙ ap (λ (f : SyntaxFault). Err f) (sym c.located.ensures)
+
+pub returns-clause-reads : goal.returns-clause-reads
+returns-clause-reads c = stop_here c
+
+pub returns-clause-complete : goal.returns-clause-complete
+returns-clause-complete c = complete_all c.args.source.now (Err (errors.Fault c.located.result)) (stop_here c)
+
+pub returns-clause-refused : goal.returns-clause-refused
+returns-clause-refused c = refused_all c.args.source.now (Err (errors.Fault c.located.result)) (stop_here c)

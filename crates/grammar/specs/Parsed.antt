@@ -1,0 +1,76 @@
+-- What a source reads as.
+use Rattle.std.specs.Prelude.{◌≡◌, ℕ, ◌+◌, ◌-◌, List, [], ◌∷◌, length, drop, Result, Ok, Err}
+use Rattle.lexer.specs.Bytes.{newlines}
+use Rattle.lexer.specs.Lexeme.{Lexeme}
+use Rattle.grammar.specs.Tree.{FileTree}
+use Rattle.lexer.specs.Tokens.{AreTokens, IsUnreadable}
+use Rattle.lexer.specs.Lexing.{lexed}
+use Rattle.grammar.specs.Grammar.{file, most_levels}
+use Rattle.grammar.specs.Outcome.{IsUnexpected, IsTooDeep}
+use Rattle.grammar.specs.Reading.{all_of}
+use Rattle.grammar.specs.ReadingStatements.{file_at}
+use Rattle.grammar.specs.declared.stop.Stop.{Stop}
+use Rattle.grammar.specs.declared.stop.Stop.TheVariants.{Unexpected, TooDeep}
+use Rattle.lexer.specs.declared.fault.SyntaxFault.{SyntaxFault}
+use Rattle.lexer.specs.declared.fault.FaultKind.{FaultKind}
+use Rattle.lexer.specs.declared.fault.FaultKind.TheVariants as Faults
+
+-- ---- as a function of the source
+
+abbrev pub first_line : ℕ → List Lexeme → ℕ
+first_line end [] = end
+first_line end (t ∷ ts) = t.line
+
+-- the line of the token with this index, or of the end
+abbrev pub line_of : List ℕ → List Lexeme → ℕ → ℕ
+line_of source ts k = first_line (1 + newlines source) (drop k ts)
+
+-- the fault of a stop, with the line of its token
+abbrev pub located : List ℕ → List Lexeme → Stop → SyntaxFault
+located source ts (Unexpected left) = record { kind = Faults.Grammar; line = line_of source ts (length ts - left) }
+located source ts (TooDeep left) = record { kind = Faults.Nesting; line = line_of source ts (length ts - left) }
+
+abbrev pub in_source : List ℕ → List Lexeme → Result FileTree Stop → Result FileTree SyntaxFault
+in_source source ts (Ok f) = Ok f
+in_source source ts (Err s) = Err (located source ts s)
+
+abbrev pub parsed_tokens : List ℕ → Result (List Lexeme) SyntaxFault → Result FileTree SyntaxFault
+parsed_tokens source (Ok ts) = in_source source ts (all_of (file_at most_levels) ts)
+parsed_tokens source (Err e) = Err e
+
+-- the file that a source spells, or its fault
+unfoldable pub parsed : List ℕ → Result FileTree SyntaxFault
+parsed source = parsed_tokens source (lexed source)
+
+-- ---- as relations
+
+-- the tokens of the source spell the file, with at most so many levels
+pub record Spells (levels : ℕ) (source : List ℕ) (f : FileTree) : Type 0 where
+  pub tokens : List Lexeme
+  pub are_tokens : AreTokens source tokens
+  pub spelled : (file levels).spells f tokens []
+
+-- the tokens begin no file from the one on this line on
+pub record IsUnexpectedOn (source : List ℕ) (line : ℕ) : Type 0 where
+  pub tokens : List Lexeme
+  pub are_tokens : AreTokens source tokens
+  pub index : ℕ
+  pub unexpected : IsUnexpected file most_levels tokens index
+  pub here : line ≡ line_of source tokens index
+
+-- the token on this line is the first that opens a level too many
+pub record IsTooDeepOn (source : List ℕ) (line : ℕ) : Type 0 where
+  pub tokens : List Lexeme
+  pub are_tokens : AreTokens source tokens
+  pub index : ℕ
+  pub too_deep : IsTooDeep file most_levels tokens index
+  pub here : line ≡ line_of source tokens index
+
+abbrev pub FaultsBy : FaultKind → List ℕ → ℕ → Type 0
+FaultsBy Faults.Token source line = IsUnreadable source line
+FaultsBy Faults.Grammar source line = IsUnexpectedOn source line
+FaultsBy Faults.Nesting source line = IsTooDeepOn source line
+
+-- the source has this fault
+abbrev pub HasFault : List ℕ → SyntaxFault → Type 0
+HasFault source f = FaultsBy f.kind source f.line

@@ -1,0 +1,168 @@
+-- Reading statements by their grammar, as functions: a value and the tokens after it, or where reading stops.
+use Rattle.std.specs.Prelude.{ℕ, zero, suc, Bool, true, false, not, ◌||◌, List, [], ◌∷◌, length, Ok, Err, Option, unwrap_or}
+use Rattle.lexer.specs.Lexeme.{Lexeme}
+use Rattle.lexer.specs.Kinds.{is}
+use Rattle.lexer.specs.declared.token.Kind.{Kind}
+use Rattle.lexer.specs.declared.token.Kind.TheVariants as Kinds
+use Rattle.grammar.specs.declared.stop.Stop.TheVariants.{Unexpected}
+use Rattle.grammar.specs.Parts.{here_at}
+use Rattle.grammar.specs.ExpressionTree.{ExpressionTree}
+use Rattle.grammar.specs.Tree.{StatementTree, AssignTree, AppendTree, ValueTree, BreakTree, ContinueTree, IfTree, ForeachTree, FileTree, statements, BranchTree, branches}
+use Rattle.grammar.specs.Statements.{given}
+use Rattle.grammar.specs.Reading.{Reader, ◌>>=◌, begins, token_at, many_at, or_at, optional_at, deep_at, two_begin}
+use Rattle.grammar.specs.ReadingExpressions.{expr_at}
+
+-- ---- statements of one line
+
+-- what gives a name a value, with the token of this kind after the name
+unfoldable pub set_at : Kind → (List ℕ → ℕ → ExpressionTree → StatementTree) → Reader ExpressionTree → Reader StatementTree
+set_at k tree r ts = do
+  t ← token_at Kinds.Name ts
+  q ← token_at k t.1
+  e ← r q.1
+  Ok (tree t.0.text t.0.line e.0, e.1)
+
+unfoldable pub plain_at : Reader ExpressionTree → Reader StatementTree
+plain_at r ts = do
+  line ← here_at ts
+  e ← r line.1
+  Ok (ValueTree e.0 line.0, e.1)
+
+unfoldable pub leave_at : Kind → (ℕ → StatementTree) → Bool → Reader StatementTree
+leave_at k tree true ts = token_at k ts >>= λ t. Ok (tree t.0.line, t.1)
+leave_at k tree false ts = Err (Unexpected (length ts))
+
+unfoldable pub simple_at : Bool → ℕ → Reader StatementTree
+simple_at inside n ts =
+    or_at (begins Kinds.Break) (leave_at Kinds.Break BreakTree inside)
+    (or_at (begins Kinds.Continue) (leave_at Kinds.Continue ContinueTree inside)
+    (or_at (two_begin Kinds.Name Kinds.Assign) (set_at Kinds.Assign AssignTree (expr_at n))
+    (or_at (two_begin Kinds.Name Kinds.PlusAssign) (set_at Kinds.PlusAssign AppendTree (expr_at n))
+    (plain_at (expr_at n))))) ts
+
+-- ---- blocks
+
+-- no statement is left on this line
+abbrev pub ends_line : List Lexeme → Bool
+ends_line [] = true
+ends_line (t ∷ ts) = is t.kind Kinds.Newline
+
+abbrev pub in_line : List Lexeme → Bool
+in_line ts = not (ends_line ts)
+
+-- the word of a further part of a block, or its last word
+abbrev pub ends_body : Kind → Bool
+ends_body k = is k Kinds.EndForeach || (is k Kinds.EndIf || (is k Kinds.Elif || is k Kinds.Else))
+
+abbrev pub in_body : List Lexeme → Bool
+in_body [] = false
+in_body (t ∷ ts) = not (ends_body t.kind)
+
+-- [stmt]
+abbrev pub maybe_at : Reader StatementTree → Reader (Option StatementTree)
+maybe_at r = optional_at in_line r
+
+-- [stmt] NL
+unfoldable pub ended_line_at : Reader StatementTree → Reader (Option StatementTree)
+ended_line_at r ts = do
+  s ← maybe_at r ts
+  t ← token_at Kinds.Newline s.1
+  Ok (s.0, t.1)
+
+unfoldable pub body_at : Reader StatementTree → Reader (List StatementTree)
+body_at r ts = do
+  lines ← many_at in_body (ended_line_at r) (length ts) ts
+  Ok (given lines.0, lines.1)
+
+-- "," NAME
+unfoldable pub second_at : Reader (List ℕ)
+second_at ts = do
+  c ← token_at Kinds.Comma ts
+  t ← token_at Kinds.Name c.1
+  Ok (t.0.text, t.1)
+
+unfoldable pub foreach_at : Reader ExpressionTree → Reader StatementTree → Reader StatementTree
+foreach_at expr stmt ts = do
+  w ← token_at Kinds.Foreach ts
+  a ← token_at Kinds.Name w.1
+  b ← optional_at (begins Kinds.Comma) second_at a.1
+  c ← token_at Kinds.Colon b.1
+  line ← here_at c.1
+  e ← expr line.1
+  t ← token_at Kinds.Newline e.1
+  ss ← body_at stmt t.1
+  end ← token_at Kinds.EndForeach ss.1
+  Ok (ForeachTree w.0.line a.0.text b.0 e.0 line.0 (statements ss.0), end.1)
+
+unfoldable pub branch_at : Reader ExpressionTree → Reader StatementTree → Reader BranchTree
+branch_at expr stmt ts = do
+  line ← here_at ts
+  e ← expr line.1
+  t ← token_at Kinds.Newline e.1
+  ss ← body_at stmt t.1
+  Ok ((e.0, line.0, statements ss.0), ss.1)
+
+unfoldable pub elif_at : Reader ExpressionTree → Reader StatementTree → Reader BranchTree
+elif_at expr stmt ts = do
+  w ← token_at Kinds.Elif ts
+  branch_at expr stmt w.1
+
+unfoldable pub parts_at : Reader ExpressionTree → Reader StatementTree → Reader (List BranchTree)
+parts_at expr stmt ts = do
+  first ← branch_at expr stmt ts
+  others ← many_at (begins Kinds.Elif) (elif_at expr stmt) (length first.1) first.1
+  Ok (first.0 ∷ others.0, others.1)
+
+unfoldable pub last_part_at : Reader StatementTree → Reader (List StatementTree)
+last_part_at stmt ts = do
+  w ← token_at Kinds.Else ts
+  t ← token_at Kinds.Newline w.1
+  body_at stmt t.1
+
+unfoldable pub otherwise_at : Reader StatementTree → Reader (List StatementTree)
+otherwise_at stmt ts = do
+  last ← optional_at (begins Kinds.Else) (last_part_at stmt) ts
+  Ok (unwrap_or last.0 [], last.1)
+
+unfoldable pub conditional_at : Reader ExpressionTree → Reader StatementTree → Reader StatementTree
+conditional_at expr stmt ts = do
+  w ← token_at Kinds.If ts
+  bs ← parts_at expr stmt w.1
+  ss ← otherwise_at stmt bs.1
+  end ← token_at Kinds.EndIf ss.1
+  Ok (IfTree w.0.line (branches bs.0) (statements ss.0), end.1)
+
+-- the word of a block
+abbrev pub opens_block : Kind → Bool
+opens_block k = is k Kinds.Foreach || is k Kinds.If
+
+abbrev pub begins_block : List Lexeme → Bool
+begins_block [] = false
+begins_block (t ∷ ts) = opens_block t.kind
+
+unfoldable pub block_at : Bool → ℕ → Reader StatementTree
+block_at inside zero ts = or_at (begins Kinds.Foreach) (deep_at Kinds.Foreach) (deep_at Kinds.If) ts
+block_at inside (suc n) ts =
+    or_at (begins Kinds.Foreach) (foreach_at (expr_at n) (or_at begins_block (block_at true n) (simple_at true n)))
+    (conditional_at (expr_at n) (or_at begins_block (block_at inside n) (simple_at inside n))) ts
+
+unfoldable pub stmt_at : Bool → ℕ → Reader StatementTree
+stmt_at inside n ts = or_at begins_block (block_at inside n) (simple_at inside n) ts
+
+-- ---- files
+
+-- [stmt]
+abbrev pub line_at : ℕ → Reader (Option StatementTree)
+line_at n = maybe_at (stmt_at false n)
+
+-- NL [stmt]
+unfoldable pub next_line_at : ℕ → Reader (Option StatementTree)
+next_line_at n ts = do
+  t ← token_at Kinds.Newline ts
+  line_at n t.1
+
+unfoldable pub file_at : ℕ → Reader FileTree
+file_at n ts = do
+  first ← line_at n ts
+  others ← many_at (begins Kinds.Newline) (next_line_at n) (length first.1) first.1
+  Ok (given (first.0 ∷ others.0), others.1)

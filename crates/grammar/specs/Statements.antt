@@ -1,0 +1,143 @@
+-- The grammar of statements, a form for each line. `inside` says whether a `foreach` of the same file is open, and the
+-- number is that of the levels that may still be opened.
+use Rattle.std.specs.Prelude.{ℕ, zero, suc, Bool, true, false, List, [], ◌∷◌, Option, Some, None, unwrap_or}
+use Rattle.lexer.specs.declared.token.Kind.{Kind}
+use Rattle.lexer.specs.declared.token.Kind.TheVariants.{Name, Assign, PlusAssign, Newline, Comma, Colon, Break, Continue, If, Elif, Else, EndIf, Foreach, EndForeach}
+use Rattle.grammar.specs.ExpressionTree.{ExpressionTree}
+use Rattle.grammar.specs.Tree.{StatementTree, AssignTree, AppendTree, ValueTree, BreakTree, ContinueTree, IfTree, ForeachTree, FileTree, statements, BranchTree, branches}
+use Rattle.grammar.specs.Form.{Form, token, give, ◌>>=◌, ◌or◌, never, many, optional}
+use Rattle.grammar.specs.Parts.{here}
+use Rattle.grammar.specs.Expressions.{expr}
+
+-- ---- statements of one line
+
+-- NAME "=" expr
+abbrev pub assign : Form ExpressionTree → Form StatementTree
+assign expr = do
+  t ← token Name
+  q ← token Assign
+  e ← expr
+  give (AssignTree t.text t.line e)
+
+-- NAME "+=" expr
+abbrev pub append : Form ExpressionTree → Form StatementTree
+append expr = do
+  t ← token Name
+  q ← token PlusAssign
+  e ← expr
+  give (AppendTree t.text t.line e)
+
+-- expr
+abbrev pub plain : Form ExpressionTree → Form StatementTree
+plain expr = do
+  line ← here
+  e ← expr
+  give (ValueTree e line)
+
+-- a word that stands inside a `foreach` alone
+abbrev pub leave : Kind → (ℕ → StatementTree) → Bool → Form StatementTree
+leave k tree true = do
+  t ← token k
+  give (tree t.line)
+leave k tree false = never
+
+-- NAME ("="|"+=") expr | expr | "break" | "continue"
+abbrev pub simple : Bool → ℕ → Form StatementTree
+simple inside n =
+    leave Break BreakTree inside
+    or (leave Continue ContinueTree inside or (assign (expr n) or (append (expr n) or plain (expr n))))
+
+-- ---- blocks
+
+-- [stmt] NL
+abbrev pub line : Form StatementTree → Form (Option StatementTree)
+line stmt = do
+  s ← optional stmt
+  t ← token Newline
+  give s
+
+-- what the lines give, without the empty ones
+abbrev pub given : List (Option StatementTree) → FileTree
+given [] = []
+given (None ∷ os) = given os
+given (Some s ∷ os) = s ∷ given os
+
+-- body = { [stmt] NL }
+abbrev pub body : Form StatementTree → Form (List StatementTree)
+body stmt = do
+  lines ← many (line stmt)
+  give (given lines)
+
+-- "," NAME
+abbrev pub second : Form (List ℕ)
+second = do
+  c ← token Comma
+  t ← token Name
+  give t.text
+
+-- "foreach" NAME ["," NAME] ":" expr NL body "endforeach"
+abbrev pub foreach : Form ExpressionTree → Form StatementTree → Form StatementTree
+foreach expr stmt = do
+  w ← token Foreach
+  a ← token Name
+  b ← optional second
+  c ← token Colon
+  line ← here
+  e ← expr
+  t ← token Newline
+  ss ← body stmt
+  end ← token EndForeach
+  give (ForeachTree w.line a.text b e line (statements ss))
+
+-- expr NL body
+abbrev pub branch : Form ExpressionTree → Form StatementTree → Form BranchTree
+branch expr stmt = do
+  line ← here
+  e ← expr
+  t ← token Newline
+  ss ← body stmt
+  give (e, line, statements ss)
+
+-- "elif" expr NL body
+abbrev pub elif : Form ExpressionTree → Form StatementTree → Form BranchTree
+elif expr stmt = do
+  w ← token Elif
+  branch expr stmt
+
+-- expr NL body {"elif" expr NL body}
+abbrev pub parts : Form ExpressionTree → Form StatementTree → Form (List BranchTree)
+parts expr stmt = do
+  first ← branch expr stmt
+  others ← many (elif expr stmt)
+  give (first ∷ others)
+
+-- "else" NL body
+abbrev pub last_part : Form StatementTree → Form (List StatementTree)
+last_part stmt = do
+  w ← token Else
+  t ← token Newline
+  body stmt
+
+-- ["else" NL body]
+abbrev pub otherwise : Form StatementTree → Form (List StatementTree)
+otherwise stmt = do
+  last ← optional (last_part stmt)
+  give (unwrap_or last [])
+
+-- "if" expr NL body {"elif" expr NL body} ["else" NL body] "endif"
+abbrev pub conditional : Form ExpressionTree → Form StatementTree → Form StatementTree
+conditional expr stmt = do
+  w ← token If
+  bs ← parts expr stmt
+  ss ← otherwise stmt
+  end ← token EndIf
+  give (IfTree w.line (branches bs) (statements ss))
+
+-- What opens a level, at its word; the condition of an `if` and the list of a `foreach` stand inside.
+unfoldable pub block : Bool → ℕ → Form StatementTree
+block inside zero = never
+block inside (suc n) = foreach (expr n) (block true n or simple true n) or conditional (expr n) (block inside n or simple inside n)
+
+-- stmt
+abbrev pub stmt : Bool → ℕ → Form StatementTree
+stmt inside n = block inside n or simple inside n

@@ -1,0 +1,170 @@
+//! Reads the file that tokens spell, with one token in hand.
+
+ghost use Rattle.std.specs.Prelude.{◌≡◌, ℕ, ◌+◌, ◌-◌, ◌<◌, ◌≤◌, length, map, OnOk, [], ◌∷◌, List, IfOk, MatchResult};
+ghost use Rattle.std.specs.Option.{option_map};
+ghost use Rattle.grammar.specs.Grammar.{most_levels};
+ghost use Rattle.lexer.specs.Kinds.{is};
+ghost use Rattle.lexer.specs.Lexeme.{Lexeme, lexeme_of, lexemes};
+ghost use Rattle.lexer.specs.Answers.{Answers};
+ghost use Rattle.grammar.specs.Parsed.{HasFault, Spells, line_of, located, parsed};
+ghost use Rattle.grammar.specs.Reading.{Gives, GivesAll, all_of, begins, tokens_left, token_at};
+ghost use Rattle.grammar.specs.ReadingStatements.{file_at, next_line_at};
+ghost use Rattle.grammar.specs.Tree.{FileTree, file_of, statement_of};
+
+mod atom;
+mod expression;
+mod postfix;
+mod statement;
+
+use crate::stop::{ReadError, Stop};
+use crate::tree::{File, Statement};
+use lexer::fault::{FaultKind, SyntaxError, SyntaxFault};
+use lexer::token::{Kind, Token};
+use lexer::{newlines, tokens};
+use std::alloc::Global;
+
+/// How many levels may be open: brackets, blocks and prefix operators, one inside another.
+pub const LEVELS: u32 = 64;
+
+// The tokens that are still to be read.
+#[derive(Drop)]
+struct Parser<'t, 'a> {
+    rest: &'t [Token<'a>],
+}
+
+impl<'t, 'a> Parser<'t, 'a> {
+    // Takes the first token, where it is of this kind.
+    #[tactic(auto, using(crate::proofs::Tails::token_found, crate::proofs::Tails::token_missing, crate::proofs::Tails::token_end, crate::proofs::Tails::fails_at))]
+    fn take(&mut self, kind: Kind) -> Result<Token<'a>, ReadError>
+        ensures read { Gives lexeme_of result (lexemes self.new.rest.now) (token_at kind (lexemes self.old.rest.now)) }
+        ensures shorter { OnOk result (length self.new.rest.now < length self.old.rest.now) }
+    {
+        match self.rest {
+            [token, rest @ ..] if token.is(kind) => {
+                self.rest = rest;
+                Ok(*token)
+            }
+            _ => Err(self.unexpected()),
+        }
+    }
+
+    // Whether the first token is of this kind.
+    fn begins(&self, kind: Kind) -> bool
+        ensures { result ≡ begins kind (lexemes self.now.rest.now) }
+    {
+        match self.rest {
+            [token, ..] => token.is(kind),
+            [] => false,
+        }
+    }
+
+    // The first token does not go on with any file.
+    fn unexpected(&self) -> ReadError
+        ensures { result ≡ ReadError.Stop (Stop.Unexpected (length self.now.rest.now)) }
+    {
+        ReadError::Stop(Stop::Unexpected(self.rest.len()))
+    }
+
+    // A newline, and the statement of the line behind it, if there is one.
+    #[tactic(auto, unfolding(crate::specs::ReadingStatements::next_line_at))]
+    fn next_line(&mut self, alloc: Global, levels: u32) -> Result<Option<Statement<'a>>, ReadError>
+        ensures read { Gives (option_map statement_of) result (lexemes self.new.rest.now)
+            (next_line_at levels (lexemes self.old.rest.now)) }
+        ensures shorter { OnOk result (length self.new.rest.now < length self.old.rest.now) }
+    {
+        self.take(Kind::Newline)?;
+        self.line(alloc, false, levels)
+    }
+
+    // The statements of the lines.
+    fn lines(&mut self, alloc: Global, levels: u32) -> Result<Vec<Statement<'a>>, ReadError>
+        ensures read { Gives (λ v. map statement_of v.items) result (lexemes self.new.rest.now)
+            (file_at levels (lexemes self.old.rest.now)) }
+    {
+        let mut statements = Vec::new(alloc);
+        if let Some(first) = self.line(alloc, false, levels)? {
+            statements.push(first)?;
+        }
+        while self.begins(Kind::Newline) {
+            if let Some(next) = self.next_line(alloc, levels)? {
+                statements.push(next)?;
+            }
+        }
+        Ok(statements)
+    }
+
+    // The file that all tokens spell.
+    #[tactic(auto, using(crate::proofs::Tails::all_read, crate::proofs::Tails::all_more, crate::proofs::Tails::all_fails, crate::proofs::Tails::fails_at))]
+    fn file(&mut self, alloc: Global, levels: u32) -> Result<File<'a>, ReadError>
+        ensures { GivesAll file_of result (all_of (file_at levels) (lexemes self.old.rest.now)) }
+    {
+        let statements = self.lines(alloc, levels)?;
+        if !self.rest.is_empty() {
+            return Err(self.unexpected());
+        }
+        Ok(File { statements })
+    }
+}
+
+// The line of the token from which on so many are left, or of the source's end.
+fn line_of(source: &str, tokens: &[Token<'_>], left: usize) -> usize
+    requires { left ≤ length tokens.now }
+    ensures { result ≡ line_of source.now (lexemes tokens.now) (length tokens.now - left) }
+{
+    if left > 0 {
+        tokens[tokens.len() - left].line
+    } else {
+        1 + newlines(source.as_bytes())
+    }
+}
+
+// The fault of a source whose tokens cannot be read on.
+fn located(source: &str, tokens: &[Token<'_>], stop: Stop) -> SyntaxFault
+    requires { tokens_left stop ≤ length tokens.now }
+    ensures { result ≡ located source.now (lexemes tokens.now) stop }
+{
+    match stop {
+        Stop::Unexpected(left) => SyntaxFault {
+            kind: FaultKind::Grammar,
+            line: line_of(source, tokens, left),
+        },
+        Stop::TooDeep(left) => SyntaxFault {
+            kind: FaultKind::Nesting,
+            line: line_of(source, tokens, left),
+        },
+    }
+}
+
+/// The file that a source spells.
+///
+/// A file is lines with a statement each, or none, of the forms of the Meson manual's page "Syntax": `name = expression`,
+/// `name += expression`, an expression alone, `break` and `continue` inside a `foreach`, `if` with its `elif` and `else`
+/// parts up to `endif`, and `foreach` up to `endforeach`. Expressions are names, literals, lists, dictionaries, calls,
+/// methods, indexes, operators and choices. Two comparisons do not follow one another, no choice stands inside the
+/// branches of another, and arguments with a name stand behind the others.
+///
+/// What is no file has a fault at the line of a token, where the end counts as one: E2 where the source has no tokens; E3
+/// at the first token up to which the tokens begin no file; E4 at the first that opens level 65, where that comes before.
+/// A bracket and a prefix operator open a level, and so does a block at its first word, with its condition or list
+/// inside; `elif` and `else` open none.
+pub fn parse(alloc: Global, source: &str) -> Result<File<'_>, SyntaxError>
+    // Unless memory runs out, it is this function of the source.
+    ensures reads { Answers file_of result (parsed source.now) }
+
+    // The file is spelled by the tokens of the source, and no other is, however many levels may be open.
+    ensures spelled { IfOk result (λ f. Spells LEVELS source.now (file_of f)) }
+    ensures complete { (f : FileTree) → Spells LEVELS source.now f
+        → MatchResult result (λ x. file_of x ≡ f) (λ e. e ≡ SyntaxError.Memory) }
+    ensures only { (n : ℕ) (f : FileTree) → Spells n source.now f → IfOk result (λ x. file_of x ≡ f) }
+
+    // Which fault the source has.
+    ensures refused { (f : SyntaxFault) → result ≡ Err (SyntaxError.Fault f) → HasFault source.now f }
+{
+    let tokens = tokens(alloc, source)?;
+    let mut parser = Parser { rest: &tokens };
+    match parser.file(alloc, LEVELS) {
+        Ok(file) => Ok(file),
+        Err(ReadError::Memory) => Err(SyntaxError::Memory),
+        Err(ReadError::Stop(stop)) => Err(SyntaxError::Fault(located(source, &tokens, stop))),
+    }
+}

@@ -1,0 +1,430 @@
+//! Reads statements.
+
+ghost use Rattle.std.specs.Prelude.{◌≡◌, ◌<◌, ◌≤◌, length, map, OnOk, true};
+ghost use Rattle.std.specs.Option.{option_map};
+ghost use Rattle.lexer.specs.Lexeme.{lexemes};
+ghost use Rattle.grammar.specs.Reading.{Gives, begins, optional_at, two_begin};
+ghost use Rattle.grammar.specs.ReadingExpressions.{expr_at};
+ghost use Rattle.grammar.specs.ReadingStatements.{begins_block, block_at, body_at, branch_at, conditional_at, elif_at, ended_line_at, ends_line, foreach_at, in_body, last_part_at, leave_at, maybe_at, otherwise_at, parts_at, plain_at, second_at, set_at, simple_at, stmt_at};
+ghost use Rattle.grammar.specs.Tree.{AppendTree, AssignTree, BreakTree, ContinueTree, branch_of, statement_of};
+
+use super::Parser;
+use crate::stop::{ReadError, Stop};
+use crate::tree::{Branch, Statement};
+use lexer::token::Kind;
+use std::alloc::Global;
+
+impl<'a> Parser<'_, 'a> {
+    // Whether a name and this sign come.
+    fn begins_sign(&self, sign: Kind) -> bool
+        ensures { result ≡ two_begin Kind.Name sign (lexemes self.now.rest.now) }
+    {
+        match self.rest {
+            [first, second, ..] => first.is(Kind::Name) && second.is(sign),
+            _ => false,
+        }
+    }
+
+    // Whether the word of a block comes.
+    fn begins_block(&self) -> bool
+        ensures { result ≡ begins_block (lexemes self.now.rest.now) }
+    {
+        match self.rest {
+            [token, ..] => token.is(Kind::Foreach) || token.is(Kind::If),
+            [] => false,
+        }
+    }
+
+    // Whether a body goes on.
+    fn in_body(&self) -> bool
+        ensures { result ≡ in_body (lexemes self.now.rest.now) }
+    {
+        match self.rest {
+            [token, ..] => {
+                !(token.is(Kind::EndForeach)
+                    || token.is(Kind::EndIf)
+                    || token.is(Kind::Elif)
+                    || token.is(Kind::Else))
+            }
+            [] => false,
+        }
+    }
+
+    // Whether no token of this line is left.
+    fn ends_line(&self) -> bool
+        ensures { result ≡ ends_line (lexemes self.now.rest.now) }
+    {
+        match self.rest {
+            [token, ..] => token.is(Kind::Newline),
+            [] => true,
+        }
+    }
+
+    // An assignment.
+    #[tactic(auto, unfolding(crate::specs::ReadingStatements::set_at))]
+    fn assign(&mut self, alloc: Global, levels: u32) -> Result<Statement<'a>, ReadError>
+        ensures read { Gives statement_of result (lexemes self.new.rest.now)
+            (set_at Kind.Assign AssignTree (expr_at levels) (lexemes self.old.rest.now)) }
+        ensures shorter { OnOk result (length self.new.rest.now < length self.old.rest.now) }
+    {
+        let name = self.take(Kind::Name)?;
+        self.take(Kind::Assign)?;
+        let value = self.expression(alloc, levels)?;
+        Ok(Statement::Assign {
+            name: name.text,
+            line: name.line,
+            value,
+        })
+    }
+
+    // A value that is added.
+    #[tactic(auto, unfolding(crate::specs::ReadingStatements::set_at))]
+    fn append(&mut self, alloc: Global, levels: u32) -> Result<Statement<'a>, ReadError>
+        ensures read { Gives statement_of result (lexemes self.new.rest.now)
+            (set_at Kind.PlusAssign AppendTree (expr_at levels) (lexemes self.old.rest.now)) }
+        ensures shorter { OnOk result (length self.new.rest.now < length self.old.rest.now) }
+    {
+        let name = self.take(Kind::Name)?;
+        self.take(Kind::PlusAssign)?;
+        let value = self.expression(alloc, levels)?;
+        Ok(Statement::Append {
+            name: name.text,
+            line: name.line,
+            value,
+        })
+    }
+
+    // An expression alone.
+    #[tactic(auto, unfolding(crate::specs::ReadingStatements::plain_at))]
+    fn plain(&mut self, alloc: Global, levels: u32) -> Result<Statement<'a>, ReadError>
+        ensures read { Gives statement_of result (lexemes self.new.rest.now)
+            (plain_at (expr_at levels) (lexemes self.old.rest.now)) }
+        ensures shorter { OnOk result (length self.new.rest.now < length self.old.rest.now) }
+    {
+        let line = self.first_line();
+        let value = self.expression(alloc, levels)?;
+        Ok(Statement::Expression { value, line })
+    }
+
+    // A `break`, where a `foreach` is open.
+    #[tactic(auto, using(crate::proofs::StatementTails::break_inside, crate::proofs::StatementTails::break_fails, crate::proofs::StatementTails::break_outside, crate::proofs::Tails::fails_at))]
+    fn leave_loop(&mut self, inside: bool) -> Result<Statement<'a>, ReadError>
+        ensures read { Gives statement_of result (lexemes self.new.rest.now)
+            (leave_at Kind.Break BreakTree inside (lexemes self.old.rest.now)) }
+        ensures shorter { OnOk result (length self.new.rest.now < length self.old.rest.now) }
+    {
+        if inside {
+            let word = self.take(Kind::Break)?;
+            Ok(Statement::Break { line: word.line })
+        } else {
+            Err(self.unexpected())
+        }
+    }
+
+    // A `continue`, where a `foreach` is open.
+    #[tactic(auto, using(crate::proofs::StatementTails::continue_inside, crate::proofs::StatementTails::continue_fails, crate::proofs::StatementTails::continue_outside, crate::proofs::Tails::fails_at))]
+    fn leave_round(&mut self, inside: bool) -> Result<Statement<'a>, ReadError>
+        ensures read { Gives statement_of result (lexemes self.new.rest.now)
+            (leave_at Kind.Continue ContinueTree inside (lexemes self.old.rest.now)) }
+        ensures shorter { OnOk result (length self.new.rest.now < length self.old.rest.now) }
+    {
+        if inside {
+            let word = self.take(Kind::Continue)?;
+            Ok(Statement::Continue { line: word.line })
+        } else {
+            Err(self.unexpected())
+        }
+    }
+
+    // A statement of one line.
+    #[tactic(auto, using(crate::proofs::StatementTails::simple_break, crate::proofs::StatementTails::simple_continue, crate::proofs::StatementTails::simple_assign, crate::proofs::StatementTails::simple_append, crate::proofs::StatementTails::simple_plain))]
+    fn simple(
+        &mut self,
+        alloc: Global,
+        inside: bool,
+        levels: u32,
+    ) -> Result<Statement<'a>, ReadError>
+        ensures read { Gives statement_of result (lexemes self.new.rest.now) (simple_at inside levels (lexemes self.old.rest.now)) }
+        ensures shorter { OnOk result (length self.new.rest.now < length self.old.rest.now) }
+    {
+        if self.begins(Kind::Break) {
+            self.leave_loop(inside)
+        } else if self.begins(Kind::Continue) {
+            self.leave_round(inside)
+        } else if self.begins_sign(Kind::Assign) {
+            self.assign(alloc, levels)
+        } else if self.begins_sign(Kind::PlusAssign) {
+            self.append(alloc, levels)
+        } else {
+            self.plain(alloc, levels)
+        }
+    }
+
+    // A statement, where so many levels may still be opened; inside says whether a `foreach` is open.
+    #[cycle(statement)]
+    #[tactic(auto, using(crate::proofs::StatementTails::stmt_block, crate::proofs::StatementTails::stmt_simple))]
+    fn statement(
+        &mut self,
+        alloc: Global,
+        inside: bool,
+        levels: u32,
+    ) -> Result<Statement<'a>, ReadError>
+        ensures read { Gives statement_of result (lexemes self.new.rest.now) (stmt_at inside levels (lexemes self.old.rest.now)) }
+        ensures shorter { OnOk result (length self.new.rest.now < length self.old.rest.now) }
+    {
+        if self.begins_block() {
+            self.block(alloc, inside, levels)
+        } else {
+            self.simple(alloc, inside, levels)
+        }
+    }
+
+    // A statement that opens a level.
+    #[cycle(statement)]
+    #[tactic(auto, using(crate::proofs::StatementTails::block_foreach, crate::proofs::StatementTails::block_conditional, crate::proofs::StatementTails::block_deep, crate::proofs::StatementTails::block_unexpected, crate::proofs::Tails::fails_at))]
+    fn block(
+        &mut self,
+        alloc: Global,
+        inside: bool,
+        levels: u32,
+    ) -> Result<Statement<'a>, ReadError>
+        ensures read { Gives statement_of result (lexemes self.new.rest.now) (block_at inside levels (lexemes self.old.rest.now)) }
+        ensures shorter { OnOk result (length self.new.rest.now < length self.old.rest.now) }
+    {
+        if levels > 0 {
+            if self.begins(Kind::Foreach) {
+                self.foreach(alloc, levels - 1)
+            } else {
+                self.conditional(alloc, inside, levels - 1)
+            }
+        } else if self.begins_block() {
+            Err(ReadError::Stop(Stop::TooDeep(self.rest.len())))
+        } else {
+            Err(self.unexpected())
+        }
+    }
+
+    // A comma and a name.
+    #[tactic(auto, unfolding(crate::specs::ReadingStatements::second_at))]
+    fn comma_name(&mut self) -> Result<&'a str, ReadError>
+        ensures read { Gives (λ name. name.now) result (lexemes self.new.rest.now) (second_at (lexemes self.old.rest.now)) }
+        ensures shorter { OnOk result (length self.new.rest.now < length self.old.rest.now) }
+    {
+        self.take(Kind::Comma)?;
+        let name = self.take(Kind::Name)?;
+        Ok(name.text)
+    }
+
+    // The second name of a `foreach`, if there is one.
+    #[tactic(auto, using(crate::proofs::StatementTails::optional_some, crate::proofs::StatementTails::optional_none, crate::proofs::StatementTails::optional_fails))]
+    fn second(&mut self) -> Result<Option<&'a str>, ReadError>
+        ensures read { Gives (option_map (λ name. name.now)) result (lexemes self.new.rest.now)
+            (optional_at (begins Kind.Comma) second_at (lexemes self.old.rest.now)) }
+        ensures shorter { OnOk result (length self.new.rest.now ≤ length self.old.rest.now) }
+    {
+        if self.begins(Kind::Comma) {
+            Ok(Some(self.comma_name()?))
+        } else {
+            Ok(None)
+        }
+    }
+
+    // A `foreach`, up to its `endforeach`.
+    #[cycle(statement)]
+    #[tactic(auto, unfolding(crate::specs::ReadingStatements::foreach_at))]
+    fn foreach(&mut self, alloc: Global, levels: u32) -> Result<Statement<'a>, ReadError>
+        ensures read { Gives statement_of result (lexemes self.new.rest.now)
+            (foreach_at (expr_at levels) (stmt_at true levels) (lexemes self.old.rest.now)) }
+        ensures shorter { OnOk result (length self.new.rest.now < length self.old.rest.now) }
+    {
+        let word = self.take(Kind::Foreach)?;
+        let first = self.take(Kind::Name)?;
+        let second = self.second()?;
+        self.take(Kind::Colon)?;
+        let list_line = self.first_line();
+        let list = self.expression(alloc, levels)?;
+        self.take(Kind::Newline)?;
+        let body = self.body(alloc, true, levels)?;
+        self.take(Kind::EndForeach)?;
+        Ok(Statement::Foreach {
+            line: word.line,
+            first: first.text,
+            second,
+            list,
+            list_line,
+            body,
+        })
+    }
+
+    // An `if`, up to its `endif`.
+    #[cycle(statement)]
+    #[tactic(auto, unfolding(crate::specs::ReadingStatements::conditional_at))]
+    fn conditional(
+        &mut self,
+        alloc: Global,
+        inside: bool,
+        levels: u32,
+    ) -> Result<Statement<'a>, ReadError>
+        ensures read { Gives statement_of result (lexemes self.new.rest.now)
+            (conditional_at (expr_at levels) (stmt_at inside levels) (lexemes self.old.rest.now)) }
+        ensures shorter { OnOk result (length self.new.rest.now < length self.old.rest.now) }
+    {
+        let word = self.take(Kind::If)?;
+        let branches = self.parts(alloc, inside, levels)?;
+        let otherwise = self.otherwise(alloc, inside, levels)?;
+        self.take(Kind::EndIf)?;
+        Ok(Statement::If {
+            line: word.line,
+            branches,
+            otherwise,
+        })
+    }
+
+    // A condition and the statements behind it.
+    #[cycle(statement)]
+    #[tactic(auto, unfolding(crate::specs::ReadingStatements::branch_at))]
+    fn branch(&mut self, alloc: Global, inside: bool, levels: u32) -> Result<Branch<'a>, ReadError>
+        ensures read { Gives branch_of result (lexemes self.new.rest.now)
+            (branch_at (expr_at levels) (stmt_at inside levels) (lexemes self.old.rest.now)) }
+        ensures shorter { OnOk result (length self.new.rest.now < length self.old.rest.now) }
+    {
+        let line = self.first_line();
+        let condition = self.expression(alloc, levels)?;
+        self.take(Kind::Newline)?;
+        let body = self.body(alloc, inside, levels)?;
+        Ok(Branch {
+            condition,
+            line,
+            body,
+        })
+    }
+
+    // An `elif` and its part.
+    #[cycle(statement)]
+    #[tactic(auto, unfolding(crate::specs::ReadingStatements::elif_at))]
+    fn elif(&mut self, alloc: Global, inside: bool, levels: u32) -> Result<Branch<'a>, ReadError>
+        ensures read { Gives branch_of result (lexemes self.new.rest.now)
+            (elif_at (expr_at levels) (stmt_at inside levels) (lexemes self.old.rest.now)) }
+        ensures shorter { OnOk result (length self.new.rest.now < length self.old.rest.now) }
+    {
+        self.take(Kind::Elif)?;
+        self.branch(alloc, inside, levels)
+    }
+
+    // The parts of an `if` that have a condition.
+    #[cycle(statement)]
+    fn parts(
+        &mut self,
+        alloc: Global,
+        inside: bool,
+        levels: u32,
+    ) -> Result<Vec<Branch<'a>>, ReadError>
+        ensures read { Gives (λ v. map branch_of v.items) result (lexemes self.new.rest.now)
+            (parts_at (expr_at levels) (stmt_at inside levels) (lexemes self.old.rest.now)) }
+        ensures shorter { OnOk result (length self.new.rest.now < length self.old.rest.now) }
+    {
+        let mut parts = Vec::new(alloc);
+        parts.push(self.branch(alloc, inside, levels)?)?;
+        while self.begins(Kind::Elif) {
+            parts.push(self.elif(alloc, inside, levels)?)?;
+        }
+        Ok(parts)
+    }
+
+    // An `else` and the statements behind it.
+    #[cycle(statement)]
+    #[tactic(auto, unfolding(crate::specs::ReadingStatements::last_part_at))]
+    fn last_part(
+        &mut self,
+        alloc: Global,
+        inside: bool,
+        levels: u32,
+    ) -> Result<Vec<Statement<'a>>, ReadError>
+        ensures read { Gives (λ v. map statement_of v.items) result (lexemes self.new.rest.now)
+            (last_part_at (stmt_at inside levels) (lexemes self.old.rest.now)) }
+        ensures shorter { OnOk result (length self.new.rest.now < length self.old.rest.now) }
+    {
+        self.take(Kind::Else)?;
+        self.take(Kind::Newline)?;
+        self.body(alloc, inside, levels)
+    }
+
+    // What stands behind `else`, or nothing.
+    #[cycle(statement)]
+    #[tactic(auto, using(crate::proofs::StatementTails::otherwise_part, crate::proofs::StatementTails::otherwise_none))]
+    fn otherwise(
+        &mut self,
+        alloc: Global,
+        inside: bool,
+        levels: u32,
+    ) -> Result<Vec<Statement<'a>>, ReadError>
+        ensures read { Gives (λ v. map statement_of v.items) result (lexemes self.new.rest.now)
+            (otherwise_at (stmt_at inside levels) (lexemes self.old.rest.now)) }
+        ensures shorter { OnOk result (length self.new.rest.now ≤ length self.old.rest.now) }
+    {
+        if self.begins(Kind::Else) {
+            self.last_part(alloc, inside, levels)
+        } else {
+            Ok(Vec::new(alloc))
+        }
+    }
+
+    // The statements up to the next part or the end of a block.
+    #[cycle(statement)]
+    fn body(
+        &mut self,
+        alloc: Global,
+        inside: bool,
+        levels: u32,
+    ) -> Result<Vec<Statement<'a>>, ReadError>
+        ensures read { Gives (λ v. map statement_of v.items) result (lexemes self.new.rest.now)
+            (body_at (stmt_at inside levels) (lexemes self.old.rest.now)) }
+        ensures shorter { OnOk result (length self.new.rest.now ≤ length self.old.rest.now) }
+    {
+        let mut statements = Vec::new(alloc);
+        while self.in_body() {
+            if let Some(statement) = self.ended_line(alloc, inside, levels)? {
+                statements.push(statement)?;
+            }
+        }
+        Ok(statements)
+    }
+
+    // The statement of a line, if there is one, and the line's end.
+    #[cycle(statement)]
+    #[tactic(auto, unfolding(crate::specs::ReadingStatements::ended_line_at))]
+    fn ended_line(
+        &mut self,
+        alloc: Global,
+        inside: bool,
+        levels: u32,
+    ) -> Result<Option<Statement<'a>>, ReadError>
+        ensures read { Gives (option_map statement_of) result (lexemes self.new.rest.now)
+            (ended_line_at (stmt_at inside levels) (lexemes self.old.rest.now)) }
+        ensures shorter { OnOk result (length self.new.rest.now < length self.old.rest.now) }
+    {
+        let statement = self.line(alloc, inside, levels)?;
+        self.take(Kind::Newline)?;
+        Ok(statement)
+    }
+
+    // The statement of a line, if there is one.
+    #[cycle(statement)]
+    #[tactic(auto, using(crate::proofs::StatementTails::maybe_some, crate::proofs::StatementTails::maybe_none, crate::proofs::StatementTails::maybe_fails))]
+    pub(super) fn line(
+        &mut self,
+        alloc: Global,
+        inside: bool,
+        levels: u32,
+    ) -> Result<Option<Statement<'a>>, ReadError>
+        ensures read { Gives (option_map statement_of) result (lexemes self.new.rest.now)
+            (maybe_at (stmt_at inside levels) (lexemes self.old.rest.now)) }
+        ensures shorter { OnOk result (length self.new.rest.now ≤ length self.old.rest.now) }
+    {
+        if self.ends_line() {
+            Ok(None)
+        } else {
+            Ok(Some(self.statement(alloc, inside, levels)?))
+        }
+    }
+}
