@@ -6,6 +6,10 @@ mod memory;
 #[cfg(test)]
 mod numbers;
 #[cfg(test)]
+mod limits;
+#[cfg(test)]
+mod objects;
+#[cfg(test)]
 mod others;
 #[cfg(test)]
 mod parts;

@@ -1,14 +1,14 @@
 //! Results at the limits and one past them.
 
 use crate::support::Given::{Integer, Items, Text};
-use crate::support::{list_with, shown, value_of};
+use crate::support::{Stop, list_with, shown, value_of};
 use std::alloc::{AllocError, Global};
 use std::test::Fail;
 use values::Binary::Add;
 use values::{Refusal, Value, binary, dictionary, is_equal, method};
 
 // A text of `a` that is put after itself so many times.
-fn long(alloc: Global, times: usize) -> Result<Value, Fail> {
+fn long(alloc: Global, times: usize) -> Result<Value, Stop> {
     let mut text = value_of(alloc, &Text("a"))?;
     for _ in 0..times {
         let same = text.clone()?;
@@ -18,7 +18,7 @@ fn long(alloc: Global, times: usize) -> Result<Value, Fail> {
 }
 
 // A list of one integer that is put after itself so many times.
-fn wide(alloc: Global, times: usize) -> Result<Value, Fail> {
+fn wide(alloc: Global, times: usize) -> Result<Value, Stop> {
     let mut list = value_of(alloc, &Items(&[Integer(1)]))?;
     for _ in 0..times {
         let same = list.clone()?;
@@ -28,7 +28,7 @@ fn wide(alloc: Global, times: usize) -> Result<Value, Fail> {
 }
 
 // A dictionary of so many entries.
-fn many(alloc: Global, entries: usize) -> Result<Result<Value, Refusal>, Fail> {
+fn many(alloc: Global, entries: usize) -> Result<Result<Value, Refusal>, Stop> {
     let mut pairs = Vec::new(alloc);
     for i in 0..entries {
         let key = Value::of_string(alloc, format!(in alloc; "{i}")?)??;
@@ -65,12 +65,10 @@ fn heavy(alloc: Global, rounds: usize) -> Result<Result<Value, Refusal>, AllocEr
 }
 
 #[test]
-fn levels_and_weights(rt: HostRuntime) -> Result<(), Fail> {
+fn levels(rt: HostRuntime) -> Result<(), Fail> {
     let alloc = rt.alloc();
     assert!(rt; deep(alloc, 63)?.is_ok());
     assert_eq!(rt; deep(alloc, 64)?.err(), Some(Refusal::Limit));
-    assert!(rt; heavy(alloc, 24)?.is_ok());
-    assert_eq!(rt; heavy(alloc, 25)?.err(), Some(Refusal::Limit));
     let deepest = deep(alloc, 63)??;
     assert_eq!(rt; deepest.depth(), 64);
     let inside = list_with(alloc, vec![in alloc; deepest]?)?;
@@ -79,6 +77,21 @@ fn levels_and_weights(rt: HostRuntime) -> Result<(), Fail> {
     assert_eq!(rt; joined.depth(), 64);
     let appended = binary(alloc, Add, wide(alloc, 0)?, value_of(alloc, &Text("a"))?)??;
     assert_eq!(rt; appended.depth(), 1);
+    Ok(())
+}
+
+#[test]
+fn weights(rt: HostRuntime) -> Result<(), Fail> {
+    let alloc = rt.alloc();
+    assert_eq!(rt; heavy(alloc, 25)?.err(), Some(Refusal::Limit));
+    let below = heavy(alloc, 24)??;
+    assert_eq!(rt; below.weight(), 33_554_431);
+    let full = list_with(alloc, vec![in alloc; below.clone()?]?)??;
+    assert_eq!(rt; full.weight(), 33_554_432);
+    let past = list_with(alloc, vec![in alloc; below, Value::Integer(1)]?)?;
+    assert_eq!(rt; past.err(), Some(Refusal::Limit));
+    let sum = binary(alloc, Add, full, Value::Integer(1))?;
+    assert_eq!(rt; sum.err(), Some(Refusal::Limit));
     Ok(())
 }
 
@@ -130,7 +143,7 @@ fn entries_of_dictionaries(rt: HostRuntime) -> Result<(), Fail> {
 }
 
 // What a method of a text gives for some arguments: the number of its refusal, or that there is a value.
-fn outcome(alloc: Global, text: &Value, name: &str, arguments: &[Value]) -> Result<String, Fail> {
+fn outcome(alloc: Global, text: &Value, name: &str, arguments: &[Value]) -> Result<String, Stop> {
     match method(alloc, text, name, arguments)? {
         Ok(_) => Ok(String::from_str(alloc, "a value")?),
         Err(refusal) => shown(alloc, &Err(refusal)),
@@ -157,6 +170,8 @@ fn bytes_of_texts(rt: HostRuntime) -> Result<(), Fail> {
     );
     assert_eq!(rt; outcome(alloc, &one, "join", &two)?.as_str(), "E22");
     let full = binary(alloc, Add, half.clone()?, half.clone()?)??;
+    let twice = binary(alloc, Add, full.clone()?, full.clone()?)?;
+    assert_eq!(rt; twice.err(), Some(Refusal::Limit));
     assert_eq!(rt;
         binary(alloc, Add, full.clone()?, one.clone()?)?.err(),
         Some(Refusal::Limit)

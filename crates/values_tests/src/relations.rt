@@ -49,6 +49,7 @@ fn other_values_are_equal_by_structure(rt: HostRuntime) -> Result<(), Fail> {
             "false",
         ),
         (Text("a"), Equal, Text("A"), "false"),
+        (Integer(1), Equal, Text("1"), "E6"),
         (Integer(1), NotEqual, Integer(1), "false"),
         (Integer(i128::MIN), NotEqual, Integer(i128::MAX), "true"),
         (Items(&[Disabler]), Equal, Items(&[Disabler]), "true"),

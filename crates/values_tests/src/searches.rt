@@ -42,6 +42,12 @@ fn versions_are_compared(rt: HostRuntime) -> Result<(), Fail> {
     let rows: &[MethodRow<'_>] = &[
         (Text("1.10"), "version_compare", &[Text(">1.9")], "true"),
         (Text("1.0rc1"), "version_compare", &[Text(">1.0")], "true"),
+        (
+            Text("1000000000000000000000000000000000000000"),
+            "version_compare",
+            &[Text(">999999999999999999999999999999999999999")],
+            "true",
+        ),
         (Text("1.2"), "version_compare", &[Text("<1.2")], "false"),
         (Text("1.2"), "version_compare", &[], "E9"),
         (Text("1.2"), "version_compare", &[Integer(1)], "E9"),

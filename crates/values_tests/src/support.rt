@@ -1,9 +1,35 @@
 //! Values as rows write them, and what comes of a call as a text.
 
-use std::alloc::{AllocError, Global};
+use std::alloc::{AllocError, AllocFailed, Global};
 use std::process::Abort;
 use std::test::Fail;
 use values::{Binary, List, Object, Refusal, Value, binary, dictionary, index, method, printed};
+
+/// Why a test has no answer to look at.
+#[derive(Debug, Drop)]
+pub enum Stop {
+    /// An operation that only prepares the test is refused.
+    Refused(Refusal),
+    Memory(AllocError),
+}
+
+impl From<Refusal> for Stop {
+    fn from(refusal: Refusal) -> Stop {
+        Stop::Refused(refusal)
+    }
+}
+
+impl From<AllocError> for Stop {
+    fn from(error: AllocError) -> Stop {
+        Stop::Memory(error)
+    }
+}
+
+impl<T: Drop> From<AllocFailed<T>> for Stop {
+    fn from(failed: AllocFailed<T>) -> Stop {
+        Stop::Memory(AllocError::from(failed))
+    }
+}
 
 /// A value as a row writes it.
 #[derive(Drop)]
@@ -27,7 +53,7 @@ pub type OperatorRow<'a> = (Given<'a>, Binary, Given<'a>, &'a str);
 pub type PartRow<'a> = (Given<'a>, Given<'a>, &'a str);
 
 #[cycle(given)]
-pub fn value_of(alloc: Global, given: &Given<'_>) -> Result<Value, Fail> {
+pub fn value_of(alloc: Global, given: &Given<'_>) -> Result<Value, Stop> {
     match given {
         Given::Truth(truth) => Ok(Value::Truth(*truth)),
         Given::Integer(integer) => Ok(Value::Integer(*integer)),
@@ -40,7 +66,7 @@ pub fn value_of(alloc: Global, given: &Given<'_>) -> Result<Value, Fail> {
 }
 
 #[cycle(given)]
-pub fn values_of(alloc: Global, items: &[Given<'_>]) -> Result<Vec<Value>, Fail> {
+pub fn values_of(alloc: Global, items: &[Given<'_>]) -> Result<Vec<Value>, Stop> {
     let mut values = Vec::new(alloc);
     for item in items {
         values.push(value_of(alloc, item)?)?;
@@ -49,7 +75,7 @@ pub fn values_of(alloc: Global, items: &[Given<'_>]) -> Result<Vec<Value>, Fail>
 }
 
 #[cycle(given)]
-fn list_of(alloc: Global, items: &[Given<'_>]) -> Result<Value, Fail> {
+fn list_of(alloc: Global, items: &[Given<'_>]) -> Result<Value, Stop> {
     let values = values_of(alloc, items)?;
     Ok(list_with(alloc, values)??)
 }
@@ -67,7 +93,7 @@ pub fn list_with(alloc: Global, items: Vec<Value>) -> Result<Result<Value, Refus
 }
 
 #[cycle(given)]
-fn dictionary_of(alloc: Global, entries: &[(&str, Given<'_>)]) -> Result<Value, Fail> {
+fn dictionary_of(alloc: Global, entries: &[(&str, Given<'_>)]) -> Result<Value, Stop> {
     let mut pairs = Vec::new(alloc);
     for (key, value) in entries {
         let key = Value::of_string(alloc, String::from_str(alloc, *key)?)??;
@@ -77,7 +103,7 @@ fn dictionary_of(alloc: Global, entries: &[(&str, Given<'_>)]) -> Result<Value, 
 }
 
 /// What a definition file would write for the answer of a call, `E6` for a refusal, `disabler` for a disabler.
-pub fn shown(alloc: Global, answer: &Result<Value, Refusal>) -> Result<String, Fail> {
+pub fn shown(alloc: Global, answer: &Result<Value, Refusal>) -> Result<String, Stop> {
     match answer {
         Err(refusal) => {
             let number = refusal.number();
@@ -96,17 +122,31 @@ pub fn shown(alloc: Global, answer: &Result<Value, Refusal>) -> Result<String, F
     }
 }
 
+/// What is shown of the answer of a method call.
+pub fn shown_method(alloc: Global, row: &MethodRow<'_>) -> Result<String, Stop> {
+    let (receiver, name, arguments, _) = row;
+    let receiver = value_of(alloc, receiver)?;
+    let arguments = values_of(alloc, *arguments)?;
+    let answer = method(alloc, &receiver, *name, &arguments)?;
+    shown(alloc, &answer)
+}
+
 /// That each method call answers what its row says.
 pub fn check_methods(rt: &impl Abort, alloc: Global, rows: &[MethodRow<'_>]) -> Result<(), Fail> {
-    for (receiver, name, arguments, expected) in rows {
-        let receiver = value_of(alloc, receiver)?;
-        let arguments = values_of(alloc, *arguments)?;
-        let answer = method(alloc, &receiver, *name, &arguments)?;
-        let found = shown(alloc, &answer)?;
-        let receiver = shown(alloc, &Ok(receiver))?;
-        assert_eq!(rt; found.as_str(), *expected, "of {name} of {receiver}");
+    for (number, row) in rows.iter().enumerate() {
+        let found = shown_method(alloc, row)?;
+        assert_eq!(rt; found.as_str(), row.3, "in row {number}");
     }
     Ok(())
+}
+
+/// What is shown of the answer of an operator.
+pub fn shown_operator(alloc: Global, row: &OperatorRow<'_>) -> Result<String, Stop> {
+    let (left, operator, right, _) = row;
+    let left = value_of(alloc, left)?;
+    let right = value_of(alloc, right)?;
+    let answer = binary(alloc, *operator, left, right)?;
+    shown(alloc, &answer)
 }
 
 /// That each operation answers what its row says.
@@ -115,25 +155,27 @@ pub fn check_operators(
     alloc: Global,
     rows: &[OperatorRow<'_>],
 ) -> Result<(), Fail> {
-    for (left, operator, right, expected) in rows {
-        let left = value_of(alloc, left)?;
-        let right = value_of(alloc, right)?;
-        let answer = binary(alloc, *operator, left, right)?;
-        let found = shown(alloc, &answer)?;
-        assert_eq!(rt; found.as_str(), *expected, "of {operator:?}");
+    for (number, row) in rows.iter().enumerate() {
+        let found = shown_operator(alloc, row)?;
+        assert_eq!(rt; found.as_str(), row.3, "in row {number}");
     }
     Ok(())
 }
 
+/// What is shown of a part.
+pub fn shown_part(alloc: Global, row: &PartRow<'_>) -> Result<String, Stop> {
+    let (whole, place, _) = row;
+    let whole = value_of(alloc, whole)?;
+    let place = value_of(alloc, place)?;
+    let answer = index(alloc, &whole, &place)?;
+    shown(alloc, &answer)
+}
+
 /// That each index gives what its row says.
 pub fn check_parts(rt: &impl Abort, alloc: Global, rows: &[PartRow<'_>]) -> Result<(), Fail> {
-    for (whole, place, expected) in rows {
-        let whole = value_of(alloc, whole)?;
-        let place = value_of(alloc, place)?;
-        let answer = index(alloc, &whole, &place)?;
-        let found = shown(alloc, &answer)?;
-        let whole = shown(alloc, &Ok(whole))?;
-        assert_eq!(rt; found.as_str(), *expected, "of a part of {whole}");
+    for (number, row) in rows.iter().enumerate() {
+        let found = shown_part(alloc, row)?;
+        assert_eq!(rt; found.as_str(), row.2, "in row {number}");
     }
     Ok(())
 }

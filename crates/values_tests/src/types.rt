@@ -4,7 +4,7 @@
 //! value, and the last digit of a fault's number a refusal.
 
 use crate::support::Given::{Disabler, Entries, Integer, Items, Meson, Text, Truth};
-use crate::support::{Given, value_of, values_of};
+use crate::support::{Given, Stop, shown, value_of, values_of};
 use std::alloc::Global;
 use std::process::Abort;
 use std::test::Fail;
@@ -14,7 +14,7 @@ use values::Binary::{
 };
 use values::{Binary, Refusal, Unary, Value, binary, has_method, index, method, unary};
 
-fn samples(alloc: Global) -> Result<Vec<Value>, Fail> {
+fn samples(alloc: Global) -> Result<Vec<Value>, Stop> {
     let items = [Integer(1), Integer(2)];
     let entries = [("ab", Integer(1))];
     let samples: &[Given<'_>] = &[
@@ -40,7 +40,7 @@ fn sign(answer: &Result<Value, Refusal>) -> &'static str {
 }
 
 // The signs of an operator for a left operand.
-fn signs_of(alloc: Global, operator: Binary, left: &Value) -> Result<String, Fail> {
+fn signs_of(alloc: Global, operator: Binary, left: &Value) -> Result<String, Stop> {
     let mut signs = String::new(alloc);
     for right in samples(alloc)? {
         signs.push_str(sign(&binary(alloc, operator, left.clone()?, right)?))?;
@@ -104,9 +104,31 @@ fn operators_of_one_operand(rt: HostRuntime) -> Result<(), Fail> {
     }
     assert_eq!(rt; negations.as_str(), "+66666");
     assert_eq!(rt; opposites.as_str(), "6+6666");
-    let disabler = value_of(alloc, &Disabler)?;
-    assert!(rt; unary(Unary::Not, disabler.clone()?)?.is_disabler());
-    assert!(rt; unary(Unary::Negate, disabler)?.is_disabler());
+    Ok(())
+}
+
+#[test]
+fn values_of_one_operand(rt: HostRuntime) -> Result<(), Fail> {
+    let rows: &[(Unary, Given<'_>, &str)] = &[
+        (Unary::Not, Truth(true), "false"),
+        (Unary::Not, Truth(false), "true"),
+        (Unary::Not, Disabler, "disabler"),
+        (Unary::Not, Items(&[Disabler]), "E6"),
+        (Unary::Negate, Integer(5), "-5"),
+        (Unary::Negate, Integer(0), "0"),
+        (
+            Unary::Negate,
+            Integer(i128::MAX),
+            "-170141183460469231731687303715884105727",
+        ),
+        (Unary::Negate, Integer(i128::MIN), "E7"),
+        (Unary::Negate, Disabler, "disabler"),
+    ];
+    for (operator, given, expected) in rows {
+        let value = value_of(rt.alloc(), given)?;
+        let found = shown(rt.alloc(), &unary(*operator, value))?;
+        assert_eq!(rt; found.as_str(), *expected);
+    }
     Ok(())
 }
 
