@@ -1,12 +1,9 @@
-//! Tests of the values: operators, methods, indexes, printing and versions, each against what the manual's tables give.
+//! Tests of the values: operators, methods, indexes, printing and versions, by tables of calls and what they
+//! give.
 #![tactic(auto)]
 
 #[cfg(test)]
-mod memory;
-#[cfg(test)]
 mod numbers;
-#[cfg(test)]
-mod limits;
 #[cfg(test)]
 mod objects;
 #[cfg(test)]

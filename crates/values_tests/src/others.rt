@@ -1,7 +1,7 @@
 //! Versions, printing, dictionary literals, `and` and `or`, and outputs of custom targets.
 
 use crate::support::Given::{Disabler, Entries, Integer, Items, Meson, Text, Truth};
-use crate::support::{Given, Stop, shown, value_of, values_of};
+use crate::support::{Given, shown, value_of, values_of};
 use std::alloc::Global;
 use std::process::Abort;
 use std::test::Fail;
@@ -117,7 +117,7 @@ fn objects_are_not_printed(rt: HostRuntime) -> Result<(), Fail> {
 }
 
 // What a literal of these keys gives, each with the value 1.
-fn literal(alloc: Global, keys: &[Given<'_>]) -> Result<String, Stop> {
+fn literal(alloc: Global, keys: &[Given<'_>]) -> Result<String, Fail> {
     let mut pairs = Vec::new(alloc);
     for key in values_of(alloc, keys)? {
         pairs.push((key, Value::Integer(1)))?;
@@ -148,7 +148,7 @@ fn the_first_bad_key_decides(rt: HostRuntime) -> Result<(), Fail> {
 }
 
 // `open`, or what the left side of a connective gives.
-fn left_shown(alloc: Global, connective: Connective, left: Value) -> Result<String, Stop> {
+fn left_shown(alloc: Global, connective: Connective, left: Value) -> Result<String, Fail> {
     match left_side(connective, left) {
         Ok(Left::Open) => Ok(String::from_str(alloc, "open")?),
         Ok(Left::Decides(value)) => shown(alloc, &Ok(value)),

@@ -1,35 +1,9 @@
 //! Values as rows write them, and what comes of a call as a text.
 
-use std::alloc::{AllocError, AllocFailed, Global};
+use std::alloc::{AllocError, Global};
 use std::process::Abort;
 use std::test::Fail;
 use values::{Binary, List, Object, Refusal, Value, binary, dictionary, index, method, printed};
-
-/// Why a test has no answer to look at.
-#[derive(Debug, Drop)]
-pub enum Stop {
-    /// An operation that only prepares the test is refused.
-    Refused(Refusal),
-    Memory(AllocError),
-}
-
-impl From<Refusal> for Stop {
-    fn from(refusal: Refusal) -> Stop {
-        Stop::Refused(refusal)
-    }
-}
-
-impl From<AllocError> for Stop {
-    fn from(error: AllocError) -> Stop {
-        Stop::Memory(error)
-    }
-}
-
-impl<T: Drop> From<AllocFailed<T>> for Stop {
-    fn from(failed: AllocFailed<T>) -> Stop {
-        Stop::Memory(AllocError::from(failed))
-    }
-}
 
 /// A value as a row writes it.
 #[derive(Drop)]
@@ -53,7 +27,7 @@ pub type OperatorRow<'a> = (Given<'a>, Binary, Given<'a>, &'a str);
 pub type PartRow<'a> = (Given<'a>, Given<'a>, &'a str);
 
 #[cycle(given)]
-pub fn value_of(alloc: Global, given: &Given<'_>) -> Result<Value, Stop> {
+pub fn value_of(alloc: Global, given: &Given<'_>) -> Result<Value, Fail> {
     match given {
         Given::Truth(truth) => Ok(Value::Truth(*truth)),
         Given::Integer(integer) => Ok(Value::Integer(*integer)),
@@ -66,7 +40,7 @@ pub fn value_of(alloc: Global, given: &Given<'_>) -> Result<Value, Stop> {
 }
 
 #[cycle(given)]
-pub fn values_of(alloc: Global, items: &[Given<'_>]) -> Result<Vec<Value>, Stop> {
+pub fn values_of(alloc: Global, items: &[Given<'_>]) -> Result<Vec<Value>, Fail> {
     let mut values = Vec::new(alloc);
     for item in items {
         values.push(value_of(alloc, item)?)?;
@@ -75,7 +49,7 @@ pub fn values_of(alloc: Global, items: &[Given<'_>]) -> Result<Vec<Value>, Stop>
 }
 
 #[cycle(given)]
-fn list_of(alloc: Global, items: &[Given<'_>]) -> Result<Value, Stop> {
+fn list_of(alloc: Global, items: &[Given<'_>]) -> Result<Value, Fail> {
     let values = values_of(alloc, items)?;
     Ok(list_with(alloc, values)??)
 }
@@ -93,7 +67,7 @@ pub fn list_with(alloc: Global, items: Vec<Value>) -> Result<Result<Value, Refus
 }
 
 #[cycle(given)]
-fn dictionary_of(alloc: Global, entries: &[(&str, Given<'_>)]) -> Result<Value, Stop> {
+fn dictionary_of(alloc: Global, entries: &[(&str, Given<'_>)]) -> Result<Value, Fail> {
     let mut pairs = Vec::new(alloc);
     for (key, value) in entries {
         let key = Value::of_string(alloc, String::from_str(alloc, *key)?)??;
@@ -103,7 +77,7 @@ fn dictionary_of(alloc: Global, entries: &[(&str, Given<'_>)]) -> Result<Value, 
 }
 
 /// What a definition file would write for the answer of a call, `E6` for a refusal, `disabler` for a disabler.
-pub fn shown(alloc: Global, answer: &Result<Value, Refusal>) -> Result<String, Stop> {
+pub fn shown(alloc: Global, answer: &Result<Value, Refusal>) -> Result<String, Fail> {
     match answer {
         Err(refusal) => {
             let number = refusal.number();
@@ -123,7 +97,7 @@ pub fn shown(alloc: Global, answer: &Result<Value, Refusal>) -> Result<String, S
 }
 
 /// What is shown of the answer of a method call.
-pub fn shown_method(alloc: Global, row: &MethodRow<'_>) -> Result<String, Stop> {
+pub fn shown_method(alloc: Global, row: &MethodRow<'_>) -> Result<String, Fail> {
     let (receiver, name, arguments, _) = row;
     let receiver = value_of(alloc, receiver)?;
     let arguments = values_of(alloc, *arguments)?;
@@ -141,7 +115,7 @@ pub fn check_methods(rt: &impl Abort, alloc: Global, rows: &[MethodRow<'_>]) -> 
 }
 
 /// What is shown of the answer of an operator.
-pub fn shown_operator(alloc: Global, row: &OperatorRow<'_>) -> Result<String, Stop> {
+pub fn shown_operator(alloc: Global, row: &OperatorRow<'_>) -> Result<String, Fail> {
     let (left, operator, right, _) = row;
     let left = value_of(alloc, left)?;
     let right = value_of(alloc, right)?;
@@ -163,7 +137,7 @@ pub fn check_operators(
 }
 
 /// What is shown of a part.
-pub fn shown_part(alloc: Global, row: &PartRow<'_>) -> Result<String, Stop> {
+pub fn shown_part(alloc: Global, row: &PartRow<'_>) -> Result<String, Fail> {
     let (whole, place, _) = row;
     let whole = value_of(alloc, whole)?;
     let place = value_of(alloc, place)?;

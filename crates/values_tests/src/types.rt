@@ -4,7 +4,7 @@
 //! value, and the last digit of a fault's number a refusal.
 
 use crate::support::Given::{Disabler, Entries, Integer, Items, Meson, Text, Truth};
-use crate::support::{Given, Stop, shown, value_of, values_of};
+use crate::support::{Given, shown, value_of, values_of};
 use std::alloc::Global;
 use std::process::Abort;
 use std::test::Fail;
@@ -14,7 +14,7 @@ use values::Binary::{
 };
 use values::{Binary, Refusal, Unary, Value, binary, has_method, index, method, unary};
 
-fn samples(alloc: Global) -> Result<Vec<Value>, Stop> {
+fn samples(alloc: Global) -> Result<Vec<Value>, Fail> {
     let items = [Integer(1), Integer(2)];
     let entries = [("ab", Integer(1))];
     let samples: &[Given<'_>] = &[
@@ -40,7 +40,7 @@ fn sign(answer: &Result<Value, Refusal>) -> &'static str {
 }
 
 // The signs of an operator for a left operand.
-fn signs_of(alloc: Global, operator: Binary, left: &Value) -> Result<String, Stop> {
+fn signs_of(alloc: Global, operator: Binary, left: &Value) -> Result<String, Fail> {
     let mut signs = String::new(alloc);
     for right in samples(alloc)? {
         signs.push_str(sign(&binary(alloc, operator, left.clone()?, right)?))?;

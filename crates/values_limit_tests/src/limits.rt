@@ -1,15 +1,29 @@
 //! Results at the limits and one past them.
 
-use crate::support::Given::{Integer, Items, Text};
-use crate::support::{Stop, list_with, shown, value_of};
 use std::alloc::{AllocError, Global};
 use std::test::Fail;
-use values::Binary::Add;
-use values::{Refusal, Value, binary, dictionary, is_equal, method};
+use values::Binary::{Add, Divide};
+use values::{List, Refusal, Value, binary, dictionary, is_equal, method};
+
+fn text_value(alloc: Global, text: &str) -> Result<Value, Fail> {
+    Ok(Value::of_string(alloc, String::from_str(alloc, text)?)??)
+}
+
+// The list of some items, or E22.
+fn list_with(alloc: Global, items: Vec<Value>) -> Result<Result<Value, Refusal>, AllocError> {
+    let mut list = List::new(alloc);
+    for item in items {
+        if !list.has_room(&item) {
+            return Ok(Err(Refusal::Limit));
+        }
+        list.push(item)?;
+    }
+    Ok(Ok(Value::of_list(alloc, list)?))
+}
 
 // A text of `a` that is put after itself so many times.
-fn long(alloc: Global, times: usize) -> Result<Value, Stop> {
-    let mut text = value_of(alloc, &Text("a"))?;
+fn long(alloc: Global, times: usize) -> Result<Value, Fail> {
+    let mut text = text_value(alloc, "a")?;
     for _ in 0..times {
         let same = text.clone()?;
         text = binary(alloc, Add, text, same)??;
@@ -18,8 +32,8 @@ fn long(alloc: Global, times: usize) -> Result<Value, Stop> {
 }
 
 // A list of one integer that is put after itself so many times.
-fn wide(alloc: Global, times: usize) -> Result<Value, Stop> {
-    let mut list = value_of(alloc, &Items(&[Integer(1)]))?;
+fn wide(alloc: Global, times: usize) -> Result<Value, Fail> {
+    let mut list = list_with(alloc, vec![in alloc; Value::Integer(1)]?)??;
     for _ in 0..times {
         let same = list.clone()?;
         list = binary(alloc, Add, list, same)??;
@@ -28,7 +42,7 @@ fn wide(alloc: Global, times: usize) -> Result<Value, Stop> {
 }
 
 // A dictionary of so many entries.
-fn many(alloc: Global, entries: usize) -> Result<Result<Value, Refusal>, Stop> {
+fn many(alloc: Global, entries: usize) -> Result<Result<Value, Refusal>, Fail> {
     let mut pairs = Vec::new(alloc);
     for i in 0..entries {
         let key = Value::of_string(alloc, format!(in alloc; "{i}")?)??;
@@ -75,7 +89,7 @@ fn levels(rt: HostRuntime) -> Result<(), Fail> {
     assert_eq!(rt; inside.err(), Some(Refusal::Limit));
     let joined = binary(alloc, Add, wide(alloc, 0)?, deep(alloc, 63)??)??;
     assert_eq!(rt; joined.depth(), 64);
-    let appended = binary(alloc, Add, wide(alloc, 0)?, value_of(alloc, &Text("a"))?)??;
+    let appended = binary(alloc, Add, wide(alloc, 0)?, text_value(alloc, "a")?)??;
     assert_eq!(rt; appended.depth(), 1);
     Ok(())
 }
@@ -128,7 +142,7 @@ fn entries_of_dictionaries(rt: HostRuntime) -> Result<(), Fail> {
     assert_eq!(rt; many(alloc, 65_537)?.err(), Some(Refusal::Limit));
     let more = dictionary(
         alloc,
-        vec![in alloc; (value_of(alloc, &Text("a"))?, Value::Integer(1))]?,
+        vec![in alloc; (text_value(alloc, "a")?, Value::Integer(1))]?,
     )??;
     assert_eq!(rt;
         binary(alloc, Add, full.clone()?, more)?.err(),
@@ -136,66 +150,83 @@ fn entries_of_dictionaries(rt: HostRuntime) -> Result<(), Fail> {
     );
     let same = dictionary(
         alloc,
-        vec![in alloc; (value_of(alloc, &Text("7"))?, Value::Integer(1))]?,
+        vec![in alloc; (text_value(alloc, "7")?, Value::Integer(1))]?,
     )??;
     assert!(rt; binary(alloc, Add, full, same)?.is_ok());
     Ok(())
 }
 
-// What a method of a text gives for some arguments: the number of its refusal, or that there is a value.
-fn outcome(alloc: Global, text: &Value, name: &str, arguments: &[Value]) -> Result<String, Stop> {
-    match method(alloc, text, name, arguments)? {
-        Ok(_) => Ok(String::from_str(alloc, "a value")?),
-        Err(refusal) => shown(alloc, &Err(refusal)),
-    }
+// Why a method of a text is refused, if it is.
+fn refusal(
+    alloc: Global,
+    text: &Value,
+    name: &str,
+    arguments: &[Value],
+) -> Result<Option<Refusal>, Fail> {
+    Ok(method(alloc, text, name, arguments)?.err())
 }
 
 #[test]
-fn bytes_of_texts(rt: HostRuntime) -> Result<(), Fail> {
+fn bytes_of_sums(rt: HostRuntime) -> Result<(), Fail> {
     let alloc = rt.alloc();
-    let half = long(alloc, 23)?;
-    let one = long(alloc, 0)?;
-    let places = value_of(alloc, &Text("@0@@0@"))?;
-    let longer = value_of(alloc, &Text("@0@@0@b"))?;
-    let halves = vec![in alloc; half.clone()?]?;
-    assert_eq!(rt;
-        outcome(alloc, &places, "format", &halves)?.as_str(),
-        "a value"
-    );
-    assert_eq!(rt; outcome(alloc, &longer, "format", &halves)?.as_str(), "E22");
-    let two = vec![in alloc; half.clone()?, half.clone()?]?;
-    assert_eq!(rt;
-        outcome(alloc, &value_of(alloc, &Text(""))?, "join", &two)?.as_str(),
-        "a value"
-    );
-    assert_eq!(rt; outcome(alloc, &one, "join", &two)?.as_str(), "E22");
-    let full = binary(alloc, Add, half.clone()?, half.clone()?)??;
+    let full = long(alloc, 24)?;
+    assert_eq!(rt; full.weight(), 16_777_217);
     let twice = binary(alloc, Add, full.clone()?, full.clone()?)?;
     assert_eq!(rt; twice.err(), Some(Refusal::Limit));
+    let longer = binary(alloc, Add, full.clone()?, long(alloc, 0)?)?;
+    assert_eq!(rt; longer.err(), Some(Refusal::Limit));
+    let path = binary(alloc, Divide, full, text_value(alloc, "")?)?;
+    assert_eq!(rt; path.err(), Some(Refusal::Limit));
+    Ok(())
+}
+
+#[test]
+fn bytes_of_joined_texts(rt: HostRuntime) -> Result<(), Fail> {
+    let alloc = rt.alloc();
+    let half = long(alloc, 23)?;
+    let halves = vec![in alloc; half.clone()?, half]?;
+    let nothing = text_value(alloc, "")?;
+    assert!(rt; refusal(alloc, &nothing, "join", &halves)?.is_none());
+    let separator = long(alloc, 0)?;
     assert_eq!(rt;
-        binary(alloc, Add, full.clone()?, one.clone()?)?.err(),
+        refusal(alloc, &separator, "join", &halves)?,
         Some(Refusal::Limit)
     );
-    let doubled = vec![in alloc; one, value_of(alloc, &Text("aa"))?]?;
+    let places = text_value(alloc, "@0@@1@")?;
+    assert!(rt; refusal(alloc, &places, "format", &halves)?.is_none());
+    let longer = text_value(alloc, "@0@@1@b")?;
     assert_eq!(rt;
-        outcome(alloc, &half, "replace", &doubled)?.as_str(),
-        "a value"
+        refusal(alloc, &longer, "format", &halves)?,
+        Some(Refusal::Limit)
     );
-    assert_eq!(rt; outcome(alloc, &full, "replace", &doubled)?.as_str(), "E22");
+    Ok(())
+}
+
+#[test]
+fn bytes_of_replaced_texts(rt: HostRuntime) -> Result<(), Fail> {
+    let alloc = rt.alloc();
+    let text = long(alloc, 12)?;
+    let arguments = vec![in alloc; long(alloc, 0)?, text.clone()?]?;
+    assert!(rt; refusal(alloc, &text, "replace", &arguments)?.is_none());
+    let longer = binary(alloc, Add, text, text_value(alloc, "b")?)??;
+    assert_eq!(rt;
+        refusal(alloc, &longer, "replace", &arguments)?,
+        Some(Refusal::Limit)
+    );
     Ok(())
 }
 
 #[test]
 fn pieces_of_texts(rt: HostRuntime) -> Result<(), Fail> {
     let alloc = rt.alloc();
-    let letter = vec![in alloc; value_of(alloc, &Text("a"))?]?;
+    let letter = vec![in alloc; text_value(alloc, "a")?]?;
     let text = long(alloc, 16)?;
-    assert_eq!(rt; outcome(alloc, &text, "split", &letter)?.as_str(), "E22");
+    assert_eq!(rt;
+        refusal(alloc, &text, "split", &letter)?,
+        Some(Refusal::Limit)
+    );
     let bounds = vec![in alloc; Value::Integer(1)]?;
     let shorter = method(alloc, &text, "substring", &bounds)??;
-    assert_eq!(rt;
-        outcome(alloc, &shorter, "split", &letter)?.as_str(),
-        "a value"
-    );
+    assert!(rt; refusal(alloc, &shorter, "split", &letter)?.is_none());
     Ok(())
 }
