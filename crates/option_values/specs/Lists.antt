@@ -14,14 +14,18 @@ abbrev pub are_among : Option (List (List ℕ)) → List (List ℕ) → Bool
 are_among None items = true
 are_among (Some choices) items = list_all (is_among choices) items
 
+-- what is dropped at the ends of a part: a space alone
+abbrev pub is_padding : ℕ → Bool
+is_padding b = b == space
+
 -- a text from its first byte on that is no space
 abbrev pub from_word : List ℕ → List ℕ
 from_word [] = []
-from_word (b ∷ bs) = if b == space then from_word bs else b ∷ bs
+from_word (b ∷ bs) = if is_padding b then from_word bs else b ∷ bs
 
 -- a byte in front of a text without spaces at its end: a space is dropped where nothing follows it
 abbrev pub kept : ℕ → List ℕ → List ℕ
-kept b [] = if b == space then [] else b ∷ []
+kept b [] = if is_padding b then [] else b ∷ []
 kept b (c ∷ cs) = b ∷ c ∷ cs
 
 -- a text up to its last byte that is no space

@@ -2,7 +2,7 @@
 
 ghost use Rattle.std.specs.Prelude.{◌≡◌, IfOk, string_bytes};
 ghost use Rattle.std.specs.Option.{option_map};
-ghost use Rattle.option_values.specs.Lists.{are_among, begins_list, from_word, is_among, items_of, listed, parts_of, to_word, trimmed, word_items_of};
+ghost use Rattle.option_values.specs.Lists.{are_among, begins_list, from_word, is_among, is_padding, items_of, listed, parts_of, to_word, trimmed, word_items_of};
 ghost use Rattle.option_values.specs.View.{choices_in, strings_in};
 
 use crate::words::words_of;
@@ -33,13 +33,20 @@ pub fn are_among(choices: &Option<Vec<String>>, items: &[String]) -> bool
     }
 }
 
+// What is dropped at the ends of a part: a space alone.
+fn is_padding(byte: u8) -> bool
+    ensures { result ≡ is_padding byte }
+{
+    byte == b' '
+}
+
 // A text from its first byte on that is no space.
 fn from_word(text: &str) -> &str
     ensures { result.now ≡ from_word text.now }
 {
     let bytes = text.as_bytes();
     let mut start = 0;
-    while start < bytes.len() && bytes[start] == b' ' {
+    while start < bytes.len() && is_padding(bytes[start]) {
         start += 1;
     }
     let (_, word) = text.split_at(start);
@@ -52,7 +59,7 @@ fn to_word(text: &str) -> &str
 {
     let bytes = text.as_bytes();
     let mut end = bytes.len();
-    while end > 0 && bytes[end - 1] == b' ' {
+    while end > 0 && is_padding(bytes[end - 1]) {
         end -= 1;
     }
     let (word, _) = text.split_at(end);

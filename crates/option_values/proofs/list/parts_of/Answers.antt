@@ -1,0 +1,26 @@
+use Rattle.std.proofs.Common.{◌≡◌, ◌∙◌, ◌++◌, lit<, arith, sym, map, ap}
+use Rattle.std.specs.Prelude.{◌==◌}
+use Rattle.std.specs.List.{slice_split}
+use Rattle.std.proofs.lemmas.Iterator.Consumers.{YieldsList-at, YieldsList-turn, YieldsList-end}
+use Rattle.std.proofs.lemmas.Iterator.Splits.{YieldsList-from_str_split}
+use Rattle.std.proofs.lemmas.List.{append-nil, at_drop_all, length_push}
+use Rattle.lexer.specs.Bytes.{comma}
+use Rattle.option_values.specs.Lists.{trimmed}
+use Rattle.option_values.specs.View.{strings_in}
+use Rattle.option_values.proofs.Items.{parts_more, parts_of-some}
+use Rattle.option_values.proofs.list.parts_of.Goals as goal
+
+pub loop-part-preserved : goal.loop-part-preserved
+loop-part-preserved c =
+    let cut = c.split-part-items.ensures in
+    let all = YieldsList-at c.into_iter-part-iterator.ensures.into_iter_gives (YieldsList-from_str_split 44 c.args.text.now (lit< tt) cut.text cut.has_more cut.pattern) in
+    let turn = YieldsList-turn all c.loop-part.yielded _ c.loop-part.yielded_by _ _ c.in-Some.part c.in-Some.is c.next.ensures.steps in
+    ?
+
+pub returns : goal.returns
+returns c =
+    let cut = c.split-part-items.ensures in
+    let all = YieldsList-at c.into_iter-part-iterator.ensures.into_iter_gives (YieldsList-from_str_split 44 c.args.text.now (lit< tt) cut.text cut.has_more cut.pattern) in
+    let end = YieldsList-end all c.loop-part.yielded _ c.loop-part.yielded_by _ _ c.in-None.is c.next.ensures.steps in
+    let whole = slice_split (λ x. x == comma) c.args.text.now in
+    ?
