@@ -13,7 +13,7 @@ use Rattle.option_values.proofs.words.words_of.Goals as goal
 pub loop-character-preserved : goal.loop-character-preserved
 loop-character-preserved c =
     let turn = YieldsList-turn (YieldsList-from_chars c.args.text.now c.utf8.text cc) c.loop-character.yielded _ c.loop-character.yielded_by _ _ c.in-Some.character c.in-Some.is c.next.ensures.steps in
-    cut_on (cut_in c.loop-character.cutting) _ _ (chars c.args.text.now) _ _ _ turn c.loop-character.invariant c.in_ok-after.ensures (length_push c.loop-character.yielded c.in-Some.character)
+    cut_on (cut_in c.loop-character.cutting) _ _ (chars c.args.text.now) _ _ _ turn c.loop-character.invariant c.in_ok-cutting.ensures (length_push c.loop-character.yielded c.in-Some.character)
 
 pub returns : goal.returns
 returns c =
