@@ -1,6 +1,6 @@
 //! A text cut into words, as a shell cuts it.
 
-ghost use Rattle.std.specs.Prelude.{◌≡◌, ℕ, List, IfOk, string_bytes};
+ghost use Rattle.std.specs.Prelude.{◌≡◌, ◌↔◌, ℕ, List, IfOk, string_bytes};
 ghost use Rattle.std.specs.Str.{chars};
 ghost use Rattle.option_values.specs.Shell.{AreWords};
 ghost use Rattle.std.specs.Option.{option_map};
@@ -190,9 +190,9 @@ fn ended(cutting: Cutting) -> Result<Option<Vec<String>>, AllocError>
 pub fn words_of(alloc: Global, text: &str) -> Result<Option<Vec<String>>, AllocError>
     ensures value { IfOk result (λ words. option_map (λ w. strings_in w.items) words ≡ words_of text.now) }
 
-    // What is written as words is cut into these, and so into no others.
-    ensures written { (given : List (List ℕ)) → AreWords (chars text.now) given
-        → IfOk result (λ words. option_map (λ w. strings_in w.items) words ≡ Some given) }
+    // These are the words as which the text is written, and where there are none it is written as no words.
+    ensures written { (given : List (List ℕ)) → IfOk result (λ words.
+        (option_map (λ w. strings_in w.items) words ≡ Some given) ↔ AreWords (chars text.now) given) }
 {
     let mut cutting = begun(alloc);
     for character in text.chars() {
