@@ -11,7 +11,7 @@ use Rattle.std.proofs.lemmas.List.{append-nil}
 use Rattle.lexer.specs.Bytes.{backslash, quote}
 use Rattle.option_values.specs.declared.words.Place.{Place}
 use Rattle.option_values.specs.declared.words.Place.TheVariants as place
-use Rattle.option_values.specs.Words.{Cut, double_quote, parts_words, is_escapable, bare, after_at, cut_from, ended}
+use Rattle.option_values.specs.Words.{Cut, double_quote, parts_words, is_escapable, bare, cut_from, ended}
 use Rattle.option_values.specs.Shell as shell
 use Rattle.option_values.specs.Shell.{is_bare, is_no_quote, Inside, Piece, Reads}
 
