@@ -1,0 +1,5 @@
+pub mod Trimming
+pub mod Cutting
+pub mod Items
+pub mod Parsing
+pub mod Shell
