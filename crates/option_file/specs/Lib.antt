@@ -1,0 +1,5 @@
+pub mod Declarations
+pub mod Given
+pub mod Lookups
+pub mod Numbers
+pub mod View
