@@ -4,7 +4,15 @@
 //! is a value of its option is found where options are resolved.
 #![tactic(auto)]
 
+mod call;
 mod declaration;
 pub mod fault;
+mod file;
+mod given;
+mod keyword;
+mod names;
+mod number;
 
 pub use declaration::{Declaration, Declared, Given};
+pub use file::declare;
+pub use names::is_built_in;
