@@ -12,4 +12,4 @@ mod text;
 mod value;
 
 pub use machine::{Entry, Machine, Section};
-pub use value::MachineValue;
+pub use value::{MachineValue, read_value};
