@@ -1,8 +1,7 @@
 -- The items of a list, one by one.
-use Rattle.std.proofs.Common.{◌≡◌, ℕ, ◌+◌, ◌<◌, ◌≤◌, List, [], ◌∷◌, ◌++◌, length, drop, get_or, Option, Some, None, String, string_bytes, map, refl, sym, ap, ◌∙◌, add-one, append_assoc, drop_of_length-le, arith}
+use Rattle.std.proofs.Common.{◌≡◌, ℕ, ◌+◌, ◌<◌, ◌≤◌, List, [], ◌∷◌, ◌++◌, length, drop, get_or, Option, Some, None, String, string_bytes, map, refl, sym, ap, ◌∙◌, append_assoc, arith}
 use Rattle.std.specs.Option.{option_map}
 use Rattle.std.specs.declared.alloc.Global.{Global}
-use Rattle.std.proofs.Math.Seq.{drop-cons}
 use Rattle.std.proofs.lemmas.List.{append-nil, map-append}
 use Rattle.grammar.specs.declared.tree.Expression.{Expression}
 use Rattle.grammar.specs.ExpressionTree.{ExpressionTree, ExpressionTrees, expression_of, expressions}
@@ -11,10 +10,14 @@ use Rattle.option_file.specs.declared.declaration.Given.{Given as Written}
 use Rattle.option_file.specs.declared.declaration.Given.TheVariants as written
 use Rattle.option_file.specs.Given.{Given, Texts, Other, item_given, items_given, in_front, texts_in, texts_or_other, list_given}
 use Rattle.option_file.specs.View.{given_in}
+use Rattle.option_file.proofs.Walks.{next_is, none_is}
 
 -- the items found so far in front of those of the expressions that are left
+abbrev pub found_in : List Written → List ExpressionTree → Option (List Given)
+found_in all rest = option_map (λ others. map given_in all ++ others) (items_given (expressions rest))
+
 abbrev pub found : List Written → List Expression → Option (List Given)
-found all rest = option_map (λ others. map given_in all ++ others) (items_given (expressions (map expression_of rest)))
+found all rest = found_in all (map expression_of rest)
 
 pub found_first : (items : List Expression) (all : List Written) → all ≡ [] → items_given (expressions (map expression_of items)) ≡ found all items
 found_first items all e = same (items_given (expressions (map expression_of items))) ∙ ap (λ a. found a items) (sym e)
@@ -23,14 +26,10 @@ found_first items all e = same (items_given (expressions (map expression_of item
     same None = refl
     same (Some xs) = refl
 
--- what is left is the next item and what is left then
-next : (items : List Expression) (i : ℕ) (x : Expression) → i < length items → x ≡ get_or items i x → drop i items ≡ x ∷ drop (i + 1) items
-next items i x lt is = (rw (add-one, drop-cons items i x lt) refl) ∙ ap (λ y. y ∷ drop (i + 1) items) (sym is)
-
 pub item_none : (items : List Expression) (all : List Written) (i : ℕ) (x : Expression) → items_given (expressions (map expression_of items)) ≡ found all (drop i items)
     → i < length items → x ≡ get_or items i x → None ≡ item_given (expression_of x) → None ≡ items_given (expressions (map expression_of items))
 item_none items all i x h lt is none =
-    sym (h ∙ ap (found all) (next items i x lt is)
+    sym (h ∙ ap (found_in all) (next_is expression_of items i x lt is)
     ∙ ap (λ o. option_map (λ others. map given_in all ++ others) (in_front o (items_given (expressions (map expression_of (drop (i + 1) items)))))) (sym none))
 
 join : (xs : List Given) (g : Given) (o : Option (List Given)) → option_map (λ ys. xs ++ ys) (option_map (λ ys. g ∷ ys) o) ≡ option_map (λ ys. (xs ++ g ∷ []) ++ ys) o
@@ -44,7 +43,7 @@ pub item_more : (items : List Expression) (all more : List Written) (i : ℕ) (x
     → i < length items → x ≡ get_or items i x → Some (given_in g) ≡ item_given (expression_of x) → more ≡ all ++ g ∷ []
     → items_given (expressions (map expression_of items)) ≡ found more (drop (i + 1) items)
 item_more items all more i x g h lt is some m =
-    h ∙ ap (found all) (next items i x lt is)
+    h ∙ ap (found_in all) (next_is expression_of items i x lt is)
     ∙ ap (λ o. option_map (λ others. map given_in all ++ others) (in_front o (items_given (expressions (map expression_of (drop (i + 1) items)))))) (sym some)
     ∙ join (map given_in all) (given_in g) (items_given (expressions (map expression_of (drop (i + 1) items))))
     ∙ ap (λ xs. option_map (λ others. xs ++ others) (items_given (expressions (map expression_of (drop (i + 1) items))))) (sym (map-append given_in all (g ∷ [])))
@@ -53,7 +52,7 @@ item_more items all more i x g h lt is some m =
 pub items_end : (items : List Expression) (all : List Written) (i : ℕ) → items_given (expressions (map expression_of items)) ≡ found all (drop i items)
     → length items ≤ i → Some (map given_in all) ≡ items_given (expressions (map expression_of items))
 items_end items all i h le =
-    sym (h ∙ ap (found all) (drop_of_length-le items le) ∙ ap (λ (xs : List Given). Some xs) (append-nil (map given_in all)))
+    sym (h ∙ ap (found_in all) (none_is expression_of items i le) ∙ ap (λ (xs : List Given). Some xs) (append-nil (map given_in all)))
 
 -- ---- the texts among what is given
 
