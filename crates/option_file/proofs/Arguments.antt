@@ -1,14 +1,12 @@
 -- The arguments of a call, one by one.
-use Rattle.std.proofs.Common.{◌≡◌, ℕ, ◌+◌, ◌<◌, ◌≤◌, Bool, true, false, List, [], ◌∷◌, ◌++◌, length, drop, get_or, Option, Some, None, Result, Ok, Err, String, string_bytes, map, refl, sym, ap, ◌∙◌}
-use Rattle.std.specs.Prelude.{◌||◌, not, bytes_eq, if◌then◌else◌}
+use Rattle.std.proofs.Common.{◌≡◌, ℕ, ◌+◌, ◌<◌, ◌≤◌, Bool, true, false, List, [], ◌∷◌, length, drop, get_or, Option, Some, None, Err, String, string_bytes, refl, sym, ap, ◌∙◌}
+use Rattle.std.specs.Prelude.{◌||◌, bytes_eq, if◌then◌else◌}
 use Rattle.std.specs.List.{list_any}
-use Rattle.std.specs.Option.{option_map, option_and_then}
-use Rattle.std.specs.String.{string_eq}
+use Rattle.std.specs.Option.{option_and_then}
 use Rattle.std.specs.declared.alloc.Global.{Global}
 use Rattle.grammar.specs.declared.tree.Argument.{Argument}
-use Rattle.grammar.specs.ExpressionTree.{ArgumentTrees, NoArgument, MoreArguments, arguments, argument_of, argument_trees}
+use Rattle.grammar.specs.ExpressionTree.{NoArgument, MoreArguments, arguments, argument_of, argument_trees}
 use Rattle.option_values.specs.View.{strings_in}
-use Rattle.option_file.specs.declared.fault.FaultKind.{FaultKind}
 use Rattle.option_file.specs.declared.fault.FaultKind.TheVariants as faults
 use Rattle.option_file.specs.Calls.{stands_key, with_key, gives_twice, is_left_out_key, gives_left_out, with_argument, keywords_from, option_of, or_fault, call_declares}
 use Rattle.option_file.specs.Declarations.{Declaration}

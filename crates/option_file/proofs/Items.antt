@@ -4,7 +4,7 @@ use Rattle.std.specs.Option.{option_map}
 use Rattle.std.specs.declared.alloc.Global.{Global}
 use Rattle.std.proofs.lemmas.List.{append-nil, map-append}
 use Rattle.grammar.specs.declared.tree.Expression.{Expression}
-use Rattle.grammar.specs.ExpressionTree.{ExpressionTree, ExpressionTrees, expression_of, expressions}
+use Rattle.grammar.specs.ExpressionTree.{ExpressionTree, expression_of, expressions}
 use Rattle.option_values.specs.View.{strings_in}
 use Rattle.option_file.specs.declared.declaration.Given.{Given as Written}
 use Rattle.option_file.specs.declared.declaration.Given.TheVariants as written

@@ -1,10 +1,10 @@
 -- Numbers that are out of range.
-use Rattle.std.proofs.Common.{◌≡◌, ℕ, ◌<◌, ◌≤◌, ◌^◌, Bool, true, false, List, Option, Some, None, ap, ◌∙◌, arith}
-use Rattle.std.specs.Prelude.{ℤ, nat_lt, nat_le, if◌then◌else◌}
+use Rattle.std.proofs.Common.{◌≡◌, ℕ, ◌<◌, ◌≤◌, ◌^◌, Bool, true, false, List, Some, None, ap, arith}
+use Rattle.std.specs.Prelude.{nat_lt, nat_le, if◌then◌else◌}
 use Rattle.std.specs.Option.{option_map}
 use Rattle.std.proofs.lemmas.Bool.Decides.{nat_tests}
 use Rattle.machine.specs.Numbers.{greatest, magnitude, signed, integer_of}
-use Rattle.option_file.specs.Given.{Given, integer, numeral}
+use Rattle.option_file.specs.Given.{integer, numeral}
 use Rattle.option_file.specs.Numbers.{past_integers, number_of}
 
 past : (negative : Bool) (n : ℕ) → 2 ^ 64 ≤ n → nat_le n (greatest negative) ≡ false

@@ -1,9 +1,8 @@
 -- The statements of a file, one by one.
-use Rattle.std.proofs.Common.{◌≡◌, ℕ, ◌+◌, ◌<◌, ◌≤◌, List, [], ◌∷◌, ◌++◌, length, drop, get_or, Result, Ok, Err, map, refl, sym, ap, ◌∙◌}
+use Rattle.std.proofs.Common.{◌≡◌, ℕ, ◌+◌, ◌<◌, ◌≤◌, List, [], length, drop, get_or, Result, Ok, Err, map, sym, ap, ◌∙◌}
 use Rattle.grammar.specs.declared.tree.Statement.{Statement}
 use Rattle.grammar.specs.Tree.{StatementTree, statement_of}
 use Rattle.option_file.specs.declared.fault.FaultKind.{FaultKind}
-use Rattle.option_file.specs.declared.fault.DeclareFault.{DeclareFault}
 use Rattle.option_file.specs.Declarations.{Declaration}
 use Rattle.option_file.specs.Declares.{line_of, after, go_on, declares_from}
 use Rattle.option_file.proofs.Walks.{next_is, none_is}

@@ -1,8 +1,7 @@
 -- What a call of `option` declares.
-use Rattle.std.specs.Prelude.{ℕ, Bool, true, false, not, ◌||◌, ◌&&◌, List, [], ◌∷◌, ◌++◌, Option, Some, None, Result, Ok, Err, if◌then◌else◌}
+use Rattle.std.specs.Prelude.{ℕ, Bool, false, not, ◌||◌, ◌&&◌, List, [], ◌∷◌, ◌++◌, Option, Some, None, Result, Ok, Err, if◌then◌else◌}
 use Rattle.std.specs.Option.{option_map, option_and_then}
-use Rattle.grammar.specs.ExpressionTree.{ExpressionTree, ArgumentTree, ArgumentTrees, NoArgument, MoreArguments}
-use Rattle.option_values.specs.Kinds.{Kind}
+use Rattle.grammar.specs.ExpressionTree.{ArgumentTree, ArgumentTrees, NoArgument, MoreArguments}
 use Rattle.option_file.specs.declared.fault.FaultKind.{FaultKind}
 use Rattle.option_file.specs.declared.fault.FaultKind.TheVariants as faults
 use Rattle.option_file.specs.declared.keyword.Keyword.{Keyword}

@@ -118,10 +118,7 @@ fn with_argument(
 }
 
 // What these arguments give, where keywords give them all.
-fn keywords_from(
-    alloc: Global,
-    arguments: &[Argument<'_>],
-) -> Result<Option<Keywords>, AllocError>
+fn keywords_from(alloc: Global, arguments: &[Argument<'_>]) -> Result<Option<Keywords>, AllocError>
     ensures { IfOk result (λ k. option_map keywords_in k ≡ keywords_from nothing_given (argument_trees arguments.now)) }
 {
     let mut keywords = Keywords::new();

@@ -51,7 +51,9 @@ fn expression_declares(
 {
     match expression {
         Expression::Call {
-            name, arguments, ..
+            name,
+            arguments,
+            ..
         } => function_declares(alloc, line, name, arguments),
         Expression::Name { .. } => Ok(Err(FaultKind::Option)),
         Expression::Literal { .. } => Ok(Err(FaultKind::Option)),
@@ -104,10 +106,7 @@ fn after(
 
 /// What an option file declares, in the order of its statements, or its first fault, at the line of its statement. Each
 /// statement is a call of `option`, as the Meson manual's page "Build options" has it.
-pub fn declare(
-    alloc: Global,
-    file: &File<'_>,
-) -> Result<Result<Declared, DeclareFault>, AllocError>
+pub fn declare(alloc: Global, file: &File<'_>) -> Result<Result<Declared, DeclareFault>, AllocError>
     ensures { IfOk result (λ answer. declared_in answer ≡ file_declares (file_of file.now)) }
 {
     let mut declared = Declared::empty(alloc);

@@ -104,10 +104,7 @@ fn item_given(alloc: Global, value: &Expression<'_>) -> Result<Option<Given>, Al
 }
 
 // The items of a list, where there is no list among them.
-fn items_given(
-    alloc: Global,
-    items: &[Expression<'_>],
-) -> Result<Option<Vec<Given>>, AllocError>
+fn items_given(alloc: Global, items: &[Expression<'_>]) -> Result<Option<Vec<Given>>, AllocError>
     ensures { IfOk result (λ v. option_map (λ gs. map given_in gs.items) v ≡ items_given (expressions (map expression_of items.now))) }
 {
     let mut all = Vec::new(alloc);

@@ -1,7 +1,6 @@
 use Rattle.std.proofs.Common.{◌∙◌, sym, ap}
 use Rattle.std.specs.Option.{option_map}
 use Rattle.option_file.specs.View.{entry_in}
-use Rattle.option_file.specs.Calls.{or_fault}
 use Rattle.option_file.proofs.Arguments.{call_left_out, call_else}
 use Rattle.option_file.proofs.call.call_declares.Goals as goal
 

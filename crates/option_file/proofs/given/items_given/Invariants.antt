@@ -1,7 +1,6 @@
 use Rattle.std.proofs.Common.{◌≡◌, drop, map}
 use Rattle.grammar.specs.ExpressionTree.{expression_of, expressions}
 use Rattle.option_file.specs.Given.{items_given}
-use Rattle.option_file.specs.View.{given_in}
 use Rattle.option_file.proofs.Items.{found}
 use Rattle.option_file.proofs.given.items_given.Given as goal
 
