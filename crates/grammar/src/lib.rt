@@ -7,8 +7,6 @@
 
 mod parser;
 mod stop;
-#[cfg(test)]
-mod tests;
 pub mod tree;
 
 pub use lexer::{fault, token, tokens};

@@ -2,6 +2,46 @@ use crate::support::check;
 use std::test::Fail;
 
 #[test]
+fn literals_stand_as_in_the_source(rt: HostRuntime) -> Result<(), Fail> {
+    let rows = [
+        ("x = true", "1 x = true@1;"),
+        ("x = false", "1 x = false@1;"),
+        ("x = 0", "1 x = 0@1;"),
+        ("x = 120", "1 x = 120@1;"),
+        ("x = 0xfF", "1 x = 0xfF@1;"),
+        ("x = 0O17", "1 x = 0O17@1;"),
+        ("x = 0b10", "1 x = 0b10@1;"),
+        (
+            "x = 170141183460469231731687303715884105728",
+            "1 x = 170141183460469231731687303715884105728@1;",
+        ),
+        ("x = 'a\\'\\q'", "1 x = 'a\\'\\q'@1;"),
+        ("x = '''a\\'''", "1 x = '''a\\'''@1;"),
+        ("x = f'@a@'", "1 x = f'@a@'@1;"),
+        ("x = f''''a'''", "1 x = f''''a'''@1;"),
+    ];
+    check(&rt, rt.alloc(), &rows)
+}
+
+#[test]
+fn a_token_has_the_line_of_its_first_byte(rt: HostRuntime) -> Result<(), Fail> {
+    let rows = [
+        ("x = 'a\nb' + c", "1 x = ('a\nb'@1 + c@2)@1;"),
+        (
+            "x = '''a\n\nb''' + c\ny = d",
+            "1 x = ('''a\n\nb'''@1 + c@3)@1;4 y = d@4;",
+        ),
+        ("x = a \\\n+ b", "1 x = (a@1 + b@2)@1;"),
+        (
+            "x = a + \\ # why\n\\\nb\ny = c",
+            "1 x = (a@1 + b@3)@1;4 y = c@4;",
+        ),
+        ("x = [ # why\n a, # (\n b]", "1 x = [a@2,b@3,]@1;"),
+    ];
+    check(&rt, rt.alloc(), &rows)
+}
+
+#[test]
 fn operators_of_one_line_are_one_chain(rt: HostRuntime) -> Result<(), Fail> {
     let rows = [
         ("x = a or b or c", "1 x = (a@1 or b@1 or c@1)@1;"),
@@ -113,6 +153,7 @@ fn prefixes_bind_tighter_than_operators(rt: HostRuntime) -> Result<(), Fail> {
         ("x = -a", "1 x = (- a@1)@1;"),
         ("x = not not a", "1 x = (not (not a@1)@1)@1;"),
         ("x = not a == b", "1 x = ((not a@1)@1 == b@1)@1;"),
+        ("x = not a not in b", "1 x = ((not a@1)@1 not in b@1)@1;"),
         ("x = -a * b", "1 x = ((- a@1)@1 * b@1)@1;"),
         ("x = a - -b", "1 x = (a@1 - (- b@1)@1)@1;"),
         ("x = -a.b()", "1 x = (- (a@1.b())@1)@1;"),
@@ -146,6 +187,9 @@ fn calls_methods_and_indices(rt: HostRuntime) -> Result<(), Fail> {
         ("x = (a)()", "E3 at 1"),
         ("x = a ? f(\nb ? c : d) : e", "E3 at 2"),
         ("x = a ? b : [\n\nc ? d : e]", "E3 at 3"),
+        ("x = a ? b : c[\nd ? e : f]", "E3 at 2"),
+        ("x = a ? {b :\nc ? d : e} : f", "E3 at 2"),
+        ("x = a ? b : c.m(k:\nd ? e : f)", "E3 at 2"),
         ("x = f(a ? b : c)", "1 x = f((a@1 ? b@1 : c@1)@1,)@1;"),
     ];
     check(&rt, rt.alloc(), &rows)

@@ -54,6 +54,7 @@ fn each_kind_of_bracket_and_prefix_opens_a_level(rt: HostRuntime) -> Result<(), 
         ("{a : ", "}"),
         ("f(", ")"),
         ("a[", "]"),
+        ("a.m(", ")"),
         ("-", ""),
         ("not ", ""),
     ] {
@@ -125,5 +126,15 @@ fn the_earlier_fault_decides(rt: HostRuntime) -> Result<(), Fail> {
     assert_eq!(rt; outcome(alloc, 65, early)?.as_str(), "E3 at 1");
     let last = ("if a\n", "x = y z\n", "endif\n");
     assert_eq!(rt; outcome(alloc, 64, last)?.as_str(), "E3 at 65");
+    Ok(())
+}
+
+#[test]
+fn a_bracket_behind_a_text_goes_on_with_no_file(rt: HostRuntime) -> Result<(), Fail> {
+    let alloc = rt.alloc();
+    for (middle, found) in [("\ny (", "E4 at 2"), ("\n'y' (", "E3 at 2")] {
+        let parts = ("(", middle, ")");
+        assert_eq!(rt; outcome(alloc, 64, parts)?.as_str(), found, "of {middle:?}");
+    }
     Ok(())
 }

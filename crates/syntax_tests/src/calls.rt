@@ -1,9 +1,9 @@
-// Small sources, their trees and their faults.
-use crate::tree::{Expression, Literal, Statement};
-use crate::{parse, tokens};
-use lexer::fault::{FaultKind, SyntaxError, SyntaxFault};
-use lexer::token::Kind;
+// Small sources, with what the calls give of them.
 use std::test::Fail;
+use syntax::fault::{FaultKind, SyntaxError, SyntaxFault};
+use syntax::token::Kind;
+use syntax::tree::{Expression, Literal, Statement};
+use syntax::{parse, tokens};
 
 fn fault(kind: FaultKind, line: usize) -> SyntaxError {
     SyntaxError::Fault(SyntaxFault { kind, line })
@@ -131,5 +131,29 @@ fn refuses_expressions(rt: HostRuntime) -> Result<(), Fail> {
         Some(fault(FaultKind::Grammar, 2))
     );
     assert!(rt; parse(alloc, "x = (a ? b : c) ? d : e").is_ok());
+    Ok(())
+}
+
+#[test]
+fn arguments_have_names_or_none(rt: HostRuntime) -> Result<(), Fail> {
+    let file = parse(rt.alloc(), "f(a, k : 'b')")?;
+    assert_eq!(rt; file.statements.len(), 1);
+    if let Statement::Expression {
+        value: Expression::Call { arguments, .. },
+        ..
+    } = &file.statements[0]
+    {
+        assert_eq!(rt; arguments.len(), 2);
+        assert!(rt; !arguments[0].is_named());
+        assert!(rt; arguments[1].is_named());
+        assert!(rt;
+            matches!(
+                arguments[1].value(),
+                Expression::Literal { text: "'b'", .. }
+            )
+        );
+    } else {
+        assert!(rt; false);
+    }
     Ok(())
 }
