@@ -1,10 +1,9 @@
-//! Objects: their kinds, equality by structure, and what is refused of them.
+//! Objects: their kinds, and equality by structure.
 
-use crate::support::shown;
 use std::alloc::Global;
 use std::test::Fail;
 use values::Binary::Equal;
-use values::{Feature, Object, Program, Text, Texts, Value, binary};
+use values::{Feature, Object, Program, Refusal, Text, Texts, Value, binary};
 
 fn text(alloc: Global, text: &str) -> Result<Text, Fail> {
     Ok(Text::new(String::from_str(alloc, text)?)?)
@@ -21,119 +20,76 @@ fn program(alloc: Global, word: &str) -> Result<Object, Fail> {
     Ok(Object::Program(Program::Words(words)))
 }
 
-// What `==` shows of two objects.
-fn equality(alloc: Global, object: Object, other: Object) -> Result<String, Fail> {
+// Whether `==` says that two objects are equal, or nothing where they are of two kinds.
+fn equality(alloc: Global, object: Object, other: Object) -> Result<Option<bool>, Fail> {
     let object = Value::of_object(alloc, object)?;
     let other = Value::of_object(alloc, other)?;
-    shown(alloc, &binary(alloc, Equal, object, other)?)
+    match binary(alloc, Equal, object, other)? {
+        Ok(value) => Ok(value.as_truth()),
+        Err(refusal) => Ok(if refusal == Refusal::Type {
+            None
+        } else {
+            Some(false)
+        }),
+    }
 }
 
 #[test]
-fn objects_named_by_numbers(rt: HostRuntime) -> Result<(), Fail> {
+fn targets(rt: HostRuntime) -> Result<(), Fail> {
     let alloc = rt.alloc();
-    let rows = vec![in alloc;
-        (Object::BuildTarget(1), Object::BuildTarget(1), "true"),
-        (Object::BuildTarget(1), Object::BuildTarget(2), "false"),
-        (
-            Object::BuildTarget(1),
-            Object::CustomTarget {
-                number: 1,
-                outputs: 1
-            },
-            "false"
-        ),
-        (
-            Object::CustomOutput {
-                target: 1,
-                output: 0
-            },
-            Object::CustomOutput {
-                target: 1,
-                output: 0
-            },
-            "true"
-        ),
-        (
-            Object::CustomOutput {
-                target: 1,
-                output: 0
-            },
-            Object::CustomTarget {
-                number: 1,
-                outputs: 1
-            },
-            "E6"
-        ),
-        (
-            Object::ConfigurationData(1),
-            Object::ConfigurationData(1),
-            "true"
-        ),
-        (
-            Object::ConfigurationData(1),
-            Object::ConfigurationData(2),
-            "false"
-        ),
-        (Object::ConfigurationData(1), Object::BuildTarget(1), "E6"),
-    ]?;
-    for (object, other, expected) in rows {
-        assert_eq!(rt; equality(alloc, object, other)?.as_str(), expected);
-    }
+    let same = equality(alloc, Object::BuildTarget(1), Object::BuildTarget(1))?;
+    assert_eq!(rt; same, Some(true));
+    let other = equality(alloc, Object::BuildTarget(1), Object::BuildTarget(2))?;
+    assert_eq!(rt; other, Some(false));
+    let custom = Object::CustomTarget {
+        number: 1,
+        outputs: 1,
+    };
+    assert_eq!(rt;
+        equality(alloc, Object::BuildTarget(1), custom)?,
+        Some(false)
+    );
     Ok(())
 }
 
 #[test]
-fn objects_without_texts(rt: HostRuntime) -> Result<(), Fail> {
+fn things_named_by_numbers(rt: HostRuntime) -> Result<(), Fail> {
     let alloc = rt.alloc();
-    let rows = vec![in alloc;
-        (
-            Object::Feature(Feature::Auto),
-            Object::Feature(Feature::Auto),
-            "true"
-        ),
-        (
-            Object::Feature(Feature::Auto),
-            Object::Feature(Feature::Enabled),
-            "false"
-        ),
-        (Object::Feature(Feature::Disabled), Object::Meson, "E6"),
-        (Object::Meson, Object::Meson, "true"),
-        (Object::Meson, Object::Compiler, "E6"),
-        (Object::Compiler, Object::Compiler, "true"),
-        (Object::Compiler, Object::Disabler, "disabler"),
-    ]?;
-    for (object, other, expected) in rows {
-        assert_eq!(rt; equality(alloc, object, other)?.as_str(), expected);
-    }
+    let data = equality(
+        alloc,
+        Object::ConfigurationData(1),
+        Object::ConfigurationData(2),
+    )?;
+    assert_eq!(rt; data, Some(false));
+    let kinds = equality(alloc, Object::ConfigurationData(1), Object::BuildTarget(1))?;
+    assert_eq!(rt; kinds, None);
+    let output = Object::CustomOutput {
+        target: 1,
+        output: 0,
+    };
+    assert_eq!(rt; equality(alloc, output, Object::BuildTarget(1))?, None);
     Ok(())
 }
 
 #[test]
-fn objects_with_texts(rt: HostRuntime) -> Result<(), Fail> {
+fn things_without_parts(rt: HostRuntime) -> Result<(), Fail> {
     let alloc = rt.alloc();
+    assert_eq!(rt; equality(alloc, Object::Meson, Object::Meson)?, Some(true));
+    assert_eq!(rt; equality(alloc, Object::Meson, Object::Compiler)?, None);
+    let auto = Object::Feature(Feature::Auto);
     assert_eq!(rt;
-        equality(alloc, file(alloc, "a", true)?, file(alloc, "a", true)?)?.as_str(),
-        "true"
+        equality(alloc, auto, Object::Feature(Feature::Enabled))?,
+        Some(false)
     );
-    assert_eq!(rt;
-        equality(alloc, file(alloc, "a", true)?, file(alloc, "a", false)?)?.as_str(),
-        "false"
-    );
-    assert_eq!(rt;
-        equality(alloc, file(alloc, "a", true)?, file(alloc, "b", true)?)?.as_str(),
-        "false"
-    );
-    assert_eq!(rt;
-        equality(alloc, program(alloc, "a")?, program(alloc, "a")?)?.as_str(),
-        "true"
-    );
-    assert_eq!(rt;
-        equality(alloc, program(alloc, "a")?, program(alloc, "b")?)?.as_str(),
-        "false"
-    );
-    assert_eq!(rt;
-        equality(alloc, program(alloc, "a")?, file(alloc, "a", false)?)?.as_str(),
-        "E6"
-    );
+    Ok(())
+}
+
+#[test]
+fn files_and_programs(rt: HostRuntime) -> Result<(), Fail> {
+    let alloc = rt.alloc();
+    let files = equality(alloc, file(alloc, "a", true)?, file(alloc, "a", false)?)?;
+    assert_eq!(rt; files, Some(false));
+    let programs = equality(alloc, program(alloc, "a")?, program(alloc, "a")?)?;
+    assert_eq!(rt; programs, Some(true));
     Ok(())
 }

@@ -18,75 +18,78 @@ fn check_versions(rt: &impl Abort, rows: &[(&str, &str, bool)]) {
     }
 }
 
+const VERSIONS: &[(&'static str, &'static str, bool)] = &[
+    ("1.10", ">1.9", true),
+    ("1.0rc1", ">1.0", true),
+    ("1.2", "<1.2.0", true),
+    ("1.a", "<1.1", true),
+    ("1.b", ">1.a", true),
+    ("1.B", "<1.a", true),
+    ("1-2", "==1.2", true),
+    ("1..2", "==1.2", true),
+    ("1a", "==1.a", true),
+    ("01", "==1", true),
+    ("\u{e9}1", "==1", true),
+    ("", "<1", true),
+];
+
 #[test]
 fn versions_are_compared_by_their_runs(rt: HostRuntime) {
-    let rows: &[(&str, &str, bool)] = &[
-        ("1.10", ">1.9", true),
-        ("1.0rc1", ">1.0", true),
-        ("1.2", "<1.2.0", true),
-        ("1.a", "<1.1", true),
-        ("1.b", ">1.a", true),
-        ("1.B", "<1.a", true),
-        ("1-2", "==1.2", true),
-        ("1..2", "==1.2", true),
-        ("1a", "==1.a", true),
-        ("01", "==1", true),
-        ("\u{e9}1", "==1", true),
-        ("", "<1", true),
-    ];
-    check_versions(&rt, rows);
+    check_versions(&rt, VERSIONS);
 }
+
+const CONDITIONS: &[(&'static str, &'static str, bool)] = &[
+    ("1.2", "1.2", true),
+    ("1.2", "=1.2", true),
+    ("1.2", "!=1.2", false),
+    ("1.2.3", "!=1.2", true),
+    ("1.2", "<= 1.2", true),
+    ("1.2", ">= 1.3", false),
+    ("1.2", "<\t1.3", true),
+    ("1.2", "> 1.2", false),
+    ("", "==", true),
+    ("1", ">", true),
+    (
+        "1000000000000000000000000000000000000000",
+        ">999999999999999999999999999999999999999",
+        true,
+    ),
+    ("18446744073709551616", "==0", false),
+];
 
 #[test]
 fn conditions_of_versions(rt: HostRuntime) {
-    let rows: &[(&str, &str, bool)] = &[
-        ("1.2", "1.2", true),
-        ("1.2", "=1.2", true),
-        ("1.2", "!=1.2", false),
-        ("1.2.3", "!=1.2", true),
-        ("1.2", "<= 1.2", true),
-        ("1.2", ">= 1.3", false),
-        ("1.2", "<\t1.3", true),
-        ("1.2", "> 1.2", false),
-        ("", "==", true),
-        ("1", ">", true),
-        (
-            "1000000000000000000000000000000000000000",
-            ">999999999999999999999999999999999999999",
-            true,
-        ),
-        ("18446744073709551616", "==0", false),
-    ];
-    check_versions(&rt, rows);
+    check_versions(&rt, CONDITIONS);
 }
+
+const PRINTED: &[(Given, &'static str)] = &[
+    (Truth(true), "true"),
+    (Truth(false), "false"),
+    (
+        Integer(i128::MIN),
+        "-170141183460469231731687303715884105728",
+    ),
+    (Text("it's"), "it's"),
+    (Text("a\\qAA'"), "a\\qAA'"),
+    (Items(&[Text("it's")]), "['it's']"),
+    (Items(&[]), "[]"),
+    (Entries(&[]), "{}"),
+    (
+        Items(&[Integer(1), Text("a"), Truth(true)]),
+        "[1, 'a', true]",
+    ),
+    (Entries(&[("k", Items(&[Integer(2)]))]), "{'k' : [2]}"),
+    (
+        Entries(&[("b", Text("\u{e9}")), ("", Truth(false))]),
+        "{'b' : '\u{e9}', '' : false}",
+    ),
+    (Items(&[Items(&[Items(&[])])]), "[[[]]]"),
+];
 
 #[test]
 fn values_are_printed(rt: HostRuntime) -> Result<(), Fail> {
     let alloc = rt.alloc();
-    let rows: &[(Given<'_>, &str)] = &[
-        (Truth(true), "true"),
-        (Truth(false), "false"),
-        (
-            Integer(i128::MIN),
-            "-170141183460469231731687303715884105728",
-        ),
-        (Text("it's"), "it's"),
-        (Text("a\\qAA'"), "a\\qAA'"),
-        (Items(&[Text("it's")]), "['it's']"),
-        (Items(&[]), "[]"),
-        (Entries(&[]), "{}"),
-        (
-            Items(&[Integer(1), Text("a"), Truth(true)]),
-            "[1, 'a', true]",
-        ),
-        (Entries(&[("k", Items(&[Integer(2)]))]), "{'k' : [2]}"),
-        (
-            Entries(&[("b", Text("\u{e9}")), ("", Truth(false))]),
-            "{'b' : '\u{e9}', '' : false}",
-        ),
-        (Items(&[Items(&[Items(&[])])]), "[[[]]]"),
-    ];
-    for (given, expected) in rows {
+    for (given, expected) in PRINTED {
         let value = value_of(alloc, given)?;
         assert!(rt; is_printable(&value));
         assert_eq!(rt; printed(alloc, &value)??.as_str(), *expected);
@@ -94,16 +97,17 @@ fn values_are_printed(rt: HostRuntime) -> Result<(), Fail> {
     Ok(())
 }
 
+const NOT_PRINTED: &[Given] = &[
+    Meson,
+    Disabler,
+    Items(&[Integer(1), Meson]),
+    Entries(&[("k", Items(&[Disabler]))]),
+];
+
 #[test]
 fn objects_are_not_printed(rt: HostRuntime) -> Result<(), Fail> {
     let alloc = rt.alloc();
-    let rows: &[Given<'_>] = &[
-        Meson,
-        Disabler,
-        Items(&[Integer(1), Meson]),
-        Entries(&[("k", Items(&[Disabler]))]),
-    ];
-    for given in rows {
+    for given in NOT_PRINTED {
         let value = value_of(alloc, given)?;
         assert!(rt; !is_printable(&value));
         assert_eq!(rt; printed(alloc, &value)?.err(), Some(Refusal::Arguments));
@@ -117,7 +121,7 @@ fn objects_are_not_printed(rt: HostRuntime) -> Result<(), Fail> {
 }
 
 // What a literal of these keys gives, each with the value 1.
-fn literal(alloc: Global, keys: &[Given<'_>]) -> Result<String, Fail> {
+fn literal(alloc: Global, keys: &[Given]) -> Result<String, Fail> {
     let mut pairs = Vec::new(alloc);
     for key in values_of(alloc, keys)? {
         pairs.push((key, Value::Integer(1)))?;
@@ -125,22 +129,23 @@ fn literal(alloc: Global, keys: &[Given<'_>]) -> Result<String, Fail> {
     shown(alloc, &dictionary(alloc, pairs)?)
 }
 
+const LITERALS: &[(&'static [Given], &'static str)] = &[
+    (&[], "{}"),
+    (&[Text("b"), Text("a")], "{'b' : 1, 'a' : 1}"),
+    (
+        &[Text("a"), Text("A"), Text("")],
+        "{'a' : 1, 'A' : 1, '' : 1}",
+    ),
+    (&[Text("a"), Text("a")], "E11"),
+    (&[Integer(1)], "E6"),
+    (&[Text("a"), Text("a"), Integer(1)], "E11"),
+    (&[Text("a"), Integer(1), Text("a")], "E6"),
+    (&[Disabler], "E6"),
+];
+
 #[test]
 fn the_first_bad_key_decides(rt: HostRuntime) -> Result<(), Fail> {
-    let rows: &[(&[Given<'_>], &str)] = &[
-        (&[], "{}"),
-        (&[Text("b"), Text("a")], "{'b' : 1, 'a' : 1}"),
-        (
-            &[Text("a"), Text("A"), Text("")],
-            "{'a' : 1, 'A' : 1, '' : 1}",
-        ),
-        (&[Text("a"), Text("a")], "E11"),
-        (&[Integer(1)], "E6"),
-        (&[Text("a"), Text("a"), Integer(1)], "E11"),
-        (&[Text("a"), Integer(1), Text("a")], "E6"),
-        (&[Disabler], "E6"),
-    ];
-    for (keys, expected) in rows {
+    for (keys, expected) in LITERALS {
         let found = literal(rt.alloc(), *keys)?;
         assert_eq!(rt; found.as_str(), *expected);
     }
@@ -156,20 +161,21 @@ fn left_shown(alloc: Global, connective: Connective, left: Value) -> Result<Stri
     }
 }
 
+const SIDES: &[(Given, &'static str, &'static str, &'static str)] = &[
+    (Truth(true), "open", "true", "true"),
+    (Truth(false), "false", "open", "false"),
+    (Disabler, "disabler", "disabler", "disabler"),
+    (Integer(1), "E6", "E6", "E6"),
+    (Text(""), "E6", "E6", "E6"),
+    (Items(&[]), "E6", "E6", "E6"),
+    (Entries(&[]), "E6", "E6", "E6"),
+    (Meson, "E6", "E6", "E6"),
+];
+
 #[test]
 fn the_left_side_decides_or_the_right(rt: HostRuntime) -> Result<(), Fail> {
     let alloc = rt.alloc();
-    let rows: &[(Given<'_>, &str, &str, &str)] = &[
-        (Truth(true), "open", "true", "true"),
-        (Truth(false), "false", "open", "false"),
-        (Disabler, "disabler", "disabler", "disabler"),
-        (Integer(1), "E6", "E6", "E6"),
-        (Text(""), "E6", "E6", "E6"),
-        (Items(&[]), "E6", "E6", "E6"),
-        (Entries(&[]), "E6", "E6", "E6"),
-        (Meson, "E6", "E6", "E6"),
-    ];
-    for (given, of_and, of_or, of_right) in rows {
+    for (given, of_and, of_or, of_right) in SIDES {
         let value = value_of(alloc, given)?;
         assert_eq!(rt;
             left_shown(alloc, Connective::And, value.clone()?)?.as_str(),

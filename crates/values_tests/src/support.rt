@@ -6,28 +6,28 @@ use std::test::Fail;
 use values::{Binary, List, Object, Refusal, Value, binary, dictionary, index, method, printed};
 
 /// A value as a row writes it.
-#[derive(Drop)]
-pub enum Given<'a> {
+#[derive(Clone, Copy)]
+pub enum Given {
     Truth(bool),
     Integer(i128),
-    Text(&'a str),
-    Items(&'a [Given<'a>]),
-    Entries(&'a [(&'a str, Given<'a>)]),
+    Text(&'static str),
+    Items(&'static [Given]),
+    Entries(&'static [(&'static str, Given)]),
     Meson,
     Disabler,
 }
 
 /// A receiver, the name of a method, its arguments, and what is shown of the answer.
-pub type MethodRow<'a> = (Given<'a>, &'a str, &'a [Given<'a>], &'a str);
+pub type MethodRow = (Given, &'static str, &'static [Given], &'static str);
 
 /// A left operand, an operator, a right operand, and what is shown of the answer.
-pub type OperatorRow<'a> = (Given<'a>, Binary, Given<'a>, &'a str);
+pub type OperatorRow = (Given, Binary, Given, &'static str);
 
 /// A whole, an index, and what is shown of the part.
-pub type PartRow<'a> = (Given<'a>, Given<'a>, &'a str);
+pub type PartRow = (Given, Given, &'static str);
 
 #[cycle(given)]
-pub fn value_of(alloc: Global, given: &Given<'_>) -> Result<Value, Fail> {
+pub fn value_of(alloc: Global, given: &Given) -> Result<Value, Fail> {
     match given {
         Given::Truth(truth) => Ok(Value::Truth(*truth)),
         Given::Integer(integer) => Ok(Value::Integer(*integer)),
@@ -40,7 +40,7 @@ pub fn value_of(alloc: Global, given: &Given<'_>) -> Result<Value, Fail> {
 }
 
 #[cycle(given)]
-pub fn values_of(alloc: Global, items: &[Given<'_>]) -> Result<Vec<Value>, Fail> {
+pub fn values_of(alloc: Global, items: &[Given]) -> Result<Vec<Value>, Fail> {
     let mut values = Vec::new(alloc);
     for item in items {
         values.push(value_of(alloc, item)?)?;
@@ -49,7 +49,7 @@ pub fn values_of(alloc: Global, items: &[Given<'_>]) -> Result<Vec<Value>, Fail>
 }
 
 #[cycle(given)]
-fn list_of(alloc: Global, items: &[Given<'_>]) -> Result<Value, Fail> {
+fn list_of(alloc: Global, items: &[Given]) -> Result<Value, Fail> {
     let values = values_of(alloc, items)?;
     Ok(list_with(alloc, values)??)
 }
@@ -67,7 +67,7 @@ pub fn list_with(alloc: Global, items: Vec<Value>) -> Result<Result<Value, Refus
 }
 
 #[cycle(given)]
-fn dictionary_of(alloc: Global, entries: &[(&str, Given<'_>)]) -> Result<Value, Fail> {
+fn dictionary_of(alloc: Global, entries: &[(&'static str, Given)]) -> Result<Value, Fail> {
     let mut pairs = Vec::new(alloc);
     for (key, value) in entries {
         let key = Value::of_string(alloc, String::from_str(alloc, *key)?)??;
@@ -97,7 +97,7 @@ pub fn shown(alloc: Global, answer: &Result<Value, Refusal>) -> Result<String, F
 }
 
 /// What is shown of the answer of a method call.
-pub fn shown_method(alloc: Global, row: &MethodRow<'_>) -> Result<String, Fail> {
+pub fn shown_method(alloc: Global, row: &MethodRow) -> Result<String, Fail> {
     let (receiver, name, arguments, _) = row;
     let receiver = value_of(alloc, receiver)?;
     let arguments = values_of(alloc, *arguments)?;
@@ -106,7 +106,7 @@ pub fn shown_method(alloc: Global, row: &MethodRow<'_>) -> Result<String, Fail> 
 }
 
 /// That each method call answers what its row says.
-pub fn check_methods(rt: &impl Abort, alloc: Global, rows: &[MethodRow<'_>]) -> Result<(), Fail> {
+pub fn check_methods(rt: &impl Abort, alloc: Global, rows: &[MethodRow]) -> Result<(), Fail> {
     for (number, row) in rows.iter().enumerate() {
         let found = shown_method(alloc, row)?;
         assert_eq!(rt; found.as_str(), row.3, "in row {number}");
@@ -115,7 +115,7 @@ pub fn check_methods(rt: &impl Abort, alloc: Global, rows: &[MethodRow<'_>]) -> 
 }
 
 /// What is shown of the answer of an operator.
-pub fn shown_operator(alloc: Global, row: &OperatorRow<'_>) -> Result<String, Fail> {
+pub fn shown_operator(alloc: Global, row: &OperatorRow) -> Result<String, Fail> {
     let (left, operator, right, _) = row;
     let left = value_of(alloc, left)?;
     let right = value_of(alloc, right)?;
@@ -124,11 +124,7 @@ pub fn shown_operator(alloc: Global, row: &OperatorRow<'_>) -> Result<String, Fa
 }
 
 /// That each operation answers what its row says.
-pub fn check_operators(
-    rt: &impl Abort,
-    alloc: Global,
-    rows: &[OperatorRow<'_>],
-) -> Result<(), Fail> {
+pub fn check_operators(rt: &impl Abort, alloc: Global, rows: &[OperatorRow]) -> Result<(), Fail> {
     for (number, row) in rows.iter().enumerate() {
         let found = shown_operator(alloc, row)?;
         assert_eq!(rt; found.as_str(), row.3, "in row {number}");
@@ -137,7 +133,7 @@ pub fn check_operators(
 }
 
 /// What is shown of a part.
-pub fn shown_part(alloc: Global, row: &PartRow<'_>) -> Result<String, Fail> {
+pub fn shown_part(alloc: Global, row: &PartRow) -> Result<String, Fail> {
     let (whole, place, _) = row;
     let whole = value_of(alloc, whole)?;
     let place = value_of(alloc, place)?;
@@ -146,7 +142,7 @@ pub fn shown_part(alloc: Global, row: &PartRow<'_>) -> Result<String, Fail> {
 }
 
 /// That each index gives what its row says.
-pub fn check_parts(rt: &impl Abort, alloc: Global, rows: &[PartRow<'_>]) -> Result<(), Fail> {
+pub fn check_parts(rt: &impl Abort, alloc: Global, rows: &[PartRow]) -> Result<(), Fail> {
     for (number, row) in rows.iter().enumerate() {
         let found = shown_part(alloc, row)?;
         assert_eq!(rt; found.as_str(), row.2, "in row {number}");

@@ -14,19 +14,15 @@ use values::Binary::{
 };
 use values::{Binary, Refusal, Unary, Value, binary, has_method, index, method, unary};
 
-fn samples(alloc: Global) -> Result<Vec<Value>, Fail> {
-    let items = [Integer(1), Integer(2)];
-    let entries = [("ab", Integer(1))];
-    let samples: &[Given<'_>] = &[
-        Truth(true),
-        Integer(1),
-        Text("ab"),
-        Items(&items),
-        Entries(&entries),
-        Meson,
-    ];
-    values_of(alloc, samples)
-}
+// One value of each type.
+const SAMPLES: &[Given] = &[
+    Truth(true),
+    Integer(1),
+    Text("ab"),
+    Items(&[Integer(1), Integer(2)]),
+    Entries(&[("ab", Integer(1))]),
+    Meson,
+];
 
 fn sign(answer: &Result<Value, Refusal>) -> &'static str {
     match answer {
@@ -42,7 +38,7 @@ fn sign(answer: &Result<Value, Refusal>) -> &'static str {
 // The signs of an operator for a left operand.
 fn signs_of(alloc: Global, operator: Binary, left: &Value) -> Result<String, Fail> {
     let mut signs = String::new(alloc);
-    for right in samples(alloc)? {
+    for right in values_of(alloc, SAMPLES)? {
         signs.push_str(sign(&binary(alloc, operator, left.clone()?, right)?))?;
     }
     Ok(signs)
@@ -55,7 +51,7 @@ fn check_operator(
     operator: Binary,
     expected: &[&str],
 ) -> Result<(), Fail> {
-    let lefts = samples(alloc)?;
+    let lefts = values_of(alloc, SAMPLES)?;
     assert_eq!(rt; lefts.len(), expected.len());
     for (left, signs) in lefts.iter().zip(expected) {
         let found = signs_of(alloc, operator, left)?;
@@ -98,7 +94,7 @@ fn operators_of_one_operand(rt: HostRuntime) -> Result<(), Fail> {
     let alloc = rt.alloc();
     let mut negations = String::new(alloc);
     let mut opposites = String::new(alloc);
-    for value in samples(alloc)? {
+    for value in values_of(alloc, SAMPLES)? {
         negations.push_str(sign(&unary(Unary::Not, value.clone()?)))?;
         opposites.push_str(sign(&unary(Unary::Negate, value)))?;
     }
@@ -107,24 +103,25 @@ fn operators_of_one_operand(rt: HostRuntime) -> Result<(), Fail> {
     Ok(())
 }
 
+const VALUES_OF_ONE_OPERAND: &[(Unary, Given, &'static str)] = &[
+    (Unary::Not, Truth(true), "false"),
+    (Unary::Not, Truth(false), "true"),
+    (Unary::Not, Disabler, "disabler"),
+    (Unary::Not, Items(&[Disabler]), "E6"),
+    (Unary::Negate, Integer(5), "-5"),
+    (Unary::Negate, Integer(0), "0"),
+    (
+        Unary::Negate,
+        Integer(i128::MAX),
+        "-170141183460469231731687303715884105727",
+    ),
+    (Unary::Negate, Integer(i128::MIN), "E7"),
+    (Unary::Negate, Disabler, "disabler"),
+];
+
 #[test]
 fn values_of_one_operand(rt: HostRuntime) -> Result<(), Fail> {
-    let rows: &[(Unary, Given<'_>, &str)] = &[
-        (Unary::Not, Truth(true), "false"),
-        (Unary::Not, Truth(false), "true"),
-        (Unary::Not, Disabler, "disabler"),
-        (Unary::Not, Items(&[Disabler]), "E6"),
-        (Unary::Negate, Integer(5), "-5"),
-        (Unary::Negate, Integer(0), "0"),
-        (
-            Unary::Negate,
-            Integer(i128::MAX),
-            "-170141183460469231731687303715884105727",
-        ),
-        (Unary::Negate, Integer(i128::MIN), "E7"),
-        (Unary::Negate, Disabler, "disabler"),
-    ];
-    for (operator, given, expected) in rows {
+    for (operator, given, expected) in VALUES_OF_ONE_OPERAND {
         let value = value_of(rt.alloc(), given)?;
         let found = shown(rt.alloc(), &unary(*operator, value))?;
         assert_eq!(rt; found.as_str(), *expected);
@@ -136,9 +133,9 @@ fn values_of_one_operand(rt: HostRuntime) -> Result<(), Fail> {
 fn indexes(rt: HostRuntime) -> Result<(), Fail> {
     let alloc = rt.alloc();
     let expected: &[&str] = &["666666", "666666", "6+6666", "6+6666", "66+666", "666666"];
-    for (whole, signs) in samples(alloc)?.iter().zip(expected) {
+    for (whole, signs) in values_of(alloc, SAMPLES)?.iter().zip(expected) {
         let mut found = String::new(alloc);
-        for place in samples(alloc)? {
+        for place in values_of(alloc, SAMPLES)? {
             found.push_str(sign(&index(alloc, whole, &place)?))?;
         }
         assert_eq!(rt; found.as_str(), *signs);
@@ -151,7 +148,7 @@ fn check_names(rt: &impl Abort, alloc: Global, rows: &[(&str, &str)]) -> Result<
     for (name, expected) in rows {
         let mut told = String::new(alloc);
         let mut found = String::new(alloc);
-        for receiver in samples(alloc)? {
+        for receiver in values_of(alloc, SAMPLES)? {
             told.push_str(if has_method(&receiver, *name) {
                 "+"
             } else {
@@ -166,42 +163,44 @@ fn check_names(rt: &impl Abort, alloc: Global, rows: &[(&str, &str)]) -> Result<
     Ok(())
 }
 
+const METHODS_OF_TEXTS: &[(&'static str, &'static str)] = &[
+    ("startswith", "88+888"),
+    ("endswith", "88+888"),
+    ("format", "88+888"),
+    ("join", "88+888"),
+    ("replace", "88+888"),
+    ("split", "88+888"),
+    ("splitlines", "88+888"),
+    ("strip", "88+888"),
+    ("substring", "88+888"),
+    ("to_lower", "88+888"),
+    ("to_upper", "88+888"),
+    ("underscorify", "88+888"),
+    ("version_compare", "88+888"),
+];
+
 #[test]
 fn methods_of_texts(rt: HostRuntime) -> Result<(), Fail> {
-    let rows: &[(&str, &str)] = &[
-        ("startswith", "88+888"),
-        ("endswith", "88+888"),
-        ("format", "88+888"),
-        ("join", "88+888"),
-        ("replace", "88+888"),
-        ("split", "88+888"),
-        ("splitlines", "88+888"),
-        ("strip", "88+888"),
-        ("substring", "88+888"),
-        ("to_lower", "88+888"),
-        ("to_upper", "88+888"),
-        ("underscorify", "88+888"),
-        ("version_compare", "88+888"),
-    ];
-    check_names(&rt, rt.alloc(), rows)
+    check_names(&rt, rt.alloc(), METHODS_OF_TEXTS)
 }
+
+const METHODS_OF_OTHER_TYPES: &[(&'static str, &'static str)] = &[
+    ("contains", "88++88"),
+    ("to_int", "+8+888"),
+    ("to_string", "++8888"),
+    ("is_even", "8+8888"),
+    ("is_odd", "8+8888"),
+    ("get", "888++8"),
+    ("length", "888+88"),
+    ("has_key", "8888+8"),
+    ("keys", "8888+8"),
+    ("", "888888"),
+    ("Contains", "888888"),
+    ("values", "888888"),
+    ("found", "888888"),
+];
 
 #[test]
 fn methods_of_other_types(rt: HostRuntime) -> Result<(), Fail> {
-    let rows: &[(&str, &str)] = &[
-        ("contains", "88++88"),
-        ("to_int", "+8+888"),
-        ("to_string", "++8888"),
-        ("is_even", "8+8888"),
-        ("is_odd", "8+8888"),
-        ("get", "888++8"),
-        ("length", "888+88"),
-        ("has_key", "8888+8"),
-        ("keys", "8888+8"),
-        ("", "888888"),
-        ("Contains", "888888"),
-        ("values", "888888"),
-        ("found", "888888"),
-    ];
-    check_names(&rt, rt.alloc(), rows)
+    check_names(&rt, rt.alloc(), METHODS_OF_OTHER_TYPES)
 }
