@@ -4,11 +4,11 @@ use Rattle.std.specs.List.{slice_get}
 use Rattle.std.specs.declared.alloc.Global.{Global}
 use Rattle.std.specs.Map.{lookup, set_value, values_of}
 use Rattle.std.specs.Str.{bytes_eq}
-use Rattle.std.specs.Layout.Columns.{set_value_at}
+use Rattle.indexmap.specs.IndexMap.{set_value_at}
 use Rattle.option_values.specs.Values.{Value}
 use Rattle.options.specs.declared.settings.Setting.{Setting}
 use Rattle.options.specs.Settings as plain
-use Rattle.options.specs.Settings.{fill, or_given}
+use Rattle.options.specs.Settings.{fill, or_given, change_at}
 use Rattle.options.specs.View.{Becomes, setting_in, entry_in, settings_in}
 
 fill_here : (b : Bool) (v : Value) (e : String Global × Setting) (es more : List (String Global × Setting)) (o : Option Setting) (old new : Setting) (rest : List plain.Setting)
@@ -50,21 +50,22 @@ pub all_first : (f : plain.Setting → plain.Setting) (xs : List plain.Setting) 
 all_first f [] = refl
 all_first f (x ∷ xs) = ap (λ (l : List plain.Setting). f x ∷ l) (all_first f xs)
 
-pub one_more_first : (f : plain.Setting → plain.Setting) (i : ℕ) (old new : Setting) (es : List (String Global × Setting)) (xs : List plain.Setting)
-    → settings_in es ≡ map_first f i xs → slice_get (values_of es) i ≡ Some old → Becomes f old new → settings_in (set_value_at es i new) ≡ map_first f (suc i) xs
-one_more_first f i old new [] [] s g h = refl
-one_more_first f zero old new [] (x ∷ xs) s g h = absurd cc
-one_more_first f (suc i) old new [] (x ∷ xs) s g h = absurd cc
-one_more_first f i old new (e ∷ es) [] s g h = absurd cc
-one_more_first f zero old new (e ∷ es) (x ∷ xs) s g h =
-    let first : entry_in e ≡ x = cc in
-    let rest : settings_in es ≡ xs = cc in
-    let same : e.1 ≡ old = cc in
-    let now : setting_in (string_bytes e.0) new ≡ f x =
-    h (string_bytes e.0) ∙ ap (λ (s : Setting). f (setting_in (string_bytes e.0) s)) (sym same) ∙ ap f first in
-    cc
-one_more_first f (suc i) old new (e ∷ es) (x ∷ xs) s g h =
-    let first : entry_in e ≡ f x = cc in
-    let rest : settings_in es ≡ map_first f i xs = cc in
-    let more = one_more_first f i old new es xs rest g h in
-    cc
+-- and at one more
+pub one_more_first : (f : plain.Setting → plain.Setting) (i : ℕ) (xs : List plain.Setting) → change_at f i (map_first f i xs) ≡ map_first f (suc i) xs
+one_more_first f i [] = refl
+one_more_first f zero (x ∷ xs) = ap (λ (l : List plain.Setting). f x ∷ l) (sym (none_first f xs))
+one_more_first f (suc i) (x ∷ xs) = ap (λ (l : List plain.Setting). f x ∷ l) (one_more_first f i xs)
+
+-- what becomes of the i-th value
+pub changed : (f : plain.Setting → plain.Setting) (i : ℕ) (old new : Setting) (es : List (String Global × Setting))
+    → Some old ≡ slice_get (values_of es) i → Becomes f old new → settings_in (set_value_at es i new) ≡ change_at f i (settings_in es)
+changed f i old new [] g h = refl
+changed f zero old new (e ∷ es) g h =
+    let same : old ≡ e.1 = cc in
+    ap (λ (s : plain.Setting). s ∷ settings_in es) (h (string_bytes e.0) ∙ ap (λ (s : Setting). f (setting_in (string_bytes e.0) s)) same)
+changed f (suc i) old new (e ∷ es) g h = ap (λ (l : List plain.Setting). entry_in e ∷ l) (changed f i old new es g h)
+
+pub not_changed : (f : plain.Setting → plain.Setting) (i : ℕ) (es : List (String Global × Setting)) → None ≡ slice_get (values_of es) i → settings_in es ≡ change_at f i (settings_in es)
+not_changed f i [] g = refl
+not_changed f zero (e ∷ es) g = absurd cc
+not_changed f (suc i) (e ∷ es) g = ap (λ (l : List plain.Setting). entry_in e ∷ l) (not_changed f i es g)

@@ -19,6 +19,15 @@ fold_more_at step f s xs i x lt e =
     ∙ fold-append step s (map f (take i xs)) (f (get_or xs i x) ∷ [])
     ∙ ap (λ y. step (fold step s (map f (take i xs))) (f y)) (sym e)
 
+pub step_more : {A B C : Type 0} (step : C → B → C) (f : A → B) (s before after : C) (xs : List A) (i : ℕ) (d : A) → after ≡ step before (f (get_or xs i d))
+    → before ≡ fold step s (map f (take i xs)) → i < length xs → after ≡ fold step s (map f (take (i + 1) xs))
+step_more step f s before after xs i d e b lt =
+    e ∙ ap (λ t. step t (f (get_or xs i d))) b
+    ∙ sym (
+    ap (λ ys. fold step s (map f ys)) (take_more xs i d lt)
+    ∙ ap (fold step s) (map-append f (take i xs) (get_or xs i d ∷ []))
+    ∙ fold-append step s (map f (take i xs)) (f (get_or xs i d) ∷ []))
+
 -- one more of the texts that give a value each
 pub fold_text_at : (f : List ℕ → Verdict) (s : State) (xs : List (String Global)) (i : ℕ) (x : String Global) → i < length xs → x ≡ get_or xs i x
     → fold next s (map f (strings_in (take (i + 1) xs))) ≡ next (fold next s (map f (strings_in (take i xs)))) (f (string_bytes x))

@@ -1,6 +1,8 @@
 -- Maps into which something is put.
-use Rattle.std.proofs.Common.{◌≡◌, ℕ, Bool, true, false, List, [], ◌∷◌, ◌++◌, String, string_bytes, refl, ap, ◌∙◌, map, if◌then◌else◌}
+use Rattle.std.proofs.Common.{◌≡◌, ℕ, Bool, true, false, List, [], ◌∷◌, ◌++◌, String, string_bytes, refl, sym, ap, ◌∙◌, map, length, if◌then◌else◌}
 use Rattle.std.specs.List.{fold}
+use Rattle.std.proofs.lemmas.List.{length-map}
+use Rattle.options.specs.declared.built_in.BuiltIn.{BuiltIn}
 use Rattle.std.specs.declared.alloc.Global.{Global}
 use Rattle.std.specs.Str.{bytes_eq}
 use Rattle.std.specs.String.{string_eq}
@@ -8,10 +10,10 @@ use Rattle.indexmap.specs.IndexMap.{insert_entry}
 use Rattle.option_values.specs.View.{kind_in}
 use Rattle.option_values.specs.declared.kind.OptionKind.{OptionKind}
 use Rattle.options.specs.declared.settings.Setting.{Setting}
-use Rattle.options.specs.BuiltIns.{BuiltIn, NamedKind, put_kind, built_ins, built_in_kinds, built_in_settings}
+use Rattle.options.specs.BuiltIns.{NamedKind, put_kind, add_kind, add_setting, built_ins, built_in_kinds, built_in_settings}
 use Rattle.options.specs.Settings as plain
 use Rattle.options.specs.Settings.{put}
-use Rattle.options.specs.View.{setting_in, entry_in, settings_in, named_kind_in, kinds_in}
+use Rattle.options.specs.View.{setting_in, entry_in, settings_in, named_kind_in, kinds_in, row_in}
 
 put_step : (b : Bool) (e : String Global × Setting) (s : Setting) (es more : List (String Global × Setting)) (rest : List plain.Setting) → settings_in more ≡ rest
     → settings_in (if b then (e.0, s) ∷ es else e ∷ more) ≡ (if b then setting_in (string_bytes e.0) s ∷ settings_in es else entry_in e ∷ rest)
@@ -33,12 +35,6 @@ put_kind_seen name k (e ∷ es) = kind_step (string_eq name e.0) e k es _ _ (put
 
 -- ---- the options that every project has, put into an empty map one after another
 
-abbrev pub add_kind : List NamedKind → BuiltIn → List NamedKind
-add_kind ks b = put_kind (record { name = b.name; kind = b.kind }) ks
-
-abbrev pub add_setting : List plain.Setting → BuiltIn → List plain.Setting
-add_setting ss b = put (record { name = b.name; value = b.value; given = false }) ss
-
 pub all_kinds : fold add_kind [] built_ins ≡ built_in_kinds
 unfolding built_ins built_in_kinds
 all_kinds = refl
@@ -46,3 +42,7 @@ all_kinds = refl
 pub all_settings : fold add_setting [] built_ins ≡ built_in_settings
 unfolding built_ins built_in_settings
 all_settings = refl
+
+pub seventeen : (xs : List BuiltIn) → map row_in xs ≡ built_ins → length xs ≡ 17
+unfolding built_ins
+seventeen xs e = sym (length-map row_in xs) ∙ ap length e

@@ -3,7 +3,7 @@ use Rattle.std.specs.Prelude.{ℕ, Bool, true, false, List, [], ◌∷◌, map, 
 use Rattle.option_values.specs.declared.kind.FeatureState.TheVariants as feature
 use Rattle.option_values.specs.Kinds as kind
 use Rattle.option_values.specs.Values as value
-use Rattle.options.specs.Settings.{Setting}
+use Rattle.options.specs.Settings.{Setting, put}
 
 -- an option: its name, what it takes, and the value that it has where none is given
 pub record BuiltIn : Type 0 where
@@ -90,3 +90,10 @@ built_in_kind name = kind_among built_in_kinds name
 -- the options of every project, where no value is given
 unfoldable pub built_in_settings : List Setting
 built_in_settings = map (λ b. record { name = b.name; value = b.value; given = false }) built_ins
+
+-- one more row of the table
+abbrev pub add_kind : List NamedKind → BuiltIn → List NamedKind
+add_kind ks b = put_kind (record { name = b.name; kind = b.kind }) ks
+
+abbrev pub add_setting : List Setting → BuiltIn → List Setting
+add_setting ss b = put (record { name = b.name; value = b.value; given = false }) ss

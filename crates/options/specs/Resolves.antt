@@ -60,3 +60,7 @@ resolved ds defaults sections words = resolution_of (fold next at_first (verdict
 -- the value of the option of this name
 abbrev pub value_named : List Setting → List ℕ → Option Value
 value_named ss name = option_map (λ s. s.value) (setting_named ss name)
+
+-- an option as it is shown: its name and its value
+abbrev pub named_value : Setting → List ℕ × Value
+named_value s = (s.name, s.value)

@@ -1,5 +1,5 @@
 -- Options, each with a value.
-use Rattle.std.specs.Prelude.{ℕ, Bool, not, ◌&&◌, List, [], ◌∷◌, Option, Some, None, if◌then◌else◌, bytes_eq}
+use Rattle.std.specs.Prelude.{ℕ, zero, suc, Bool, not, ◌&&◌, List, [], ◌∷◌, Option, Some, None, if◌then◌else◌, bytes_eq}
 use Rattle.option_values.specs.Values.{Value}
 
 -- an option with the value that it has, and whether a place gave it: a place is `default_options`, the machine file or a word
@@ -26,3 +26,9 @@ or_given v s = if s.given then s else record s { value = v }
 abbrev pub fill : List ℕ → Value → List Setting → List Setting
 fill name v [] = []
 fill name v (s ∷ ss) = if bytes_eq name s.name then or_given v s ∷ ss else s ∷ fill name v ss
+
+-- the options, with what f makes of the i-th
+abbrev pub change_at : (Setting → Setting) → ℕ → List Setting → List Setting
+change_at f i [] = []
+change_at f zero (s ∷ ss) = f s ∷ ss
+change_at f (suc i) (s ∷ ss) = s ∷ change_at f i ss

@@ -49,6 +49,10 @@ settings_in entries = map entry_in entries
 abbrev pub options_in : Options → List plain.Setting
 options_in options = settings_in options.settings.entries
 
+-- an option that is shown with its name
+abbrev pub shown_in : Bor (List ℕ) × Bor OptionValue → List ℕ × Value
+shown_in e = (e.0.now, value_in e.1.now)
+
 abbrev pub verdict_in : Verdict → judged.Verdict
 verdict_in (verdict.Sets name setting) = judged.Sets (setting_in name.now setting)
 verdict_in (verdict.Warns name) = judged.Warns name.now

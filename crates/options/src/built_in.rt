@@ -2,7 +2,7 @@
 
 ghost use Rattle.std.specs.Prelude.{◌≡◌, IfOk, map, OnOk, string_bytes};
 ghost use Rattle.option_values.specs.View.{kind_in, value_in, strings_in};
-ghost use Rattle.options.specs.BuiltIns.{built_ins, built_in_settings, put_kind};
+ghost use Rattle.options.specs.BuiltIns.{built_ins, built_in_settings, put_kind, add_kind, add_setting};
 ghost use Rattle.options.specs.View.{AreBuiltIns, choices_in, form_kind, form_value, row_in, kinds_in, settings_in};
 
 use crate::settings::Setting;
@@ -188,6 +188,19 @@ fn put_kind(
     Ok(())
 }
 
+// The option of a row of the table takes what stands there.
+fn put_kind_of(
+    alloc: Global,
+    kinds: &mut IndexMap<String, OptionKind>,
+    row: &BuiltIn,
+) -> Result<(), AllocError>
+    ensures { OnOk result (kinds_in kinds.new.entries ≡ add_kind (kinds_in kinds.old.entries) (row_in row.now)) }
+{
+    let kind = kind_of(alloc, row.form)?;
+    put_kind(alloc, kinds, row.name, kind)?;
+    Ok(())
+}
+
 /// The options with what each takes.
 pub fn built_in_kinds(alloc: Global) -> Result<IndexMap<String, OptionKind>, AllocError>
     ensures { IfOk result (λ kinds. AreBuiltIns kinds.entries) }
@@ -195,10 +208,23 @@ pub fn built_in_kinds(alloc: Global) -> Result<IndexMap<String, OptionKind>, All
     let mut kinds = IndexMap::new(alloc);
     let table = rows();
     for row in &table {
-        let kind = kind_of(alloc, row.form)?;
-        put_kind(alloc, &mut kinds, row.name, kind)?;
+        put_kind_of(alloc, &mut kinds, row)?;
     }
     Ok(kinds)
+}
+
+// The option of a row of the table has the value that stands there.
+fn put_value_of(
+    alloc: Global,
+    settings: &mut IndexMap<String, Setting>,
+    row: &BuiltIn,
+) -> Result<(), AllocError>
+    ensures { OnOk result (settings_in settings.new.entries ≡ add_setting (settings_in settings.old.entries) (row_in row.now)) }
+{
+    let value = value_of(alloc, row.form)?;
+    let given = false;
+    put(alloc, settings, row.name, Setting { value, given })?;
+    Ok(())
 }
 
 /// The options with the values that they have where none is given.
@@ -208,12 +234,7 @@ pub fn built_in_settings(alloc: Global) -> Result<IndexMap<String, Setting>, All
     let mut settings = IndexMap::new(alloc);
     let table = rows();
     for row in &table {
-        let value = value_of(alloc, row.form)?;
-        let setting = Setting {
-            value,
-            given: false,
-        };
-        put(alloc, &mut settings, row.name, setting)?;
+        put_value_of(alloc, &mut settings, row)?;
     }
     Ok(settings)
 }

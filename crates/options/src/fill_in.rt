@@ -4,7 +4,7 @@ ghost use Rattle.std.specs.Prelude.{◌≡◌, codes, map, OnOk};
 ghost use Rattle.std.specs.Option.{option_map};
 ghost use Rattle.option_values.specs.View.{value_in};
 ghost use Rattle.options.specs.FillIns.{build_types, type_among, text_in, state_in, text_at, state_at, is_usr, by_buildtype, by_prefix, by_auto_features, decided, filled_in};
-ghost use Rattle.options.specs.Settings.{or_given, fill};
+ghost use Rattle.options.specs.Settings.{or_given, fill, change_at};
 ghost use Rattle.options.specs.View.{Becomes, settings_in, type_in};
 
 use crate::settings::Setting;
@@ -157,15 +157,22 @@ fn decide(setting: &mut Setting, state: FeatureState)
     }
 }
 
+// The i-th option, if it is a feature that is `auto`, takes this state.
+fn decide_at(settings: &mut IndexMap<String, Setting>, i: usize, state: FeatureState)
+    ensures { settings_in settings.new.entries ≡ change_at (decided state) i (settings_in settings.old.entries) }
+{
+    match settings.get_index_mut(i) {
+        Some(setting) => decide(setting, state),
+        None => {}
+    }
+}
+
 // Every feature option that is `auto` takes this state.
 fn decide_all(settings: &mut IndexMap<String, Setting>, state: FeatureState)
     ensures { settings_in settings.new.entries ≡ map (decided state) (settings_in settings.old.entries) }
 {
     for i in 0..settings.len() {
-        match settings.get_index_mut(i) {
-            Some(setting) => decide(setting, state),
-            None => {}
-        }
+        decide_at(settings, i, state);
     }
 }
 

@@ -23,8 +23,8 @@ pub struct Options {
 
 impl Options {
     ghost use Rattle.option_values.specs.View.{value_in};
-    ghost use Rattle.options.specs.Resolves.{value_named};
-    ghost use Rattle.options.specs.View.{options_in};
+    ghost use Rattle.options.specs.Resolves.{named_value, value_named};
+    ghost use Rattle.options.specs.View.{options_in, shown_in};
 
     /// How many options there are.
     pub fn len(&self) -> usize
@@ -52,7 +52,7 @@ impl Options {
 
     /// The i-th option: its name and its value. It takes no memory and never fails.
     pub fn at(&self, i: usize) -> Option<(&str, &OptionValue)>
-        ensures { option_map (λ e. (e.0.now, value_in e.1.now)) result ≡ option_map (λ s. (s.name, s.value)) (slice_get (options_in self.now) i) }
+        ensures { option_map shown_in result ≡ option_map named_value (slice_get (options_in self.now) i) }
     {
         let (name, setting) = self.settings.get_index(i)?;
         Some((name.as_str(), &setting.value))

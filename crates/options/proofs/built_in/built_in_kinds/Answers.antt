@@ -1,15 +1,21 @@
-use Rattle.std.proofs.Common.{◌∙◌, sym, ap, [], List}
-use Rattle.option_values.specs.Kinds.{Kind}
-use Rattle.options.specs.BuiltIns.{NamedKind, put_kind}
+use Rattle.std.proofs.Common.{◌∙◌, sym, ap, [], List, map, arith}
+use Rattle.std.specs.List.{fold}
+use Rattle.std.proofs.lemmas.List.{take_all}
+use Rattle.options.specs.declared.built_in.BuiltIn.{BuiltIn}
+use Rattle.options.specs.BuiltIns.{add_kind}
 use Rattle.options.specs.View.{kinds_in, row_in}
-use Rattle.options.proofs.Folds.{fold_more_at}
-use Rattle.options.proofs.Puts.{add_kind, all_kinds}
+use Rattle.options.proofs.Folds.{step_more}
+use Rattle.options.proofs.Puts.{all_kinds, seventeen}
 use Rattle.options.proofs.built_in.built_in_kinds.Goals as goal
 
+pub loop-row-init : goal.loop-row-init
+loop-row-init c = ap kinds_in c.new-kinds.ensures.empty
+
 pub loop-row-preserved : goal.loop-row-preserved
-loop-row-preserved c =
-    let row = c.row-item.result in
-    c.in_ok-put_kind.ensures
-    ∙ ap (λ (k : Kind). put_kind (record { name = row.name.now; kind = k }) (kinds_in c.loop-row.kinds.entries)) c.in_ok-kind.ensures
-    ∙ ap (λ (ks : List NamedKind). add_kind ks (row_in row)) c.loop-row.invariant
-    ∙ sym (fold_more_at add_kind row_in [] c.table.result c.loop-row.row-index row c.loop-row-test.true c.row-item.is)
+loop-row-preserved c = step_more add_kind row_in [] _ _ _ c.loop-row.row-index _ c.in_ok-put_kind_of.ensures c.loop-row.invariant (omega (arith, seventeen _ c.rows-table.ensures, c.loop-row-test.true))
+
+pub returns : goal.returns
+returns c =
+    c.loop-row.invariant
+    ∙ ap (λ (xs : List BuiltIn). fold add_kind [] (map row_in xs)) (take_all c.loop-row.row-index _ (omega (arith, seventeen _ c.rows-table.ensures, c.loop-row-test.false)))
+    ∙ ap (fold add_kind []) c.rows-table.ensures ∙ all_kinds

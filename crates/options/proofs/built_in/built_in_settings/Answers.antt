@@ -1,16 +1,21 @@
-use Rattle.std.proofs.Common.{◌∙◌, sym, ap, [], List, false}
-use Rattle.option_values.specs.Values.{Value}
-use Rattle.options.specs.Settings as plain
-use Rattle.options.specs.Settings.{put}
+use Rattle.std.proofs.Common.{◌∙◌, sym, ap, [], List, map, arith}
+use Rattle.std.specs.List.{fold}
+use Rattle.std.proofs.lemmas.List.{take_all}
+use Rattle.options.specs.declared.built_in.BuiltIn.{BuiltIn}
+use Rattle.options.specs.BuiltIns.{add_setting}
 use Rattle.options.specs.View.{settings_in, row_in}
-use Rattle.options.proofs.Folds.{fold_more_at}
-use Rattle.options.proofs.Puts.{add_setting, all_settings}
+use Rattle.options.proofs.Folds.{step_more}
+use Rattle.options.proofs.Puts.{all_settings, seventeen}
 use Rattle.options.proofs.built_in.built_in_settings.Goals as goal
 
+pub loop-row-init : goal.loop-row-init
+loop-row-init c = ap settings_in c.new-settings.ensures.empty
+
 pub loop-row-preserved : goal.loop-row-preserved
-loop-row-preserved c =
-    let row = c.row-item.result in
-    c.in_ok-put.ensures
-    ∙ ap (λ (v : Value). put (record { name = row.name.now; value = v; given = false }) (settings_in c.loop-row.settings.entries)) c.in_ok-value.ensures
-    ∙ ap (λ (ss : List plain.Setting). add_setting ss (row_in row)) c.loop-row.invariant
-    ∙ sym (fold_more_at add_setting row_in [] c.table.result c.loop-row.row-index row c.loop-row-test.true c.row-item.is)
+loop-row-preserved c = step_more add_setting row_in [] _ _ _ c.loop-row.row-index _ c.in_ok-put_value_of.ensures c.loop-row.invariant (omega (arith, seventeen _ c.rows-table.ensures, c.loop-row-test.true))
+
+pub returns : goal.returns
+returns c =
+    c.loop-row.invariant
+    ∙ ap (λ (xs : List BuiltIn). fold add_setting [] (map row_in xs)) (take_all c.loop-row.row-index _ (omega (arith, seventeen _ c.rows-table.ensures, c.loop-row-test.false)))
+    ∙ ap (fold add_setting []) c.rows-table.ensures ∙ all_settings

@@ -5,9 +5,9 @@ use Rattle.options.specs.declared.fault.FaultKind.TheVariants as faults
 use Rattle.options.specs.Verdicts.{refused, of_known, of_entry}
 use Rattle.options.proofs.place.of_entry.Goals as goal
 
-pub returns-in-Some : goal.returns-in-Some
+pub returns-in_ok-verdict-in-Some : goal.returns-in_ok-verdict-in-Some
 unfolding of_entry
-returns-in-Some c = c.in_ok-verdict.ensures
+returns-in_ok-verdict-in-Some c = c.in_ok-verdict-in-Some.ensures
     ∙ ap (of_known (refused (MachineFile c.args.entry.now.line) faults.Option) (MachineFile c.args.entry.now.line) c.args.key.now (value_in c.args.entry.now.value)) c.in-Some.ensures
 
 pub returns-in-None : goal.returns-in-None

@@ -10,10 +10,10 @@ pub returns-in_default : goal.returns-in_default
 unfolding of_project_default
 returns-in_default c = c.refused.ensures ∙ ap (of_default_parts (options_in c.args.declared.now)) c.in_default.ensures
 
-pub returns-in-Some-2 : goal.returns-in-Some-2
+pub returns-in_ok-verdict-in-Some-kind_named : goal.returns-in_ok-verdict-in-Some-kind_named
 unfolding of_project_default
-returns-in-Some-2 c = c.in_ok-verdict.ensures
-    ∙ ap (of_known (Warns c.in-Some.name.now) Project c.in-Some.name.now (written.Text c.in-Some.value.now)) c.in-Some-2.ensures
+returns-in_ok-verdict-in-Some-kind_named c = c.in_ok-verdict-in-Some-kind_named.ensures
+    ∙ ap (of_known (Warns c.in-Some.name.now) Project c.in-Some.name.now (written.Text c.in-Some.value.now)) c.in-Some-kind_named.ensures
     ∙ ap (of_default_parts (options_in c.args.declared.now)) c.in-Some.ensures
 
 pub returns-in-None : goal.returns-in-None

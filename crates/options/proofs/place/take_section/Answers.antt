@@ -7,9 +7,9 @@ use Rattle.options.specs.Verdicts.{of_entries, of_section}
 use Rattle.options.specs.View.{state_in}
 use Rattle.options.proofs.place.take_section.Goals as goal
 
-pub returns-in-Some : goal.returns-in-Some
+pub returns-in_ok-take_entries-in-Some : goal.returns-in_ok-take_entries-in-Some
 unfolding of_section
-returns-in-Some c = c.in_ok-take_entries.ensures
+returns-in_ok-take_entries-in-Some c = c.in_ok-take_entries-in-Some.ensures
     ∙ ap (λ scope. fold next (state_in c.args.state.now) (of_entries (options_in c.args.declared.now) (entries_of c.args.section.now) scope)) c.in-Some.ensures
 
 pub returns-in-None : goal.returns-in-None

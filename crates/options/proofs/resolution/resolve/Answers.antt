@@ -17,9 +17,9 @@ returns c =
     let m = flat_map (of_section ds) (machine_in c.args.machine.now) in
     let w = map (of_word ds) (strings_in c.args.words.now) in
     c.in_ok-resolved.ensures ∙ ap resolution_of (
-      c.in_ok-take_words.ensures
-      ∙ ap (λ (s : State). fold next s w) (c.in_ok-take_machine.ensures
-      ∙ ap (λ (s : State). fold next s m) (c.in_ok-take_defaults.ensures
-      ∙ ap (λ (s : State). fold next s d) (c.in_ok-take_declarations.ensures
-      ∙ ap (λ (s : State). fold next s l) c.in_ok-state.ensures)))
-      ∙ sym (in_turn at_first l d m w))
+    c.in_ok-take_words.ensures
+    ∙ ap (λ (s : State). fold next s w) (c.in_ok-take_machine.ensures
+    ∙ ap (λ (s : State). fold next s m) (c.in_ok-take_defaults.ensures
+    ∙ ap (λ (s : State). fold next s d) (c.in_ok-take_declarations.ensures
+    ∙ ap (λ (s : State). fold next s l) c.in_ok-state.ensures)))
+    ∙ sym (in_turn at_first l d m w))

@@ -8,9 +8,9 @@ use Rattle.options.proofs.verdict.of_key.Goals as goal
 
 pub returns-in-Some : goal.returns-in-Some
 unfolding of_kind
-returns-in-Some c = ap (of_value c.args.place c.args.name.now (value_in c.args.given.now)) (ap (option_map option_value_in) (sym c.in-Some.is) ∙ c.in_ok-value_of_given.ensures)
+returns-in-Some c = ap (of_value c.args.place c.args.name.now (value_in c.args.given.now)) (ap (option_map option_value_in) (sym c.in-Some.is) ∙ c.in_ok-value.ensures)
 
 pub returns-in-None : goal.returns-in-None
 unfolding of_kind
 returns-in-None c = c.refused.ensures ∙ ap (refused c.args.place) c.refusal.ensures
-    ∙ ap (of_value c.args.place c.args.name.now (value_in c.args.given.now)) (ap (option_map option_value_in) (sym c.in-None.is) ∙ c.in_ok-value_of_given.ensures)
+    ∙ ap (of_value c.args.place c.args.name.now (value_in c.args.given.now)) (ap (option_map option_value_in) (sym c.in-None.is) ∙ c.in_ok-value.ensures)
