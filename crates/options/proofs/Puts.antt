@@ -45,4 +45,4 @@ all_settings = refl
 
 pub seventeen : (xs : List BuiltIn) → map row_in xs ≡ built_ins → length xs ≡ 17
 unfolding built_ins
-seventeen xs e = sym (length-map row_in xs) ∙ ap length e
+seventeen xs e = sym (length-map xs row_in) ∙ ap length e
