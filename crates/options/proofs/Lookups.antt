@@ -1,5 +1,5 @@
 -- What look-ups find.
-use Rattle.std.proofs.Common.{◌≡◌, ℕ, Bool, true, false, List, [], ◌∷◌, Option, Some, None, String, string_bytes, refl, ap, ◌∙◌, cond, map}
+use Rattle.std.proofs.Common.{◌≡◌, ℕ, Bool, true, false, List, [], ◌∷◌, Option, Some, None, String, string_bytes, refl, ap, ◌∙◌, cond}
 use Rattle.std.specs.Option.{option_map, option_and_then, option_copied}
 use Rattle.std.specs.declared.alloc.Global.{Global}
 use Rattle.std.specs.Map.{lookup}
@@ -10,7 +10,7 @@ use Rattle.option_values.specs.Values.{Value}
 use Rattle.option_values.specs.View.{kind_in, value_in}
 use Rattle.option_values.specs.declared.kind.OptionKind.{OptionKind}
 use Rattle.options.specs.declared.settings.Setting.{Setting}
-use Rattle.options.specs.BuiltIns.{NamedKind, kind_among, built_in_kinds, built_in_kind}
+use Rattle.options.specs.BuiltIns.{NamedKind, kind_among, built_in_kind}
 use Rattle.options.specs.Settings as plain
 use Rattle.options.specs.Settings.{setting_named}
 use Rattle.options.specs.View.{entry_in, settings_in, kinds_in, AreBuiltIns}

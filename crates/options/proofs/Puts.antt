@@ -1,13 +1,11 @@
 -- Maps into which something is put.
-use Rattle.std.proofs.Common.{◌≡◌, ℕ, Bool, true, false, List, [], ◌∷◌, ◌++◌, String, string_bytes, refl, sym, ap, ◌∙◌, map, length, if◌then◌else◌}
+use Rattle.std.proofs.Common.{◌≡◌, Bool, true, false, List, [], ◌∷◌, String, string_bytes, refl, sym, ap, ◌∙◌, map, length, if◌then◌else◌}
 use Rattle.std.specs.List.{fold}
 use Rattle.std.proofs.lemmas.List.{length-map}
 use Rattle.options.specs.declared.built_in.BuiltIn.{BuiltIn}
 use Rattle.std.specs.declared.alloc.Global.{Global}
-use Rattle.std.specs.Str.{bytes_eq}
 use Rattle.std.specs.String.{string_eq}
 use Rattle.indexmap.specs.IndexMap.{insert_entry}
-use Rattle.option_values.specs.View.{kind_in}
 use Rattle.option_values.specs.declared.kind.OptionKind.{OptionKind}
 use Rattle.options.specs.declared.settings.Setting.{Setting}
 use Rattle.options.specs.BuiltIns.{NamedKind, put_kind, add_kind, add_setting, built_ins, built_in_kinds, built_in_settings}

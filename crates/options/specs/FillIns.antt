@@ -1,9 +1,9 @@
 -- What some options say of others.
 use Rattle.std.specs.Prelude.{ℕ, Bool, true, false, List, [], ◌∷◌, map, Option, Some, None, codes, if◌then◌else◌, bytes_eq}
-use Rattle.std.specs.Option.{option_map, option_and_then}
+use Rattle.std.specs.Option.{option_and_then}
 use Rattle.option_values.specs.declared.kind.FeatureState.{FeatureState}
 use Rattle.option_values.specs.declared.kind.FeatureState.TheVariants.{Auto}
-use Rattle.option_values.specs.Values.{Value, Text, Boolean, Integer, Array, Feature}
+use Rattle.option_values.specs.Values.{Value, Text, Boolean, Feature}
 use Rattle.options.specs.Settings.{Setting, setting_named, fill}
 
 -- what a type of build says of the options `debug` and `optimization`

@@ -1,5 +1,5 @@
 -- Options, each with a value.
-use Rattle.std.specs.Prelude.{ℕ, zero, suc, Bool, not, ◌&&◌, List, [], ◌∷◌, Option, Some, None, if◌then◌else◌, bytes_eq}
+use Rattle.std.specs.Prelude.{ℕ, zero, suc, Bool, List, [], ◌∷◌, Option, Some, None, if◌then◌else◌, bytes_eq}
 use Rattle.option_values.specs.Values.{Value}
 
 -- an option with the value that it has, and whether a place gave it: a place is `default_options`, the machine file or a word

@@ -1,5 +1,5 @@
 -- What the code's own types stand for.
-use Rattle.std.specs.Prelude.{◌≡◌, ℕ, List, [], map, Option, Some, Result, Ok, Err, string_bytes, String}
+use Rattle.std.specs.Prelude.{◌≡◌, ℕ, List, [], map, Result, Ok, Err, string_bytes, String}
 use Rattle.std.specs.declared.alloc.Global.{Global}
 use denote.Ref.{Bor}
 use Rattle.option_values.specs.View.{kind_in, value_in, strings_in}

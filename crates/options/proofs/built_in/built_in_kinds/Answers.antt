@@ -1,4 +1,4 @@
-use Rattle.std.proofs.Common.{◌∙◌, sym, ap, [], List, map, arith}
+use Rattle.std.proofs.Common.{◌∙◌, ap, [], List, map, arith}
 use Rattle.std.specs.List.{fold}
 use Rattle.std.proofs.lemmas.List.{take_all}
 use Rattle.options.specs.declared.built_in.BuiltIn.{BuiltIn}

@@ -1,4 +1,4 @@
-use Rattle.std.proofs.Common.{◌∙◌, ap, codes, List, ℕ, Option}
+use Rattle.std.proofs.Common.{◌∙◌, ap, codes, List, ℕ}
 use Rattle.std.specs.Option.{option_and_then}
 use Rattle.option_values.specs.Values.{Text}
 use Rattle.options.specs.Settings.{fill}

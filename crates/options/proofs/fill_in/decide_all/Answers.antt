@@ -1,7 +1,6 @@
-use Rattle.std.proofs.Common.{◌≡◌, length, arith, ◌∙◌, sym, ap, List, ℕ, add-one}
+use Rattle.std.proofs.Common.{◌≡◌, length, arith, ◌∙◌, sym, ap, ℕ, add-one}
 use Rattle.std.proofs.lemmas.List.{length-map}
 use Rattle.options.specs.FillIns.{decided}
-use Rattle.options.specs.Settings as plain
 use Rattle.options.specs.Settings.{change_at}
 use Rattle.options.specs.View.{entry_in, settings_in}
 use Rattle.options.proofs.Fills.{map_first, none_first, all_first, one_more_first}

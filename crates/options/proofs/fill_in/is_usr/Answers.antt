@@ -1,4 +1,4 @@
-use Rattle.std.proofs.Common.{◌∙◌, ap}
+use Rattle.std.proofs.Common.{ap}
 use Rattle.options.specs.FillIns.{is_usr}
 use Rattle.options.proofs.fill_in.is_usr.Goals as goal
 

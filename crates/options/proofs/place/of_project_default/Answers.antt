@@ -2,8 +2,7 @@ use Rattle.std.proofs.Common.{◌∙◌, ap}
 use Rattle.machine.specs.Values as written
 use Rattle.option_file.specs.View.{options_in}
 use Rattle.options.specs.declared.fault.Place.TheVariants.{Project}
-use Rattle.options.specs.declared.fault.FaultKind.TheVariants as faults
-use Rattle.options.specs.Verdicts.{Warns, refused, of_known, of_default_parts, of_project_default}
+use Rattle.options.specs.Verdicts.{Warns, of_known, of_default_parts, of_project_default}
 use Rattle.options.proofs.place.of_project_default.Goals as goal
 
 pub returns-in_default : goal.returns-in_default

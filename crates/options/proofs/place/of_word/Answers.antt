@@ -3,7 +3,7 @@ use Rattle.machine.specs.Values as written
 use Rattle.option_file.specs.View.{options_in}
 use Rattle.options.specs.declared.fault.Place.TheVariants.{CommandLine}
 use Rattle.options.specs.declared.fault.FaultKind.TheVariants as faults
-use Rattle.options.specs.Verdicts.{Warns, refused, of_known, of_word_parts, of_word}
+use Rattle.options.specs.Verdicts.{refused, of_known, of_word_parts, of_word}
 use Rattle.options.proofs.place.of_word.Goals as goal
 
 pub returns-in_default : goal.returns-in_default

@@ -1,8 +1,7 @@
 use Rattle.std.proofs.Common.{◌∙◌, sym, ap, arith}
-use Rattle.std.specs.List.{fold}
 use Rattle.option_file.specs.View.{options_in, option_in}
 use Rattle.options.specs.Resolves.{State, next}
-use Rattle.options.specs.Verdicts.{Verdict, of_declaration}
+use Rattle.options.specs.Verdicts.{of_declaration}
 use Rattle.options.specs.View.{state_in}
 use Rattle.options.proofs.Folds.{fold_got, is_there}
 use Rattle.options.proofs.place.take_declarations.Goals as goal

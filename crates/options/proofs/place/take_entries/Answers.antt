@@ -1,9 +1,8 @@
 use Rattle.std.proofs.Common.{◌∙◌, sym, ap, arith}
-use Rattle.std.specs.List.{fold}
 use Rattle.machine.specs.View.{entries_of}
 use Rattle.option_file.specs.View.{options_in}
 use Rattle.options.specs.Resolves.{State, next}
-use Rattle.options.specs.Verdicts.{Verdict, of_entry}
+use Rattle.options.specs.Verdicts.{of_entry}
 use Rattle.options.specs.View.{state_in, key_in}
 use Rattle.options.proofs.Folds.{fold_got, is_there}
 use Rattle.options.proofs.place.take_entries.Goals as goal

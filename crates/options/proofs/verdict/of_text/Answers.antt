@@ -1,7 +1,6 @@
 use Rattle.std.proofs.Common.{◌∙◌, sym, ap}
 use Rattle.std.specs.Option.{option_map}
 use Rattle.machine.specs.Values as written
-use Rattle.machine.specs.View.{value_in}
 use Rattle.option_values.specs.View.{value_in as option_value_in}
 use Rattle.options.specs.Verdicts.{refused, of_value, of_kind}
 use Rattle.options.proofs.verdict.of_text.Goals as goal
