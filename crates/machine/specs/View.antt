@@ -45,6 +45,10 @@ section_in s = record { name = string_bytes s.0; entries = entries_of s.1 }
 abbrev pub sections_in : List (String Global × Section) → List file.Section
 sections_in sections = map section_in sections
 
+-- a section that is shown with its name
+abbrev pub shown_section_in : Bor (List ℕ) × Bor Section → file.Section
+shown_section_in s = record { name = s.0.now; entries = entries_of s.1.now }
+
 -- the sections of a machine file, in the order of their lines
 abbrev pub machine_in : Machine → List file.Section
 machine_in machine = sections_in machine.sections.entries

@@ -12,4 +12,5 @@ mod text;
 mod value;
 
 pub use machine::{Entry, Machine, Section};
+pub use text::cut_first;
 pub use value::{MachineValue, read_value};

@@ -63,7 +63,7 @@ impl Machine {
     ghost use Rattle.machine.specs.Lines.{file_lines};
     ghost use Rattle.machine.specs.Reads.{AreSections};
     ghost use Rattle.machine.specs.Lookups.{entries_at, value_at};
-    ghost use Rattle.machine.specs.View.{value_in, entries_of, machine_in};
+    ghost use Rattle.machine.specs.View.{value_in, entries_of, machine_in, shown_section_in};
 
     /// What no file says: nothing.
     pub fn empty(alloc: Global) -> Machine
@@ -99,6 +99,28 @@ impl Machine {
                 Ok(Err(MachineFault { kind, line }))
             }
         }
+    }
+
+    /// How many sections there are.
+    pub fn len(&self) -> usize
+        ensures { result ≡ length (machine_in self.now) }
+    {
+        self.sections.len()
+    }
+
+    /// Whether there is no section.
+    pub fn is_empty(&self) -> bool
+        ensures { result ≡ (length (machine_in self.now) == 0) }
+    {
+        self.sections.is_empty()
+    }
+
+    /// The i-th section, in the order of lines, and its name.
+    pub fn at(&self, i: usize) -> Option<(&str, &Section)>
+        ensures { option_map shown_section_in result ≡ slice_get (machine_in self.now) i }
+    {
+        let (name, section) = self.sections.get_index(i)?;
+        Some((name.as_str(), section))
     }
 
     /// The section with this name, as `dependency zlib`.

@@ -1,0 +1,80 @@
+-- Values that are taken one after another.
+use Rattle.std.proofs.Common.{◌≡◌, ℕ, ◌+◌, ◌<◌, List, [], ◌∷◌, ◌++◌, length, take, get_or, Some, None, sym, ap, ◌∙◌, map, arith, String, string_bytes}
+use Rattle.std.specs.List.{fold, flat_map, slice_get}
+use Rattle.std.proofs.lemmas.List.{take_more, map-append, append-nil}
+use Rattle.std.proofs.lemmas.List.Sums.{fold-append}
+use Rattle.std.proofs.lemmas.Grind.{flat_map-append}
+use Rattle.std.proofs.lemmas.Option.{get_or_from_slice_get, slice_get_within, slice_get-get_or}
+use Rattle.std.specs.declared.alloc.Global.{Global}
+use Rattle.option_values.specs.View.{strings_in}
+use Rattle.options.specs.Resolves.{State, next}
+use Rattle.options.specs.Verdicts.{Verdict}
+
+-- one more of the things that are taken by a step each
+pub fold_more_at : {A B C : Type 0} (step : C → B → C) (f : A → B) (s : C) (xs : List A) (i : ℕ) (x : A) → i < length xs → x ≡ get_or xs i x
+    → fold step s (map f (take (i + 1) xs)) ≡ step (fold step s (map f (take i xs))) (f x)
+fold_more_at step f s xs i x lt e =
+    ap (λ ys. fold step s (map f ys)) (take_more xs i x lt)
+    ∙ ap (fold step s) (map-append f (take i xs) (get_or xs i x ∷ []))
+    ∙ fold-append step s (map f (take i xs)) (f (get_or xs i x) ∷ [])
+    ∙ ap (λ y. step (fold step s (map f (take i xs))) (f y)) (sym e)
+
+pub step_more : {A B C : Type 0} (step : C → B → C) (f : A → B) (s before after : C) (xs : List A) (i : ℕ) (d : A) → after ≡ step before (f (get_or xs i d))
+    → before ≡ fold step s (map f (take i xs)) → i < length xs → after ≡ fold step s (map f (take (i + 1) xs))
+step_more step f s before after xs i d e b lt =
+    e ∙ ap (λ t. step t (f (get_or xs i d))) b
+    ∙ sym (
+    ap (λ ys. fold step s (map f ys)) (take_more xs i d lt)
+    ∙ ap (fold step s) (map-append f (take i xs) (get_or xs i d ∷ []))
+    ∙ fold-append step s (map f (take i xs)) (f (get_or xs i d) ∷ []))
+
+-- one more of the texts that give a value each
+pub fold_text_at : (f : List ℕ → Verdict) (s : State) (xs : List (String Global)) (i : ℕ) (x : String Global) → i < length xs → x ≡ get_or xs i x
+    → fold next s (map f (strings_in (take (i + 1) xs))) ≡ next (fold next s (map f (strings_in (take i xs)))) (f (string_bytes x))
+fold_text_at f s xs i x lt e =
+    ap (λ ys. fold next s (map f (strings_in ys))) (take_more xs i x lt)
+    ∙ ap (λ ys. fold next s (map f ys)) (map-append string_bytes (take i xs) (get_or xs i x ∷ []))
+    ∙ ap (fold next s) (map-append f (strings_in (take i xs)) (string_bytes (get_or xs i x) ∷ []))
+    ∙ fold-append next s (map f (strings_in (take i xs))) (f (string_bytes (get_or xs i x)) ∷ [])
+    ∙ ap (λ (y : String Global). next (fold next s (map f (strings_in (take i xs)))) (f (string_bytes y))) (sym e)
+
+-- one more of the things that give a value each
+pub fold_at : {A : Type 0} (f : A → Verdict) (s : State) (xs : List A) (i : ℕ) (x : A) → i < length xs → x ≡ get_or xs i x
+    → fold next s (map f (take (i + 1) xs)) ≡ next (fold next s (map f (take i xs))) (f x)
+fold_at f s xs i x lt e =
+    ap (λ ys. fold next s (map f ys)) (take_more xs i x lt)
+    ∙ ap (fold next s) (map-append f (take i xs) (get_or xs i x ∷ []))
+    ∙ fold-append next s (map f (take i xs)) (f (get_or xs i x) ∷ [])
+    ∙ ap (λ y. next (fold next s (map f (take i xs))) (f y)) (sym e)
+
+pub fold_got : {A : Type 0} (f : A → Verdict) (s : State) (xs : List A) (i : ℕ) (x : A) → Some x ≡ slice_get xs i
+    → fold next s (map f (take (i + 1) xs)) ≡ next (fold next s (map f (take i xs))) (f x)
+fold_got f s xs i x e = fold_at f s xs i x (slice_get_within xs i x (sym e)) (sym (get_or_from_slice_get xs i x x (sym e)))
+
+-- one more of the things that give several values each
+pub fold_all_got : {A : Type 0} (f : A → List Verdict) (s : State) (xs : List A) (i : ℕ) (x : A) → Some x ≡ slice_get xs i
+    → fold next s (flat_map f (take (i + 1) xs)) ≡ fold next (fold next s (flat_map f (take i xs))) (f x)
+fold_all_got f s xs i x e =
+    ap (λ ys. fold next s (flat_map f ys)) (take_more xs i x (slice_get_within xs i x (sym e)))
+    ∙ ap (fold next s) (flat_map-append f (take i xs) (get_or xs i x ∷ []))
+    ∙ fold-append next s (flat_map f (take i xs)) (flat_map f (get_or xs i x ∷ []))
+    ∙ ap (λ y. fold next (fold next s (flat_map f (take i xs))) (flat_map f (y ∷ []))) (get_or_from_slice_get xs i x x (sym e))
+    ∙ one f x (fold next s (flat_map f (take i xs)))
+  where
+    one : {A : Type 0} (f : A → List Verdict) (x : A) (s : State) → fold next s (flat_map f (x ∷ [])) ≡ fold next s (f x)
+    one f x s = ap (fold next s) (append-nil (f x))
+
+-- there is a thing at each place below the length
+pub is_there : {A B : Type 0} (xs : List A) (i : ℕ) → None ≡ slice_get xs i → i < length xs → B
+is_there xs i e lt = absurd (none_some xs i e lt)
+  where
+    none_some : {A : Type 0} (xs : List A) (i : ℕ) → None ≡ slice_get xs i → i < length xs → ⊥
+    none_some [] i e lt = omega arith
+    none_some (x ∷ xs) i e lt = let h = e ∙ slice_get-get_or (x ∷ xs) i x lt in cc
+
+-- four lists of values, one after another
+pub in_turn : (s : State) (a b c d : List Verdict) → fold next s (a ++ (b ++ (c ++ d))) ≡ fold next (fold next (fold next (fold next s a) b) c) d
+in_turn s a b c d =
+    fold-append next s a (b ++ (c ++ d))
+    ∙ fold-append next (fold next s a) b (c ++ d)
+    ∙ fold-append next (fold next (fold next s a) b) c d

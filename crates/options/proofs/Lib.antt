@@ -1,0 +1,4 @@
+pub mod Folds
+pub mod Lookups
+pub mod Puts
+pub mod Fills

@@ -1,0 +1,14 @@
+use Rattle.std.proofs.Common.{◌∙◌, sym, ap}
+use Rattle.std.specs.Option.{option_map}
+use Rattle.option_file.specs.View.{option_in}
+use Rattle.option_values.specs.View.{value_in}
+use Rattle.options.specs.Verdicts.{of_default, of_declaration}
+use Rattle.options.proofs.place.of_declaration.Goals as goal
+
+pub returns-in-Some : goal.returns-in-Some
+unfolding of_declaration
+returns-in-Some c = ap (of_default (option_in c.args.name.now c.args.declaration.now)) (ap (option_map value_in) (sym c.in-Some.is) ∙ c.in_ok-value.ensures c.args.name.now)
+
+pub returns-in-None : goal.returns-in-None
+unfolding of_declaration
+returns-in-None c = c.refused.ensures ∙ ap (of_default (option_in c.args.name.now c.args.declaration.now)) (ap (option_map value_in) (sym c.in-None.is) ∙ c.in_ok-value.ensures c.args.name.now)

@@ -1,0 +1,18 @@
+use Rattle.std.proofs.Common.{◌∙◌, sym, ap, arith}
+use Rattle.machine.specs.View.{entries_of}
+use Rattle.option_file.specs.View.{options_in}
+use Rattle.options.specs.Resolves.{State, next}
+use Rattle.options.specs.Verdicts.{of_entry}
+use Rattle.options.specs.View.{state_in, key_in}
+use Rattle.options.proofs.Folds.{fold_got, is_there}
+use Rattle.options.proofs.place.take_entries.Goals as goal
+
+pub returns-in_default : goal.returns-in_default
+returns-in_default c = is_there (entries_of c.args.section.now) c.loop-i.i c.in_default.ensures (omega arith)
+
+pub loop-i-preserved : goal.loop-i-preserved
+loop-i-preserved c =
+    let f = of_entry (options_in c.args.declared.now) c.args.scope in
+    c.in_ok-next.ensures ∙ ap (next (state_in c.loop-i.state)) c.in_ok-verdict.ensures
+    ∙ ap (λ (s : State). next s (f (key_in c.in-Some.key.now c.in-Some.entry.now))) c.loop-i.invariant
+    ∙ sym (fold_got f (state_in c.args.state.now) (entries_of c.args.section.now) c.loop-i.i _ c.in-Some.ensures)

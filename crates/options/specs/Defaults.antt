@@ -1,0 +1,54 @@
+-- The values that options have by their declarations.
+use Rattle.std.specs.Prelude.{ℕ, ℤ, Bool, true, List, [], ◌∷◌, Option, Some, None, if◌then◌else◌}
+use Rattle.std.specs.Option.{unwrap_or}
+use Rattle.option_values.specs.declared.kind.FeatureState.TheVariants as feature
+use Rattle.option_values.specs.Integers.{is_within}
+use Rattle.option_values.specs.Kinds as kind
+use Rattle.option_values.specs.Values as value
+use Rattle.option_values.specs.Texts.{array_of, value_of}
+use Rattle.option_file.specs.Declarations.{Declaration}
+use Rattle.option_file.specs.Given as given
+
+-- a combo's first choice
+abbrev pub first_of : List (List ℕ) → Option value.Value
+first_of [] = None
+first_of (choice ∷ choices) = Some (value.Text choice)
+
+-- the value of an option that is declared without one; of an integer there is none
+abbrev pub value_of_kind : kind.Kind → Option value.Value
+value_of_kind kind.Text = Some (value.Text [])
+value_of_kind kind.Boolean = Some (value.Boolean true)
+value_of_kind (kind.Combo choices) = first_of choices
+value_of_kind (kind.Integer least greatest) = None
+value_of_kind (kind.Array choices) = Some (value.Array (unwrap_or choices []))
+value_of_kind kind.Words = Some (value.Array [])
+value_of_kind kind.Feature = Some (value.Feature feature.Auto)
+
+abbrev pub truth_of : kind.Kind → Bool → Option value.Value
+truth_of kind.Boolean truth = Some (value.Boolean truth)
+truth_of _ truth = None
+
+abbrev pub integer_of : kind.Kind → ℤ → Option value.Value
+integer_of (kind.Integer least greatest) number = if is_within least greatest number then Some (value.Integer number) else None
+integer_of _ number = None
+
+abbrev pub items_of : kind.Kind → List (List ℕ) → Option value.Value
+items_of (kind.Array choices) items = array_of choices items
+items_of _ items = None
+
+-- the value that a declaration gives an option of this kind: a text is one as elsewhere, and anything else only where the
+-- option takes just that
+abbrev pub declared_value : kind.Kind → given.Given → Option value.Value
+declared_value k (given.Text text) = value_of k text
+declared_value k (given.Boolean truth) = truth_of k truth
+declared_value k (given.Integer number) = integer_of k number
+declared_value k (given.Texts items) = items_of k items
+declared_value k given.Other = None
+
+abbrev pub value_or_kind : kind.Kind → Option given.Given → Option value.Value
+value_or_kind k (Some g) = declared_value k g
+value_or_kind k None = value_of_kind k
+
+-- the value of an option by its declaration
+unfoldable pub default_of : Declaration → Option value.Value
+default_of d = value_or_kind d.kind d.value

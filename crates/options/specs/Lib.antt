@@ -1,0 +1,7 @@
+pub mod Settings
+pub mod BuiltIns
+pub mod Defaults
+pub mod Verdicts
+pub mod FillIns
+pub mod Resolves
+pub mod View

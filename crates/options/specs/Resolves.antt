@@ -1,0 +1,66 @@
+-- The values that the options of a project have in the end.
+use Rattle.std.specs.Prelude.{ℕ, List, [], ◌∷◌, ◌++◌, map, fold, Option, Some, None, Result, Ok, Err}
+use Rattle.std.specs.List.{flat_map}
+use Rattle.std.specs.Option.{option_map}
+use Rattle.machine.specs.Files as machine
+use Rattle.option_values.specs.Values.{Value}
+use Rattle.option_file.specs.Declarations.{Declaration}
+use Rattle.options.specs.declared.fault.OptionFault.{OptionFault}
+use Rattle.options.specs.Settings.{Setting, put, setting_named}
+use Rattle.options.specs.BuiltIns.{built_in_settings}
+use Rattle.options.specs.Verdicts.{Verdict, Sets, Warns, Refuses, of_declaration, of_project_default, of_section, of_word}
+use Rattle.options.specs.FillIns.{filled_in}
+
+-- what is known after some values: the names of no option so far, the options, and the first fault
+pub record State : Type 0 where
+  pub unknown : List (List ℕ)
+  pub settings : List Setting
+  pub fault : Option OptionFault
+
+abbrev pub after_verdict : State → Verdict → State
+after_verdict s (Sets setting) = record s { settings = put setting s.settings }
+after_verdict s (Warns name) = record s { unknown = s.unknown ++ name ∷ [] }
+after_verdict s (Refuses fault) = record s { fault = Some fault }
+
+abbrev pub unless_fault : Option OptionFault → State → Verdict → State
+unless_fault None s v = after_verdict s v
+unless_fault (Some fault) s v = s
+
+-- one more value: nothing comes after a fault
+unfoldable pub next : State → Verdict → State
+next s v = unless_fault s.fault s v
+
+-- all values in the order in which they are checked, of which the last one of an option holds: the declared defaults,
+-- `default_options`, the machine file in the order of its lines, the words
+abbrev pub verdicts : List Declaration → List (List ℕ) → List machine.Section → List (List ℕ) → List Verdict
+verdicts ds defaults sections words =
+    map of_declaration ds
+    ++ (map (of_project_default ds) defaults ++ (flat_map (of_section ds) sections ++ map (of_word ds) words))
+
+-- every option that a project has anyway, and no value
+unfoldable pub at_first : State
+at_first = record { unknown = []; settings = built_in_settings; fault = None }
+
+abbrev pub outcome_of : Option OptionFault → List Setting → Result (List Setting) OptionFault
+outcome_of (Some fault) ss = Err fault
+outcome_of None ss = Ok (filled_in ss)
+
+-- the names of unknown options in `default_options`, in order and up to the first fault; and the options or this fault
+pub record Resolution : Type 0 where
+  pub unknown : List (List ℕ)
+  pub outcome : Result (List Setting) OptionFault
+
+abbrev pub resolution_of : State → Resolution
+resolution_of s = record { unknown = s.unknown; outcome = outcome_of s.fault s.settings }
+
+-- the options of a project with these declarations, texts of `default_options`, sections of a machine file and words
+unfoldable pub resolved : List Declaration → List (List ℕ) → List machine.Section → List (List ℕ) → Resolution
+resolved ds defaults sections words = resolution_of (fold next at_first (verdicts ds defaults sections words))
+
+-- the value of the option of this name
+abbrev pub value_named : List Setting → List ℕ → Option Value
+value_named ss name = option_map (λ s. s.value) (setting_named ss name)
+
+-- an option as it is shown: its name and its value
+abbrev pub named_value : Setting → List ℕ × Value
+named_value s = (s.name, s.value)

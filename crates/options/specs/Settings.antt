@@ -1,0 +1,34 @@
+-- Options, each with a value.
+use Rattle.std.specs.Prelude.{ℕ, zero, suc, Bool, List, [], ◌∷◌, Option, Some, None, if◌then◌else◌, bytes_eq}
+use Rattle.option_values.specs.Values.{Value}
+
+-- an option with the value that it has, and whether a place gave it: a place is `default_options`, the machine file or a word
+pub record Setting : Type 0 where
+  pub name : List ℕ
+  pub value : Value
+  pub given : Bool
+
+-- the options after one took a value: it keeps its place, and a new one stands last
+abbrev pub put : Setting → List Setting → List Setting
+put s [] = s ∷ []
+put s (t ∷ ts) = if bytes_eq s.name t.name then record t { value = s.value; given = s.given } ∷ ts else t ∷ put s ts
+
+-- the option of this name
+abbrev pub setting_named : List Setting → List ℕ → Option Setting
+setting_named [] name = None
+setting_named (s ∷ ss) name = if bytes_eq name s.name then Some s else setting_named ss name
+
+-- this value, where no place gave the option one
+abbrev pub or_given : Value → Setting → Setting
+or_given v s = if s.given then s else record s { value = v }
+
+-- the options, where the one of this name has this value if no place gave it one
+abbrev pub fill : List ℕ → Value → List Setting → List Setting
+fill name v [] = []
+fill name v (s ∷ ss) = if bytes_eq name s.name then or_given v s ∷ ss else s ∷ fill name v ss
+
+-- the options, with what f makes of the i-th
+abbrev pub change_at : (Setting → Setting) → ℕ → List Setting → List Setting
+change_at f i [] = []
+change_at f zero (s ∷ ss) = f s ∷ ss
+change_at f (suc i) (s ∷ ss) = s ∷ change_at f i ss

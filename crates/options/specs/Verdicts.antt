@@ -1,0 +1,119 @@
+-- What it means that a place gives an option a value.
+use Rattle.std.specs.Prelude.{ℕ, Bool, true, false, ◌&&◌, List, [], map, Option, Some, None, codes, if◌then◌else◌, bytes_eq}
+use Rattle.std.specs.Option.{option_map}
+use Rattle.lexer.specs.Bytes.{equals}
+use Rattle.machine.specs.Files as machine
+use Rattle.machine.specs.Texts.{Parts, cut_first}
+use Rattle.machine.specs.Values as written
+use Rattle.option_values.specs.Kinds.{Kind}
+use Rattle.option_values.specs.Values.{Value}
+use Rattle.option_values.specs.Given.{value_of_given}
+use Rattle.option_file.specs.Declarations.{Declaration}
+use Rattle.option_file.specs.Lookups.{option_named}
+use Rattle.options.specs.declared.fault.Place.{Place}
+use Rattle.options.specs.declared.fault.Place.TheVariants.{Declared, Project, MachineFile, CommandLine}
+use Rattle.options.specs.declared.fault.FaultKind.TheVariants as faults
+use Rattle.options.specs.declared.fault.FaultKind.{FaultKind}
+use Rattle.options.specs.declared.fault.OptionFault.{OptionFault}
+use Rattle.options.specs.declared.known.Scope.{Scope}
+use Rattle.options.specs.declared.known.Scope.TheVariants.{BuiltIn, OfProject}
+use Rattle.options.specs.Settings.{Setting}
+use Rattle.options.specs.BuiltIns.{built_in_kind}
+use Rattle.options.specs.Defaults.{default_of}
+
+-- An option takes a value; or there is no option of this name, of which the user is warned; or the value is refused.
+pub data Verdict : Type 0 where
+  Sets : (setting : Setting) → Verdict
+  Warns : (name : List ℕ) → Verdict
+  Refuses : (fault : OptionFault) → Verdict
+
+abbrev pub refused : Place → FaultKind → Verdict
+refused place kind = Refuses (record { place = place; kind = kind })
+
+-- ---- the declarations
+
+abbrev pub of_default : Declaration → Option Value → Verdict
+of_default d None = refused (Declared d.line) faults.Option
+of_default d (Some v) = Sets (record { name = d.name; value = v; given = false })
+
+-- a declaration sets its option to its default
+unfoldable pub of_declaration : Declaration → Verdict
+of_declaration d = of_default d (default_of d)
+
+-- ---- which names a place knows
+
+-- what the option of this name takes, where it is declared
+unfoldable pub declared_kind : List Declaration → List ℕ → Option Kind
+declared_kind ds name = option_map (λ d. d.kind) (option_named ds name)
+
+abbrev pub or_declared : List Declaration → List ℕ → Option Kind → Option Kind
+or_declared ds name None = declared_kind ds name
+or_declared ds name (Some kind) = Some kind
+
+-- what the option of this name takes, built in or declared
+unfoldable pub kind_named : List Declaration → List ℕ → Option Kind
+kind_named ds name = or_declared ds name (built_in_kind name)
+
+-- ---- the places
+
+-- a library that is both shared and static is left out: that the value is known keeps it apart from one that is none
+abbrev pub is_both : List ℕ → written.Value → Bool
+is_both name (written.Text text) = bytes_eq name (codes "default_library") && bytes_eq text (codes "both")
+is_both name _ = false
+
+abbrev pub refusal : List ℕ → written.Value → FaultKind
+refusal name what = if is_both name what then faults.NotYet else faults.Option
+
+abbrev pub of_value : Place → List ℕ → written.Value → Option Value → Verdict
+of_value place name what None = refused place (refusal name what)
+of_value place name what (Some v) = Sets (record { name = name; value = v; given = true })
+
+-- a place gives an option of this kind what is written there
+unfoldable pub of_kind : Place → List ℕ → written.Value → Kind → Verdict
+of_kind place name what kind = of_value place name what (value_of_given kind what)
+
+-- the same, where there is such an option
+abbrev pub of_known : Verdict → Place → List ℕ → written.Value → Option Kind → Verdict
+of_known unknown place name what None = unknown
+of_known unknown place name what (Some kind) = of_kind place name what kind
+
+abbrev pub of_default_parts : List Declaration → Option Parts → Verdict
+of_default_parts ds None = refused Project faults.Option
+of_default_parts ds (Some parts) = of_known (Warns parts.0) Project parts.0 (written.Text parts.1) (kind_named ds parts.0)
+
+-- a text of `default_options` is a name and a value behind its first `=`. It may have the name of no option
+unfoldable pub of_project_default : List Declaration → List ℕ → Verdict
+of_project_default ds text = of_default_parts ds (cut_first equals text)
+
+abbrev pub of_word_parts : List Declaration → Option Parts → Verdict
+of_word_parts ds None = refused CommandLine faults.Option
+of_word_parts ds (Some parts) =
+    of_known (refused CommandLine faults.Option) CommandLine parts.0 (written.Text parts.1) (kind_named ds parts.0)
+
+-- a word of the command line is the same, but it has the name of an option
+unfoldable pub of_word : List Declaration → List ℕ → Verdict
+of_word ds text = of_word_parts ds (cut_first equals text)
+
+-- the sections of the machine file that give options values: each knows the options that are built in, or those that are declared
+abbrev pub scope_of : List ℕ → Option Scope
+scope_of section =
+    if bytes_eq section (codes "built-in options") then Some BuiltIn
+    else (if bytes_eq section (codes "project options") then Some OfProject
+    else None)
+
+abbrev pub kind_in_scope : Scope → List Declaration → List ℕ → Option Kind
+kind_in_scope BuiltIn ds name = built_in_kind name
+kind_in_scope OfProject ds name = declared_kind ds name
+
+-- a key of the machine file has the name of an option that its section knows
+unfoldable pub of_entry : List Declaration → Scope → machine.Entry → Verdict
+of_entry ds scope e =
+    of_known (refused (MachineFile e.line) faults.Option) (MachineFile e.line) e.key e.value (kind_in_scope scope ds e.key)
+
+abbrev pub of_entries : List Declaration → List machine.Entry → Option Scope → List Verdict
+of_entries ds entries None = []
+of_entries ds entries (Some scope) = map (of_entry ds scope) entries
+
+-- a section of the machine file
+unfoldable pub of_section : List Declaration → machine.Section → List Verdict
+of_section ds s = of_entries ds s.entries (scope_of s.name)

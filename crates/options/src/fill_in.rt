@@ -1,0 +1,198 @@
+//! What some options say of others.
+
+ghost use Rattle.std.specs.Prelude.{◌≡◌, codes, map, OnOk};
+ghost use Rattle.std.specs.Option.{option_map};
+ghost use Rattle.option_values.specs.View.{value_in};
+ghost use Rattle.options.specs.FillIns.{build_types, type_among, text_in, state_in, text_at, state_at, is_usr, by_buildtype, by_prefix, by_auto_features, decided, filled_in};
+ghost use Rattle.options.specs.Settings.{or_given, fill, change_at};
+ghost use Rattle.options.specs.View.{Becomes, settings_in, type_in};
+
+use crate::settings::Setting;
+use indexmap::IndexMap;
+use option_values::{FeatureState, OptionValue};
+use std::alloc::{AllocError, Global};
+
+/// What a type of build says of the options `debug` and `optimization`.
+#[derive(Clone, Copy)]
+pub struct BuildType {
+    pub debug: bool,
+    pub optimization: &'static str,
+}
+
+// What the type of build of this name says, as the table of the Meson manual's page "Built-in options" has it.
+#[tactic(auto, unfolding(crate::specs::FillIns::build_types))]
+fn build_type(name: &str) -> Option<BuildType>
+    ensures { option_map (type_in name.now) result ≡ type_among build_types name.now }
+{
+    let (debug, optimization) = if name == "plain" {
+        (false, "plain")
+    } else if name == "debug" {
+        (true, "0")
+    } else if name == "debugoptimized" {
+        (true, "2")
+    } else if name == "release" {
+        (false, "3")
+    } else if name == "minsize" {
+        (true, "s")
+    } else {
+        return None;
+    };
+    Some(BuildType {
+        debug,
+        optimization,
+    })
+}
+
+// An option has this value, if no place gave it one.
+fn fill_one(setting: &mut Setting, value: OptionValue)
+    ensures { Becomes (or_given (value_in value)) setting.old setting.new }
+{
+    if !setting.given {
+        setting.value = value;
+    }
+}
+
+// The option of this name has this value, if no place gave it one.
+fn fill(settings: &mut IndexMap<String, Setting>, name: &str, value: OptionValue)
+    ensures { settings_in settings.new.entries ≡ fill name.now (value_in value) (settings_in settings.old.entries) }
+{
+    match settings.get_mut(name) {
+        Some(setting) => fill_one(setting, value),
+        None => {}
+    }
+}
+
+// The text that a value is, if it is one.
+fn text_in(value: &OptionValue) -> Option<&str>
+    ensures { option_map (λ t. t.now) result ≡ text_in (value_in value.now) }
+{
+    match value {
+        OptionValue::Text(text) => Some(text.as_str()),
+        OptionValue::Boolean(_) => None,
+        OptionValue::Integer(_) => None,
+        OptionValue::Array(_) => None,
+        OptionValue::Feature(_) => None,
+    }
+}
+
+// The state of a feature that a value is, if it is one.
+fn state_in(value: &OptionValue) -> Option<FeatureState>
+    ensures { result ≡ state_in (value_in value.now) }
+{
+    match value {
+        OptionValue::Feature(state) => Some(*state),
+        OptionValue::Text(_) => None,
+        OptionValue::Boolean(_) => None,
+        OptionValue::Integer(_) => None,
+        OptionValue::Array(_) => None,
+    }
+}
+
+// The text that the option of this name has.
+fn text_at<'a>(settings: &'a IndexMap<String, Setting>, name: &str) -> Option<&'a str>
+    ensures { option_map (λ t. t.now) result ≡ text_at name.now (settings_in settings.now.entries) }
+{
+    match settings.get(name) {
+        Some(setting) => text_in(&setting.value),
+        None => None,
+    }
+}
+
+// The state that the feature option of this name has.
+fn state_at(settings: &IndexMap<String, Setting>, name: &str) -> Option<FeatureState>
+    ensures { result ≡ state_at name.now (settings_in settings.now.entries) }
+{
+    match settings.get(name) {
+        Some(setting) => state_in(&setting.value),
+        None => None,
+    }
+}
+
+// `buildtype` says how `debug` and `optimization` are set where no place sets them.
+#[tactic(auto, unfolding(crate::specs::FillIns::by_buildtype))]
+fn by_buildtype(alloc: Global, settings: &mut IndexMap<String, Setting>) -> Result<(), AllocError>
+    ensures { OnOk result (settings_in settings.new.entries ≡ by_buildtype (settings_in settings.old.entries)) }
+{
+    let Some(name) = text_at(settings, "buildtype") else {
+        return Ok(());
+    };
+    let Some(build_type) = build_type(name) else {
+        return Ok(());
+    };
+    let optimization = String::from_str(alloc, build_type.optimization)?;
+    fill(settings, "debug", OptionValue::Boolean(build_type.debug));
+    fill(settings, "optimization", OptionValue::Text(optimization));
+    Ok(())
+}
+
+// Whether the prefix is that of a system.
+fn is_usr(settings: &IndexMap<String, Setting>) -> bool
+    ensures { result ≡ is_usr (text_at (codes "prefix") (settings_in settings.now.entries)) }
+{
+    match text_at(settings, "prefix") {
+        Some(prefix) => prefix == "/usr",
+        None => false,
+    }
+}
+
+// Below the prefix `/usr` the settings of a system are in `/etc`, where no place says where they are.
+#[tactic(auto, unfolding(crate::specs::FillIns::by_prefix))]
+fn by_prefix(alloc: Global, settings: &mut IndexMap<String, Setting>) -> Result<(), AllocError>
+    ensures { OnOk result (settings_in settings.new.entries ≡ by_prefix (settings_in settings.old.entries)) }
+{
+    if !is_usr(settings) {
+        return Ok(());
+    }
+    let folder = String::from_str(alloc, "/etc")?;
+    fill(settings, "sysconfdir", OptionValue::Text(folder));
+    Ok(())
+}
+
+// A feature option that is `auto` takes this state, and any other option stays.
+fn decide(setting: &mut Setting, state: FeatureState)
+    ensures { Becomes (decided state) setting.old setting.new }
+{
+    if let OptionValue::Feature(FeatureState::Auto) = setting.value {
+        setting.value = OptionValue::Feature(state);
+    }
+}
+
+// The i-th option, if it is a feature that is `auto`, takes this state.
+fn decide_at(settings: &mut IndexMap<String, Setting>, i: usize, state: FeatureState)
+    ensures { settings_in settings.new.entries ≡ change_at (decided state) i (settings_in settings.old.entries) }
+{
+    match settings.get_index_mut(i) {
+        Some(setting) => decide(setting, state),
+        None => {}
+    }
+}
+
+// Every feature option that is `auto` takes this state.
+fn decide_all(settings: &mut IndexMap<String, Setting>, state: FeatureState)
+    ensures { settings_in settings.new.entries ≡ map (decided state) (settings_in settings.old.entries) }
+{
+    for i in 0..settings.len() {
+        decide_at(settings, i, state);
+    }
+}
+
+// `auto_features` decides for every feature that is left to it.
+#[tactic(auto, unfolding(crate::specs::FillIns::by_auto_features))]
+fn by_auto_features(settings: &mut IndexMap<String, Setting>)
+    ensures { settings_in settings.new.entries ≡ by_auto_features (settings_in settings.old.entries) }
+{
+    match state_at(settings, "auto_features") {
+        Some(state) => decide_all(settings, state),
+        None => {}
+    }
+}
+
+/// What some options say of others is filled in.
+pub fn fill_in(alloc: Global, settings: &mut IndexMap<String, Setting>) -> Result<(), AllocError>
+    ensures { OnOk result (settings_in settings.new.entries ≡ filled_in (settings_in settings.old.entries)) }
+{
+    by_buildtype(alloc, settings)?;
+    by_prefix(alloc, settings)?;
+    by_auto_features(settings);
+    Ok(())
+}

@@ -1,0 +1,87 @@
+//! The values that options have in the end.
+
+ghost use Rattle.std.specs.Prelude.{◌≡◌, IfOk};
+ghost use Rattle.machine.specs.View.{machine_in};
+ghost use Rattle.option_file.specs.View.{options_in as declared_in};
+ghost use Rattle.option_values.specs.View.{strings_in};
+ghost use Rattle.options.specs.Resolves.{at_first, resolution_of, resolved};
+ghost use Rattle.options.specs.View.{state_in, resolved_in};
+
+use crate::built_in::{built_in_kinds, built_in_settings};
+use crate::fault::OptionFault;
+use crate::fill_in::fill_in;
+use crate::place::{take_declarations, take_defaults, take_machine, take_words};
+use crate::settings::Options;
+use crate::state::State;
+use machine::Machine;
+use option_file::Declared;
+use std::alloc::{AllocError, Global};
+
+/// What the values of a project's options come to.
+#[derive(Drop)]
+pub struct Resolved {
+    /// The names in `default_options` that no option has, in their order and up to the first fault.
+    pub unknown: Vec<String>,
+    /// The options with their values, or the first fault.
+    pub outcome: Result<Options, OptionFault>,
+}
+
+// Every option that a project has anyway, and no value.
+#[tactic(auto, unfolding(crate::specs::Resolves::at_first))]
+fn at_first(alloc: Global) -> Result<State, AllocError>
+    ensures { IfOk result (λ state. state_in state ≡ at_first) }
+{
+    Ok(State {
+        unknown: Vec::new(alloc),
+        settings: built_in_settings(alloc)?,
+        fault: None,
+    })
+}
+
+// What is known in the end.
+fn ended(alloc: Global, state: State) -> Result<Resolved, AllocError>
+    ensures { IfOk result (λ r. resolved_in r ≡ resolution_of (state_in state)) }
+{
+    let State {
+        unknown,
+        mut settings,
+        fault,
+    } = state;
+    match fault {
+        Some(fault) => {
+            let outcome = Err(fault);
+            Ok(Resolved { unknown, outcome })
+        }
+        None => {
+            fill_in(alloc, &mut settings)?;
+            let outcome = Ok(Options { settings });
+            Ok(Resolved { unknown, outcome })
+        }
+    }
+}
+
+/// The options of a project with their values, from what its option file declares, the texts `NAME=VALUE` of the keyword
+/// `default_options` of its call of `project`, a machine file, and the words `NAME=VALUE` of a command line.
+///
+/// Of several values that an option is given the last one holds, in this order; each has to be a value of its option, and the
+/// first that is none is the fault. A name in `default_options` that no option has is handed back, for a warning, and any other
+/// such name is a fault. What is given nowhere has its default, or what `buildtype`, `prefix` and `auto_features` say of it.
+/// The rules are those of the Meson manual's pages "Build options" and "Built-in options".
+pub fn resolve(
+    alloc: Global,
+    declared: &Declared,
+    defaults: &[String],
+    machine: &Machine,
+    words: &[String],
+) -> Result<Resolved, AllocError>
+    ensures { IfOk result (λ r. resolved_in r ≡ resolved (declared_in declared.now) (strings_in defaults.now) (machine_in machine.now) (strings_in words.now)) }
+{
+    let built_ins = built_in_kinds(alloc)?;
+    let mut state = at_first(alloc)?;
+    take_declarations(alloc, &mut state, declared)?;
+    take_defaults(alloc, &mut state, &built_ins, declared, defaults)?;
+    take_machine(alloc, &mut state, &built_ins, declared, machine)?;
+    take_words(alloc, &mut state, &built_ins, declared, words)?;
+    let resolved = ended(alloc, state)?;
+    Ok(resolved)
+}

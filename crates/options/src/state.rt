@@ -1,0 +1,71 @@
+//! What is known after some values.
+
+ghost use Rattle.std.specs.Prelude.{◌≡◌, OnOk};
+ghost use Rattle.options.specs.Resolves.{after_verdict, next};
+ghost use Rattle.options.specs.Verdicts.{Warns};
+ghost use Rattle.options.specs.Settings.{put};
+ghost use Rattle.options.specs.View.{setting_in, settings_in, verdict_in, state_in};
+
+use crate::fault::OptionFault;
+use crate::settings::Setting;
+use crate::verdict::Verdict;
+use indexmap::IndexMap;
+use std::alloc::{AllocError, Global};
+
+/// The names of no option so far, the options with their values, and the first fault.
+#[derive(Drop)]
+pub struct State {
+    pub unknown: Vec<String>,
+    pub settings: IndexMap<String, Setting>,
+    pub fault: Option<OptionFault>,
+}
+
+/// An option takes a value: it keeps its place, and a new one stands last.
+pub fn put(
+    alloc: Global,
+    settings: &mut IndexMap<String, Setting>,
+    name: &str,
+    setting: Setting,
+) -> Result<(), AllocError>
+    ensures { OnOk result (settings_in settings.new.entries ≡ put (setting_in name.now setting) (settings_in settings.old.entries)) }
+{
+    let name = String::from_str(alloc, name)?;
+    settings.insert(name, setting)?;
+    Ok(())
+}
+
+impl State {
+    // An option has a name that no option has.
+    fn warn(&mut self, alloc: Global, name: &str) -> Result<(), AllocError>
+        ensures { OnOk result (state_in self.new ≡ after_verdict (state_in self.old) (Warns name.now)) }
+    {
+        let name = String::from_str(alloc, name)?;
+        self.unknown.push(name)?;
+        Ok(())
+    }
+
+    // One more value, where there was no fault.
+    fn take(&mut self, alloc: Global, verdict: Verdict<'_>) -> Result<(), AllocError>
+        ensures { OnOk result (state_in self.new ≡ after_verdict (state_in self.old) (verdict_in verdict.entry)) }
+    {
+        match verdict {
+            Verdict::Sets(name, setting) => put(alloc, &mut self.settings, name, setting)?,
+            Verdict::Warns(name) => self.warn(alloc, name)?,
+            Verdict::Refuses(fault) => self.fault = Some(fault),
+        }
+        Ok(())
+    }
+
+    /// One more value. Nothing comes after a fault.
+    pub fn next(&mut self, alloc: Global, verdict: Verdict<'_>) -> Result<(), AllocError>
+        ensures { OnOk result (state_in self.new ≡ next (state_in self.old) (verdict_in verdict.entry)) }
+    {
+        match self.fault {
+            Some(_) => Ok(()),
+            None => {
+                self.take(alloc, verdict)?;
+                Ok(())
+            }
+        }
+    }
+}
