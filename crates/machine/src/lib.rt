@@ -13,4 +13,4 @@ mod value;
 
 pub use machine::{Entry, Machine, Section};
 pub use text::cut_first;
-pub use value::MachineValue;
+pub use value::{MachineValue, read_value};

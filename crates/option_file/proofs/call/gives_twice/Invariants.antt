@@ -1,0 +1,10 @@
+use Rattle.std.proofs.Common.{◌≡◌, [], drop}
+use Rattle.grammar.specs.ExpressionTree.{argument_trees}
+use Rattle.option_values.specs.View.{strings_in}
+use Rattle.option_file.specs.Calls.{gives_twice}
+use Rattle.option_file.proofs.call.gives_twice.Given as goal
+
+-- the keys so far stand once
+abbrev pub invariant-loop-argument : goal.invariant-loop-argument
+invariant-loop-argument l =
+    gives_twice [] (argument_trees l.arguments) ≡ gives_twice (strings_in l.keys.keys) (argument_trees (drop l.argument-index l.arguments))

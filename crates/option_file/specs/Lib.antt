@@ -1,0 +1,10 @@
+pub mod Calls
+pub mod Declarations
+pub mod Declares
+pub mod Given
+pub mod Keywords
+pub mod KeywordsView
+pub mod Lookups
+pub mod Names
+pub mod Numbers
+pub mod View

@@ -1,0 +1,179 @@
+//! Calls of `option`.
+
+ghost use Rattle.std.specs.Prelude.{◌≡◌, ◌++◌, [], ◌∷◌, IfOk, IsTrue, false, not, string_bytes};
+ghost use Rattle.std.specs.List.{list_any};
+ghost use Rattle.std.specs.Option.{option_map};
+ghost use Rattle.grammar.specs.ExpressionTree.{argument_of, argument_trees};
+ghost use Rattle.option_values.specs.View.{strings_in};
+ghost use Rattle.option_file.specs.Calls.{stands_key, with_key, gives_twice, is_left_out_key, is_free_name, name_in, with_argument, keywords_from, option_of, call_declares};
+ghost use Rattle.option_file.specs.Keywords.{nothing_given};
+ghost use Rattle.option_file.specs.KeywordsView.{keywords_in};
+ghost use Rattle.option_file.specs.Names.{is_among};
+ghost use Rattle.option_file.specs.View.{given_in, entry_in, call_in};
+
+use crate::declaration::{Declaration, Given};
+use crate::fault::FaultKind;
+use crate::given::given;
+use crate::keyword::{Keyword, Keywords, is_left_out};
+use crate::names::{is_built_in, is_name};
+use grammar::tree::Argument;
+use indexmap::IndexSet;
+use std::alloc::{AllocError, Global};
+
+// Puts a key behind the others; false where it stands among them.
+fn put_new(keys: &mut IndexSet<String>, key: String) -> Result<bool, AllocError>
+    ensures tested { IfOk result (λ new. new ≡ not (is_among (strings_in keys.old.keys) (string_bytes key))) }
+    ensures added { IfOk result (λ new. IsTrue new → strings_in keys.new.keys ≡ strings_in keys.old.keys ++ string_bytes key ∷ []) }
+{
+    let new = keys.insert(key)?;
+    Ok(new)
+}
+
+// Whether an argument's key stands among these; else it is put behind them.
+fn comes_again(
+    alloc: Global,
+    keys: &mut IndexSet<String>,
+    argument: &Argument<'_>,
+) -> Result<bool, AllocError>
+    ensures tested { IfOk result (λ again. again ≡ stands_key (strings_in keys.old.keys) (argument_of argument.now).0) }
+    ensures added { IfOk result (λ again. again ≡ false
+        → strings_in keys.new.keys ≡ with_key (strings_in keys.old.keys) (argument_of argument.now).0) }
+{
+    let Some(key) = argument.name else {
+        return Ok(false);
+    };
+    let key = String::from_str(alloc, key)?;
+    let new = put_new(keys, key)?;
+    Ok(!new)
+}
+
+// Whether a keyword comes twice.
+fn gives_twice(alloc: Global, arguments: &[Argument<'_>]) -> Result<bool, AllocError>
+    ensures { IfOk result (λ twice. twice ≡ gives_twice [] (argument_trees arguments.now)) }
+{
+    let mut keys = IndexSet::new(alloc);
+    for argument in arguments {
+        if comes_again(alloc, &mut keys, argument)? {
+            return Ok(true);
+        }
+    }
+    Ok(false)
+}
+
+fn is_left_out_key(argument: &Argument<'_>) -> bool
+    ensures { result ≡ is_left_out_key (argument_of argument.now).0 }
+{
+    match argument.name {
+        Some(key) => is_left_out(key),
+        None => false,
+    }
+}
+
+// Whether a keyword of those that are left out comes.
+fn gives_left_out(arguments: &[Argument<'_>]) -> bool
+    ensures { result ≡ list_any (λ a. is_left_out_key (argument_of a).0) arguments.now }
+{
+    arguments.iter().any(|argument| is_left_out_key(argument))
+}
+
+// Whether a project may give an option this name.
+fn is_free_name(name: &str) -> bool
+    ensures { result ≡ is_free_name name.now }
+{
+    is_name(name) && !is_built_in(name)
+}
+
+// The name that is given, if it is one that an option may have.
+fn name_in(given: Option<Given>) -> Option<String>
+    ensures { option_map string_bytes result ≡ name_in (option_map given_in given) }
+{
+    let Given::Text(name) = given? else {
+        return None;
+    };
+    if is_free_name(name.as_str()) {
+        Some(name)
+    } else {
+        None
+    }
+}
+
+// One more argument, which a keyword gives.
+fn with_argument(
+    alloc: Global,
+    keywords: Keywords,
+    argument: &Argument<'_>,
+) -> Result<Option<Keywords>, AllocError>
+    ensures { IfOk result (λ k. option_map keywords_in k ≡ with_argument (keywords_in keywords) (argument_of argument.now)) }
+{
+    let Some(key) = argument.name else {
+        return Ok(None);
+    };
+    let Some(keyword) = Keyword::named(key) else {
+        return Ok(None);
+    };
+    let Some(given) = given(alloc, &argument.value)? else {
+        return Ok(None);
+    };
+    Ok(keywords.noted(keyword, given))
+}
+
+// What these arguments give, where keywords give them all.
+fn keywords_from(alloc: Global, arguments: &[Argument<'_>]) -> Result<Option<Keywords>, AllocError>
+    ensures { IfOk result (λ k. option_map keywords_in k ≡ keywords_from nothing_given (argument_trees arguments.now)) }
+{
+    let mut keywords = Keywords::new();
+    for argument in arguments {
+        let Some(next) = with_argument(alloc, keywords, argument)? else {
+            return Ok(None);
+        };
+        keywords = next;
+    }
+    Ok(Some(keywords))
+}
+
+// The option that these arguments declare on this line: its name, and then keywords.
+fn option_of(
+    alloc: Global,
+    line: usize,
+    arguments: &[Argument<'_>],
+) -> Result<Option<(String, Declaration)>, AllocError>
+    ensures { IfOk result (λ option. option_map entry_in option ≡ option_of line (argument_trees arguments.now)) }
+{
+    let Some((first, others)) = arguments.split_first() else {
+        return Ok(None);
+    };
+    if first.is_named() {
+        return Ok(None);
+    }
+    let Some(name) = name_in(given(alloc, first.value())?) else {
+        return Ok(None);
+    };
+    let Some(keywords) = keywords_from(alloc, others)? else {
+        return Ok(None);
+    };
+    let Some((kind, value)) = keywords.finished() else {
+        return Ok(None);
+    };
+    Ok(Some((name, Declaration { kind, value, line })))
+}
+
+/// The option that a call of `option` declares, with its name, or what is wrong with the call: a keyword that comes twice is
+/// found first, then one that is left out, and then all else.
+pub fn call_declares(
+    alloc: Global,
+    line: usize,
+    arguments: &[Argument<'_>],
+) -> Result<Result<(String, Declaration), FaultKind>, AllocError>
+    ensures { IfOk result (λ option. call_in option ≡ call_declares line (argument_trees arguments.now)) }
+{
+    if gives_twice(alloc, arguments)? {
+        return Ok(Err(FaultKind::Option));
+    }
+    if gives_left_out(arguments) {
+        return Ok(Err(FaultKind::NotYet));
+    }
+    match option_of(alloc, line, arguments)? {
+        Some(option) => Ok(Ok(option)),
+        None => Ok(Err(FaultKind::Option)),
+    }
+}

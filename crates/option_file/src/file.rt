@@ -1,0 +1,123 @@
+//! Reads an option file, statement by statement.
+
+ghost use Rattle.std.specs.Prelude.{◌≡◌, IfOk};
+ghost use Rattle.grammar.specs.ExpressionTree.{argument_trees, expression_of};
+ghost use Rattle.grammar.specs.Tree.{file_of, statement_of};
+ghost use Rattle.option_file.specs.Declares.{line_of, function_declares, expression_declares, statement_declares, after, file_declares};
+ghost use Rattle.option_file.specs.View.{call_in, after_in, options_in, declared_in};
+
+use crate::call::call_declares;
+use crate::declaration::{Declaration, Declared};
+use crate::fault::{DeclareFault, FaultKind};
+use grammar::tree::{Argument, Expression, File, Statement};
+use std::alloc::{AllocError, Global};
+
+fn line_of(statement: &Statement<'_>) -> usize
+    ensures { result ≡ line_of (statement_of statement.now) }
+{
+    match statement {
+        Statement::Assign { line, .. } => *line,
+        Statement::Append { line, .. } => *line,
+        Statement::Expression { line, .. } => *line,
+        Statement::Break { line } => *line,
+        Statement::Continue { line } => *line,
+        Statement::If { line, .. } => *line,
+        Statement::Foreach { line, .. } => *line,
+    }
+}
+
+// The option that a call of this function declares on this line.
+fn function_declares(
+    alloc: Global,
+    line: usize,
+    name: &str,
+    arguments: &[Argument<'_>],
+) -> Result<Result<(String, Declaration), FaultKind>, AllocError>
+    ensures { IfOk result (λ option. call_in option ≡ function_declares line name.now (argument_trees arguments.now)) }
+{
+    if name == "option" {
+        call_declares(alloc, line, arguments)
+    } else {
+        Ok(Err(FaultKind::Option))
+    }
+}
+
+fn expression_declares(
+    alloc: Global,
+    line: usize,
+    expression: &Expression<'_>,
+) -> Result<Result<(String, Declaration), FaultKind>, AllocError>
+    ensures { IfOk result (λ option. call_in option ≡ expression_declares line (expression_of expression.now)) }
+{
+    match expression {
+        Expression::Call {
+            name,
+            arguments,
+            ..
+        } => function_declares(alloc, line, name, arguments),
+        Expression::Name { .. } => Ok(Err(FaultKind::Option)),
+        Expression::Literal { .. } => Ok(Err(FaultKind::Option)),
+        Expression::List { .. } => Ok(Err(FaultKind::Option)),
+        Expression::Dictionary { .. } => Ok(Err(FaultKind::Option)),
+        Expression::Postfix { .. } => Ok(Err(FaultKind::Option)),
+        Expression::Prefix { .. } => Ok(Err(FaultKind::Option)),
+        Expression::Chain { .. } => Ok(Err(FaultKind::Option)),
+        Expression::Choice { .. } => Ok(Err(FaultKind::Option)),
+    }
+}
+
+// The option that a statement declares; it has to be a call of `option`.
+fn statement_declares(
+    alloc: Global,
+    statement: &Statement<'_>,
+) -> Result<Result<(String, Declaration), FaultKind>, AllocError>
+    ensures { IfOk result (λ option. call_in option ≡ statement_declares (statement_of statement.now)) }
+{
+    match statement {
+        Statement::Expression { value, line } => expression_declares(alloc, *line, value),
+        Statement::Assign { .. } => Ok(Err(FaultKind::Option)),
+        Statement::Append { .. } => Ok(Err(FaultKind::Option)),
+        Statement::Break { .. } => Ok(Err(FaultKind::Option)),
+        Statement::Continue { .. } => Ok(Err(FaultKind::Option)),
+        Statement::If { .. } => Ok(Err(FaultKind::Option)),
+        Statement::Foreach { .. } => Ok(Err(FaultKind::Option)),
+    }
+}
+
+// The options and the one that a statement declares, whose name has to be new.
+#[tactic(auto, unfolding(crate::specs::Declares::after))]
+fn after(
+    alloc: Global,
+    mut declared: Declared,
+    statement: &Statement<'_>,
+) -> Result<Result<Declared, FaultKind>, AllocError>
+    ensures { IfOk result (λ more. after_in more ≡ after (options_in declared) (statement_of statement.now)) }
+{
+    let (name, declaration) = match statement_declares(alloc, statement)? {
+        Ok(option) => option,
+        Err(kind) => return Ok(Err(kind)),
+    };
+    if declared.has(name.as_str()) {
+        return Ok(Err(FaultKind::Option));
+    }
+    declared.put(name, declaration)?;
+    Ok(Ok(declared))
+}
+
+/// What an option file declares, in the order of its statements, or its first fault, at the line of its statement. Each
+/// statement is a call of `option`, as the Meson manual's page "Build options" has it.
+pub fn declare(alloc: Global, file: &File<'_>) -> Result<Result<Declared, DeclareFault>, AllocError>
+    ensures { IfOk result (λ answer. declared_in answer ≡ file_declares (file_of file.now)) }
+{
+    let mut declared = Declared::empty(alloc);
+    for statement in &file.statements {
+        match after(alloc, declared, statement)? {
+            Ok(more) => declared = more,
+            Err(kind) => {
+                let line = line_of(statement);
+                return Ok(Err(DeclareFault { kind, line }));
+            }
+        }
+    }
+    Ok(Ok(declared))
+}

@@ -1,0 +1,4 @@
+pub mod Trimming
+pub mod Cutting
+pub mod Items
+pub mod Parsing

@@ -1,0 +1,10 @@
+use Rattle.std.proofs.Common.{◌≡◌, ◌-◌, length, drop}
+use Rattle.std.specs.Str.{IsCharBoundary}
+use Rattle.option_values.specs.Lists.{from_word}
+use Rattle.option_values.proofs.list.from_word.Given as goal
+
+abbrev pub invariant-loop-start : goal.invariant-loop-start
+invariant-loop-start l = record { same : from_word (drop l.start l.text) ≡ from_word l.text; cut : IsCharBoundary l.text l.start }
+
+abbrev pub decreases-loop-start : goal.decreases-loop-start
+decreases-loop-start l = length l.text - l.start

@@ -1,0 +1,10 @@
+use Rattle.std.proofs.Common.{◌≡◌, length, take, ◌≤◌}
+use Rattle.std.specs.Str.{IsCharBoundary}
+use Rattle.option_values.specs.Lists.{to_word}
+use Rattle.option_values.proofs.list.to_word.Given as goal
+
+abbrev pub invariant-loop-end : goal.invariant-loop-end
+invariant-loop-end l = record { within : l.end ≤ length l.text; same : to_word (take l.end l.text) ≡ to_word l.text; cut : IsCharBoundary l.text l.end }
+
+abbrev pub decreases-loop-end : goal.decreases-loop-end
+decreases-loop-end l = l.end

@@ -1,0 +1,9 @@
+pub mod Kinds
+pub mod Values
+pub mod View
+pub mod Integers
+pub mod Words
+pub mod Lists
+pub mod Texts
+pub mod Given
+pub mod WordsView

@@ -1,0 +1,17 @@
+//! What options take, and which texts and lists of texts are values of them.
+//!
+//! The rules are those of the Meson manual's page "Build options": a value is written as a text on a command line and in
+//! `default_options`, and as a value of its own in a machine file. [`value_of_text`] reads the first, [`value_of_given`] the
+//! second.
+#![tactic(auto)]
+
+mod given;
+mod integer;
+mod kind;
+mod list;
+mod text;
+mod words;
+
+pub use given::{value_of_given, value_of_items};
+pub use kind::{FeatureState, OptionKind, OptionValue};
+pub use text::value_of_text;
