@@ -1,12 +1,12 @@
 -- Lists of texts, item by item.
-use Rattle.std.proofs.Common.{◌≡◌, ℕ, ◌+◌, ◌<◌, Bool, List, [], ◌∷◌, ◌++◌, length, drop, take, get_or, map, String, string_bytes, refl, sym, ap, ◌∙◌, arith, append_assoc}
+use Rattle.std.proofs.Common.{◌≡◌, ℕ, ◌+◌, ◌<◌, List, [], ◌∷◌, ◌++◌, length, drop, take, get_or, map, String, string_bytes, refl, sym, ap, ◌∙◌, arith, append_assoc}
 use Rattle.std.specs.Prelude.{◌||◌, ◌&&◌, ◌==◌, bytes_eq, codes}
 use Rattle.std.specs.List.{list_any, list_all, slice_split}
 use Rattle.std.specs.declared.alloc.Global.{Global}
 use Rattle.std.proofs.lemmas.List.{at_drop_more, map-append, take_more}
 use Rattle.lexer.specs.Bytes.{comma}
 use Rattle.option_values.specs.Given.{quoted}
-use Rattle.option_values.specs.Lists.{is_among, are_among, trimmed, parts_of}
+use Rattle.option_values.specs.Lists.{is_among, trimmed, parts_of}
 use Rattle.option_values.specs.View.{strings_in}
 
 pub any_choice : (choices : List (String Global)) (text : List ℕ) → list_any (λ choice. bytes_eq text (string_bytes choice)) choices ≡ is_among (strings_in choices) text

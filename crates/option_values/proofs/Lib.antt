@@ -2,3 +2,4 @@ pub mod Trimming
 pub mod Cutting
 pub mod Items
 pub mod Parsing
+pub mod Shell

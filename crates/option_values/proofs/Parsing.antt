@@ -1,5 +1,5 @@
 -- The integer that a text spells, as `parse` finds it.
-use Rattle.std.proofs.Common.{◌≡◌, ℕ, ◌^◌, ◌<◌, ◌≤◌, Bool, true, false, List, [], ◌∷◌, length, drop, get_or, ℤ, pos, neg_ℤ, Option, Some, None, Result, Ok, Err, refl, sym, ap, ◌∙◌, arith, inl, inr, ⊎_elim, if◌then◌else◌}
+use Rattle.std.proofs.Common.{◌≡◌, ℕ, ◌^◌, ◌<◌, ◌≤◌, Bool, true, false, List, [], ◌∷◌, length, get_or, ℤ, pos, neg_ℤ, Option, Some, None, Result, Ok, Err, refl, sym, ap, ◌∙◌, arith, ⊎_elim, if◌then◌else◌}
 use Rattle.std.specs.Prelude.{◌==◌, ◌&&◌, ◌≢◌, ◌⊎◌, nat_lt, nat_le}
 use Rattle.std.specs.Int.{w64}
 use Rattle.std.specs.Result.{OkIff, result_ok}
@@ -10,7 +10,7 @@ use Rattle.std.proofs.lemmas.Bool.Decides.{nat_tests}
 use Rattle.std.proofs.lemmas.Str.Parse.{IsNumeralModel, numerals_by_value, tells_all_ascii_digits, parse_signed_minus, parse_signed_plain}
 use Rattle.lexer.specs.Bytes.{minus}
 use Rattle.machine.specs.Numbers as machine
-use Rattle.option_values.specs.Integers.{is_negative, magnitude, integer_of}
+use Rattle.option_values.specs.Integers.{integer_of}
 
 own : IsNumeralModel (λ ds. all_ascii_digits ds ≡ true) (digits_value 10)
 own = numerals_by_value (λ ds. all_ascii_digits ds ≡ true) tells_all_ascii_digits

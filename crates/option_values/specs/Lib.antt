@@ -7,3 +7,4 @@ pub mod Lists
 pub mod Texts
 pub mod Given
 pub mod WordsView
+pub mod Shell

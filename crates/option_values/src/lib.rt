@@ -15,3 +15,4 @@ mod words;
 pub use given::{value_of_given, value_of_items};
 pub use kind::{FeatureState, OptionKind, OptionValue};
 pub use text::value_of_text;
+pub use words::words_of;

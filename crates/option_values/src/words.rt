@@ -1,6 +1,8 @@
 //! A text cut into words, as a shell cuts it.
 
-ghost use Rattle.std.specs.Prelude.{◌≡◌, IfOk, string_bytes};
+ghost use Rattle.std.specs.Prelude.{◌≡◌, ◌↔◌, ℕ, List, IfOk, string_bytes};
+ghost use Rattle.std.specs.Str.{chars};
+ghost use Rattle.option_values.specs.Shell.{AreWords};
 ghost use Rattle.std.specs.Option.{option_map};
 ghost use Rattle.option_values.specs.View.{strings_in};
 ghost use Rattle.option_values.specs.Words.{after, after_at, bare, begun, ended, grown, is_escapable, moved, parted, parts_words, words_of};
@@ -186,7 +188,11 @@ fn ended(cutting: Cutting) -> Result<Option<Vec<String>>, AllocError>
 /// between them, and so do double quotes, where `\"` and `\\` give their second character. There are none where a quote is
 /// not closed, or a backslash is the last character.
 pub fn words_of(alloc: Global, text: &str) -> Result<Option<Vec<String>>, AllocError>
-    ensures { IfOk result (λ words. option_map (λ w. strings_in w.items) words ≡ words_of text.now) }
+    ensures value { IfOk result (λ words. option_map (λ w. strings_in w.items) words ≡ words_of text.now) }
+
+    // These are the words as which the text is written, and where there are none it is written as no words.
+    ensures written { (given : List (List ℕ)) → IfOk result (λ words.
+        (option_map (λ w. strings_in w.items) words ≡ Some given) ↔ AreWords (chars text.now) given) }
 {
     let mut cutting = begun(alloc);
     for character in text.chars() {

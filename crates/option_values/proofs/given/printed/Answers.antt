@@ -1,4 +1,4 @@
-use Rattle.std.proofs.Common.{◌≡◌, ◌∙◌, ◌++◌, get_or, rules, ap, string_bytes}
+use Rattle.std.proofs.Common.{◌∙◌, ◌++◌, get_or, rules, ap, string_bytes}
 use Rattle.std.specs.Prelude.{codes}
 use Rattle.option_values.proofs.Items.{printed_more}
 use Rattle.option_values.proofs.given.printed.Goals as goal

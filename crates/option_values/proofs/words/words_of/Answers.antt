@@ -8,6 +8,7 @@ use Rattle.option_values.specs.View.{strings_in}
 use Rattle.option_values.specs.Words.{Cut, begun, cut_from, ended}
 use Rattle.option_values.specs.WordsView.{cut_in}
 use Rattle.option_values.proofs.Cutting.{cut_on}
+use Rattle.option_values.proofs.Shell.{both_ways, cut_written, written_cut}
 use Rattle.option_values.proofs.words.words_of.Goals as goal
 
 pub loop-character-preserved : goal.loop-character-preserved
@@ -21,4 +22,8 @@ returns c =
     let whole : cut_in c.loop-character.cutting ≡ cut_from begun (chars c.args.text.now) =
     sym (at_drop_all (cut_from (cut_in c.loop-character.cutting)) (chars c.args.text.now) _ (omega (arith, end.1))) ∙ c.loop-character.invariant in
     let P : Cut → Type 0 = λ s. IfOk c.ended.result (λ words. option_map (λ w. strings_in w.items) words ≡ ended s) in
-    subst P whole c.ended.ensures
+    let value = subst P whole c.ended.ensures in
+    record {
+      value = value;
+      written = λ given. both_ways (λ w. strings_in w.items) c.ended.result _ given _ value (cut_written (chars c.args.text.now) given) (written_cut (chars c.args.text.now) given);
+    }
