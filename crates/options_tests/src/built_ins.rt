@@ -35,9 +35,15 @@ fn table(rt: HostRuntime) -> Result<(), Fail> {
 fn declared_behind_them(rt: HostRuntime) -> Result<(), Fail> {
     let alloc = rt.alloc();
     let file = "option('b', type: 'string')\noption('a', type: 'boolean')";
-    assert_eq!(rt; listed(alloc, file, &["b=x"], 16)?.as_str(), "auto_features: auto");
+    assert_eq!(rt;
+        listed(alloc, file, &["b=x"], 16)?.as_str(),
+        "auto_features: auto"
+    );
     assert_eq!(rt; listed(alloc, file, &["b=x"], 17)?.as_str(), "b: text x");
-    assert_eq!(rt; listed(alloc, file, &["b=x"], 18)?.as_str(), "a: boolean true");
+    assert_eq!(rt;
+        listed(alloc, file, &["b=x"], 18)?.as_str(),
+        "a: boolean true"
+    );
     assert_eq!(rt; listed(alloc, file, &["b=x"], 19)?.as_str(), "none");
     Ok(())
 }
@@ -62,13 +68,21 @@ fn values(rt: HostRuntime) -> Result<(), Fail> {
         ("default_library=both", "default_library", "word E23"),
         ("default_library=none", "default_library", "word E15"),
         ("c_args=-DA '-DB C'", "c_args", "array <-DA> <-DB C>"),
-        ("c_link_args=['-a', 'b,c']", "c_link_args", "array <-a> <b,c>"),
+        (
+            "c_link_args=['-a', 'b,c']",
+            "c_link_args",
+            "array <-a> <b,c>",
+        ),
         ("c_args='a", "c_args", "word E15"),
         ("auto_features=enabled", "auto_features", "enabled"),
         ("auto_features=yes", "auto_features", "word E15"),
     ];
     for (word, name, said) in rows {
-        assert_eq!(rt; value(alloc, "", &[], "", &[word], name)?.as_str(), said, "{word}");
+        assert_eq!(rt;
+            value(alloc, "", &[], "", &[word], name)?.as_str(),
+            said,
+            "{word}"
+        );
     }
     Ok(())
 }

@@ -16,7 +16,10 @@ fn build_types(rt: HostRuntime) -> Result<(), Fail> {
         let word = format!(in alloc; "buildtype={name}")?;
         let words = [word.as_str()];
         assert_eq!(rt; value(alloc, "", &[], "", &words, "debug")?.as_str(), debug);
-        assert_eq!(rt; value(alloc, "", &[], "", &words, "optimization")?.as_str(), optimization);
+        assert_eq!(rt;
+            value(alloc, "", &[], "", &words, "optimization")?.as_str(),
+            optimization
+        );
     }
     Ok(())
 }
@@ -25,13 +28,25 @@ fn build_types(rt: HostRuntime) -> Result<(), Fail> {
 fn given_ones_stay(rt: HostRuntime) -> Result<(), Fail> {
     let alloc = rt.alloc();
     let words = ["debug=true", "buildtype=release"];
-    assert_eq!(rt; value(alloc, "", &[], "", &words, "debug")?.as_str(), "boolean true");
-    assert_eq!(rt; value(alloc, "", &[], "", &words, "optimization")?.as_str(), "text 3");
+    assert_eq!(rt;
+        value(alloc, "", &[], "", &words, "debug")?.as_str(),
+        "boolean true"
+    );
+    assert_eq!(rt;
+        value(alloc, "", &[], "", &words, "optimization")?.as_str(),
+        "text 3"
+    );
     let project = ["optimization=0"];
     let release = ["buildtype=release"];
-    assert_eq!(rt; value(alloc, "", &project, "", &release, "optimization")?.as_str(), "text 0");
+    assert_eq!(rt;
+        value(alloc, "", &project, "", &release, "optimization")?.as_str(),
+        "text 0"
+    );
     let machine = "[built-in options]\nbuildtype = 'release'\ndebug = true";
-    assert_eq!(rt; value(alloc, "", &[], machine, &[], "debug")?.as_str(), "boolean true");
+    assert_eq!(rt;
+        value(alloc, "", &[], machine, &[], "debug")?.as_str(),
+        "boolean true"
+    );
     Ok(())
 }
 
@@ -47,7 +62,10 @@ fn prefixes(rt: HostRuntime) -> Result<(), Fail> {
         (["prefix=/usr", "sysconfdir=conf"], "text conf"),
     ];
     for (words, said) in rows {
-        assert_eq!(rt; value(alloc, "", &[], "", &words, "sysconfdir")?.as_str(), said);
+        assert_eq!(rt;
+            value(alloc, "", &[], "", &words, "sysconfdir")?.as_str(),
+            said
+        );
     }
     Ok(())
 }
@@ -55,7 +73,8 @@ fn prefixes(rt: HostRuntime) -> Result<(), Fail> {
 #[test]
 fn features(rt: HostRuntime) -> Result<(), Fail> {
     let alloc = rt.alloc();
-    let file = "option('a', type: 'feature')\noption('e', type: 'feature', value: 'enabled')\noption('s', type: 'string', value: 'auto')";
+    let file =
+        "option('a', type: 'feature')\noption('e', type: 'feature', value: 'enabled')\noption('s', type: 'string', value: 'auto')";
     let rows = [
         ("auto_features=auto", "a", "auto"),
         ("auto_features=enabled", "a", "enabled"),
@@ -65,9 +84,16 @@ fn features(rt: HostRuntime) -> Result<(), Fail> {
         ("auto_features=disabled", "auto_features", "disabled"),
     ];
     for (word, name, said) in rows {
-        assert_eq!(rt; value(alloc, file, &[], "", &[word], name)?.as_str(), said, "{word}");
+        assert_eq!(rt;
+            value(alloc, file, &[], "", &[word], name)?.as_str(),
+            said,
+            "{word}"
+        );
     }
     let given = ["a=auto", "auto_features=disabled"];
-    assert_eq!(rt; value(alloc, file, &[], "", &given, "a")?.as_str(), "disabled");
+    assert_eq!(rt;
+        value(alloc, file, &[], "", &given, "a")?.as_str(),
+        "disabled"
+    );
     Ok(())
 }

@@ -3,6 +3,7 @@ use crate::shown::{unknown, value};
 use std::test::Fail;
 
 const MODE: &str = "option('mode', type: 'combo', choices: ['fast', 'slow', 'safe'])";
+
 const MACHINE: &str = "[project options]\nmode = 'fast'";
 
 #[test]
@@ -27,30 +28,67 @@ fn last_one_holds(rt: HostRuntime) -> Result<(), Fail> {
 #[test]
 fn machine_file(rt: HostRuntime) -> Result<(), Fail> {
     let alloc = rt.alloc();
-    let file = "option('s', type: 'string')\noption('l', type: 'array')\noption('n', type: 'integer', value: 1)";
+    let file =
+        "option('s', type: 'string')\noption('l', type: 'array')\noption('n', type: 'integer', value: 1)";
     let rows = [
         ("[project options]\ns = 'a'", "s", "text a"),
         ("[project options]\ns = ['a', 'b']", "s", "text ['a', 'b']"),
         ("[project options]\ns = -7", "s", "text -7"),
         ("[project options]\ns = true", "s", "text true"),
-        ("[project options]\nl = ['a,b', ' c']", "l", "array <a,b> < c>"),
+        (
+            "[project options]\nl = ['a,b', ' c']",
+            "l",
+            "array <a,b> < c>",
+        ),
         ("[project options]\nl = 'a, b'", "l", "array <a> <b>"),
         ("[project options]\nn = 0x10", "n", "integer 16"),
         ("[project options]\nn = '5'", "n", "integer 5"),
-        ("[built-in options]\nc_args = '-a -b'", "c_args", "array <-a> <-b>"),
-        ("[built-in options]\nc_args = ['-a -b']", "c_args", "array <-a -b>"),
-        ("[built-in options]\nwerror = true", "werror", "boolean true"),
+        (
+            "[built-in options]\nc_args = '-a -b'",
+            "c_args",
+            "array <-a> <-b>",
+        ),
+        (
+            "[built-in options]\nc_args = ['-a -b']",
+            "c_args",
+            "array <-a -b>",
+        ),
+        (
+            "[built-in options]\nwerror = true",
+            "werror",
+            "boolean true",
+        ),
         ("[built-in options]\ns = 'a'", "s", "machine:2 E15"),
         ("[project options]\nwerror = true", "s", "machine:2 E15"),
         ("[properties]\ns = 'a'", "s", "text "),
         ("[project options]\nn = true", "n", "machine:2 E15"),
-        ("[built-in options]\nwerror = 'yes'\n[project options]\nn = 'a'", "n", "machine:2 E15"),
-        ("[project options]\nn = 'a'\n[built-in options]\nwerror = 'yes'", "n", "machine:2 E15"),
-        ("[built-in options]\n\ndefault_library = 'both'", "n", "machine:3 E23"),
-        ("[built-in options]\ndefault_library = ['both']", "n", "machine:2 E15"),
+        (
+            "[built-in options]\nwerror = 'yes'\n[project options]\nn = 'a'",
+            "n",
+            "machine:2 E15",
+        ),
+        (
+            "[project options]\nn = 'a'\n[built-in options]\nwerror = 'yes'",
+            "n",
+            "machine:2 E15",
+        ),
+        (
+            "[built-in options]\n\ndefault_library = 'both'",
+            "n",
+            "machine:3 E23",
+        ),
+        (
+            "[built-in options]\ndefault_library = ['both']",
+            "n",
+            "machine:2 E15",
+        ),
     ];
     for (machine, name, said) in rows {
-        assert_eq!(rt; value(alloc, file, &[], machine, &[], name)?.as_str(), said, "{machine}");
+        assert_eq!(rt;
+            value(alloc, file, &[], machine, &[], name)?.as_str(),
+            said,
+            "{machine}"
+        );
     }
     Ok(())
 }
