@@ -5,8 +5,8 @@ ghost use Rattle.code.specs.Nodes.{tree_at, entry_at, argument_at, operand_at, l
 
 use crate::draft::Draft;
 use crate::node::{ArgumentNode, EntryNode, LinkNode, Node, OperandNode};
-use std::alloc::{AllocError, Global};
 use grammar::tree::{Argument, Entry, Expression, Link, Operand};
+use std::alloc::{AllocError, Global};
 
 // The name of an argument, where it has one.
 fn own_name(alloc: Global, name: Option<&str>) -> Result<Option<String>, AllocError>

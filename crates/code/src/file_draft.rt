@@ -6,8 +6,8 @@ ghost use Rattle.code.specs.Statements.{all_placed, statement_within, statement_
 use crate::draft::Draft;
 use crate::names::Names;
 use crate::node::StatementNode;
-use std::alloc::{AllocError, Global};
 use grammar::tree::Expression;
+use std::alloc::{AllocError, Global};
 
 /// The expressions and statements so far.
 #[derive(Drop)]

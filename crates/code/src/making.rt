@@ -8,9 +8,9 @@ use crate::code::Code;
 use crate::draft::Draft;
 use crate::file_draft::FileDraft;
 use crate::names::Names;
+use grammar::tree::File;
 use std::alloc::{AllocError, Global};
 use std::mem;
-use grammar::tree::File;
 
 /// The code of a file. Names of variables that the table lacks go behind the others, and what was there keeps its number, also where
 /// memory is refused. The work is linear in the size of the file.

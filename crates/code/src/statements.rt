@@ -8,8 +8,8 @@ ghost use Rattle.code.specs.Statements.{statement_at, name_at, second_within};
 
 use crate::file_draft::FileDraft;
 use crate::node::{BranchNode, StatementNode};
-use std::alloc::AllocError;
 use grammar::tree::{Branch, Expression, Statement};
+use std::alloc::AllocError;
 
 impl FileDraft {
     ghost use Rattle.code.specs.FileDraft.{statements_in, Extends, IsStatement, AreStatements, AreBranches};

@@ -19,13 +19,13 @@ use crate::statements::root;
 use crate::steps::Steps;
 use crate::stop::Stop;
 use crate::store::{Store, note_look};
+use grammar::fault::{FaultKind, SyntaxError};
+use grammar::parse;
+use grammar::tree::File;
 use ports::Tree;
 use std::alloc::Global;
 use std::str;
 use std::sync::ledger::Ledger;
-use grammar::fault::{FaultKind, SyntaxError};
-use grammar::parse;
-use grammar::tree::File;
 
 /// The most bytes of a definition file.
 const MOST_BYTES: u64 = 16_777_216;

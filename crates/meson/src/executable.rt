@@ -26,11 +26,11 @@ use crate::stop::Stop;
 use crate::store::{Store, add_target, has_target};
 use crate::value::Value;
 use build::{Target, edges};
+use grammar::tree::Argument;
 use ninja::can_hold_edges;
 use ports::Tree;
 use std::alloc::Global;
 use std::sync::ledger::Ledger;
-use grammar::tree::Argument;
 
 // Whether a target can have this name, and the source is one of C.
 fn fit(name: &str, source: &str) -> bool

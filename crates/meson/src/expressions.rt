@@ -19,11 +19,11 @@ use crate::steps::{Steps, ended};
 use crate::stop::Stop;
 use crate::store::{Store, look_up};
 use crate::value::Value;
+use grammar::tree::{Argument, Expression, Literal};
 use lexer::text_of;
 use lexer::token::{Kind, Token};
 use std::alloc::Global;
 use std::sync::ledger::Ledger;
-use grammar::tree::{Argument, Expression, Literal};
 
 fn variable(
     alloc: Global,

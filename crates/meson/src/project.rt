@@ -21,10 +21,10 @@ use crate::steps::Steps;
 use crate::stop::Stop;
 use crate::store::Store;
 use crate::value::Value;
+use grammar::tree::Argument;
 use ports::Tree;
 use std::alloc::Global;
 use std::sync::ledger::Ledger;
-use grammar::tree::Argument;
 
 fn is_c(value: &Value) -> bool
     ensures { result ≡ is_c (view value.now) }

@@ -22,10 +22,10 @@ use crate::settings::Settings;
 use crate::steps::{Steps, ended};
 use crate::stop::Stop;
 use crate::store::{Store, set_variable};
+use grammar::tree::{Argument, Expression, File, Statement};
 use ports::Tree;
 use std::alloc::Global;
 use std::sync::ledger::Ledger;
-use grammar::tree::{Argument, Expression, File, Statement};
 
 fn assign<L: Ledger>(
     alloc: Global,
