@@ -66,61 +66,65 @@ fn forms_of_values(rt: HostRuntime) -> Result<(), Fail> {
     Ok(())
 }
 
+// A file with each section.
+const LINES: [&str; 23] = [
+    "# a machine",
+    "[binaries]",
+    "\tc = ['ccache', 'gcc'] \r",
+    " = 'x'",
+    "ar='ar'",
+    "[checks]",
+    "has_function puts = true",
+    "sizeof a=b = 4",
+    "",
+    "[dependency zlib]",
+    "link_args = ['-lz']",
+    "[dependency  two words]",
+    "version = '2'",
+    "[host_machine]",
+    "cpu = 'armv7'",
+    "[compiler]",
+    "id = 'gcc'",
+    "[built-in options]",
+    "werror = true",
+    "[project options]",
+    "n = 5",
+    "[properties]",
+    "[a = 1",
+];
+
+// A section and a key of this file, and what it says there.
+const SAID: [(&str, &str, &str); 18] = [
+    ("binaries", "c", "texts ccache gcc"),
+    ("binaries", "", "text x"),
+    ("binaries", "ar", "text ar"),
+    ("binaries", "ld", "none"),
+    ("checks", "has_function puts", "truth true"),
+    ("checks", "sizeof a=b", "integer 4"),
+    ("checks", "sizeof int", "none"),
+    ("dependency zlib", "version", "text unknown"),
+    ("dependency zlib", "link_args", "texts -lz"),
+    ("dependency  two words", "version", "text 2"),
+    ("dependency x", "version", "none"),
+    ("host_machine", "cpu", "text armv7"),
+    ("compiler", "id", "text gcc"),
+    ("compiler", "version", "none"),
+    ("built-in options", "werror", "truth true"),
+    ("project options", "n", "integer 5"),
+    ("properties", "[a", "integer 1"),
+    ("none", "c", "none"),
+];
+
 #[test]
 fn sections(rt: HostRuntime) -> Result<(), Fail> {
     let alloc = rt.alloc();
-    let lines = [
-        "# a machine",
-        "[binaries]",
-        "\tc = ['ccache', 'gcc'] \r",
-        " = 'x'",
-        "ar='ar'",
-        "[checks]",
-        "has_function puts = true",
-        "sizeof a=b = 4",
-        "",
-        "[dependency zlib]",
-        "link_args = ['-lz']",
-        "[dependency  two words]",
-        "version = '2'",
-        "[host_machine]",
-        "cpu = 'armv7'",
-        "[compiler]",
-        "id = 'gcc'",
-        "[built-in options]",
-        "werror = true",
-        "[project options]",
-        "n = 5",
-        "[properties]",
-        "[a = 1",
-    ];
     let mut file = String::new(alloc);
-    for line in lines {
+    for line in LINES {
         file.push_str(line)?;
         file.push_str("\n")?;
     }
     let machine = read(alloc, file.as_str())?;
-    let said = [
-        ("binaries", "c", "texts ccache gcc"),
-        ("binaries", "", "text x"),
-        ("binaries", "ar", "text ar"),
-        ("binaries", "ld", "none"),
-        ("checks", "has_function puts", "truth true"),
-        ("checks", "sizeof a=b", "integer 4"),
-        ("checks", "sizeof int", "none"),
-        ("dependency zlib", "version", "text unknown"),
-        ("dependency zlib", "link_args", "texts -lz"),
-        ("dependency  two words", "version", "text 2"),
-        ("dependency x", "version", "none"),
-        ("host_machine", "cpu", "text armv7"),
-        ("compiler", "id", "text gcc"),
-        ("compiler", "version", "none"),
-        ("built-in options", "werror", "truth true"),
-        ("project options", "n", "integer 5"),
-        ("properties", "[a", "integer 1"),
-        ("none", "c", "none"),
-    ];
-    for (section, key, value) in said {
+    for (section, key, value) in SAID {
         assert_eq!(rt;
             shown(alloc, machine.get(section, key))?.as_str(),
             value,
