@@ -1,11 +1,11 @@
 //! Expressions, made flat.
 ghost use Rattle.std.specs.Prelude.{◌≡◌, IfOk, IsTrue, map, length, nat_lt, option_map, string_bytes};
-ghost use Rattle.grammar.specs.ExpressionTree.{expression_of, entry_of, argument_of, operand_of, link_of};
+ghost use Rattle.grammar.specs.ExpressionTree.{NameTree, LiteralTree, ListTree, DictionaryTree, FunctionTree, PostfixTree, PrefixTree, ChainTree, ChoiceTree, expressions, entries as entry_trees, argument_trees, links as link_trees, operands as operand_trees, expression_of, entry_of, argument_of, operand_of, link_of};
 ghost use Rattle.code.specs.Nodes.{tree_at, entry_at, argument_at, operand_at, link_at, entry_within, argument_within, operand_within, link_within};
 
 use crate::draft::Draft;
 use crate::node::{ArgumentNode, EntryNode, LinkNode, Node, OperandNode};
-use grammar::tree::{Argument, Entry, Expression, Link, Operand};
+use grammar::tree::{Argument, Entry, Expression, Link, Literal, Operand, Prefix};
 use std::alloc::{AllocError, Global};
 
 // The name of an argument, where it has one.
@@ -28,100 +28,180 @@ impl Draft {
         ensures stands { IfOk result (λ number. Stands (trees_in self.new) number (expression_of expression.now)) }
     {
         match expression {
-            Expression::Name { name, line } => {
-                let number = self.name(name)?;
-                self.push(Node::Name {
-                    number,
-                    line: *line,
-                })
-            }
+            Expression::Name { name, line } => self.named(name, *line),
             Expression::Literal {
                 literal,
                 text,
                 line,
-            } => {
-                let text = String::from_str(self.alloc, text)?;
-                self.push(Node::Literal {
-                    literal: *literal,
-                    text,
-                    line: *line,
-                })
-            }
-            Expression::List { items, line } => {
-                let items = self.items(items)?;
-                self.push(Node::List { items, line: *line })
-            }
-            Expression::Dictionary { entries, line } => {
-                let entries = self.entries(entries)?;
-                self.push(Node::Dictionary {
-                    entries,
-                    line: *line,
-                })
-            }
+            } => self.literal(*literal, text, *line),
+            Expression::List { items, line } => self.list(items, *line),
+            Expression::Dictionary { entries, line } => self.dictionary(entries, *line),
             Expression::Call {
                 name,
                 arguments,
                 line,
-            } => {
-                let name = String::from_str(self.alloc, name)?;
-                let arguments = self.arguments(arguments)?;
-                self.push(Node::Call {
-                    name,
-                    arguments,
-                    line: *line,
-                })
-            }
-            Expression::Postfix { first, links, line } => {
-                let first = self.expression(first)?;
-                let links = self.links(links)?;
-                self.push(Node::Postfix {
-                    first,
-                    links,
-                    line: *line,
-                })
-            }
+            } => self.call(name, arguments, *line),
+            Expression::Postfix { first, links, line } => self.postfix(first, links, *line),
             Expression::Prefix {
                 prefix,
                 value,
                 line,
-            } => {
-                let value = self.expression(value)?;
-                self.push(Node::Prefix {
-                    prefix: *prefix,
-                    value,
-                    line: *line,
-                })
-            }
+            } => self.prefix(*prefix, value, *line),
             Expression::Chain {
                 first,
                 others,
                 line,
-            } => {
-                let first = self.expression(first)?;
-                let others = self.operands(others)?;
-                self.push(Node::Chain {
-                    first,
-                    others,
-                    line: *line,
-                })
-            }
+            } => self.chain(first, others, *line),
             Expression::Choice {
                 test,
                 yes,
                 no,
                 line,
-            } => {
-                let test = self.expression(test)?;
-                let yes = self.expression(yes)?;
-                let no = self.expression(no)?;
-                self.push(Node::Choice {
-                    test,
-                    yes,
-                    no,
-                    line: *line,
-                })
-            }
+            } => self.choice(test, yes, no, *line),
         }
+    }
+
+    // A name.
+    fn named(&mut self, name: &str, line: usize) -> Result<usize, AllocError>
+        ensures grows { Grows self.old self.new }
+        ensures stands { IfOk result (λ number. Stands (trees_in self.new) number (NameTree name.now line)) }
+    {
+        let number = self.name(name)?;
+        self.push(Node::Name { number, line })
+    }
+
+    // A literal.
+    fn literal(&mut self, literal: Literal, text: &str, line: usize) -> Result<usize, AllocError>
+        ensures grows { Grows self.old self.new }
+        ensures stands { IfOk result (λ number. Stands (trees_in self.new) number (LiteralTree literal text.now line)) }
+    {
+        let text = String::from_str(self.alloc, text)?;
+        self.push(Node::Literal {
+            literal,
+            text,
+            line,
+        })
+    }
+
+    // `[first, second]`
+    #[cycle(flatten)]
+    fn list(&mut self, items: &[Expression<'_>], line: usize) -> Result<usize, AllocError>
+        ensures grows { Grows self.old self.new }
+        ensures stands { IfOk result (λ number. Stands (trees_in self.new) number (ListTree (expressions (map expression_of items.now)) line)) }
+    {
+        let items = self.items(items)?;
+        self.push(Node::List { items, line })
+    }
+
+    // `{key : value, key : value}`
+    #[cycle(flatten)]
+    fn dictionary(&mut self, entries: &[Entry<'_>], line: usize) -> Result<usize, AllocError>
+        ensures grows { Grows self.old self.new }
+        ensures stands { IfOk result (λ number. Stands (trees_in self.new) number (DictionaryTree (entry_trees (map entry_of entries.now)) line)) }
+    {
+        let entries = self.entries(entries)?;
+        self.push(Node::Dictionary { entries, line })
+    }
+
+    // `name(argument, name: argument)`
+    #[cycle(flatten)]
+    fn call(
+        &mut self,
+        name: &str,
+        arguments: &[Argument<'_>],
+        line: usize,
+    ) -> Result<usize, AllocError>
+        ensures grows { Grows self.old self.new }
+        ensures stands { IfOk result (λ number. Stands (trees_in self.new) number (FunctionTree name.now (argument_trees arguments.now) line)) }
+    {
+        let name = String::from_str(self.alloc, name)?;
+        let arguments = self.arguments(arguments)?;
+        self.push(Node::Call {
+            name,
+            arguments,
+            line,
+        })
+    }
+
+    // `first.name(argument)[index]`
+    #[cycle(flatten)]
+    fn postfix(
+        &mut self,
+        first: &Expression<'_>,
+        links: &[Link<'_>],
+        line: usize,
+    ) -> Result<usize, AllocError>
+        ensures grows { Grows self.old self.new }
+        ensures stands { IfOk result (λ number. Stands (trees_in self.new) number
+            (PostfixTree (expression_of first.now) (link_trees (map link_of links.now)) line)) }
+    {
+        let first = self.expression(first)?;
+        let links = self.links(links)?;
+        self.push(Node::Postfix { first, links, line })
+    }
+
+    // `not value` or `-value`
+    #[cycle(flatten)]
+    fn prefix(
+        &mut self,
+        prefix: Prefix,
+        value: &Expression<'_>,
+        line: usize,
+    ) -> Result<usize, AllocError>
+        ensures grows { Grows self.old self.new }
+        ensures stands { IfOk result (λ number. Stands (trees_in self.new) number (PrefixTree prefix (expression_of value.now) line)) }
+    {
+        let value = self.expression(value)?;
+        self.push(Node::Prefix {
+            prefix,
+            value,
+            line,
+        })
+    }
+
+    // `first + second - third`
+    #[cycle(flatten)]
+    fn chain(
+        &mut self,
+        first: &Expression<'_>,
+        others: &[Operand<'_>],
+        line: usize,
+    ) -> Result<usize, AllocError>
+        ensures grows { Grows self.old self.new }
+        ensures stands { IfOk result (λ number. Stands (trees_in self.new) number
+            (ChainTree (expression_of first.now) (operand_trees (map operand_of others.now)) line)) }
+    {
+        let first = self.expression(first)?;
+        let others = self.operands(others)?;
+        self.push(Node::Chain {
+            first,
+            others,
+            line,
+        })
+    }
+
+    // `test ? yes : no`
+    #[cycle(flatten)]
+    fn choice(
+        &mut self,
+        test: &Expression<'_>,
+        yes: &Expression<'_>,
+        no: &Expression<'_>,
+        line: usize,
+    ) -> Result<usize, AllocError>
+        ensures grows { Grows self.old self.new }
+        ensures stands { IfOk result (λ number. Stands (trees_in self.new) number
+            (ChoiceTree (expression_of test.now) (expression_of yes.now) (expression_of no.now) line)) }
+    {
+        let test = self.expression(test)?;
+        let yes = self.expression(yes)?;
+        let no = self.expression(no)?;
+        self.push(Node::Choice {
+            test,
+            yes,
+            no,
+            line,
+        })
     }
 
     // The items of a list, by their numbers.

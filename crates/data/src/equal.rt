@@ -4,6 +4,7 @@ ghost use Rattle.std.specs.Prelude.{◌≡◌, ◌↔◌, IsTrue};
 ghost use Rattle.data.specs.Data.{keys_in, entry_values};
 ghost use Rattle.data.specs.Same.{same};
 ghost use Rattle.data.specs.View.{data_of, items_of};
+ghost use Rattle.data.specs.declared.object.Object.TheVariants.{CustomTarget, CustomOutput, File};
 
 use crate::object::{Dependency, Machine, Object, Program, Source};
 use crate::text::Text;
@@ -85,58 +86,68 @@ pub fn equal_objects(object: &Object, other: &Object) -> bool
     ensures { IsTrue result ↔ (object.now ≡ other.now) }
 {
     match object {
-        Object::Feature(feature) => match other {
-            Object::Feature(other) => feature == other,
-            _ => false,
-        },
-        Object::Dependency(dependency) => match other {
-            Object::Dependency(other) => equal_dependencies(dependency, other),
-            _ => false,
-        },
-        Object::Program(program) => match other {
-            Object::Program(other) => equal_programs(program, other),
-            _ => false,
-        },
-        Object::BuildTarget(number) => match other {
-            Object::BuildTarget(other) => number == other,
-            _ => false,
-        },
-        Object::CustomTarget { number, outputs } => match other {
-            Object::CustomTarget {
-                number: other_number,
-                outputs: other_outputs,
-            } => number == other_number && outputs == other_outputs,
-            _ => false,
-        },
-        Object::CustomOutput { target, output } => match other {
-            Object::CustomOutput {
-                target: other_target,
-                output: other_output,
-            } => target == other_target && output == other_output,
-            _ => false,
-        },
-        Object::File { path, is_built } => match other {
-            Object::File {
-                path: other_path,
-                is_built: other_is_built,
-            } => path.as_str() == other_path.as_str() && is_built == other_is_built,
-            _ => false,
-        },
-        Object::IncludeDirectories(paths) => match other {
-            Object::IncludeDirectories(other) => equal_texts(paths.as_slice(), other.as_slice()),
-            _ => false,
-        },
-        Object::Machine(machine) => match other {
-            Object::Machine(other) => equal_machines(machine, other),
-            _ => false,
-        },
+        Object::Feature(feature) => matches!(other, Object::Feature(other) if feature == other),
+        Object::Dependency(dependency) => {
+            matches!(other, Object::Dependency(other) if equal_dependencies(dependency, other))
+        }
+        Object::Program(program) => {
+            matches!(other, Object::Program(other) if equal_programs(program, other))
+        }
+        Object::BuildTarget(number) => {
+            matches!(other, Object::BuildTarget(other) if number == other)
+        }
+        Object::CustomTarget { number, outputs } => is_custom_target(other, *number, *outputs),
+        Object::CustomOutput { target, output } => is_custom_output(other, *target, *output),
+        Object::File { path, is_built } => is_file(other, path, *is_built),
+        Object::IncludeDirectories(paths) => {
+            matches!(other, Object::IncludeDirectories(other)
+                if equal_texts(paths.as_slice(), other.as_slice()))
+        }
+        Object::Machine(machine) => {
+            matches!(other, Object::Machine(other) if equal_machines(machine, other))
+        }
         Object::Meson => matches!(other, Object::Meson),
         Object::Compiler => matches!(other, Object::Compiler),
-        Object::ConfigurationData(number) => match other {
-            Object::ConfigurationData(other) => number == other,
-            _ => false,
-        },
+        Object::ConfigurationData(number) => {
+            matches!(other, Object::ConfigurationData(other) if number == other)
+        }
         Object::Disabler => matches!(other, Object::Disabler),
+    }
+}
+
+// Whether an object is the custom target of this number, with so many outputs.
+fn is_custom_target(object: &Object, other_number: u32, other_outputs: u32) -> bool
+    ensures { IsTrue result ↔ (CustomTarget other_number other_outputs ≡ object.now) }
+{
+    match object {
+        Object::CustomTarget { number, outputs } => {
+            *number == other_number && *outputs == other_outputs
+        }
+        _ => false,
+    }
+}
+
+// Whether an object is this output of the custom target of this number.
+fn is_custom_output(object: &Object, other_target: u32, other_output: u32) -> bool
+    ensures { IsTrue result ↔ (CustomOutput other_target other_output ≡ object.now) }
+{
+    match object {
+        Object::CustomOutput { target, output } => {
+            *target == other_target && *output == other_output
+        }
+        _ => false,
+    }
+}
+
+// Whether an object is the file of this path, and built where the other is.
+fn is_file(object: &Object, other_path: &Text, other_is_built: bool) -> bool
+    ensures { IsTrue result ↔ (File other_path.now other_is_built ≡ object.now) }
+{
+    match object {
+        Object::File { path, is_built } => {
+            path.as_str() == other_path.as_str() && *is_built == other_is_built
+        }
+        _ => false,
     }
 }
 

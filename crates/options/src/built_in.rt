@@ -40,80 +40,35 @@ pub struct BuiltIn {
     pub form: Form,
 }
 
+// A row of the table of options.
+fn built_in(name: &'static str, form: Form) -> BuiltIn
+    ensures { result ≡ record { name = name.entry; form = form } }
+{
+    BuiltIn { name, form }
+}
+
 // The options in their order, as the Meson manual's page "Built-in options" has them.
-#[tactic(auto, unfolding(crate::specs::BuiltIns::built_ins))]
 fn rows() -> [BuiltIn; 17]
     ensures { map row_in result ≡ built_ins }
 {
     [
-        BuiltIn {
-            name: "prefix",
-            form: Form::Text("/usr/local"),
-        },
-        BuiltIn {
-            name: "bindir",
-            form: Form::Text("bin"),
-        },
-        BuiltIn {
-            name: "libdir",
-            form: Form::Text("lib"),
-        },
-        BuiltIn {
-            name: "includedir",
-            form: Form::Text("include"),
-        },
-        BuiltIn {
-            name: "datadir",
-            form: Form::Text("share"),
-        },
-        BuiltIn {
-            name: "mandir",
-            form: Form::Text("share/man"),
-        },
-        BuiltIn {
-            name: "sysconfdir",
-            form: Form::Text("etc"),
-        },
-        BuiltIn {
-            name: "buildtype",
-            form: Form::Combo(Choices::Types, "debug"),
-        },
-        BuiltIn {
-            name: "debug",
-            form: Form::Boolean(true),
-        },
-        BuiltIn {
-            name: "optimization",
-            form: Form::Combo(Choices::Levels, "0"),
-        },
-        BuiltIn {
-            name: "warning_level",
-            form: Form::Combo(Choices::Warnings, "1"),
-        },
-        BuiltIn {
-            name: "werror",
-            form: Form::Boolean(false),
-        },
-        BuiltIn {
-            name: "c_std",
-            form: Form::Combo(Choices::Standards, "none"),
-        },
-        BuiltIn {
-            name: "default_library",
-            form: Form::Combo(Choices::Libraries, "shared"),
-        },
-        BuiltIn {
-            name: "c_args",
-            form: Form::Words,
-        },
-        BuiltIn {
-            name: "c_link_args",
-            form: Form::Words,
-        },
-        BuiltIn {
-            name: "auto_features",
-            form: Form::Feature,
-        },
+        built_in("prefix", Form::Text("/usr/local")),
+        built_in("bindir", Form::Text("bin")),
+        built_in("libdir", Form::Text("lib")),
+        built_in("includedir", Form::Text("include")),
+        built_in("datadir", Form::Text("share")),
+        built_in("mandir", Form::Text("share/man")),
+        built_in("sysconfdir", Form::Text("etc")),
+        built_in("buildtype", Form::Combo(Choices::Types, "debug")),
+        built_in("debug", Form::Boolean(true)),
+        built_in("optimization", Form::Combo(Choices::Levels, "0")),
+        built_in("warning_level", Form::Combo(Choices::Warnings, "1")),
+        built_in("werror", Form::Boolean(false)),
+        built_in("c_std", Form::Combo(Choices::Standards, "none")),
+        built_in("default_library", Form::Combo(Choices::Libraries, "shared")),
+        built_in("c_args", Form::Words),
+        built_in("c_link_args", Form::Words),
+        built_in("auto_features", Form::Feature),
     ]
 }
 

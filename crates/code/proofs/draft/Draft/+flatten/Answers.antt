@@ -1,11 +1,10 @@
-use Rattle.std.proofs.Common.{sym, ap, ◌∙◌, length, nat_lt, option_map}
+use Rattle.std.proofs.Common.{sym, ap, ◌∙◌, ◌&&◌, length, nat_lt, option_map}
 use Rattle.grammar.specs.ExpressionTree.{ExpressionTree, expression_of, entry_of, argument_of, operand_of, link_of}
-use Rattle.code.specs.Nodes.{tree_at, tree_of, entry_at, argument_at, operand_at, link_at, entry_within, argument_within, operand_within, link_within}
+use Rattle.code.specs.Nodes.{tree_at, entry_at, argument_at, operand_at, link_at, entry_within, argument_within, operand_within, link_within}
 use Rattle.code.specs.Draft.{trees_in}
-use Rattle.code.specs.declared.node.Node.TheVariants as flat
 use Rattle.code.proofs.Trees.{and_both}
 use Rattle.code.proofs.Parts.{grows_trans, stands_more, parts_step, keeps_number, keeps_entry, keeps_argument, keeps_operand, keeps_link}
-use Rattle.code.proofs.Made.{stands_as, entry_is, argument_is, operand_is, postfix_made, chain_made, choice_made}
+use Rattle.code.proofs.Made.{entry_is, argument_is, operand_is}
 use Rattle.code.proofs.draft.Draft.+flatten.Goals as goal
 
 pub items-loop-item-preserved : goal.items-loop-item-preserved
@@ -95,48 +94,15 @@ links-loop-link-preserved t c =
           c.link.ensures.grows.trees c.loop-link.invariant.parts c.in_ok-node.ensures.within c.in_ok-node.ensures.is;
     }
 
-pub expression-returns-in_ok-links-in-Postfix-clause-stands : goal.expression-returns-in_ok-links-in-Postfix-clause-stands
-expression-returns-in_ok-links-in-Postfix-clause-stands t c =
-    let ts = trees_in c.links.new.self in
-    let first = stands_more (trees_in c.expression.new.self) ts c.in_ok-first-in-Postfix.first
-    (expression_of c.deref-in-Postfix.result.now) c.links.ensures.grows.trees c.in_ok-first-in-Postfix.ensures.stands in
-    stands_as c.push-in-Postfix.result (trees_in c.push-in-Postfix.new.self)
-    (tree_of c.links.new.self.names ts (flat.Postfix c.in_ok-first-in-Postfix.first c.in_ok-links-in-Postfix.links
-    c.in-Postfix.line)) (expression_of c.args.expression.now)
-    c.push-in-Postfix.ensures.stands
-    (postfix_made c.args.expression.now c.in-Postfix.first c.in-Postfix.links c.in-Postfix.line
-    (tree_at ts c.in_ok-first-in-Postfix.first) _ c.deref-in-Postfix.result.now c.deref-in-Postfix-2.result.now
-    c.in-Postfix.is c.deref-in-Postfix.ensures c.deref-in-Postfix-2.ensures.value first.is c.in_ok-links-in-Postfix.ensures.parts.are)
-
-pub expression-returns-in_ok-others-in-Chain-clause-stands : goal.expression-returns-in_ok-others-in-Chain-clause-stands
-expression-returns-in_ok-others-in-Chain-clause-stands t c =
-    let ts = trees_in c.operands.new.self in
-    let first = stands_more (trees_in c.expression-in-Chain.new.self) ts c.in_ok-first-in-Chain.first
-    (expression_of c.deref-in-Chain.result.now) c.operands.ensures.grows.trees c.in_ok-first-in-Chain.ensures.stands in
-    stands_as c.push-in-Chain.result (trees_in c.push-in-Chain.new.self) (tree_of c.operands.new.self.names ts
-    (flat.Chain c.in_ok-first-in-Chain.first c.in_ok-others-in-Chain.others c.in-Chain.line)) (expression_of c.args.expression.now)
-    c.push-in-Chain.ensures.stands
-    (chain_made c.args.expression.now c.in-Chain.first c.in-Chain.others c.in-Chain.line (tree_at ts c.in_ok-first-in-Chain.first) _
-    c.deref-in-Chain.result.now c.deref-in-Chain-2.result.now
-    c.in-Chain.is c.deref-in-Chain.ensures c.deref-in-Chain-2.ensures.value first.is c.in_ok-others-in-Chain.ensures.parts.are)
-
-pub expression-returns-in_ok-no-in-Choice-clause-stands : goal.expression-returns-in_ok-no-in-Choice-clause-stands
-expression-returns-in_ok-no-in-Choice-clause-stands t c =
-    let one = trees_in c.expression-in-Choice.new.self in
-    let two = trees_in c.expression-in-Choice-2.new.self in
-    let ts = trees_in c.expression-in-Choice-3.new.self in
-    let test = stands_more two ts c.in_ok-test-in-Choice.test (expression_of c.deref-in-Choice.result.now)
-    c.expression-in-Choice-3.ensures.grows.trees
-    (stands_more one two c.in_ok-test-in-Choice.test (expression_of c.deref-in-Choice.result.now)
-    c.expression-in-Choice-2.ensures.grows.trees c.in_ok-test-in-Choice.ensures.stands) in
-    let first = stands_more two ts c.in_ok-yes-in-Choice.yes (expression_of c.deref-in-Choice-2.result.now)
-    c.expression-in-Choice-3.ensures.grows.trees c.in_ok-yes-in-Choice.ensures.stands in
-    stands_as c.push-in-Choice.result (trees_in c.push-in-Choice.new.self)
-    (tree_of c.expression-in-Choice-3.new.self.names ts (flat.Choice c.in_ok-test-in-Choice.test c.in_ok-yes-in-Choice.yes
-    c.in_ok-no-in-Choice.no c.in-Choice.line)) (expression_of c.args.expression.now)
-    c.push-in-Choice.ensures.stands
-    (choice_made c.args.expression.now c.in-Choice.test c.in-Choice.yes c.in-Choice.no c.in-Choice.line
-    (tree_at ts c.in_ok-test-in-Choice.test) (tree_at ts c.in_ok-yes-in-Choice.yes) (tree_at ts c.in_ok-no-in-Choice.no)
-    c.deref-in-Choice.result.now c.deref-in-Choice-2.result.now c.deref-in-Choice-3.result.now
-    c.in-Choice.is c.deref-in-Choice.ensures c.deref-in-Choice-2.ensures c.deref-in-Choice-3.ensures test.is first.is
-    c.in_ok-no-in-Choice.ensures.stands.is)
+pub choice-push-requires : goal.choice-push-requires
+choice-push-requires t c =
+    let one = trees_in c.expression.new.self in
+    let two = trees_in c.expression-2.new.self in
+    let ts = trees_in c.expression-3.new.self in
+    let test = stands_more two ts c.in_ok-test.test (expression_of c.args.test.now) c.expression-3.ensures.grows.trees
+    (stands_more one two c.in_ok-test.test (expression_of c.args.test.now) c.expression-2.ensures.grows.trees
+    c.in_ok-test.ensures.stands) in
+    let yes = stands_more two ts c.in_ok-yes.yes (expression_of c.args.yes.now) c.expression-3.ensures.grows.trees
+    c.in_ok-yes.ensures.stands in
+    and_both (nat_lt c.in_ok-test.test (length ts)) (nat_lt c.in_ok-yes.yes (length ts) && nat_lt c.in_ok-no.no (length ts)) test.within
+    (and_both (nat_lt c.in_ok-yes.yes (length ts)) (nat_lt c.in_ok-no.no (length ts)) yes.within c.in_ok-no.ensures.stands.within)

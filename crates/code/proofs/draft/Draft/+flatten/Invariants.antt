@@ -1,8 +1,56 @@
-use Rattle.std.proofs.Common.{map, nat_lt, take}
+use Rattle.std.proofs.Common.{◌+◌, ◌*◌, map, max, nat_lt, take}
+use denote.Param.Weighed.{most}
+use Rattle.grammar.specs.declared.tree.Expression.TheViews.{size-Expression, size-Link, size-Operand}
 use Rattle.grammar.specs.ExpressionTree.{expression_of, entry_of, argument_of, operand_of, link_of}
 use Rattle.code.specs.Nodes.{tree_at, entry_at, argument_at, operand_at, link_at, entry_within, argument_within, operand_within, link_within}
 use Rattle.code.specs.Draft.{trees_in, Grows, Parts}
 use Rattle.code.proofs.draft.Draft.+flatten.Given as goal
+
+-- A part is less deep than its whole. At one depth a list of parts stands above its parts, and what puts a node above these.
+
+abbrev pub decreases-expression : goal.decreases-expression
+decreases-expression l = 3 * goal.size-expression l
+
+abbrev pub decreases-link : goal.decreases-link
+decreases-link l = 3 * goal.size-link l
+
+abbrev pub decreases-items : goal.decreases-items
+decreases-items l = 3 * goal.size-items l + 1
+
+abbrev pub decreases-entries : goal.decreases-entries
+decreases-entries l = 3 * goal.size-entries l + 1
+
+abbrev pub decreases-arguments : goal.decreases-arguments
+decreases-arguments l = 3 * goal.size-arguments l + 1
+
+abbrev pub decreases-operands : goal.decreases-operands
+decreases-operands l = 3 * goal.size-operands l + 1
+
+abbrev pub decreases-links : goal.decreases-links
+decreases-links l = 3 * goal.size-links l + 1
+
+abbrev pub decreases-prefix : goal.decreases-prefix
+decreases-prefix l = 3 * goal.size-prefix l + 1
+
+abbrev pub decreases-list : goal.decreases-list
+decreases-list l = 3 * goal.size-list l + 2
+
+abbrev pub decreases-dictionary : goal.decreases-dictionary
+decreases-dictionary l = 3 * goal.size-dictionary l + 2
+
+abbrev pub decreases-call : goal.decreases-call
+decreases-call l = 3 * goal.size-call l + 2
+
+abbrev pub decreases-postfix : goal.decreases-postfix
+decreases-postfix l = 3 * max (size-Expression l.first.now) (most (λ x. size-Link x) l.links.now) + 2
+
+abbrev pub decreases-chain : goal.decreases-chain
+decreases-chain l = 3 * max (size-Expression l.first.now) (most (λ x. size-Operand x) l.others.now) + 2
+
+abbrev pub decreases-choice : goal.decreases-choice
+decreases-choice l = 3 * max (size-Expression l.test.now) (max (size-Expression l.yes.now) (size-Expression l.no.now)) + 1
+
+-- ---- the loops
 
 abbrev pub invariant-items-loop-item : goal.invariant-items-loop-item
 invariant-items-loop-item l = record {
