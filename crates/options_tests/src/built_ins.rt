@@ -1,0 +1,96 @@
+// The options that every project has.
+use crate::support::{Row, Source, check, check_listed, resolved};
+use std::test::Fail;
+
+// Their names and values where nothing gives one, and two options that are declared.
+const TABLE: &[&str] = &[
+    "prefix: text /usr/local",
+    "bindir: text bin",
+    "libdir: text lib",
+    "includedir: text include",
+    "datadir: text share",
+    "mandir: text share/man",
+    "sysconfdir: text etc",
+    "buildtype: text debug",
+    "debug: boolean true",
+    "optimization: text 0",
+    "warning_level: text 1",
+    "werror: boolean false",
+    "c_std: text none",
+    "default_library: text shared",
+    "c_args: array",
+    "c_link_args: array",
+    "auto_features: auto",
+    "b: text x",
+    "a: boolean true",
+    "none",
+];
+
+const DECLARED: &str = "option('b', type: 'string', value: 'x')\noption('a', type: 'boolean')";
+
+#[test]
+fn table(rt: HostRuntime) -> Result<(), Fail> {
+    let alloc = rt.alloc();
+    let options = resolved(alloc, DECLARED, &[], "", &[])?.outcome?;
+    assert_eq!(rt; options.len(), 19);
+    assert!(rt; !options.is_empty());
+    assert!(rt; options.get("zz").is_none());
+    check_listed(&rt, alloc, &options, TABLE)
+}
+
+// Words that give them values.
+const VALUES: &[Row] = &[
+    ("prefix=", "prefix", "text "),
+    ("bindir=x=y", "bindir", "text x=y"),
+    ("buildtype=minsize", "buildtype", "text minsize"),
+    ("buildtype=custom", "buildtype", "word E15"),
+    ("debug=false", "debug", "boolean false"),
+    ("debug=0", "debug", "word E15"),
+    ("optimization=g", "optimization", "text g"),
+    ("optimization=4", "optimization", "word E15"),
+    ("warning_level=3", "warning_level", "text 3"),
+    ("warning_level=everything", "warning_level", "word E15"),
+    ("werror=true", "werror", "boolean true"),
+    ("werror=", "werror", "word E15"),
+    ("c_std=gnu17", "c_std", "text gnu17"),
+    ("c_std=c23", "c_std", "word E15"),
+    ("default_library=static", "default_library", "text static"),
+    ("default_library=both", "default_library", "word E23"),
+    ("default_library=none", "default_library", "word E15"),
+    ("auto_features=enabled", "auto_features", "enabled"),
+    ("auto_features=yes", "auto_features", "word E15"),
+];
+
+// Words that give arguments of C: a text is cut as a shell cuts words, or is a list.
+const ARGUMENTS: &[Row] = &[
+    ("c_args=", "c_args", "array"),
+    ("c_args=-DA '-DB'", "c_args", "array <-DA> <-DB>"),
+    (
+        "c_args=-DA='x y' \t-DB\n-DC",
+        "c_args",
+        "array <-DA=x y> <-DB> <-DC>",
+    ),
+    (
+        "c_args=-DS=\"a \\\"b\\\" \\\\ \\n\"",
+        "c_args",
+        "array <-DS=a \"b\" \\ \\n>",
+    ),
+    ("c_args='\\\"'", "c_args", "array <\\\">"),
+    ("c_args=a\\ b \\'", "c_args", "array <a b> <'>"),
+    ("c_args=a '' b\"\"", "c_args", "array <a> <> <b>"),
+    ("c_args=-Wl,-a,-b", "c_args", "array <-Wl,-a,-b>"),
+    ("c_args=['-a b', 'c,d']", "c_args", "array <-a b> <c,d>"),
+    ("c_args='a", "c_args", "word E15"),
+    ("c_args=\"a\\\"", "c_args", "word E15"),
+    ("c_args=a\\", "c_args", "word E15"),
+    ("c_args=[a]", "c_args", "word E15"),
+    ("c_args=['a'] b", "c_args", "word E15"),
+    ("c_link_args='-a b' -c", "c_link_args", "array <-a b> <-c>"),
+];
+
+#[test]
+fn words(rt: HostRuntime) -> Result<(), Fail> {
+    let alloc = rt.alloc();
+    check(&rt, alloc, "", Source::Words, VALUES)?;
+    check(&rt, alloc, "", Source::Words, ARGUMENTS)
+}
