@@ -1,14 +1,15 @@
 -- Values that are taken one after another.
 use Rattle.std.proofs.Common.{◌≡◌, ℕ, ◌+◌, ◌<◌, List, [], ◌∷◌, ◌++◌, length, take, get_or, Some, None, sym, ap, ◌∙◌, map, arith, String, string_bytes}
 use Rattle.std.specs.List.{fold, flat_map, slice_get}
-use Rattle.std.proofs.lemmas.List.{take_more, map-append, append-nil}
+use Rattle.std.proofs.lemmas.List.{take_more, map-append, append-nil, length-map, length-take-le}
 use Rattle.std.proofs.lemmas.List.Sums.{fold-append}
 use Rattle.std.proofs.lemmas.Grind.{flat_map-append}
 use Rattle.std.proofs.lemmas.Option.{get_or_from_slice_get, slice_get_within, slice_get-get_or}
 use Rattle.std.specs.declared.alloc.Global.{Global}
 use Rattle.option_values.specs.View.{strings_in}
 use Rattle.options.specs.Resolves.{State, next}
-use Rattle.options.specs.Verdicts.{Verdict}
+use Rattle.option_file.specs.Declarations.{Declaration}
+use Rattle.options.specs.Verdicts.{Verdict, of_word, of_words}
 
 -- one more of the things that are taken by a step each
 pub fold_more_at : {A B C : Type 0} (step : C → B → C) (f : A → B) (s : C) (xs : List A) (i : ℕ) (x : A) → i < length xs → x ≡ get_or xs i x
@@ -37,6 +38,31 @@ fold_text_at f s xs i x lt e =
     ∙ ap (fold next s) (map-append f (strings_in (take i xs)) (string_bytes (get_or xs i x) ∷ []))
     ∙ fold-append next s (map f (strings_in (take i xs))) (f (string_bytes (get_or xs i x)) ∷ [])
     ∙ ap (λ (y : String Global). next (fold next s (map f (strings_in (take i xs)))) (f (string_bytes y))) (sym e)
+
+-- words behind others, which are numbered on
+pub of_words-append : (ds : List Declaration) (n : ℕ) (xs ys : List (List ℕ)) → of_words ds n (xs ++ ys) ≡ of_words ds n xs ++ of_words ds (n + length xs) ys
+unfolding of_words
+of_words-append ds n [] ys = let e : n ≡ n + length {A = List ℕ} [] = omega arith in ap (λ k. of_words ds k ys) e
+of_words-append ds n (x ∷ xs) ys =
+    let e : n + 1 + length xs ≡ n + length (x ∷ xs) = omega arith in
+    ap (λ vs. of_word ds n x ∷ vs) (of_words-append ds (n + 1) xs ys ∙ ap (λ k. of_words ds (n + 1) xs ++ of_words ds k ys) e)
+
+-- one more of the words
+pub fold_word_at : (ds : List Declaration) (s : State) (xs : List (String Global)) (i : ℕ) (x : String Global) → i < length xs → x ≡ get_or xs i x
+    → fold next s (of_words ds 1 (strings_in (take (i + 1) xs))) ≡ next (fold next s (of_words ds 1 (strings_in (take i xs)))) (of_word ds (i + 1) (string_bytes x))
+unfolding of_words
+fold_word_at ds s xs i x lt e =
+    let before = strings_in (take i xs) in
+    let last = string_bytes (get_or xs i x) in
+    ap (λ ys. fold next s (of_words ds 1 (strings_in ys))) (take_more xs i x lt)
+    ∙ ap (λ ys. fold next s (of_words ds 1 ys)) (map-append string_bytes (take i xs) (get_or xs i x ∷ []))
+    ∙ ap (fold next s) (of_words-append ds 1 before (last ∷ []))
+    ∙ fold-append next s (of_words ds 1 before) (of_words ds (1 + length before) (last ∷ []))
+    ∙ ap (λ k. next (fold next s (of_words ds 1 before)) (of_word ds k last)) number
+    ∙ ap (λ (y : String Global). next (fold next s (of_words ds 1 before)) (of_word ds (i + 1) (string_bytes y))) (sym e)
+  where
+    number : 1 + length (strings_in (take i xs)) ≡ i + 1
+    number = omega (arith, length-map (take i xs) string_bytes, length-take-le i xs (omega (arith, lt)))
 
 -- one more of the things that give a value each
 pub fold_at : {A : Type 0} (f : A → Verdict) (s : State) (xs : List A) (i : ℕ) (x : A) → i < length xs → x ≡ get_or xs i x

@@ -1,5 +1,5 @@
 -- What it means that a place gives an option a value.
-use Rattle.std.specs.Prelude.{ℕ, Bool, true, false, ◌&&◌, List, [], map, Option, Some, None, codes, if◌then◌else◌, bytes_eq}
+use Rattle.std.specs.Prelude.{ℕ, ◌+◌, Bool, true, false, ◌&&◌, List, [], ◌∷◌, map, Option, Some, None, codes, if◌then◌else◌, bytes_eq}
 use Rattle.std.specs.Option.{option_map}
 use Rattle.lexer.specs.Bytes.{equals}
 use Rattle.machine.specs.Files as machine
@@ -85,14 +85,18 @@ of_default_parts ds (Some parts) = of_known (Warns parts.0) Project parts.0 (wri
 unfoldable pub of_project_default : List Declaration → List ℕ → Verdict
 of_project_default ds text = of_default_parts ds (cut_first equals text)
 
-abbrev pub of_word_parts : List Declaration → Option Parts → Verdict
-of_word_parts ds None = refused CommandLine faults.Option
-of_word_parts ds (Some parts) =
-    of_known (refused CommandLine faults.Option) CommandLine parts.0 (written.Text parts.1) (kind_named ds parts.0)
+abbrev pub of_word_parts : List Declaration → Place → Option Parts → Verdict
+of_word_parts ds place None = refused place faults.Option
+of_word_parts ds place (Some parts) = of_known (refused place faults.Option) place parts.0 (written.Text parts.1) (kind_named ds parts.0)
 
--- a word of the command line is the same, but it has the name of an option
-unfoldable pub of_word : List Declaration → List ℕ → Verdict
-of_word ds text = of_word_parts ds (cut_first equals text)
+-- the word of the command line with this number is the same, but it has the name of an option
+unfoldable pub of_word : List Declaration → ℕ → List ℕ → Verdict
+of_word ds number text = of_word_parts ds (CommandLine number) (cut_first equals text)
+
+-- words of the command line, of which the first has this number
+unfoldable pub of_words : List Declaration → ℕ → List (List ℕ) → List Verdict
+of_words ds number [] = []
+of_words ds number (word ∷ words) = of_word ds number word ∷ of_words ds (number + 1) words
 
 -- the sections of the machine file that give options values: each knows the options that are built in, or those that are declared
 abbrev pub scope_of : List ℕ → Option Scope

@@ -22,8 +22,8 @@ pub enum Place {
     Project,
     /// This line, from 1, of the machine file.
     MachineFile(usize),
-    /// A word of the command line.
-    CommandLine,
+    /// This word, from 1, of the command line.
+    CommandLine(usize),
 }
 
 /// A fault, and its place.

@@ -6,7 +6,7 @@ ghost use Rattle.machine.specs.View.{machine_in, entries_of};
 ghost use Rattle.option_file.specs.View.{options_in as declared_in, option_in};
 ghost use Rattle.option_values.specs.View.{strings_in};
 ghost use Rattle.options.specs.Resolves.{next};
-ghost use Rattle.options.specs.Verdicts.{of_declaration, of_project_default, of_word, of_entry, of_section};
+ghost use Rattle.options.specs.Verdicts.{of_declaration, of_project_default, of_word, of_words, of_entry, of_section};
 ghost use Rattle.options.specs.View.{AreBuiltIns, verdict_in, state_in, key_in};
 
 use crate::default::default_of;
@@ -188,30 +188,33 @@ pub fn take_machine(
     Ok(())
 }
 
-// A word of the command line is a name and a value behind its first `=`.
+// The word with this number, from 1, of the command line is a name and a value behind its first `=`.
 #[tactic(auto, unfolding(crate::specs::Verdicts::of_word))]
 fn of_word<'a>(
     alloc: Global,
     built_ins: &IndexMap<String, OptionKind>,
     declared: &Declared,
+    number: usize,
     word: &'a str,
 ) -> Result<Verdict<'a>, AllocError>
     requires { AreBuiltIns built_ins.now.entries }
-    ensures { IfOk result (λ v. verdict_in v ≡ of_word (declared_in declared.now) word.now) }
+    ensures { IfOk result (λ v. verdict_in v ≡ of_word (declared_in declared.now) number word.now) }
 {
+    let this_word = Place::CommandLine(number);
     let Some((name, value)) = cut_first(word, '=') else {
-        return Ok(refused(Place::CommandLine, FaultKind::Option));
+        return Ok(refused(this_word, FaultKind::Option));
     };
     match kind_named(built_ins, declared, name) {
         Some(kind) => {
-            let verdict = of_text(alloc, Place::CommandLine, kind, name, value)?;
+            let verdict = of_text(alloc, this_word, kind, name, value)?;
             Ok(verdict)
         }
-        None => Ok(refused(Place::CommandLine, FaultKind::Option)),
+        None => Ok(refused(this_word, FaultKind::Option)),
     }
 }
 
 /// All words of the command line.
+#[tactic(auto, unfolding(crate::specs::Verdicts::of_words))]
 pub fn take_words(
     alloc: Global,
     state: &mut State,
@@ -220,10 +223,10 @@ pub fn take_words(
     words: &[String],
 ) -> Result<(), AllocError>
     requires { AreBuiltIns built_ins.now.entries }
-    ensures { OnOk result (state_in state.new ≡ fold next (state_in state.old) (map (of_word (declared_in declared.now)) (strings_in words.now))) }
+    ensures { OnOk result (state_in state.new ≡ fold next (state_in state.old) (of_words (declared_in declared.now) 1 (strings_in words.now))) }
 {
-    for word in words {
-        let verdict = of_word(alloc, built_ins, declared, word.as_str())?;
+    for (i, word) in words.iter().enumerate() {
+        let verdict = of_word(alloc, built_ins, declared, i + 1, word.as_str())?;
         state.next(alloc, verdict)?;
     }
     Ok(())

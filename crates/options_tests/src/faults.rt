@@ -44,7 +44,7 @@ const PLACES: &[PlacesRow] = &[
         "n",
         "project E23",
     ),
-    (&[], "", &["n=8"], "n", "word E15"),
+    (&[], "", &["n=8"], "n", "word:1 E15"),
 ];
 
 // The values of a place stand in an order, too.
@@ -63,8 +63,8 @@ const VALUES: &[PlacesRow] = &[
         "n",
         "project E15",
     ),
-    (&[], "", &["default_library=both", "n=6"], "n", "word E23"),
-    (&[], "", &["n=6", "default_library=both"], "n", "word E15"),
+    (&[], "", &["default_library=both", "n=6"], "n", "word:1 E23"),
+    (&[], "", &["n=6", "default_library=both"], "n", "word:1 E15"),
     (
         &[],
         "[project options]\nn = 6\n[built-in options]\ndefault_library = 'both'",
@@ -99,7 +99,7 @@ const FOLLOWED: &[PlacesRow] = &[
         "n",
         "machine:2 E15",
     ),
-    (&[], "", &["n=6", "n=5"], "n", "word E15"),
+    (&[], "", &["n=6", "n=5"], "n", "word:1 E15"),
     (
         &["n=1"],
         "[project options]\nn = 2",
@@ -114,11 +114,11 @@ const TEXTS: &[PlacesRow] = &[
     (&["n"], "", &[], "n", "project E15"),
     (&["zz=1", "n"], "", &[], "n", "zz? project E15"),
     (&[""], "", &[], "n", "project E15"),
-    (&[], "", &[""], "n", "word E15"),
-    (&[], "", &["n=5", "n"], "n", "word E15"),
-    (&[], "", &["n=5", "zz=1"], "n", "word E15"),
-    (&[], "", &["=1"], "n", "word E15"),
-    (&[], "", &["n=9223372036854775808"], "n", "word E15"),
+    (&[], "", &[""], "n", "word:1 E15"),
+    (&[], "", &["n=5", "n"], "n", "word:2 E15"),
+    (&[], "", &["n=5", "zz=1"], "n", "word:2 E15"),
+    (&[], "", &["=1"], "n", "word:1 E15"),
+    (&[], "", &["n=9223372036854775808"], "n", "word:1 E15"),
 ];
 
 #[test]

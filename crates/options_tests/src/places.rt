@@ -36,7 +36,7 @@ const MODES: &[PlacesRow] = &[
         "mode",
         "text safe",
     ),
-    (&["mode=safe"], MACHINE, &["mode=odd"], "mode", "word E15"),
+    (&["mode=safe"], MACHINE, &["mode=odd"], "mode", "word:1 E15"),
 ];
 
 // Names in `default_options` that no option has, up to the first fault.
@@ -65,7 +65,7 @@ const NAMES: &[PlacesRow] = &[
         "mode",
         "zz? machine:2 E15",
     ),
-    (&["zz=1"], "", &["zz=1"], "mode", "zz? word E15"),
+    (&["zz=1"], "", &["zz=1"], "mode", "zz? word:1 E15"),
 ];
 
 // None where the option file has a fault.
@@ -93,24 +93,24 @@ const WORDS: &[Row] = &[
     ("s=", "s", "text "),
     ("s=a=b", "s", "text a=b"),
     ("s=['a']", "s", "text ['a']"),
-    ("s =a", "s", "word E15"),
-    (" s=a", "s", "word E15"),
+    ("s =a", "s", "word:1 E15"),
+    (" s=a", "s", "word:1 E15"),
     ("b=false", "b", "boolean false"),
-    ("b=False", "b", "word E15"),
+    ("b=False", "b", "word:1 E15"),
     ("n=-5", "n", "integer -5"),
-    ("n=-6", "n", "word E15"),
+    ("n=-6", "n", "word:1 E15"),
     ("n=9223372036854775807", "n", "integer 9223372036854775807"),
-    ("n=9223372036854775808", "n", "word E15"),
-    ("n=0x10", "n", "word E15"),
+    ("n=9223372036854775808", "n", "word:1 E15"),
+    ("n=0x10", "n", "word:1 E15"),
     ("a=x, z", "a", "array <x> <z>"),
     ("a=['z', 'z']", "a", "array <z> <z>"),
     ("a=", "a", "array"),
-    ("a=x,w", "a", "word E15"),
+    ("a=x,w", "a", "word:1 E15"),
     ("l=a b, 'c'", "l", "array <a b> <'c'>"),
     ("l=['a,b', ' c']", "l", "array <a,b> < c>"),
-    ("l=[1]", "l", "word E15"),
+    ("l=[1]", "l", "word:1 E15"),
     ("f=disabled", "f", "disabled"),
-    ("f=true", "f", "word E15"),
+    ("f=true", "f", "word:1 E15"),
 ];
 
 const DEFAULTS: &[Row] = &[

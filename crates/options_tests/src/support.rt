@@ -52,7 +52,7 @@ fn shown_fault(alloc: Global, fault: &OptionFault) -> Result<String, AllocError>
         Place::Declared(line) => format!(in alloc; "declared:{line} {number}"),
         Place::Project => format!(in alloc; "project {number}"),
         Place::MachineFile(line) => format!(in alloc; "machine:{line} {number}"),
-        Place::CommandLine => format!(in alloc; "word {number}"),
+        Place::CommandLine(word) => format!(in alloc; "word:{word} {number}"),
     }
 }
 

@@ -4,7 +4,7 @@ use Rattle.machine.specs.View.{machine_in}
 use Rattle.option_file.specs.View.{options_in}
 use Rattle.option_values.specs.View.{strings_in}
 use Rattle.options.specs.Resolves.{State, next, at_first, resolution_of, resolved}
-use Rattle.options.specs.Verdicts.{of_declaration, of_project_default, of_section, of_word}
+use Rattle.options.specs.Verdicts.{of_declaration, of_project_default, of_section, of_words}
 use Rattle.options.proofs.Folds.{in_turn}
 use Rattle.options.proofs.resolution.resolve.Goals as goal
 
@@ -15,7 +15,7 @@ returns c =
     let l = map of_declaration ds in
     let d = map (of_project_default ds) (strings_in c.args.defaults.now) in
     let m = flat_map (of_section ds) (machine_in c.args.machine.now) in
-    let w = map (of_word ds) (strings_in c.args.words.now) in
+    let w = of_words ds 1 (strings_in c.args.words.now) in
     c.in_ok-resolved.ensures ∙ ap resolution_of (
     c.in_ok-take_words.ensures
     ∙ ap (λ (s : State). fold next s w) (c.in_ok-take_machine.ensures
