@@ -1,0 +1,52 @@
+//! Files and words of so many items.
+
+use anyhow::Result;
+use std::alloc::Global;
+
+/// An option file of so many options.
+pub fn option_file(alloc: Global, count: usize) -> Result<String> {
+    let mut text = String::new(alloc);
+    for i in 0..count {
+        let line = format!(in alloc; "option('option{i}', type: 'string', value: 'default')\n")?;
+        text.push_str(line.as_str())?;
+    }
+    Ok(text)
+}
+
+/// A machine file that gives so many options values.
+pub fn keys(alloc: Global, count: usize) -> Result<String> {
+    let mut text = String::from_str(alloc, "[project options]\n")?;
+    for i in 0..count {
+        let line = format!(in alloc; "option{i} = 'key'\n")?;
+        text.push_str(line.as_str())?;
+    }
+    Ok(text)
+}
+
+/// A machine file with so many dependencies.
+pub fn sections(alloc: Global, count: usize) -> Result<String> {
+    let mut text = String::new(alloc);
+    for i in 0..count {
+        let lines = format!(in alloc; "[dependency d{i}]\nversion = '1'\nlink_args = ['-ld']\n")?;
+        text.push_str(lines.as_str())?;
+    }
+    Ok(text)
+}
+
+/// So many words of a command line, each for an option of its own.
+pub fn words(alloc: Global, count: usize) -> Result<Vec<String>> {
+    let mut all = Vec::new(alloc);
+    for i in 0..count {
+        all.push(format!(in alloc; "option{i}=word")?)?;
+    }
+    Ok(all)
+}
+
+/// The names of so many things.
+pub fn names(alloc: Global, kind: &str, count: usize) -> Result<Vec<String>> {
+    let mut all = Vec::new(alloc);
+    for i in 0..count {
+        all.push(format!(in alloc; "{kind}{i}")?)?;
+    }
+    Ok(all)
+}
