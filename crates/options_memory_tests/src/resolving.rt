@@ -100,7 +100,7 @@ fn refused(alloc: Global) -> Result<bool, AllocError> {
     let Some(Resolved { unknown, outcome }) = with_words(alloc, &["mode=odd"])? else {
         return Ok(false);
     };
-    let (place, kind) = (Place::CommandLine, FaultKind::Option);
+    let (place, kind) = (Place::CommandLine(1), FaultKind::Option);
     match outcome {
         Ok(_) => Ok(false),
         Err(fault) => Ok(are_texts(&unknown, &["zz"]) && fault == OptionFault { place, kind }),
