@@ -53,6 +53,11 @@ fn sign(operator: Operator) -> &'static str {
     }
 }
 
+// A text, and behind it its line.
+fn put_text(alloc: Global, out: &mut String, text: &str, line: usize) -> Result<(), AllocError> {
+    out.push_str(format!(in alloc; "{text}@{line}")?.as_str())
+}
+
 #[cycle(expression)]
 fn put_expression(
     alloc: Global,
@@ -62,52 +67,29 @@ fn put_expression(
     match value {
         Expression::Name { name, line } => put_text(alloc, out, name, *line),
         Expression::Literal { text, line, .. } => put_text(alloc, out, text, *line),
-        Expression::List { items, line } => {
-            out.push_str("[")?;
-            put_expressions(alloc, out, items)?;
-            put_text(alloc, out, "]", *line)
-        }
-        Expression::Dictionary { entries, line } => {
-            out.push_str("{")?;
-            put_entries(alloc, out, entries)?;
-            put_text(alloc, out, "}", *line)
-        }
+        Expression::List { items, line } => put_list(alloc, out, items, *line),
+        Expression::Dictionary { entries, line } => put_dictionary(alloc, out, entries, *line),
         Expression::Call {
             name,
             arguments,
             line,
-        } => {
-            out.push_str(name)?;
-            put_arguments(alloc, out, arguments)?;
-            put_text(alloc, out, "", *line)
-        }
+        } => put_call(alloc, out, name, arguments, *line),
         Expression::Postfix { first, links, line } => {
-            out.push_str("(")?;
-            put_expression(alloc, out, first)?;
-            put_links(alloc, out, links)?;
-            put_text(alloc, out, ")", *line)
+            put_behind(alloc, out, "(", first)?;
+            put_links(alloc, out, links, *line)
         }
         Expression::Prefix {
             prefix,
             value,
             line,
-        } => {
-            out.push_str(match prefix {
-                Prefix::Not => "(not ",
-                Prefix::Negative => "(- ",
-            })?;
-            put_expression(alloc, out, value)?;
-            put_text(alloc, out, ")", *line)
-        }
+        } => put_prefix(alloc, out, *prefix, value, *line),
         Expression::Chain {
             first,
             others,
             line,
         } => {
-            out.push_str("(")?;
-            put_expression(alloc, out, first)?;
-            put_operands(alloc, out, others)?;
-            put_text(alloc, out, ")", *line)
+            put_behind(alloc, out, "(", first)?;
+            put_operands(alloc, out, others, *line)
         }
         Expression::Choice {
             test,
@@ -115,55 +97,76 @@ fn put_expression(
             no,
             line,
         } => {
-            out.push_str("(")?;
-            put_expression(alloc, out, test)?;
-            out.push_str(" ? ")?;
-            put_expression(alloc, out, yes)?;
-            out.push_str(" : ")?;
-            put_expression(alloc, out, no)?;
+            put_behind(alloc, out, "(", test)?;
+            put_behind(alloc, out, " ? ", yes)?;
+            put_behind(alloc, out, " : ", no)?;
             put_text(alloc, out, ")", *line)
         }
     }
 }
 
-// A text, and behind it its line.
-fn put_text(alloc: Global, out: &mut String, text: &str, line: usize) -> Result<(), AllocError> {
-    out.push_str(format!(in alloc; "{text}@{line}")?.as_str())
+// A text, and behind it an expression.
+#[cycle(expression)]
+fn put_behind(
+    alloc: Global,
+    out: &mut String,
+    text: &str,
+    value: &Expression<'_>,
+) -> Result<(), AllocError> {
+    out.push_str(text)?;
+    put_expression(alloc, out, value)
 }
 
 #[cycle(expression)]
-fn put_expressions(
+fn put_list(
     alloc: Global,
     out: &mut String,
-    items: &Vec<Expression<'_>>,
+    items: &[Expression<'_>],
+    line: usize,
 ) -> Result<(), AllocError> {
+    out.push_str("[")?;
     for item in items {
         put_expression(alloc, out, item)?;
         out.push_str(",")?;
     }
-    Ok(())
+    put_text(alloc, out, "]", line)
 }
 
 #[cycle(expression)]
-fn put_entries(
+fn put_dictionary(
     alloc: Global,
     out: &mut String,
-    entries: &Vec<Entry<'_>>,
+    entries: &[Entry<'_>],
+    line: usize,
 ) -> Result<(), AllocError> {
+    out.push_str("{")?;
     for entry in entries {
         put_expression(alloc, out, &entry.key)?;
         out.push_str(":")?;
         put_expression(alloc, out, &entry.value)?;
         out.push_str(",")?;
     }
-    Ok(())
+    put_text(alloc, out, "}", line)
+}
+
+#[cycle(expression)]
+fn put_call(
+    alloc: Global,
+    out: &mut String,
+    name: &str,
+    arguments: &[Argument<'_>],
+    line: usize,
+) -> Result<(), AllocError> {
+    out.push_str(name)?;
+    put_arguments(alloc, out, arguments)?;
+    put_text(alloc, out, "", line)
 }
 
 #[cycle(expression)]
 fn put_arguments(
     alloc: Global,
     out: &mut String,
-    arguments: &Vec<Argument<'_>>,
+    arguments: &[Argument<'_>],
 ) -> Result<(), AllocError> {
     out.push_str("(")?;
     for argument in arguments {
@@ -177,8 +180,14 @@ fn put_arguments(
     out.push_str(")")
 }
 
+// What is asked of a value, and the bracket behind it.
 #[cycle(expression)]
-fn put_links(alloc: Global, out: &mut String, links: &Vec<Link<'_>>) -> Result<(), AllocError> {
+fn put_links(
+    alloc: Global,
+    out: &mut String,
+    links: &[Link<'_>],
+    line: usize,
+) -> Result<(), AllocError> {
     for link in links {
         match link {
             Link::Method { name, arguments } => {
@@ -187,26 +196,43 @@ fn put_links(alloc: Global, out: &mut String, links: &Vec<Link<'_>>) -> Result<(
                 put_arguments(alloc, out, arguments)?;
             }
             Link::Index { index } => {
-                out.push_str("[")?;
-                put_expression(alloc, out, index)?;
+                put_behind(alloc, out, "[", index)?;
                 out.push_str("]")?;
             }
         }
     }
-    Ok(())
+    put_text(alloc, out, ")", line)
 }
 
+#[cycle(expression)]
+fn put_prefix(
+    alloc: Global,
+    out: &mut String,
+    prefix: Prefix,
+    value: &Expression<'_>,
+    line: usize,
+) -> Result<(), AllocError> {
+    out.push_str(match prefix {
+        Prefix::Not => "(not ",
+        Prefix::Negative => "(- ",
+    })?;
+    put_expression(alloc, out, value)?;
+    put_text(alloc, out, ")", line)
+}
+
+// The operators of a chain with their values, and the bracket behind them.
 #[cycle(expression)]
 fn put_operands(
     alloc: Global,
     out: &mut String,
-    others: &Vec<Operand<'_>>,
+    others: &[Operand<'_>],
+    line: usize,
 ) -> Result<(), AllocError> {
     for other in others {
         out.push_str(format!(in alloc; " {} ", sign(other.operator))?.as_str())?;
         put_expression(alloc, out, &other.value)?;
     }
-    Ok(())
+    put_text(alloc, out, ")", line)
 }
 
 // A line in brackets and an expression.
@@ -254,14 +280,20 @@ fn put_statements(
     Ok(())
 }
 
+// The line of a statement, and how it begins.
+fn put_start(alloc: Global, out: &mut String, line: usize, text: &str) -> Result<(), AllocError> {
+    out.push_str(format!(in alloc; "{line} {text}")?.as_str())
+}
+
 fn put_set(
     alloc: Global,
     out: &mut String,
     line: usize,
-    target: &str,
+    name: &str,
+    sign: &str,
     value: &Expression<'_>,
 ) -> Result<(), AllocError> {
-    out.push_str(format!(in alloc; "{line} {target} ")?.as_str())?;
+    out.push_str(format!(in alloc; "{line} {name} {sign} ")?.as_str())?;
     put_expression(alloc, out, value)
 }
 
@@ -272,38 +304,20 @@ fn put_statement(
     statement: &Statement<'_>,
 ) -> Result<(), AllocError> {
     match statement {
-        Statement::Assign { name, line, value } => {
-            put_set(
-                alloc,
-                out,
-                *line,
-                format!(in alloc; "{name} =")?.as_str(),
-                value,
-            )
-        }
-        Statement::Append { name, line, value } => {
-            put_set(
-                alloc,
-                out,
-                *line,
-                format!(in alloc; "{name} +=")?.as_str(),
-                value,
-            )
-        }
+        Statement::Assign { name, line, value } => put_set(alloc, out, *line, name, "=", value),
+        Statement::Append { name, line, value } => put_set(alloc, out, *line, name, "+=", value),
         Statement::Expression { value, line } => {
-            out.push_str(format!(in alloc; "{line} ")?.as_str())?;
+            put_start(alloc, out, *line, "")?;
             put_expression(alloc, out, value)
         }
-        Statement::Break { line } => out.push_str(format!(in alloc; "{line} break")?.as_str()),
-        Statement::Continue { line } => out.push_str(format!(in alloc;
-            "{line} continue"
-        )?.as_str()),
+        Statement::Break { line } => put_start(alloc, out, *line, "break"),
+        Statement::Continue { line } => put_start(alloc, out, *line, "continue"),
         Statement::If {
             line,
             branches,
             otherwise,
         } => {
-            out.push_str(format!(in alloc; "{line} if")?.as_str())?;
+            put_start(alloc, out, *line, "if")?;
             put_branches(alloc, out, branches)?;
             out.push_str(" else")?;
             put_body(alloc, out, otherwise)
