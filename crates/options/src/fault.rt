@@ -22,7 +22,7 @@ pub enum Place {
     Project,
     /// This line, from 1, of the machine file.
     MachineFile(usize),
-    /// This word, from 1, of the command line.
+    /// The word with this number, from 1, among those of the command line that give options values.
     CommandLine(usize),
 }
 
