@@ -73,7 +73,7 @@ fn shown(alloc: Global, name: &str, declaration: &Declaration) -> Result<String,
 }
 
 // What the file declares, option by option, or the number of its fault and the line.
-pub fn read(alloc: Global, source: &str) -> Result<String, AllocError> {
+fn read(alloc: Global, source: &str) -> Result<String, AllocError> {
     let file = match parse(alloc, source) {
         Ok(file) => file,
         Err(SyntaxError::Memory) => return Err(AllocError),

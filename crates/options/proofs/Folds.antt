@@ -7,19 +7,11 @@ use Rattle.std.proofs.lemmas.Grind.{flat_map-append}
 use Rattle.std.proofs.lemmas.Option.{get_or_from_slice_get, slice_get_within, slice_get-get_or}
 use Rattle.std.specs.declared.alloc.Global.{Global}
 use Rattle.option_values.specs.View.{strings_in}
-use Rattle.options.specs.Resolves.{State, next}
 use Rattle.option_file.specs.Declarations.{Declaration}
+use Rattle.options.specs.Resolves.{State, next}
 use Rattle.options.specs.Verdicts.{Verdict, of_word, of_words}
 
 -- one more of the things that are taken by a step each
-pub fold_more_at : {A B C : Type 0} (step : C → B → C) (f : A → B) (s : C) (xs : List A) (i : ℕ) (x : A) → i < length xs → x ≡ get_or xs i x
-    → fold step s (map f (take (i + 1) xs)) ≡ step (fold step s (map f (take i xs))) (f x)
-fold_more_at step f s xs i x lt e =
-    ap (λ ys. fold step s (map f ys)) (take_more xs i x lt)
-    ∙ ap (fold step s) (map-append f (take i xs) (get_or xs i x ∷ []))
-    ∙ fold-append step s (map f (take i xs)) (f (get_or xs i x) ∷ [])
-    ∙ ap (λ y. step (fold step s (map f (take i xs))) (f y)) (sym e)
-
 pub step_more : {A B C : Type 0} (step : C → B → C) (f : A → B) (s before after : C) (xs : List A) (i : ℕ) (d : A) → after ≡ step before (f (get_or xs i d))
     → before ≡ fold step s (map f (take i xs)) → i < length xs → after ≡ fold step s (map f (take (i + 1) xs))
 step_more step f s before after xs i d e b lt =
