@@ -8,6 +8,7 @@ pub mod Frames
 pub mod Gaps
 pub mod Lexemes
 pub mod Named
+pub mod Numerals
 pub mod Runs
 pub mod Spans
 pub mod Stands

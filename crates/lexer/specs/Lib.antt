@@ -5,6 +5,7 @@ pub mod Kinds
 pub mod Lexeme
 pub mod Lexing
 pub mod Numbers
+pub mod Numerals
 pub mod Texts
 pub mod Tokens
 pub mod Answers

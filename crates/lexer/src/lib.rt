@@ -1,8 +1,8 @@
 //! The tokens of Meson definition files.
 //!
 //! [`tokens`] cuts a source into its tokens, or refuses it with a [`fault::SyntaxFault`], which names what is wrong and the
-//! line. [`text_of`] gives what a token stands for: a string's text after its escapes. The language is that of the Meson
-//! manual's page "Syntax".
+//! line. [`text_of`] gives what a token stands for: a string's text after its escapes; [`magnitude`] gives the number of a number
+//! token. The language is that of the Meson manual's page "Syntax".
 #![tactic(auto)]
 
 mod bytes;
@@ -11,6 +11,7 @@ mod escape;
 pub mod fault;
 mod gap;
 mod number;
+mod numeral;
 mod string;
 mod symbol;
 mod text;
@@ -19,4 +20,5 @@ mod word;
 
 pub use bytes::newlines;
 pub use cut::tokens;
+pub use numeral::magnitude;
 pub use text::text_of;

@@ -1,6 +1,5 @@
 pub mod Cutting
 pub mod Trimming
-pub mod Digits
 pub mod Items
 pub mod Entries
 pub mod Forms
@@ -8,3 +7,4 @@ pub mod Said
 pub mod SaysLemmas
 pub mod FirstBad
 pub mod Looking
+pub mod Ranges

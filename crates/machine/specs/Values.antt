@@ -7,7 +7,8 @@ use Rattle.lexer.specs.Kinds.{is}
 use Rattle.lexer.specs.Lexeme.{Lexeme}
 use Rattle.lexer.specs.Lexing.{lexed}
 use Rattle.lexer.specs.Texts.{text_of}
-use Rattle.machine.specs.Numbers.{magnitude, integer_of}
+use Rattle.lexer.specs.Numerals.{magnitude}
+use Rattle.machine.specs.Numbers.{integer_of}
 
 -- a value of a machine file
 pub data Value : Type 0 where

@@ -12,5 +12,6 @@ mod text;
 mod value;
 
 pub use machine::{Entry, Machine, Section};
+pub use number::integer_of;
 pub use text::cut_first;
 pub use value::{MachineValue, read_value};

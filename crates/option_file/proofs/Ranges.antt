@@ -1,20 +1,12 @@
 -- Numbers that are out of range.
 use Rattle.std.proofs.Common.{◌≡◌, ℕ, ◌<◌, ◌≤◌, ◌^◌, Bool, true, false, List, Some, None, ap, arith}
-use Rattle.std.specs.Prelude.{nat_lt, nat_le, if◌then◌else◌}
+use Rattle.std.specs.Prelude.{nat_lt, if◌then◌else◌}
 use Rattle.std.specs.Option.{option_map}
 use Rattle.std.proofs.lemmas.Bool.Decides.{nat_tests}
-use Rattle.machine.specs.Numbers.{greatest, magnitude, signed, integer_of}
+use Rattle.lexer.specs.Numerals.{magnitude}
+use Rattle.machine.specs.Numbers.{integer_of}
 use Rattle.option_file.specs.Given.{integer, numeral}
 use Rattle.option_file.specs.Numbers.{past_integers, number_of}
-
-past : (negative : Bool) (n : ℕ) → 2 ^ 64 ≤ n → nat_le n (greatest negative) ≡ false
-unfolding greatest
-past true n h = grind (arith, nat_tests)
-past false n h = grind (arith, nat_tests)
-
--- no 64 bits hold it
-pub past_64 : (negative : Bool) (n : ℕ) → 2 ^ 64 ≤ n → integer_of negative n ≡ None
-past_64 negative n h = ap (λ (b : Bool). if b then Some (signed negative n) else None) (past negative n h)
 
 pub past_128 : (negative : Bool) (digits : List ℕ) → 2 ^ 127 ≤ magnitude digits → numeral negative digits ≡ None
 unfolding past_integers number_of

@@ -9,7 +9,8 @@ use Rattle.std.specs.declared.alloc.Global.{Global}
 use Rattle.option_values.specs.View.{strings_in}
 use Rattle.option_file.specs.Declarations.{Declaration}
 use Rattle.options.specs.Resolves.{State, next}
-use Rattle.options.specs.Verdicts.{Verdict, of_word, of_words}
+use Rattle.options.specs.declared.fault.Place.TheVariants.{CommandLine}
+use Rattle.options.specs.Verdicts.{Verdict, of_assignment, of_words}
 
 -- one more of the things that are taken by a step each
 pub step_more : {A B C : Type 0} (step : C → B → C) (f : A → B) (s before after : C) (xs : List A) (i : ℕ) (d : A) → after ≡ step before (f (get_or xs i d))
@@ -37,11 +38,11 @@ unfolding of_words
 of_words-append ds n [] ys = let e : n ≡ n + length {A = List ℕ} [] = omega arith in ap (λ k. of_words ds k ys) e
 of_words-append ds n (x ∷ xs) ys =
     let e : n + 1 + length xs ≡ n + length (x ∷ xs) = omega arith in
-    ap (λ vs. of_word ds n x ∷ vs) (of_words-append ds (n + 1) xs ys ∙ ap (λ k. of_words ds (n + 1) xs ++ of_words ds k ys) e)
+    ap (λ vs. of_assignment ds (CommandLine n) x ∷ vs) (of_words-append ds (n + 1) xs ys ∙ ap (λ k. of_words ds (n + 1) xs ++ of_words ds k ys) e)
 
 -- one more of the words
 pub fold_word_at : (ds : List Declaration) (s : State) (xs : List (String Global)) (i : ℕ) (x : String Global) → i < length xs → x ≡ get_or xs i x
-    → fold next s (of_words ds 1 (strings_in (take (i + 1) xs))) ≡ next (fold next s (of_words ds 1 (strings_in (take i xs)))) (of_word ds (i + 1) (string_bytes x))
+    → fold next s (of_words ds 1 (strings_in (take (i + 1) xs))) ≡ next (fold next s (of_words ds 1 (strings_in (take i xs)))) (of_assignment ds (CommandLine (i + 1)) (string_bytes x))
 unfolding of_words
 fold_word_at ds s xs i x lt e =
     let before = strings_in (take i xs) in
@@ -50,8 +51,8 @@ fold_word_at ds s xs i x lt e =
     ∙ ap (λ ys. fold next s (of_words ds 1 ys)) (map-append string_bytes (take i xs) (get_or xs i x ∷ []))
     ∙ ap (fold next s) (of_words-append ds 1 before (last ∷ []))
     ∙ fold-append next s (of_words ds 1 before) (of_words ds (1 + length before) (last ∷ []))
-    ∙ ap (λ k. next (fold next s (of_words ds 1 before)) (of_word ds k last)) number
-    ∙ ap (λ (y : String Global). next (fold next s (of_words ds 1 before)) (of_word ds (i + 1) (string_bytes y))) (sym e)
+    ∙ ap (λ k. next (fold next s (of_words ds 1 before)) (of_assignment ds (CommandLine k) last)) number
+    ∙ ap (λ (y : String Global). next (fold next s (of_words ds 1 before)) (of_assignment ds (CommandLine (i + 1)) (string_bytes y))) (sym e)
   where
     number : 1 + length (strings_in (take i xs)) ≡ i + 1
     number = omega (arith, length-map (take i xs) string_bytes, length-take-le i xs (omega (arith, lt)))

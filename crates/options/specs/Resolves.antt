@@ -8,7 +8,8 @@ use Rattle.option_file.specs.Declarations.{Declaration}
 use Rattle.options.specs.declared.fault.OptionFault.{OptionFault}
 use Rattle.options.specs.Settings.{Setting, put, setting_named}
 use Rattle.options.specs.BuiltIns.{built_in_settings}
-use Rattle.options.specs.Verdicts.{Verdict, Sets, Warns, Refuses, of_declaration, of_project_default, of_section, of_words}
+use Rattle.options.specs.declared.fault.Place.TheVariants.{Project}
+use Rattle.options.specs.Verdicts.{Verdict, Sets, Warns, Refuses, of_declaration, of_assignment, of_section, of_words}
 use Rattle.options.specs.FillIns.{filled_in}
 
 -- what is known after some values: the names of no option so far, the options, and the first fault
@@ -35,7 +36,7 @@ next s v = unless_fault s.fault s v
 abbrev pub verdicts : List Declaration → List (List ℕ) → List machine.Section → List (List ℕ) → List Verdict
 verdicts ds defaults sections words =
     map of_declaration ds
-    ++ (map (of_project_default ds) defaults ++ (flat_map (of_section ds) sections ++ of_words ds 1 words))
+    ++ (map (of_assignment ds Project) defaults ++ (flat_map (of_section ds) sections ++ of_words ds 1 words))
 
 -- every option that a project has anyway, and no value
 unfoldable pub at_first : State

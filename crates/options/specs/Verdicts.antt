@@ -64,39 +64,39 @@ is_both name _ = false
 abbrev pub refusal : List ℕ → written.Value → FaultKind
 refusal name what = if is_both name what then faults.NotYet else faults.Option
 
-abbrev pub of_value : Place → List ℕ → written.Value → Option Value → Verdict
-of_value place name what None = refused place (refusal name what)
-of_value place name what (Some v) = Sets (record { name = name; value = v; given = true })
+-- a place gives an option a value, or something that is none
+abbrev pub of_value : Place → List ℕ → FaultKind → Option Value → Verdict
+of_value place name otherwise None = refused place otherwise
+of_value place name otherwise (Some v) = Sets (record { name = name; value = v; given = true })
 
 -- a place gives an option of this kind what is written there
 unfoldable pub of_kind : Place → List ℕ → written.Value → Kind → Verdict
-of_kind place name what kind = of_value place name what (value_of_given kind what)
+of_kind place name what kind = of_value place name (refusal name what) (value_of_given kind what)
 
--- the same, where there is such an option
-abbrev pub of_known : Verdict → Place → List ℕ → written.Value → Option Kind → Verdict
-of_known unknown place name what None = unknown
-of_known unknown place name what (Some kind) = of_kind place name what kind
+-- a place gives a value to a name that no option has: `default_options` alone may do so
+abbrev pub unknown_at : Place → List ℕ → Verdict
+unknown_at (Declared line) name = refused (Declared line) faults.Option
+unknown_at Project name = Warns name
+unknown_at (MachineFile line) name = refused (MachineFile line) faults.Option
+unknown_at (CommandLine number) name = refused (CommandLine number) faults.Option
 
-abbrev pub of_default_parts : List Declaration → Option Parts → Verdict
-of_default_parts ds None = refused Project faults.Option
-of_default_parts ds (Some parts) = of_known (Warns parts.0) Project parts.0 (written.Text parts.1) (kind_named ds parts.0)
+-- a place gives the option of a name a value, if there is such an option
+abbrev pub of_named : Place → List ℕ → written.Value → Option Kind → Verdict
+of_named place name what None = unknown_at place name
+of_named place name what (Some kind) = of_kind place name what kind
 
--- a text of `default_options` is a name and a value behind its first `=`. It may have the name of no option
-unfoldable pub of_project_default : List Declaration → List ℕ → Verdict
-of_project_default ds text = of_default_parts ds (cut_first equals text)
+abbrev pub of_parts : List Declaration → Place → Option Parts → Verdict
+of_parts ds place None = refused place faults.Option
+of_parts ds place (Some parts) = of_named place parts.0 (written.Text parts.1) (kind_named ds parts.0)
 
-abbrev pub of_word_parts : List Declaration → Place → Option Parts → Verdict
-of_word_parts ds place None = refused place faults.Option
-of_word_parts ds place (Some parts) = of_known (refused place faults.Option) place parts.0 (written.Text parts.1) (kind_named ds parts.0)
-
--- the word of the command line with this number is the same, but it has the name of an option
-unfoldable pub of_word : List Declaration → ℕ → List ℕ → Verdict
-of_word ds number text = of_word_parts ds (CommandLine number) (cut_first equals text)
+-- a text of `default_options` and a word of the command line are a name and a value behind the first `=`
+unfoldable pub of_assignment : List Declaration → Place → List ℕ → Verdict
+of_assignment ds place text = of_parts ds place (cut_first equals text)
 
 -- words of the command line, of which the first has this number
 unfoldable pub of_words : List Declaration → ℕ → List (List ℕ) → List Verdict
 of_words ds number [] = []
-of_words ds number (word ∷ words) = of_word ds number word ∷ of_words ds (number + 1) words
+of_words ds number (word ∷ words) = of_assignment ds (CommandLine number) word ∷ of_words ds (number + 1) words
 
 -- the sections of the machine file that give options values: each knows the options that are built in, or those that are declared
 abbrev pub scope_of : List ℕ → Option Scope
@@ -111,8 +111,7 @@ kind_in_scope OfProject ds name = declared_kind ds name
 
 -- a key of the machine file has the name of an option that its section knows
 unfoldable pub of_entry : List Declaration → Scope → machine.Entry → Verdict
-of_entry ds scope e =
-    of_known (refused (MachineFile e.line) faults.Option) (MachineFile e.line) e.key e.value (kind_in_scope scope ds e.key)
+of_entry ds scope e = of_named (MachineFile e.line) e.key e.value (kind_in_scope scope ds e.key)
 
 abbrev pub of_entries : List Declaration → List machine.Entry → Option Scope → List Verdict
 of_entries ds entries None = []

@@ -6,7 +6,7 @@ ghost use Rattle.machine.specs.View.{machine_in, entries_of};
 ghost use Rattle.option_file.specs.View.{options_in as declared_in, option_in};
 ghost use Rattle.option_values.specs.View.{strings_in};
 ghost use Rattle.options.specs.Resolves.{next};
-ghost use Rattle.options.specs.Verdicts.{of_declaration, of_project_default, of_word, of_words, of_entry, of_section};
+ghost use Rattle.options.specs.Verdicts.{of_declaration, of_assignment, of_words, of_entry, of_section};
 ghost use Rattle.options.specs.View.{AreBuiltIns, verdict_in, state_in, key_in};
 
 use crate::default::default_of;
@@ -14,7 +14,7 @@ use crate::fault::{FaultKind, Place};
 use crate::known::{Scope, kind_in_scope, kind_named, scope_of};
 use crate::settings::Setting;
 use crate::state::State;
-use crate::verdict::{Verdict, of_key, of_text, refused};
+use crate::verdict::{Verdict, of_key, of_text, refused, unknown};
 use indexmap::IndexMap;
 use machine::{Entry, Machine, Section, cut_first};
 use option_file::{Declaration, Declared};
@@ -60,26 +60,27 @@ pub fn take_declarations(
     Ok(())
 }
 
-// A text of `default_options` is a name and a value behind its first `=`.
-#[tactic(auto, unfolding(crate::specs::Verdicts::of_project_default))]
-fn of_project_default<'a>(
+// A text of `default_options` and a word of the command line are a name and a value behind the first `=`.
+#[tactic(auto, unfolding(crate::specs::Verdicts::of_assignment))]
+fn of_assignment<'a>(
     alloc: Global,
     built_ins: &IndexMap<String, OptionKind>,
     declared: &Declared,
+    place: Place,
     text: &'a str,
 ) -> Result<Verdict<'a>, AllocError>
     requires { AreBuiltIns built_ins.now.entries }
-    ensures { IfOk result (λ v. verdict_in v ≡ of_project_default (declared_in declared.now) text.now) }
+    ensures { IfOk result (λ v. verdict_in v ≡ of_assignment (declared_in declared.now) place text.now) }
 {
     let Some((name, value)) = cut_first(text, '=') else {
-        return Ok(refused(Place::Project, FaultKind::Option));
+        return Ok(refused(place, FaultKind::Option));
     };
     match kind_named(built_ins, declared, name) {
         Some(kind) => {
-            let verdict = of_text(alloc, Place::Project, kind, name, value)?;
+            let verdict = of_text(alloc, place, kind, name, value)?;
             Ok(verdict)
         }
-        None => Ok(Verdict::Warns(name)),
+        None => Ok(unknown(place, name)),
     }
 }
 
@@ -92,10 +93,10 @@ pub fn take_defaults(
     defaults: &[String],
 ) -> Result<(), AllocError>
     requires { AreBuiltIns built_ins.now.entries }
-    ensures { OnOk result (state_in state.new ≡ fold next (state_in state.old) (map (of_project_default (declared_in declared.now)) (strings_in defaults.now))) }
+    ensures { OnOk result (state_in state.new ≡ fold next (state_in state.old) (map (of_assignment (declared_in declared.now) Place.Project) (strings_in defaults.now))) }
 {
     for text in defaults {
-        let verdict = of_project_default(alloc, built_ins, declared, text.as_str())?;
+        let verdict = of_assignment(alloc, built_ins, declared, Place::Project, text.as_str())?;
         state.next(alloc, verdict)?;
     }
     Ok(())
@@ -120,7 +121,7 @@ fn of_entry<'a>(
             let verdict = of_key(alloc, place, kind, key, &entry.value)?;
             Ok(verdict)
         }
-        None => Ok(refused(place, FaultKind::Option)),
+        None => Ok(unknown(place, key)),
     }
 }
 
@@ -188,32 +189,7 @@ pub fn take_machine(
     Ok(())
 }
 
-// The word with this number, from 1, of the command line is a name and a value behind its first `=`.
-#[tactic(auto, unfolding(crate::specs::Verdicts::of_word))]
-fn of_word<'a>(
-    alloc: Global,
-    built_ins: &IndexMap<String, OptionKind>,
-    declared: &Declared,
-    number: usize,
-    word: &'a str,
-) -> Result<Verdict<'a>, AllocError>
-    requires { AreBuiltIns built_ins.now.entries }
-    ensures { IfOk result (λ v. verdict_in v ≡ of_word (declared_in declared.now) number word.now) }
-{
-    let this_word = Place::CommandLine(number);
-    let Some((name, value)) = cut_first(word, '=') else {
-        return Ok(refused(this_word, FaultKind::Option));
-    };
-    match kind_named(built_ins, declared, name) {
-        Some(kind) => {
-            let verdict = of_text(alloc, this_word, kind, name, value)?;
-            Ok(verdict)
-        }
-        None => Ok(refused(this_word, FaultKind::Option)),
-    }
-}
-
-/// All words of the command line.
+/// All words of the command line, numbered from 1.
 #[tactic(auto, unfolding(crate::specs::Verdicts::of_words))]
 pub fn take_words(
     alloc: Global,
@@ -226,7 +202,8 @@ pub fn take_words(
     ensures { OnOk result (state_in state.new ≡ fold next (state_in state.old) (of_words (declared_in declared.now) 1 (strings_in words.now))) }
 {
     for (i, word) in words.iter().enumerate() {
-        let verdict = of_word(alloc, built_ins, declared, i + 1, word.as_str())?;
+        let place = Place::CommandLine(i + 1);
+        let verdict = of_assignment(alloc, built_ins, declared, place, word.as_str())?;
         state.next(alloc, verdict)?;
     }
     Ok(())

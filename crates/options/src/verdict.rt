@@ -6,7 +6,7 @@ ghost use Rattle.machine.specs.Values.{Text as TextThere};
 ghost use Rattle.option_values.specs.View.{kind_in, value_in};
 ghost use Rattle.option_values.specs.Values.{Value};
 ghost use Rattle.std.specs.Option.{option_map};
-ghost use Rattle.options.specs.Verdicts.{refused, is_both, refusal, of_value, of_kind};
+ghost use Rattle.options.specs.Verdicts.{refused, unknown_at, is_both, refusal, of_value, of_kind};
 ghost use Rattle.options.specs.View.{verdict_in};
 
 use crate::fault::{FaultKind, OptionFault, Place};
@@ -31,6 +31,18 @@ pub fn refused<'a>(place: Place, kind: FaultKind) -> Verdict<'a>
     ensures { verdict_in result ≡ refused place kind }
 {
     Verdict::Refuses(OptionFault { place, kind })
+}
+
+/// A place gives a value to a name that no option has: `default_options` alone may do so.
+pub fn unknown<'a>(place: Place, name: &'a str) -> Verdict<'a>
+    ensures { verdict_in result ≡ unknown_at place name.now }
+{
+    match place {
+        Place::Project => Verdict::Warns(name),
+        Place::Declared(_) | Place::MachineFile(_) | Place::CommandLine(_) => {
+            refused(place, FaultKind::Option)
+        }
+    }
 }
 
 // Whether this is the value of `default_library` that is left out.
@@ -63,6 +75,21 @@ fn refusal(name: &str, given: &MachineValue) -> FaultKind
     }
 }
 
+// A place gives an option a value, or something that is none.
+fn of_value<'a>(
+    place: Place,
+    name: &'a str,
+    otherwise: FaultKind,
+    value: Option<OptionValue>,
+) -> Verdict<'a>
+    ensures { verdict_in result ≡ of_value place name.now otherwise (option_map value_in value) }
+{
+    match value {
+        Some(value) => Verdict::Sets(name, Setting { value, given: true }),
+        None => refused(place, otherwise),
+    }
+}
+
 /// A place gives an option of this kind a text.
 #[tactic(auto, unfolding(crate::specs::Verdicts::of_kind))]
 pub fn of_text<'a>(
@@ -74,10 +101,8 @@ pub fn of_text<'a>(
 ) -> Result<Verdict<'a>, AllocError>
     ensures { IfOk result (λ v. verdict_in v ≡ of_kind place name.now (TextThere text.now) (kind_in kind.now)) }
 {
-    match value_of_text(alloc, kind, text)? {
-        Some(value) => Ok(Verdict::Sets(name, Setting { value, given: true })),
-        None => Ok(refused(place, refusal_of_text(name, text))),
-    }
+    let value = value_of_text(alloc, kind, text)?;
+    Ok(of_value(place, name, refusal_of_text(name, text), value))
 }
 
 /// A place gives an option of this kind a value of a machine file.
@@ -91,8 +116,6 @@ pub fn of_key<'a>(
 ) -> Result<Verdict<'a>, AllocError>
     ensures { IfOk result (λ v. verdict_in v ≡ of_kind place name.now (machine_value_in given.now) (kind_in kind.now)) }
 {
-    match value_of_given(alloc, kind, given)? {
-        Some(value) => Ok(Verdict::Sets(name, Setting { value, given: true })),
-        None => Ok(refused(place, refusal(name, given))),
-    }
+    let value = value_of_given(alloc, kind, given)?;
+    Ok(of_value(place, name, refusal(name, given), value))
 }

@@ -1,6 +1,6 @@
-use Rattle.std.proofs.Common.{◌≡◌, ◌∙◌, Some, sym, ap, arith}
+use Rattle.std.proofs.Common.{◌∙◌, Some, sym, ap, arith}
 use Rattle.std.specs.Option.{option_map}
-use Rattle.machine.specs.Numbers.{magnitude, integer_of}
+use Rattle.machine.specs.Numbers.{integer_of}
 use Rattle.option_file.specs.Given.{Given, integer}
 use Rattle.option_file.specs.View.{given_in}
 use Rattle.option_file.proofs.Ranges.{past_128, in_128}
@@ -8,15 +8,13 @@ use Rattle.option_file.proofs.number.numeral.Goals as goal
 
 pub returns-in_err-magnitude : goal.returns-in_err-magnitude
 returns-in_err-magnitude c = ap (option_map given_in) c.from_residual.ensures
-    ∙ sym (past_128 c.args.negative c.args.text.now (omega (arith, c.in_err-magnitude.ensures, ap magnitude c.as_bytes.ensures.value)))
+    ∙ sym (past_128 c.args.negative c.args.text.now (omega (arith, c.in_err-magnitude.ensures)))
 
 pub returns-then-magnitude-lt-PAST_INTEGERS : goal.returns-then-magnitude-lt-PAST_INTEGERS
 returns-then-magnitude-lt-PAST_INTEGERS c =
-    let is : c.in_ok-magnitude.magnitude ≡ magnitude c.args.text.now = c.in_ok-magnitude.ensures.1 ∙ ap magnitude c.as_bytes.ensures.value in
-    ap (λ (g : Given). Some g) (c.integer.ensures ∙ ap (λ n. integer (integer_of c.args.negative n)) is)
-    ∙ sym (in_128 c.args.negative c.args.text.now (omega arith))
+    ap (λ (g : Given). Some g) (c.integer.ensures ∙ ap (λ n. integer (integer_of c.args.negative n)) c.in_ok-magnitude.ensures.1)
+    ∙ sym (in_128 c.args.negative c.args.text.now (omega (arith, c.in_ok-magnitude.ensures.1)))
 
 pub returns-else-magnitude-lt-PAST_INTEGERS : goal.returns-else-magnitude-lt-PAST_INTEGERS
 returns-else-magnitude-lt-PAST_INTEGERS c =
-    let is : c.in_ok-magnitude.magnitude ≡ magnitude c.args.text.now = c.in_ok-magnitude.ensures.1 ∙ ap magnitude c.as_bytes.ensures.value in
-    sym (past_128 c.args.negative c.args.text.now (omega arith))
+    sym (past_128 c.args.negative c.args.text.now (omega (arith, c.in_ok-magnitude.ensures.1)))

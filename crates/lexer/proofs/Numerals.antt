@@ -1,8 +1,8 @@
--- Digits and what they spell.
+-- What digits spell.
 use Rattle.std.proofs.Common.{◌≡◌, ℕ, ◌+◌, ◌*◌, ◌<◌, ◌≤◌, List, [], ◌∷◌, length, drop, get_or, refl, sym, ap, ◌∙◌, arith, add-one, length-drop}
 use Rattle.std.proofs.Math.Seq.{drop-cons}
 use Rattle.std.proofs.Math.Nat.{mul-le-mul_left}
-use Rattle.machine.specs.Numbers.{digit, spelled}
+use Rattle.lexer.specs.Numerals.{digit, spelled}
 
 spelled_none : (base n : ℕ) (ds : List ℕ) → length ds ≡ 0 → spelled base n ds ≡ n
 unfolding spelled

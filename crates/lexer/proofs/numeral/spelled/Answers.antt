@@ -1,7 +1,7 @@
 use Rattle.std.proofs.Common.{◌≡◌, ◌∙◌, ◌+◌, ◌*◌, ◌^◌, sym, ap, arith, drop, get_or}
-use Rattle.machine.specs.Numbers.{digit, spelled}
-use Rattle.machine.proofs.Digits.{overflows, spelled-step, spelled-nil}
-use Rattle.option_file.proofs.number.spelled.Goals as goal
+use Rattle.lexer.specs.Numerals.{digit, spelled}
+use Rattle.lexer.proofs.Numerals.{overflows, spelled-step, spelled-nil}
+use Rattle.lexer.proofs.numeral.spelled.Goals as goal
 
 pub returns-in_err-checked_mul : goal.returns-in_err-checked_mul
 returns-in_err-checked_mul c = rw c.from_residual.ensures (λ h.
