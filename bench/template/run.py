@@ -1,5 +1,5 @@
 #!/usr/bin/env python3
-"""Measures how long a template takes: run it in the repository's folder, after `rt run` in crates/template_bench.
+"""Measures how long a template takes: `bench/template/run.py`, after `rt run` in crates/bench.
 
 Makes templates of 1 MB and of 10 MB (with 20,000 and 200,000 names between `@`), writes each with the program, with `sed`
 and with Python's `re.sub`, five times each in turn, compares the three outputs byte for byte, and prints the least times.
@@ -9,6 +9,9 @@ import subprocess
 import sys
 import tempfile
 import time
+
+sys.path.insert(0, os.path.join(os.path.dirname(os.path.abspath(__file__)), ".."))
+from measure import program
 
 NAMES = {f"NAME_{i}": f"value-{i}" for i in range(10)}
 ROUNDS = 5
@@ -35,15 +38,14 @@ open(sys.argv[2], 'w').write(re.sub('@([-A-Za-z0-9_]+)@', lambda m: names[m.grou
 """
 
 
-def timed(command, output=None):
+def timed(command, folder, output=None):
     start = time.perf_counter()
     with open(output, "w") if output else open(os.devnull, "w") as out:
-        subprocess.run(command, check=True, stdout=out)
+        subprocess.run(command, check=True, stdout=out, stderr=subprocess.DEVNULL, cwd=folder)
     return time.perf_counter() - start
 
 
 def main():
-    program = os.path.abspath(sys.argv[1])
     words = [f"{name}={value}" for name, value in NAMES.items()]
     script = ";".join(f"s/@{name}@/{value}/g" for name, value in NAMES.items())
     with tempfile.TemporaryDirectory() as folder:
@@ -51,15 +53,15 @@ def main():
         for label, size, names in [("1 MB", 1_000_000, 20_000), ("10 MB", 10_000_000, 200_000)]:
             source = os.path.join(folder, "t.in")
             make_template(source, size, names)
-            outputs = [os.path.join(folder, name) for name in ("ours", "sed", "python")]
+            outputs = [os.path.join(folder, name) for name in ("t.in.out", "sed", "python")]
             commands = [
-                ("template", [program, folder, "t.in", "ours", *words], None),
+                ("template", [program(), "template:t.in:" + ",".join(words)], None),
                 ("sed", ["sed", script, source], outputs[1]),
                 ("python", [sys.executable, "-c", PYTHON, source, outputs[2], *words], None),
             ]
             for _ in range(ROUNDS):
                 for tool, command, output in commands:
-                    seconds = timed(command, output)
+                    seconds = timed(command, folder, output)
                     best[tool, label] = min(seconds, best.get((tool, label), seconds))
             contents = [open(path, "rb").read() for path in outputs]
             if not contents[0] == contents[1] == contents[2]:

@@ -1,10 +1,9 @@
 //! Files and words of so many items.
 
-use anyhow::Result;
-use std::alloc::Global;
+use std::alloc::{AllocError, Global};
 
 /// An option file of so many options.
-pub fn option_file(alloc: Global, count: usize) -> Result<String> {
+pub fn option_file(alloc: Global, count: usize) -> Result<String, AllocError> {
     let mut text = String::new(alloc);
     for i in 0..count {
         let line = format!(in alloc; "option('option{i}', type: 'string', value: 'default')\n")?;
@@ -14,7 +13,7 @@ pub fn option_file(alloc: Global, count: usize) -> Result<String> {
 }
 
 /// A machine file that gives so many options values.
-pub fn keys(alloc: Global, count: usize) -> Result<String> {
+pub fn keys(alloc: Global, count: usize) -> Result<String, AllocError> {
     let mut text = String::from_str(alloc, "[project options]\n")?;
     for i in 0..count {
         let line = format!(in alloc; "option{i} = 'key'\n")?;
@@ -24,7 +23,7 @@ pub fn keys(alloc: Global, count: usize) -> Result<String> {
 }
 
 /// A machine file with so many dependencies.
-pub fn sections(alloc: Global, count: usize) -> Result<String> {
+pub fn sections(alloc: Global, count: usize) -> Result<String, AllocError> {
     let mut text = String::new(alloc);
     for i in 0..count {
         let lines = format!(in alloc; "[dependency d{i}]\nversion = '1'\nlink_args = ['-ld']\n")?;
@@ -34,7 +33,7 @@ pub fn sections(alloc: Global, count: usize) -> Result<String> {
 }
 
 /// So many words of a command line, each for an option of its own.
-pub fn words(alloc: Global, count: usize) -> Result<Vec<String>> {
+pub fn words(alloc: Global, count: usize) -> Result<Vec<String>, AllocError> {
     let mut all = Vec::new(alloc);
     for i in 0..count {
         all.push(format!(in alloc; "option{i}=word")?)?;
@@ -43,7 +42,7 @@ pub fn words(alloc: Global, count: usize) -> Result<Vec<String>> {
 }
 
 /// The names of so many things.
-pub fn names(alloc: Global, kind: &str, count: usize) -> Result<Vec<String>> {
+pub fn names(alloc: Global, kind: &str, count: usize) -> Result<Vec<String>, AllocError> {
     let mut all = Vec::new(alloc);
     for i in 0..count {
         all.push(format!(in alloc; "{kind}{i}")?)?;

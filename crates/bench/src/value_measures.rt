@@ -1,46 +1,45 @@
-//! Carries out one kind of operation on values so many times: `values_bench MEASURE COUNT` prints a line on what was made.
+//! So many operations of one kind on values.
 //!
 //! The measures are `append` (items put at the end of a list that is not shared), `double` (a text put after itself up to
 //! so many bytes), `entries` (entries put into a dictionary that is not shared), `lookups` (the same, and each looked up),
 //! `format` (a text with so many places) and `join` (so many texts).
-#![tactic(auto)]
 
-use anyhow::{Result, bail};
+use crate::measured::{Measured, count_of};
+use crate::stop::Stop;
 use std::alloc::Global;
-use std::env;
+use std::time::Instant;
 use values::{Binary, List, Refusal, Value, binary, dictionary, index, method};
 
-fn main(rt: HostRuntime) -> Result<()> {
-    let alloc = rt.alloc();
-    let words: Vec<String> = env::args(&rt)?.collect(alloc)?;
-    let [_, measure, count] = words.as_slice() else {
-        bail!("a measure and a count are needed");
-    };
-    let Ok(count) = count.as_str().parse::<usize>() else {
-        bail!("the count is a number");
-    };
-    let made = match measure.as_str() {
-        "append" => append(alloc, count)?,
-        "double" => double(alloc, count)?,
-        "entries" => entries(alloc, count)?,
-        "lookups" => lookups(alloc, count)?,
-        "format" => format_places(alloc, count)?,
-        "join" => join(alloc, count)?,
-        _ => bail!("no such measure"),
-    };
-    println!(rt; "{measure} {made}")?;
-    Ok(())
+/// Carries out the operations of this measure, and what they need, so many times.
+pub fn measured(rt: &HostRuntime, measure: &str, of: &str) -> Result<Measured, Stop> {
+    let count = count_of(of)?;
+    let start = Instant::now(rt)?;
+    let made = made(rt.alloc(), measure, count)?;
+    Measured::since(rt, start, made)
 }
 
-// The value of an operation that is not refused.
-fn given(answer: Result<Value, Refusal>) -> Result<Value> {
-    match answer {
-        Ok(value) => Ok(value),
-        Err(_) => bail!("an operation is refused"),
+// The size of what so many operations make.
+fn made(alloc: Global, measure: &str, count: usize) -> Result<usize, Stop> {
+    match measure {
+        "append" => append(alloc, count),
+        "double" => double(alloc, count),
+        "entries" => entries(alloc, count),
+        "lookups" => lookups(alloc, count),
+        "format" => format_places(alloc, count),
+        "join" => join(alloc, count),
+        _ => Err(Stop("there is no such measure of values")),
     }
 }
 
-fn text(alloc: Global, string: String) -> Result<Value> {
+// The value of an operation that is not refused.
+fn given(answer: Result<Value, Refusal>) -> Result<Value, Stop> {
+    match answer {
+        Ok(value) => Ok(value),
+        Err(_) => Err(Stop("an operation is refused")),
+    }
+}
+
+fn text(alloc: Global, string: String) -> Result<Value, Stop> {
     given(Value::of_string(alloc, string)?)
 }
 
@@ -54,7 +53,7 @@ fn size(value: &Value) -> usize {
     }
 }
 
-fn append(alloc: Global, count: usize) -> Result<usize> {
+fn append(alloc: Global, count: usize) -> Result<usize, Stop> {
     let mut list = Value::of_list(alloc, List::new(alloc))?;
     for _ in 0..count {
         list = given(binary(alloc, Binary::Add, list, Value::Integer(7))?)?;
@@ -62,7 +61,7 @@ fn append(alloc: Global, count: usize) -> Result<usize> {
     Ok(size(&list))
 }
 
-fn double(alloc: Global, bytes: usize) -> Result<usize> {
+fn double(alloc: Global, bytes: usize) -> Result<usize, Stop> {
     let mut grown = text(alloc, String::from_str(alloc, "a")?)?;
     for _ in 0..24 {
         if size(&grown) < bytes {
@@ -73,12 +72,12 @@ fn double(alloc: Global, bytes: usize) -> Result<usize> {
     Ok(size(&grown))
 }
 
-fn key(alloc: Global, number: usize) -> Result<Value> {
+fn key(alloc: Global, number: usize) -> Result<Value, Stop> {
     text(alloc, format!(in alloc; "key{number}")?)
 }
 
 // A dictionary of so many entries, put in one by one.
-fn table(alloc: Global, count: usize) -> Result<Value> {
+fn table(alloc: Global, count: usize) -> Result<Value, Stop> {
     let mut table = given(dictionary(alloc, Vec::new(alloc))?)?;
     for i in 0..count {
         let pair = (key(alloc, i)?, Value::Integer(7));
@@ -88,11 +87,11 @@ fn table(alloc: Global, count: usize) -> Result<Value> {
     Ok(table)
 }
 
-fn entries(alloc: Global, count: usize) -> Result<usize> {
+fn entries(alloc: Global, count: usize) -> Result<usize, Stop> {
     Ok(size(&table(alloc, count)?))
 }
 
-fn lookups(alloc: Global, count: usize) -> Result<usize> {
+fn lookups(alloc: Global, count: usize) -> Result<usize, Stop> {
     let table = table(alloc, count)?;
     for i in 0..count {
         let _value = given(index(alloc, &table, &key(alloc, i)?)?)?;
@@ -101,7 +100,7 @@ fn lookups(alloc: Global, count: usize) -> Result<usize> {
 }
 
 // One piece again and again.
-fn repeated(alloc: Global, piece: &str, count: usize) -> Result<String> {
+fn repeated(alloc: Global, piece: &str, count: usize) -> Result<String, Stop> {
     let mut text = String::new(alloc);
     for _ in 0..count {
         text.push_str(piece)?;
@@ -109,7 +108,7 @@ fn repeated(alloc: Global, piece: &str, count: usize) -> Result<String> {
     Ok(text)
 }
 
-fn format_places(alloc: Global, count: usize) -> Result<usize> {
+fn format_places(alloc: Global, count: usize) -> Result<usize, Stop> {
     let places = text(alloc, repeated(alloc, "@0@ @1@ ", count / 2)?)?;
     let values = vec![in alloc;
         Value::Integer(7),
@@ -119,7 +118,7 @@ fn format_places(alloc: Global, count: usize) -> Result<usize> {
     Ok(size(&formatted))
 }
 
-fn join(alloc: Global, count: usize) -> Result<usize> {
+fn join(alloc: Global, count: usize) -> Result<usize, Stop> {
     let separator = text(alloc, String::from_str(alloc, ", ")?)?;
     let mut words = Vec::new(alloc);
     for i in 0..count {
