@@ -1,4 +1,5 @@
-// Options by name and by number, and the names that every project has.
+//! Options by name and by number, and the names that every project has.
+
 use grammar::parse;
 use option_file::{Declared, declare, is_built_in};
 use std::process::Abort;

@@ -1,5 +1,7 @@
-// The options that every project has.
-use crate::support::{Row, Source, check, check_listed, resolved};
+//! The options that every project has.
+
+use crate::resolution::{Row, Source, check, check_listed, resolved};
+use options::Resolved;
 use std::test::Fail;
 
 // Their names and values where nothing gives one, and two options that are declared.
@@ -31,11 +33,16 @@ const DECLARED: &str = "option('b', type: 'string', value: 'x')\noption('a', typ
 #[test]
 fn table(rt: HostRuntime) -> Result<(), Fail> {
     let alloc = rt.alloc();
-    let options = resolved(alloc, DECLARED, &[], "", &[])?.outcome?;
+    let Some(Resolved { unknown, outcome }) = resolved(alloc, DECLARED, &[], "", &[])? else {
+        return Err(Fail::from("a file at fault"));
+    };
+    assert!(rt; unknown.is_empty());
+    let options = outcome?;
     assert_eq!(rt; options.len(), 19);
     assert!(rt; !options.is_empty());
     assert!(rt; options.get("zz").is_none());
-    check_listed(&rt, alloc, &options, TABLE)
+    check_listed(&rt, alloc, &options, TABLE)?;
+    Ok(())
 }
 
 // Words that give them values.
@@ -92,5 +99,6 @@ const ARGUMENTS: &[Row] = &[
 fn words(rt: HostRuntime) -> Result<(), Fail> {
     let alloc = rt.alloc();
     check(&rt, alloc, "", Source::Words, VALUES)?;
-    check(&rt, alloc, "", Source::Words, ARGUMENTS)
+    check(&rt, alloc, "", Source::Words, ARGUMENTS)?;
+    Ok(())
 }
