@@ -1,5 +1,5 @@
-//! Each call that takes memory: with enough of it, and where it ends. A test whose name ends in `where_memory_ends` passes
-//! under `rt try --test --fail-alloc N` for each N; the others of this crate may fail there for want of memory.
+//! Each call that takes memory: with enough of it, and where it ends. The tests of the latter are right under
+//! `rt try --test --fail-alloc N -- where_memory_ends` for each N.
 
 use crate::support::{shown_value, strings};
 use crate::written_values::Input::{FileInteger, FileText, FileTexts, FileTruth, Items, Text};
