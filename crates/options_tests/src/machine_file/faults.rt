@@ -5,17 +5,26 @@ use std::alloc::{AllocError, Global};
 use std::process::Abort;
 use std::test::Fail;
 
-// The fault of a file of these bytes.
-fn fault(alloc: Global, bytes: &[u8]) -> Result<String, AllocError> {
-    read(alloc, bytes, "properties", "a")
+// Bytes, and their fault. The bytes are looked at before the lines.
+const NOT_UTF8: &[(&[u8], &str)] = &[(&[255], "E1 at 1"), (b"bad\n\n\n\n\xc3\n", "E1 at 5")];
+
+fn check_fault(
+    rt: &impl Abort,
+    alloc: Global,
+    bytes: &[u8],
+    said: &str,
+    shown: &str,
+) -> Result<(), AllocError> {
+    let found = read(alloc, bytes, "properties", "a")?;
+    assert_eq!(rt; found.as_str(), said, "{shown}");
+    Ok(())
 }
 
 #[test]
 fn no_utf8(rt: HostRuntime) -> Result<(), Fail> {
-    let alloc = rt.alloc();
-    assert_eq!(rt; fault(alloc, &[255])?.as_str(), "E1 at 1");
-    // The bytes are looked at before the lines.
-    assert_eq!(rt; fault(alloc, b"bad\n\n\n\n\xc3\n")?.as_str(), "E1 at 5");
+    for (bytes, said) in NOT_UTF8 {
+        check_fault(&rt, rt.alloc(), bytes, said, "bytes")?;
+    }
     Ok(())
 }
 
@@ -86,10 +95,8 @@ const VALUES: &[&str] = &[
 ];
 
 fn check_line(rt: &impl Abort, alloc: Global, text: &str, line: usize) -> Result<(), AllocError> {
-    let found = fault(alloc, text.as_bytes())?;
     let said = format!(in alloc; "E16 at {line}")?;
-    assert_eq!(rt; found, said, "{text}");
-    Ok(())
+    check_fault(rt, alloc, text.as_bytes(), said.as_str(), text)
 }
 
 #[test]

@@ -1,7 +1,7 @@
 //! What machine files say.
 
 use crate::machine_file::{read, shown};
-use machine::Machine;
+use machine::{Machine, Section};
 use std::alloc::{AllocError, Global};
 use std::process::Abort;
 use std::test::Fail;
@@ -111,41 +111,60 @@ fn sections(rt: HostRuntime) -> Result<(), Fail> {
     Ok(())
 }
 
-// The keys of a section in the order of their lines, each with its line.
-fn shown_keys(alloc: Global, machine: &Machine, name: &str) -> Result<String, AllocError> {
-    let Some(section) = machine.section(name) else {
-        return String::from_str(alloc, "none");
-    };
-    let mut all = String::new(alloc);
-    for i in 0..section.len() {
+// How many keys a section has, and the keys in the order of their lines, each with its line.
+fn shown_keys(alloc: Global, section: &Section) -> Result<String, AllocError> {
+    if section.is_empty() {
+        return String::from_str(alloc, "empty");
+    }
+    let count = section.len();
+    let mut all = format!(in alloc; "{count}:")?;
+    for i in 0..count {
         if let Some((key, entry)) = section.at(i) {
             let line = entry.line;
-            all.push_str(format!(in alloc; "{key}:{line} ")?.as_str())?;
+            all.push_str(format!(in alloc; " {key}:{line}")?.as_str())?;
         }
     }
     Ok(all)
 }
 
-const KEYS: &str = "[project options]\n\nb = 1\n# c\na = 2\n[dependency z]\n";
+fn check_keys(
+    rt: &impl Abort,
+    alloc: Global,
+    machine: &Machine,
+    rows: &[(&str, &str)],
+) -> Result<(), AllocError> {
+    for (name, said) in rows {
+        let found = match machine.section(name) {
+            Some(section) => shown_keys(alloc, section)?,
+            None => String::from_str(alloc, "none")?,
+        };
+        assert_eq!(rt; found.as_str(), *said, "{name}");
+    }
+    Ok(())
+}
+
+const ENTRIES: &str = "[project options]\n\nb = 1\n# c\na = 2\n[dependency z]\n";
+
+// A section of this file, and what is shown of its keys.
+const KEYS: &[(&str, &str)] = &[
+    ("project options", "2: b:3 a:5"),
+    ("dependency z", "1: version:6"),
+    ("binaries", "none"),
+];
 
 #[test]
 fn lines_of_entries(rt: HostRuntime) -> Result<(), Fail> {
     let alloc = rt.alloc();
-    let machine = Machine::read(alloc, KEYS.as_bytes())??;
-    let section = machine.section("project options");
-    assert_eq!(rt; section.map(|section| section.len()), Some(2));
-    assert_eq!(rt; section.map(|section| section.is_empty()), Some(false));
-    let keys = shown_keys(alloc, &machine, "project options")?;
-    assert_eq!(rt; keys.as_str(), "b:3 a:5 ");
-    let keys = shown_keys(alloc, &machine, "dependency z")?;
-    assert_eq!(rt; keys.as_str(), "version:6 ");
+    let machine = Machine::read(alloc, ENTRIES.as_bytes())??;
+    check_keys(&rt, alloc, &machine, KEYS)?;
     Ok(())
 }
 
 #[test]
 fn nothing(rt: HostRuntime) -> Result<(), Fail> {
     let alloc = rt.alloc();
-    assert_eq!(rt; read(alloc, b"", "binaries", "c")?.as_str(), "none");
-    assert!(rt; Machine::empty(alloc).section("binaries").is_none());
+    let machine = Machine::read(alloc, &[])??;
+    check_said(&rt, alloc, &machine, &[("binaries", "c", "none")])?;
+    check_keys(&rt, alloc, &Machine::empty(alloc), &[("binaries", "none")])?;
     Ok(())
 }
