@@ -1,17 +1,16 @@
-//! Tests of the crate `options`: from an option file, texts of `default_options`, a machine file and words to the final values.
+//! Tests of the crates `machine`, `option_values`, `option_file` and `options`: from a machine file, an option file and words
+//! to the final values.
 #![tactic(auto)]
 
 #[cfg(test)]
-mod built_ins;
+mod declarations;
 #[cfg(test)]
-mod defaults;
+mod machine_file;
 #[cfg(test)]
-mod faults;
+mod memory;
 #[cfg(test)]
-mod fill_ins;
-#[cfg(test)]
-mod machine_files;
-#[cfg(test)]
-mod places;
+mod resolution;
 #[cfg(test)]
 mod support;
+#[cfg(test)]
+mod written_values;

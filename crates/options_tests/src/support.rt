@@ -1,15 +1,9 @@
-// What options come to, as texts, and checks of rows of them.
-use grammar::parse;
-use machine::Machine;
-use option_file::declare;
-use option_values::{FeatureState, OptionValue};
-use options::fault::{FaultKind, OptionFault, Place};
-use options::{Options, Resolved, resolve};
-use std::alloc::{AllocError, Global};
-use std::process::Abort;
-use std::test::Fail;
+//! Texts made and shown.
 
-fn strings(alloc: Global, texts: &[&str]) -> Result<Vec<String>, AllocError> {
+use option_values::{FeatureState, OptionValue};
+use std::alloc::{AllocError, Global};
+
+pub fn strings(alloc: Global, texts: &[&str]) -> Result<Vec<String>, AllocError> {
     let mut all = Vec::new(alloc);
     for text in texts {
         all.push(String::from_str(alloc, text)?)?;
@@ -17,169 +11,27 @@ fn strings(alloc: Global, texts: &[&str]) -> Result<Vec<String>, AllocError> {
     Ok(all)
 }
 
-// Each item in brackets.
-fn shown_items(alloc: Global, items: &[String]) -> Result<String, AllocError> {
-    let mut all = String::from_str(alloc, "array")?;
-    for item in items {
+/// A word, and behind it each text in brackets.
+pub fn shown_texts(alloc: Global, word: &str, texts: &[String]) -> Result<String, AllocError> {
+    let mut all = String::from_str(alloc, word)?;
+    for text in texts {
         all.push_str(" <")?;
-        all.push_str(item.as_str())?;
+        all.push_str(text.as_str())?;
         all.push_str(">")?;
     }
     Ok(all)
 }
 
-// A value: its type and what it is.
-fn shown_value(alloc: Global, value: Option<&OptionValue>) -> Result<String, AllocError> {
+/// The value of an option: its type and what it is.
+pub fn shown_value(alloc: Global, value: Option<&OptionValue>) -> Result<String, AllocError> {
     match value {
         None => String::from_str(alloc, "none"),
         Some(OptionValue::Text(text)) => format!(in alloc; "text {text}"),
         Some(OptionValue::Boolean(truth)) => format!(in alloc; "boolean {truth}"),
         Some(OptionValue::Integer(number)) => format!(in alloc; "integer {number}"),
-        Some(OptionValue::Array(items)) => shown_items(alloc, items),
+        Some(OptionValue::Array(items)) => shown_texts(alloc, "array", items),
         Some(OptionValue::Feature(FeatureState::Enabled)) => String::from_str(alloc, "enabled"),
         Some(OptionValue::Feature(FeatureState::Disabled)) => String::from_str(alloc, "disabled"),
         Some(OptionValue::Feature(FeatureState::Auto)) => String::from_str(alloc, "auto"),
     }
-}
-
-// A fault: its place and its number.
-fn shown_fault(alloc: Global, fault: &OptionFault) -> Result<String, AllocError> {
-    let number = match fault.kind {
-        FaultKind::Option => "E15",
-        FaultKind::NotYet => "E23",
-    };
-    match fault.place {
-        Place::Declared(line) => format!(in alloc; "declared:{line} {number}"),
-        Place::Project => format!(in alloc; "project {number}"),
-        Place::MachineFile(line) => format!(in alloc; "machine:{line} {number}"),
-        Place::CommandLine(word) => format!(in alloc; "word:{word} {number}"),
-    }
-}
-
-// Where the text of a row stands.
-#[derive(Clone, Copy)]
-pub enum Source {
-    // Behind the name of the option `o`, in the call that declares it.
-    Keywords,
-    // In `default_options`.
-    Defaults,
-    // As the line of a machine file under the head of this section.
-    Section(&'static str),
-    // As a word of the command line.
-    Words,
-}
-
-// A text, the name of an option, and what is shown of the option.
-pub type Row = (&'static str, &'static str, &'static str);
-
-// Texts of `default_options`, the lines of a machine file, words, the name of an option, and what is shown of the option.
-pub type PlacesRow = (
-    &'static [&'static str],
-    &'static str,
-    &'static [&'static str],
-    &'static str,
-    &'static str,
-);
-
-// What these come to: the lines of an option file, texts of `default_options`, the lines of a machine file, and words.
-pub fn resolved(
-    alloc: Global,
-    file: &str,
-    defaults: &[&str],
-    machine: &str,
-    words: &[&str],
-) -> Result<Resolved, Fail> {
-    let file = parse(alloc, file)?;
-    let declared = declare(alloc, &file)??;
-    let machine = Machine::read(alloc, machine.as_bytes())??;
-    let defaults = strings(alloc, defaults)?;
-    let words = strings(alloc, words)?;
-    Ok(resolve(alloc, &declared, &defaults, &machine, &words)?)
-}
-
-// The names that no option has, each with a question mark, and then the value of an option, or the fault.
-fn shown(alloc: Global, resolved: &Resolved, name: &str) -> Result<String, AllocError> {
-    let mut all = String::new(alloc);
-    for unknown in &resolved.unknown {
-        all.push_str(unknown.as_str())?;
-        all.push_str("? ")?;
-    }
-    let last = match &resolved.outcome {
-        Ok(options) => shown_value(alloc, options.get(name))?,
-        Err(fault) => shown_fault(alloc, fault)?,
-    };
-    all.push_str(last.as_str())?;
-    Ok(all)
-}
-
-// What an option file comes to with one text of a source.
-fn resolved_with(alloc: Global, file: &str, source: Source, text: &str) -> Result<Resolved, Fail> {
-    match source {
-        Source::Keywords => {
-            let call = format!(in alloc; "{file}option('o', {text})")?;
-            resolved(alloc, call.as_str(), &[], "", &[])
-        }
-        Source::Defaults => resolved(alloc, file, &[text], "", &[]),
-        Source::Section(section) => {
-            let machine = format!(in alloc; "[{section}]\n{text}")?;
-            resolved(alloc, file, &[], machine.as_str(), &[])
-        }
-        Source::Words => resolved(alloc, file, &[], "", &[text]),
-    }
-}
-
-// That each row comes to what it says with this option file, its text standing in this source.
-pub fn check(
-    rt: &impl Abort,
-    alloc: Global,
-    file: &str,
-    source: Source,
-    rows: &[Row],
-) -> Result<(), Fail> {
-    for (text, name, said) in rows {
-        let resolved = resolved_with(alloc, file, source, text)?;
-        let found = shown(alloc, &resolved, name)?;
-        assert_eq!(rt; found.as_str(), *said, "of {text:?}");
-    }
-    Ok(())
-}
-
-// That each row comes to what it says with this option file.
-pub fn check_places(
-    rt: &impl Abort,
-    alloc: Global,
-    file: &str,
-    rows: &[PlacesRow],
-) -> Result<(), Fail> {
-    for (i, (defaults, machine, words, name, said)) in rows.iter().enumerate() {
-        let resolved = resolved(alloc, file, defaults, machine, words)?;
-        let found = shown(alloc, &resolved, name)?;
-        assert_eq!(rt; found.as_str(), *said, "in row {i}");
-    }
-    Ok(())
-}
-
-// The i-th option, with its name.
-fn shown_at(alloc: Global, options: &Options, i: usize) -> Result<String, AllocError> {
-    match options.at(i) {
-        Some((name, value)) => {
-            let value = shown_value(alloc, Some(value))?;
-            format!(in alloc; "{name}: {value}")
-        }
-        None => String::from_str(alloc, "none"),
-    }
-}
-
-// The rows are what is shown of the options, and then of none.
-pub fn check_listed(
-    rt: &impl Abort,
-    alloc: Global,
-    options: &Options,
-    rows: &[&str],
-) -> Result<(), Fail> {
-    for (i, said) in rows.iter().enumerate() {
-        let found = shown_at(alloc, options, i)?;
-        assert_eq!(rt; found.as_str(), *said);
-    }
-    Ok(())
 }

@@ -1,5 +1,6 @@
-// Options of each type, with the defaults that they are given.
-use crate::support::check;
+//! Options of each type, with the defaults that they are given.
+
+use crate::declarations::check;
 use std::test::Fail;
 
 // The type of an option and further keywords, and what is declared.
@@ -96,10 +97,11 @@ const OTHER_DEFAULTS: &[(&str, &str)] = &[
 ];
 
 #[test]
-fn options(rt: HostRuntime) -> Result<(), Fail> {
+fn types(rt: HostRuntime) -> Result<(), Fail> {
     let alloc = rt.alloc();
     let before = "option('a', type: ";
     check(&rt, alloc, before, ")", TYPES)?;
     check(&rt, alloc, before, ")", DEFAULTS)?;
-    check(&rt, alloc, before, ")", OTHER_DEFAULTS)
+    check(&rt, alloc, before, ")", OTHER_DEFAULTS)?;
+    Ok(())
 }

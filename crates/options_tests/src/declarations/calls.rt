@@ -1,5 +1,6 @@
-// Calls of `option` that declare none.
-use crate::support::{check, check_refused};
+//! Calls of `option` that declare none.
+
+use crate::declarations::{check, check_refused};
 use std::test::Fail;
 
 // Arguments without a name that an option may have, or with more than a name before the keywords.
@@ -67,5 +68,6 @@ fn calls(rt: HostRuntime) -> Result<(), Fail> {
     let alloc = rt.alloc();
     check_refused(&rt, alloc, "option(", ")", NAMES)?;
     check_refused(&rt, alloc, "option('n', ", ")", KEYWORDS)?;
-    check(&rt, alloc, "option(", ")", LEFT_OUT)
+    check(&rt, alloc, "option(", ")", LEFT_OUT)?;
+    Ok(())
 }

@@ -1,5 +1,6 @@
-// The first of several faults, at its place.
-use crate::support::{PlacesRow, check_places};
+//! The first of several faults, at its place.
+
+use crate::resolution::{PlacesRow, check_places};
 use std::test::Fail;
 
 const OPTIONS: &str = "option('n', type: 'integer', value: 3, min: 1, max: 5)\n\
@@ -128,5 +129,6 @@ fn faults(rt: HostRuntime) -> Result<(), Fail> {
     check_places(&rt, alloc, OPTIONS, PLACES)?;
     check_places(&rt, alloc, OPTIONS, VALUES)?;
     check_places(&rt, alloc, OPTIONS, FOLLOWED)?;
-    check_places(&rt, alloc, OPTIONS, TEXTS)
+    check_places(&rt, alloc, OPTIONS, TEXTS)?;
+    Ok(())
 }

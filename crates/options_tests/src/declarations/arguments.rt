@@ -1,5 +1,6 @@
-// What the arguments of a call give.
-use crate::support::{check, check_refused};
+//! What the arguments of a call give.
+
+use crate::declarations::{check, check_refused};
 use std::test::Fail;
 
 // An argument, and an option that has it as its default.
@@ -69,5 +70,6 @@ fn arguments(rt: HostRuntime) -> Result<(), Fail> {
     let alloc = rt.alloc();
     let before = "option('a', type: 'array', value: ";
     check(&rt, alloc, before, ")", GIVEN)?;
-    check_refused(&rt, alloc, before, ")", NOTHING)
+    check_refused(&rt, alloc, before, ")", NOTHING)?;
+    Ok(())
 }

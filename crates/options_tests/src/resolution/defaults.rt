@@ -1,5 +1,6 @@
-// The values that options have by their declarations.
-use crate::support::{Row, Source, check};
+//! The values that options have by their declarations.
+
+use crate::resolution::{Row, Source, check};
 use std::test::Fail;
 
 // Without a default, and with one of each form that the type takes.
@@ -160,5 +161,6 @@ fn defaults(rt: HostRuntime) -> Result<(), Fail> {
     let alloc = rt.alloc();
     check(&rt, alloc, "", Source::Keywords, TAKEN)?;
     check(&rt, alloc, "", Source::Keywords, REFUSED)?;
-    check(&rt, alloc, "", Source::Keywords, OTHERS_REFUSED)
+    check(&rt, alloc, "", Source::Keywords, OTHERS_REFUSED)?;
+    Ok(())
 }

@@ -1,5 +1,6 @@
-// Statements, and the order of faults.
-use crate::support::{check, check_refused};
+//! Statements, and the order of faults.
+
+use crate::declarations::{check, check_refused};
 use std::test::Fail;
 
 // Files whose statements all declare options.
@@ -78,5 +79,6 @@ fn statements(rt: HostRuntime) -> Result<(), Fail> {
     let alloc = rt.alloc();
     check(&rt, alloc, "", "", GOOD)?;
     check_refused(&rt, alloc, "", "", NO_CALLS)?;
-    check(&rt, alloc, "", "", ORDERS)
+    check(&rt, alloc, "", "", ORDERS)?;
+    Ok(())
 }

@@ -1,5 +1,6 @@
-// What some options say of others.
-use crate::support::{PlacesRow, Row, Source, check, check_places};
+//! What some options say of others.
+
+use crate::resolution::{PlacesRow, Row, Source, check, check_places};
 use std::test::Fail;
 
 // Each type of build says what `debug` and `optimization` are.
@@ -222,5 +223,6 @@ fn fill_ins(rt: HostRuntime) -> Result<(), Fail> {
     check_places(&rt, alloc, "", BUILDS)?;
     check_places(&rt, alloc, "", RELEASED)?;
     check_places(&rt, alloc, "", PREFIXES)?;
-    check_places(&rt, alloc, FEATURES, AUTO)
+    check_places(&rt, alloc, FEATURES, AUTO)?;
+    Ok(())
 }

@@ -1,5 +1,6 @@
-// Which of four places gives a value, and names of no option.
-use crate::support::{PlacesRow, Row, Source, check, check_places};
+//! Which of four places gives a value, and names of no option.
+
+use crate::resolution::{PlacesRow, Row, Source, check, check_places};
 use std::test::Fail;
 
 const MODE: &str = "option('mode', type: 'combo', choices: ['fast', 'slow', 'safe'])";
@@ -78,7 +79,8 @@ fn places(rt: HostRuntime) -> Result<(), Fail> {
     let alloc = rt.alloc();
     check_places(&rt, alloc, MODE, MODES)?;
     check_places(&rt, alloc, MODE, NAMES)?;
-    check_places(&rt, alloc, BAD, NO_NAMES)
+    check_places(&rt, alloc, BAD, NO_NAMES)?;
+    Ok(())
 }
 
 // Options of the other types.
@@ -133,5 +135,6 @@ const DEFAULTS: &[Row] = &[
 fn texts(rt: HostRuntime) -> Result<(), Fail> {
     let alloc = rt.alloc();
     check(&rt, alloc, OPTIONS, Source::Words, WORDS)?;
-    check(&rt, alloc, OPTIONS, Source::Defaults, DEFAULTS)
+    check(&rt, alloc, OPTIONS, Source::Defaults, DEFAULTS)?;
+    Ok(())
 }

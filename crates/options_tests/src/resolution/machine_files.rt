@@ -1,5 +1,6 @@
-// Values of a machine file.
-use crate::support::{Row, Source, check};
+//! Values of a machine file.
+
+use crate::resolution::{Row, Source, check};
 use std::test::Fail;
 
 // An option of each type.
@@ -109,5 +110,6 @@ fn sections(rt: HostRuntime) -> Result<(), Fail> {
     check(&rt, alloc, OPTIONS, of_project, REFUSED)?;
     let built_in = Source::Section("built-in options");
     check(&rt, alloc, OPTIONS, built_in, BUILT_IN)?;
-    check(&rt, alloc, OPTIONS, Source::Section("properties"), OTHERS)
+    check(&rt, alloc, OPTIONS, Source::Section("properties"), OTHERS)?;
+    Ok(())
 }

@@ -1,22 +1,51 @@
-// Options by name and by number, and the names that every project has.
+//! Options by name and by number, and the names that every project has.
+
+use crate::declarations::{check, shown};
 use grammar::parse;
 use option_file::{Declared, declare, is_built_in};
+use std::alloc::{AllocError, Global};
 use std::process::Abort;
 use std::test::Fail;
+
+const SOURCE: &str = "\noption('b', type: 'string')\noption('a-B_1', type: 'boolean')\n";
+
+// What it declares, in its order.
+const LISTED: &[(&str, &str)] = &[(SOURCE, "2 b: string = nothing;3 a-B_1: boolean = nothing;")];
+
+// A name, and what it declares under it.
+const NAMED: &[(&str, &str)] = &[
+    ("a-B_1", "3 a-B_1: boolean = nothing;"),
+    ("b", "2 b: string = nothing;"),
+    ("c", "none"),
+];
+
+fn check_named(
+    rt: &impl Abort,
+    alloc: Global,
+    declared: &Declared,
+    rows: &[(&str, &str)],
+) -> Result<(), AllocError> {
+    for (name, said) in rows {
+        let found = match declared.get(name) {
+            Some(declaration) => shown(alloc, name, declaration)?,
+            None => String::from_str(alloc, "none")?,
+        };
+        assert_eq!(rt; found.as_str(), *said);
+    }
+    Ok(())
+}
 
 #[test]
 fn look_ups(rt: HostRuntime) -> Result<(), Fail> {
     let alloc = rt.alloc();
-    let source = "\noption('b', type: 'string')\noption('a-B_1', type: 'boolean')\n";
-    let file = parse(alloc, source)?;
+    check(&rt, alloc, "", "", LISTED)?;
+    let file = parse(alloc, SOURCE)?;
     let declared = declare(alloc, &file)??;
     assert_eq!(rt; declared.len(), 2);
     assert!(rt; !declared.is_empty());
-    assert_eq!(rt; declared.get("a-B_1").map(|d| d.line), Some(3));
-    assert_eq!(rt; declared.at(0).map(|(_, d)| d.line), Some(2));
-    assert!(rt; declared.get("c").is_none());
     assert!(rt; declared.at(2).is_none());
     assert!(rt; Declared::empty(alloc).is_empty());
+    check_named(&rt, alloc, &declared, NAMED)?;
     Ok(())
 }
 

@@ -1,5 +1,8 @@
-// The options that every project has.
-use crate::support::{Row, Source, check, check_listed, resolved};
+//! The options that every project has.
+
+use crate::resolution::{Row, Source, check, check_listed, resolved};
+use options::Options;
+use std::alloc::Global;
 use std::test::Fail;
 
 // Their names and values where nothing gives one, and two options that are declared.
@@ -28,14 +31,23 @@ const TABLE: &[&str] = &[
 
 const DECLARED: &str = "option('b', type: 'string', value: 'x')\noption('a', type: 'boolean')";
 
+// The options of a project with this option file, and no values but those that it has by itself.
+fn options_of(alloc: Global, file: &str) -> Result<Options, Fail> {
+    match resolved(alloc, file, &[], "", &[])? {
+        Some(resolved) => Ok(resolved.outcome?),
+        None => Err(Fail::from("a file at fault")),
+    }
+}
+
 #[test]
 fn table(rt: HostRuntime) -> Result<(), Fail> {
     let alloc = rt.alloc();
-    let options = resolved(alloc, DECLARED, &[], "", &[])?.outcome?;
+    let options = options_of(alloc, DECLARED)?;
     assert_eq!(rt; options.len(), 19);
     assert!(rt; !options.is_empty());
     assert!(rt; options.get("zz").is_none());
-    check_listed(&rt, alloc, &options, TABLE)
+    check_listed(&rt, alloc, &options, TABLE)?;
+    Ok(())
 }
 
 // Words that give them values.
@@ -92,5 +104,6 @@ const ARGUMENTS: &[Row] = &[
 fn words(rt: HostRuntime) -> Result<(), Fail> {
     let alloc = rt.alloc();
     check(&rt, alloc, "", Source::Words, VALUES)?;
-    check(&rt, alloc, "", Source::Words, ARGUMENTS)
+    check(&rt, alloc, "", Source::Words, ARGUMENTS)?;
+    Ok(())
 }

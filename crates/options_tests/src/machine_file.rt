@@ -1,0 +1,37 @@
+//! Machine files: what they say, and which line is at fault.
+
+mod faults;
+mod values;
+
+use crate::support::shown_texts;
+use machine::fault::{FaultKind, MachineFault};
+use machine::{Machine, MachineValue};
+use std::alloc::{AllocError, Global};
+
+/// A value of a machine file: its type and what it is.
+pub fn shown(alloc: Global, value: Option<&MachineValue>) -> Result<String, AllocError> {
+    match value {
+        None => String::from_str(alloc, "none"),
+        Some(MachineValue::Text(text)) => format!(in alloc; "text {text}"),
+        Some(MachineValue::Integer(number)) => format!(in alloc; "integer {number}"),
+        Some(MachineValue::Truth(truth)) => format!(in alloc; "truth {truth}"),
+        Some(MachineValue::Texts(items)) => shown_texts(alloc, "texts", items),
+    }
+}
+
+// A fault: its number and its line.
+fn shown_fault(alloc: Global, fault: MachineFault) -> Result<String, AllocError> {
+    let line = fault.line;
+    match fault.kind {
+        FaultKind::NotUtf8 => format!(in alloc; "E1 at {line}"),
+        FaultKind::MachineFile => format!(in alloc; "E16 at {line}"),
+    }
+}
+
+/// What a file of these bytes says at a section and a key, or its fault.
+pub fn read(alloc: Global, bytes: &[u8], section: &str, key: &str) -> Result<String, AllocError> {
+    match Machine::read(alloc, bytes)? {
+        Ok(machine) => shown(alloc, machine.get(section, key)),
+        Err(fault) => shown_fault(alloc, fault),
+    }
+}
