@@ -2,15 +2,30 @@ use std::alloc::{AllocError, Global};
 use std::process::Abort;
 use std::test::Fail;
 use syntax::fault::SyntaxError;
-use syntax::parse;
 use syntax::tree::{
     Argument, Branch, Entry, Expression, Link, Operand, Operator, Prefix, Statement,
 };
+use syntax::{parse, tokens};
 
-/// Each row is a source, and what is shown of it.
-pub fn check(rt: &impl Abort, alloc: Global, rows: &[(&str, &str)]) -> Result<(), Fail> {
+/// A source, and what is shown of it.
+pub type Row = (&'static str, &'static str);
+
+/// A source, and what is shown of its tokens.
+pub type TokenRow = (&'static str, &'static str);
+
+/// That each source is shown as its row says.
+pub fn check(rt: &impl Abort, alloc: Global, rows: &[Row]) -> Result<(), Fail> {
     for (source, expected) in rows {
         let found = shown(alloc, source)?;
+        assert_eq!(rt; found.as_str(), *expected, "of {source:?}");
+    }
+    Ok(())
+}
+
+/// That the tokens of each source are shown as its row says.
+pub fn check_tokens(rt: &impl Abort, alloc: Global, rows: &[TokenRow]) -> Result<(), Fail> {
+    for (source, expected) in rows {
+        let found = shown_tokens(alloc, source)?;
         assert_eq!(rt; found.as_str(), *expected, "of {source:?}");
     }
     Ok(())
@@ -20,17 +35,40 @@ pub fn check(rt: &impl Abort, alloc: Global, rows: &[(&str, &str)]) -> Result<()
 /// bodies in braces, and the line of a condition or a list in brackets before it. Of a source with a fault its number and
 /// its line, as `E3 at 1`.
 pub fn shown(alloc: Global, source: &str) -> Result<String, AllocError> {
-    let mut out = String::new(alloc);
     match parse(alloc, source) {
-        Ok(file) => put_statements(alloc, &mut out, &file.statements)?,
-        Err(SyntaxError::Memory) => out.push_str("memory")?,
-        Err(SyntaxError::Fault(fault)) => {
+        Ok(file) => {
+            let mut out = String::new(alloc);
+            put_statements(alloc, &mut out, &file.statements)?;
+            Ok(out)
+        }
+        Err(error) => shown_error(alloc, &error),
+    }
+}
+
+/// The tokens of a source, each with `@` and its line and a blank behind it, or its fault.
+fn shown_tokens(alloc: Global, source: &str) -> Result<String, AllocError> {
+    match tokens(alloc, source) {
+        Ok(found) => {
+            let mut out = String::new(alloc);
+            for token in &found {
+                put_text(alloc, &mut out, token.text, token.line)?;
+                out.push_str(" ")?;
+            }
+            Ok(out)
+        }
+        Err(error) => shown_error(alloc, &error),
+    }
+}
+
+fn shown_error(alloc: Global, error: &SyntaxError) -> Result<String, AllocError> {
+    match error {
+        SyntaxError::Memory => String::from_str(alloc, "memory"),
+        SyntaxError::Fault(fault) => {
             let number = fault.kind.number();
             let line = fault.line;
-            out.push_str(format!(in alloc; "E{number} at {line}")?.as_str())?;
+            format!(in alloc; "E{number} at {line}")
         }
     }
-    Ok(out)
 }
 
 fn sign(operator: Operator) -> &'static str {
