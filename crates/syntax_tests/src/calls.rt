@@ -1,10 +1,10 @@
 // Small sources, with what the calls give of them.
-use crate::support::{Row, TokenRow, check, check_tokens};
+use crate::support::{Row, check};
 use std::alloc::Global;
 use std::process::Abort;
 use std::test::Fail;
 use syntax::parse;
-use syntax::tree::{Argument, Expression, File, Literal, Statement};
+use syntax::tree::{Expression, File, Literal, Statement};
 
 const FILES: &[Row] = &[
     (
@@ -28,18 +28,9 @@ const FILES: &[Row] = &[
     ("f(a, k : 'b')", "1 f(a@1,k:'b'@1,)@1;"),
 ];
 
-const TOKENS: &[TokenRow] = &[
-    (
-        "if x == 'a\nb' # end\ny += f(\n)",
-        "if@1 x@1 ==@1 'a\nb'@1 \n@2 y@3 +=@3 f@3 (@3 )@4 ",
-    ),
-    ("x\n 'a", "E2 at 2"),
-];
-
 #[test]
-fn files_and_tokens(rt: HostRuntime) -> Result<(), Fail> {
-    check(&rt, rt.alloc(), FILES)?;
-    check_tokens(&rt, rt.alloc(), TOKENS)
+fn files(rt: HostRuntime) -> Result<(), Fail> {
+    check(&rt, rt.alloc(), &[FILES])
 }
 
 // Sources of one assignment, and which literal it assigns.
@@ -54,13 +45,14 @@ const LITERALS: &[(&'static str, Literal)] = &[
 ];
 
 fn assigned_literal(file: &File<'_>) -> Option<Literal> {
-    match file.statements.as_slice() {
-        [
-            Statement::Assign {
-                value: Expression::Literal { literal, .. },
-                ..
-            },
-        ] => Some(*literal),
+    let [statement] = file.statements.as_slice() else {
+        return None;
+    };
+    match statement {
+        Statement::Assign {
+            value: Expression::Literal { literal, .. },
+            ..
+        } => Some(*literal),
         _ => None,
     }
 }
@@ -72,7 +64,7 @@ fn check_literals(
 ) -> Result<(), Fail> {
     for (source, expected) in rows {
         let file = parse(alloc, source)?;
-        assert_eq!(rt; assigned_literal(&file), Some(*expected), "of {source:?}");
+        assert!(rt; assigned_literal(&file) == Some(*expected), "of {source:?}");
     }
     Ok(())
 }
@@ -82,28 +74,31 @@ fn literals_have_their_kinds(rt: HostRuntime) -> Result<(), Fail> {
     check_literals(&rt, rt.alloc(), LITERALS)
 }
 
-fn arguments_of<'f, 'a>(file: &'f File<'a>) -> &'f [Argument<'a>] {
-    match file.statements.as_slice() {
-        [
-            Statement::Expression {
-                value: Expression::Call { arguments, .. },
-                ..
-            },
-        ] => arguments.as_slice(),
-        _ => &[],
+// Whether the source is a call of an argument without a name and one with a name, which is `'b'`.
+fn has_both_arguments(file: &File<'_>) -> bool {
+    let [statement] = file.statements.as_slice() else {
+        return false;
+    };
+    match statement {
+        Statement::Expression {
+            value: Expression::Call { arguments, .. },
+            ..
+        } => {
+            arguments.len() == 2
+                && !arguments[0].is_named()
+                && arguments[1].is_named()
+                && matches!(
+                    arguments[1].value(),
+                    Expression::Literal { text: "'b'", .. }
+                )
+        }
+        _ => false,
     }
 }
 
 #[test]
 fn arguments_have_names_or_none(rt: HostRuntime) -> Result<(), Fail> {
     let file = parse(rt.alloc(), "f(a, k : 'b')")?;
-    match arguments_of(&file) {
-        [first, second] => {
-            assert!(rt; !first.is_named());
-            assert!(rt; second.is_named());
-            assert!(rt; matches!(second.value(), Expression::Literal { text: "'b'", .. }));
-        }
-        _ => assert!(rt; false),
-    }
+    assert!(rt; has_both_arguments(&file));
     Ok(())
 }

@@ -159,16 +159,19 @@ const CALLS_METHODS_AND_INDICES: &[Row] = &[
     ("x = f(a ? b : c)", "1 x = f((a@1 ? b@1 : c@1)@1,)@1;"),
 ];
 
+const TABLES: &[&'static [Row]] = &[
+    LITERALS_STAND_AS_IN_THE_SOURCE,
+    A_TOKEN_HAS_THE_LINE_OF_ITS_FIRST_BYTE,
+    OPERATORS_OF_ONE_LINE_ARE_ONE_CHAIN,
+    SOME_BIND_TIGHTER,
+    A_CHAIN_HAS_THE_LINE_OF_ITS_FIRST_TOKEN,
+    COMPARISONS_AND_CHOICES_STAND_ALONE,
+    BRACKETS_HOLD_LISTS_AND_DICTIONARIES,
+    PREFIXES_BIND_TIGHTER_THAN_OPERATORS,
+    CALLS_METHODS_AND_INDICES,
+];
+
 #[test]
 fn rows_of_expressions(rt: HostRuntime) -> Result<(), Fail> {
-    check(&rt, rt.alloc(), LITERALS_STAND_AS_IN_THE_SOURCE)?;
-    check(&rt, rt.alloc(), A_TOKEN_HAS_THE_LINE_OF_ITS_FIRST_BYTE)?;
-    check(&rt, rt.alloc(), OPERATORS_OF_ONE_LINE_ARE_ONE_CHAIN)?;
-    check(&rt, rt.alloc(), SOME_BIND_TIGHTER)?;
-    check(&rt, rt.alloc(), A_CHAIN_HAS_THE_LINE_OF_ITS_FIRST_TOKEN)?;
-    check(&rt, rt.alloc(), COMPARISONS_AND_CHOICES_STAND_ALONE)?;
-    check(&rt, rt.alloc(), BRACKETS_HOLD_LISTS_AND_DICTIONARIES)?;
-    check(&rt, rt.alloc(), PREFIXES_BIND_TIGHTER_THAN_OPERATORS)?;
-    check(&rt, rt.alloc(), CALLS_METHODS_AND_INDICES)?;
-    Ok(())
+    check(&rt, rt.alloc(), TABLES)
 }

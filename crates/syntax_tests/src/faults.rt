@@ -90,13 +90,16 @@ const THE_EARLIER_TOKEN_DECIDES: &[Row] = &[
     ("x = y z\n'", "E2 at 2"),
 ];
 
+const TABLES: &[&'static [Row]] = &[
+    A_SOURCE_WITHOUT_TOKENS,
+    STATEMENTS_OF_ONE_LINE,
+    WORDS_OF_BLOCKS_ALONE,
+    BREAK_AND_CONTINUE_OUTSIDE_A_FOREACH,
+    PARTS_OF_BLOCKS,
+    THE_EARLIER_TOKEN_DECIDES,
+];
+
 #[test]
 fn rows_of_faults(rt: HostRuntime) -> Result<(), Fail> {
-    check(&rt, rt.alloc(), A_SOURCE_WITHOUT_TOKENS)?;
-    check(&rt, rt.alloc(), STATEMENTS_OF_ONE_LINE)?;
-    check(&rt, rt.alloc(), WORDS_OF_BLOCKS_ALONE)?;
-    check(&rt, rt.alloc(), BREAK_AND_CONTINUE_OUTSIDE_A_FOREACH)?;
-    check(&rt, rt.alloc(), PARTS_OF_BLOCKS)?;
-    check(&rt, rt.alloc(), THE_EARLIER_TOKEN_DECIDES)?;
-    Ok(())
+    check(&rt, rt.alloc(), TABLES)
 }

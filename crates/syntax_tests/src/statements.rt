@@ -95,13 +95,16 @@ const AN_EXPRESSION_ALONE_IS_A_STATEMENT: &[Row] = &[
     ("[a]\n{a : b}", "1 [a@1,]@1;2 {a@2:b@2,}@2;"),
 ];
 
+const TABLES: &[&'static [Row]] = &[
+    LINES_HOLD_A_STATEMENT_EACH_OR_NONE,
+    NAMES_TAKE_VALUES,
+    A_FOREACH_HAS_ONE_NAME_OR_TWO,
+    BREAK_AND_CONTINUE_STAND_INSIDE_A_FOREACH,
+    AN_IF_HAS_PARTS,
+    AN_EXPRESSION_ALONE_IS_A_STATEMENT,
+];
+
 #[test]
 fn rows_of_statements(rt: HostRuntime) -> Result<(), Fail> {
-    check(&rt, rt.alloc(), LINES_HOLD_A_STATEMENT_EACH_OR_NONE)?;
-    check(&rt, rt.alloc(), NAMES_TAKE_VALUES)?;
-    check(&rt, rt.alloc(), A_FOREACH_HAS_ONE_NAME_OR_TWO)?;
-    check(&rt, rt.alloc(), BREAK_AND_CONTINUE_STAND_INSIDE_A_FOREACH)?;
-    check(&rt, rt.alloc(), AN_IF_HAS_PARTS)?;
-    check(&rt, rt.alloc(), AN_EXPRESSION_ALONE_IS_A_STATEMENT)?;
-    Ok(())
+    check(&rt, rt.alloc(), TABLES)
 }

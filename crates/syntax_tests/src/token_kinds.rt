@@ -12,10 +12,17 @@ fn are(found: &[Token<'_>], kinds: &[Kind]) -> bool {
     found.len() == kinds.len() && found.iter().zip(kinds).all(|(token, kind)| token.is(*kind))
 }
 
-fn check_kinds(rt: &impl Abort, alloc: Global, rows: &[KindRow]) -> Result<(), Fail> {
+fn check_rows(rt: &impl Abort, alloc: Global, rows: &[KindRow]) -> Result<(), Fail> {
     for (source, expected) in rows {
         let found = tokens(alloc, source)?;
         assert!(rt; are(&found, expected), "of {source:?}");
+    }
+    Ok(())
+}
+
+fn check_kinds(rt: &impl Abort, alloc: Global, tables: &[&'static [KindRow]]) -> Result<(), Fail> {
+    for rows in tables {
+        check_rows(rt, alloc, rows)?;
     }
     Ok(())
 }
@@ -158,16 +165,19 @@ const LINES: &[KindRow] = &[
     ),
 ];
 
+const TABLES: &[&'static [KindRow]] = &[
+    KEYWORDS,
+    NAMES,
+    SIGNS,
+    THE_LONGEST_SIGN_IS_TAKEN,
+    BRACKETS_AND_NEWLINES,
+    STRINGS_END_AT_THEIR_QUOTES,
+    NUMBERS,
+    STRINGS,
+    LINES,
+];
+
 #[test]
 fn rows_of_kinds(rt: HostRuntime) -> Result<(), Fail> {
-    check_kinds(&rt, rt.alloc(), KEYWORDS)?;
-    check_kinds(&rt, rt.alloc(), NAMES)?;
-    check_kinds(&rt, rt.alloc(), SIGNS)?;
-    check_kinds(&rt, rt.alloc(), THE_LONGEST_SIGN_IS_TAKEN)?;
-    check_kinds(&rt, rt.alloc(), BRACKETS_AND_NEWLINES)?;
-    check_kinds(&rt, rt.alloc(), STRINGS_END_AT_THEIR_QUOTES)?;
-    check_kinds(&rt, rt.alloc(), NUMBERS)?;
-    check_kinds(&rt, rt.alloc(), STRINGS)?;
-    check_kinds(&rt, rt.alloc(), LINES)?;
-    Ok(())
+    check_kinds(&rt, rt.alloc(), TABLES)
 }

@@ -1,8 +1,8 @@
 // Sources and their tokens, each with its line, or the line at which no token begins.
-use crate::support::{TokenRow, check_tokens};
+use crate::support::{Row, check_tokens};
 use std::test::Fail;
 
-const LINES: &[TokenRow] = &[
+const TOKENS: &[Row] = &[
     (
         "a \\ # c\n + \\\r\n'''x\ny''' b",
         "a@1 +@2 '''x\ny'''@3 b@4 ",
@@ -11,9 +11,12 @@ const LINES: &[TokenRow] = &[
     ("a\nb \\ c\n", "E2 at 2"),
     ("a\nb \\ # end", "E2 at 2"),
     ("'a\nb' 'c\nd\\x4\\ud800'", "E2 at 2"),
-];
-
-const NO_TOKEN_BEGINS_HERE: &[TokenRow] = &[
+    (
+        "if x == 'a\nb' # end\ny += f(\n)",
+        "if@1 x@1 ==@1 'a\nb'@1 \n@2 y@3 +=@3 f@3 (@3 )@4 ",
+    ),
+    ("x\n 'a", "E2 at 2"),
+    // No token begins with such a character.
     ("a\n!", "E2 at 2"),
     ("a\n! =", "E2 at 2"),
     ("a\n\"b\"", "E2 at 2"),
@@ -24,9 +27,7 @@ const NO_TOKEN_BEGINS_HERE: &[TokenRow] = &[
     ("a\né", "E2 at 2"),
     ("a\n\\b", "E2 at 2"),
     ("a\n\u{c}", "E2 at 2"),
-];
-
-const NO_NUMBERS: &[TokenRow] = &[
+    // What is no number.
     ("012", "E2 at 1"),
     ("0b12", "E2 at 1"),
     ("0xg", "E2 at 1"),
@@ -36,9 +37,7 @@ const NO_NUMBERS: &[TokenRow] = &[
     ("0b", "E2 at 1"),
     ("1_0", "E2 at 1"),
     ("0_", "E2 at 1"),
-];
-
-const NO_STRINGS: &[TokenRow] = &[
+    // What is no string.
     ("'a", "E2 at 1"),
     ("'a\\'", "E2 at 1"),
     ("'''a''", "E2 at 1"),
@@ -51,9 +50,5 @@ const NO_STRINGS: &[TokenRow] = &[
 
 #[test]
 fn rows_of_tokens(rt: HostRuntime) -> Result<(), Fail> {
-    check_tokens(&rt, rt.alloc(), LINES)?;
-    check_tokens(&rt, rt.alloc(), NO_TOKEN_BEGINS_HERE)?;
-    check_tokens(&rt, rt.alloc(), NO_NUMBERS)?;
-    check_tokens(&rt, rt.alloc(), NO_STRINGS)?;
-    Ok(())
+    check_tokens(&rt, rt.alloc(), TOKENS)
 }
