@@ -62,7 +62,7 @@ fn shown_tokens(alloc: Global, source: &str) -> Result<String, AllocError> {
     out.whole()
 }
 
-/// A text that grows. Where memory ends it is left as it is, and `whole` says so in the end.
+// A text that is put together piece by piece. Where memory ends, the piece is left out, and `whole` says so.
 #[derive(Drop)]
 struct Writer {
     alloc: Global,
