@@ -14,6 +14,3 @@ pub use making::edges;
 pub use project::{Duplicate, Project, outputs_differ};
 pub use rule::Rule;
 pub use target::Target;
-
-#[cfg(test)]
-mod tests;

@@ -22,6 +22,3 @@ pub use file::{write_head, write_tail};
 pub use holding::{can_hold_edge, can_hold_edges, can_hold_path, can_hold_value};
 pub use laws::{edge_law, file_law, value_law, words_law};
 pub use words::write_words;
-
-#[cfg(test)]
-mod tests;

@@ -45,6 +45,3 @@ pub use outputs::Outputs;
 pub use plan::{OutputCall, TreeCall};
 pub use send::{fault_all, log_all, put_all};
 pub use tree::Tree;
-
-#[cfg(test)]
-mod tests;

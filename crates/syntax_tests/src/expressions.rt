@@ -1,196 +1,177 @@
-use crate::support::check;
+use crate::support::{Row, check};
 use std::test::Fail;
 
-#[test]
-fn literals_stand_as_in_the_source(rt: HostRuntime) -> Result<(), Fail> {
-    let rows = [
-        ("x = true", "1 x = true@1;"),
-        ("x = false", "1 x = false@1;"),
-        ("x = 0", "1 x = 0@1;"),
-        ("x = 120", "1 x = 120@1;"),
-        ("x = 0xfF", "1 x = 0xfF@1;"),
-        ("x = 0O17", "1 x = 0O17@1;"),
-        ("x = 0b10", "1 x = 0b10@1;"),
-        (
-            "x = 170141183460469231731687303715884105728",
-            "1 x = 170141183460469231731687303715884105728@1;",
-        ),
-        ("x = 'a\\'\\q'", "1 x = 'a\\'\\q'@1;"),
-        ("x = '''a\\'''", "1 x = '''a\\'''@1;"),
-        ("x = f'@a@'", "1 x = f'@a@'@1;"),
-        ("x = f''''a'''", "1 x = f''''a'''@1;"),
-    ];
-    check(&rt, rt.alloc(), &rows)
-}
+const LITERALS_STAND_AS_IN_THE_SOURCE: &[Row] = &[
+    ("x = true", "1 x = true@1;"),
+    ("x = false", "1 x = false@1;"),
+    ("x = 0", "1 x = 0@1;"),
+    ("x = 120", "1 x = 120@1;"),
+    ("x = 0xfF", "1 x = 0xfF@1;"),
+    ("x = 0O17", "1 x = 0O17@1;"),
+    ("x = 0b10", "1 x = 0b10@1;"),
+    (
+        "x = 170141183460469231731687303715884105728",
+        "1 x = 170141183460469231731687303715884105728@1;",
+    ),
+    ("x = 'a\\'\\q'", "1 x = 'a\\'\\q'@1;"),
+    ("x = '''a\\'''", "1 x = '''a\\'''@1;"),
+    ("x = f'@a@'", "1 x = f'@a@'@1;"),
+    ("x = f''''a'''", "1 x = f''''a'''@1;"),
+];
+
+const A_TOKEN_HAS_THE_LINE_OF_ITS_FIRST_BYTE: &[Row] = &[
+    ("x = 'a\nb' + c", "1 x = ('a\nb'@1 + c@2)@1;"),
+    (
+        "x = '''a\n\nb''' + c\ny = d",
+        "1 x = ('''a\n\nb'''@1 + c@3)@1;4 y = d@4;",
+    ),
+    ("x = a \\\n+ b", "1 x = (a@1 + b@2)@1;"),
+    (
+        "x = a + \\ # why\n\\\nb\ny = c",
+        "1 x = (a@1 + b@3)@1;4 y = c@4;",
+    ),
+    ("x = [ # why\n a, # (\n b]", "1 x = [a@2,b@3,]@1;"),
+];
+
+const OPERATORS_OF_ONE_LINE_ARE_ONE_CHAIN: &[Row] = &[
+    ("x = a or b or c", "1 x = (a@1 or b@1 or c@1)@1;"),
+    ("x = a and b and c", "1 x = (a@1 and b@1 and c@1)@1;"),
+    ("x = a + b - c", "1 x = (a@1 + b@1 - c@1)@1;"),
+    ("x = a * b / c % d", "1 x = (a@1 * b@1 / c@1 % d@1)@1;"),
+    ("x = a == b", "1 x = (a@1 == b@1)@1;"),
+    ("x = a != b", "1 x = (a@1 != b@1)@1;"),
+    ("x = a < b", "1 x = (a@1 < b@1)@1;"),
+    ("x = a <= b", "1 x = (a@1 <= b@1)@1;"),
+    ("x = a > b", "1 x = (a@1 > b@1)@1;"),
+    ("x = a >= b", "1 x = (a@1 >= b@1)@1;"),
+    ("x = a in b", "1 x = (a@1 in b@1)@1;"),
+    ("x = a not in b", "1 x = (a@1 not in b@1)@1;"),
+    ("x = 'a' + true", "1 x = ('a'@1 + true@1)@1;"),
+];
+
+const SOME_BIND_TIGHTER: &[Row] = &[
+    ("x = a or b and c", "1 x = (a@1 or (b@1 and c@1)@1)@1;"),
+    ("x = a and b == c", "1 x = (a@1 and (b@1 == c@1)@1)@1;"),
+    ("x = a == b + c", "1 x = (a@1 == (b@1 + c@1)@1)@1;"),
+    ("x = a + b * c", "1 x = (a@1 + (b@1 * c@1)@1)@1;"),
+    ("x = a * b + c", "1 x = ((a@1 * b@1)@1 + c@1)@1;"),
+    ("x = (a + b) * c", "1 x = ((a@1 + b@1)@1 * c@1)@1;"),
+    ("x = a - (b - c)", "1 x = (a@1 - (b@1 - c@1)@1)@1;"),
+    ("x = (a == b) == c", "1 x = ((a@1 == b@1)@1 == c@1)@1;"),
+    ("x = a ? b : c", "1 x = (a@1 ? b@1 : c@1)@1;"),
+    (
+        "x = a or b ? c or d : e",
+        "1 x = ((a@1 or b@1)@1 ? (c@1 or d@1)@1 : e@1)@1;",
+    ),
+    (
+        "x = (a ? b : c) ? d : e",
+        "1 x = ((a@1 ? b@1 : c@1)@1 ? d@1 : e@1)@1;",
+    ),
+];
+
+const A_CHAIN_HAS_THE_LINE_OF_ITS_FIRST_TOKEN: &[Row] = &[
+    ("x = (\na) + b", "1 x = (a@2 + b@2)@1;"),
+    ("x = (\na + b)", "1 x = (a@2 + b@2)@2;"),
+    ("x = (a\n+\nb)", "1 x = (a@1 + b@3)@1;"),
+    ("x = (\na\n)", "1 x = a@2;"),
+    ("x = (\n(\na\n) == b)", "1 x = (a@3 == b@4)@2;"),
+    ("x = (\na) ? b : c", "1 x = (a@2 ? b@2 : c@2)@1;"),
+];
+
+const COMPARISONS_AND_CHOICES_STAND_ALONE: &[Row] = &[
+    ("x = a == b ==\nc", "E3 at 1"),
+    ("x = (a == b\n== c)", "E3 at 2"),
+    ("x = a < b > c", "E3 at 1"),
+    ("x = a in b not in c", "E3 at 1"),
+    ("x = a not b", "E3 at 1"),
+    ("x = a ? b", "E3 at 1"),
+    ("x = a ? b\n", "E3 at 1"),
+    ("x = a ?", "E3 at 1"),
+    ("x = a : b", "E3 at 1"),
+    ("x = a ? b : c ? d : e", "E3 at 1"),
+    ("x = a ? b ? c : d : e", "E3 at 1"),
+    ("x = true ? (\nfalse ? 'a' : 'b') : 'c'", "E3 at 2"),
+    ("x = a ? b : (\nc\n? d : e)", "E3 at 3"),
+    ("x = a +", "E3 at 1"),
+    ("x = (a +\n* b)", "E3 at 2"),
+    ("x = + a", "E3 at 1"),
+    ("x = (a\nor or b)", "E3 at 2"),
+    ("x = ()", "E3 at 1"),
+    ("x = (\n)", "E3 at 2"),
+    ("x = (a]", "E3 at 1"),
+    ("if a ==\nendif", "E3 at 1"),
+];
+
+const BRACKETS_HOLD_LISTS_AND_DICTIONARIES: &[Row] = &[
+    ("x = []", "1 x = []@1;"),
+    ("x = [a, b]", "1 x = [a@1,b@1,]@1;"),
+    ("x = [\na,\n[b],\n]", "1 x = [a@2,[b@3,]@3,]@1;"),
+    ("x = {}", "1 x = {}@1;"),
+    ("x = {'a' : b, c : d,}", "1 x = {'a'@1:b@1,c@1:d@1,}@1;"),
+    ("x = {\n'a' : [b]}", "1 x = {'a'@2:[b@2,]@2,}@1;"),
+    ("x = [a ? b : c]", "1 x = [(a@1 ? b@1 : c@1)@1,]@1;"),
+    ("x = [,]", "E3 at 1"),
+    ("x = [a\nb]", "E3 at 2"),
+    ("x = {a}", "E3 at 1"),
+    ("x = {a : b\n: c}", "E3 at 2"),
+    ("x = {a : }", "E3 at 1"),
+    ("x = [a", "E3 at 1"),
+];
+
+const PREFIXES_BIND_TIGHTER_THAN_OPERATORS: &[Row] = &[
+    ("x = not a", "1 x = (not a@1)@1;"),
+    ("x = -a", "1 x = (- a@1)@1;"),
+    ("x = not not a", "1 x = (not (not a@1)@1)@1;"),
+    ("x = not a == b", "1 x = ((not a@1)@1 == b@1)@1;"),
+    ("x = not a not in b", "1 x = ((not a@1)@1 not in b@1)@1;"),
+    ("x = -a * b", "1 x = ((- a@1)@1 * b@1)@1;"),
+    ("x = a - -b", "1 x = (a@1 - (- b@1)@1)@1;"),
+    ("x = -a.b()", "1 x = (- (a@1.b())@1)@1;"),
+    ("x = (\nnot a)", "1 x = (not a@2)@2;"),
+    ("x = not", "E3 at 1"),
+    ("x = (-\n)", "E3 at 2"),
+];
+
+const CALLS_METHODS_AND_INDICES: &[Row] = &[
+    ("x = f(a)", "1 x = f(a@1,)@1;"),
+    ("x = f(k: a, l: b)", "1 x = f(k:a@1,l:b@1,)@1;"),
+    ("x = a.m()", "1 x = (a@1.m())@1;"),
+    ("x = a.m(b).n()[c]", "1 x = (a@1.m(b@1,).n()[c@1])@1;"),
+    ("x = f()[a][b]", "1 x = (f()@1[a@1][b@1])@1;"),
+    ("x = 'a'.m()", "1 x = ('a'@1.m())@1;"),
+    ("x = (\na).m()", "1 x = (a@2.m())@1;"),
+    ("x = (a\n.m())", "1 x = (a@1.m())@1;"),
+    ("x = [a].m()", "1 x = ([a@1,]@1.m())@1;"),
+    ("f(a: b,\nc\n)", "E3 at 3"),
+    ("f(a: b, c)", "E3 at 1"),
+    ("f('a': b)", "E3 at 1"),
+    ("x = a()()", "E3 at 1"),
+    ("x = a.b", "E3 at 1"),
+    ("x = a.b\n", "E3 at 1"),
+    ("x = a[]", "E3 at 1"),
+    ("x = a[b\n, c]", "E3 at 2"),
+    ("x = (a)()", "E3 at 1"),
+    ("x = a ? f(\nb ? c : d) : e", "E3 at 2"),
+    ("x = a ? b : [\n\nc ? d : e]", "E3 at 3"),
+    ("x = a ? b : c[\nd ? e : f]", "E3 at 2"),
+    ("x = a ? {b :\nc ? d : e} : f", "E3 at 2"),
+    ("x = a ? b : c.m(k:\nd ? e : f)", "E3 at 2"),
+    ("x = f(a ? b : c)", "1 x = f((a@1 ? b@1 : c@1)@1,)@1;"),
+];
+
+const TABLES: &[&'static [Row]] = &[
+    LITERALS_STAND_AS_IN_THE_SOURCE,
+    A_TOKEN_HAS_THE_LINE_OF_ITS_FIRST_BYTE,
+    OPERATORS_OF_ONE_LINE_ARE_ONE_CHAIN,
+    SOME_BIND_TIGHTER,
+    A_CHAIN_HAS_THE_LINE_OF_ITS_FIRST_TOKEN,
+    COMPARISONS_AND_CHOICES_STAND_ALONE,
+    BRACKETS_HOLD_LISTS_AND_DICTIONARIES,
+    PREFIXES_BIND_TIGHTER_THAN_OPERATORS,
+    CALLS_METHODS_AND_INDICES,
+];
 
 #[test]
-fn a_token_has_the_line_of_its_first_byte(rt: HostRuntime) -> Result<(), Fail> {
-    let rows = [
-        ("x = 'a\nb' + c", "1 x = ('a\nb'@1 + c@2)@1;"),
-        (
-            "x = '''a\n\nb''' + c\ny = d",
-            "1 x = ('''a\n\nb'''@1 + c@3)@1;4 y = d@4;",
-        ),
-        ("x = a \\\n+ b", "1 x = (a@1 + b@2)@1;"),
-        (
-            "x = a + \\ # why\n\\\nb\ny = c",
-            "1 x = (a@1 + b@3)@1;4 y = c@4;",
-        ),
-        ("x = [ # why\n a, # (\n b]", "1 x = [a@2,b@3,]@1;"),
-    ];
-    check(&rt, rt.alloc(), &rows)
-}
-
-#[test]
-fn operators_of_one_line_are_one_chain(rt: HostRuntime) -> Result<(), Fail> {
-    let rows = [
-        ("x = a or b or c", "1 x = (a@1 or b@1 or c@1)@1;"),
-        ("x = a and b and c", "1 x = (a@1 and b@1 and c@1)@1;"),
-        ("x = a + b - c", "1 x = (a@1 + b@1 - c@1)@1;"),
-        ("x = a * b / c % d", "1 x = (a@1 * b@1 / c@1 % d@1)@1;"),
-        ("x = a == b", "1 x = (a@1 == b@1)@1;"),
-        ("x = a != b", "1 x = (a@1 != b@1)@1;"),
-        ("x = a < b", "1 x = (a@1 < b@1)@1;"),
-        ("x = a <= b", "1 x = (a@1 <= b@1)@1;"),
-        ("x = a > b", "1 x = (a@1 > b@1)@1;"),
-        ("x = a >= b", "1 x = (a@1 >= b@1)@1;"),
-        ("x = a in b", "1 x = (a@1 in b@1)@1;"),
-        ("x = a not in b", "1 x = (a@1 not in b@1)@1;"),
-        ("x = 'a' + true", "1 x = ('a'@1 + true@1)@1;"),
-    ];
-    check(&rt, rt.alloc(), &rows)
-}
-
-#[test]
-fn some_bind_tighter(rt: HostRuntime) -> Result<(), Fail> {
-    let rows = [
-        ("x = a or b and c", "1 x = (a@1 or (b@1 and c@1)@1)@1;"),
-        ("x = a and b == c", "1 x = (a@1 and (b@1 == c@1)@1)@1;"),
-        ("x = a == b + c", "1 x = (a@1 == (b@1 + c@1)@1)@1;"),
-        ("x = a + b * c", "1 x = (a@1 + (b@1 * c@1)@1)@1;"),
-        ("x = a * b + c", "1 x = ((a@1 * b@1)@1 + c@1)@1;"),
-        ("x = (a + b) * c", "1 x = ((a@1 + b@1)@1 * c@1)@1;"),
-        ("x = a - (b - c)", "1 x = (a@1 - (b@1 - c@1)@1)@1;"),
-        ("x = (a == b) == c", "1 x = ((a@1 == b@1)@1 == c@1)@1;"),
-        ("x = a ? b : c", "1 x = (a@1 ? b@1 : c@1)@1;"),
-        (
-            "x = a or b ? c or d : e",
-            "1 x = ((a@1 or b@1)@1 ? (c@1 or d@1)@1 : e@1)@1;",
-        ),
-        (
-            "x = (a ? b : c) ? d : e",
-            "1 x = ((a@1 ? b@1 : c@1)@1 ? d@1 : e@1)@1;",
-        ),
-    ];
-    check(&rt, rt.alloc(), &rows)
-}
-
-#[test]
-fn a_chain_has_the_line_of_its_first_token(rt: HostRuntime) -> Result<(), Fail> {
-    let rows = [
-        ("x = (\na) + b", "1 x = (a@2 + b@2)@1;"),
-        ("x = (\na + b)", "1 x = (a@2 + b@2)@2;"),
-        ("x = (a\n+\nb)", "1 x = (a@1 + b@3)@1;"),
-        ("x = (\na\n)", "1 x = a@2;"),
-        ("x = (\n(\na\n) == b)", "1 x = (a@3 == b@4)@2;"),
-        ("x = (\na) ? b : c", "1 x = (a@2 ? b@2 : c@2)@1;"),
-    ];
-    check(&rt, rt.alloc(), &rows)
-}
-
-#[test]
-fn comparisons_and_choices_stand_alone(rt: HostRuntime) -> Result<(), Fail> {
-    let rows = [
-        ("x = a == b ==\nc", "E3 at 1"),
-        ("x = (a == b\n== c)", "E3 at 2"),
-        ("x = a < b > c", "E3 at 1"),
-        ("x = a in b not in c", "E3 at 1"),
-        ("x = a not b", "E3 at 1"),
-        ("x = a ? b", "E3 at 1"),
-        ("x = a ? b\n", "E3 at 1"),
-        ("x = a ?", "E3 at 1"),
-        ("x = a : b", "E3 at 1"),
-        ("x = a ? b : c ? d : e", "E3 at 1"),
-        ("x = a ? b ? c : d : e", "E3 at 1"),
-        ("x = true ? (\nfalse ? 'a' : 'b') : 'c'", "E3 at 2"),
-        ("x = a ? b : (\nc\n? d : e)", "E3 at 3"),
-        ("x = a +", "E3 at 1"),
-        ("x = (a +\n* b)", "E3 at 2"),
-        ("x = + a", "E3 at 1"),
-        ("x = (a\nor or b)", "E3 at 2"),
-        ("x = ()", "E3 at 1"),
-        ("x = (\n)", "E3 at 2"),
-        ("x = (a]", "E3 at 1"),
-        ("if a ==\nendif", "E3 at 1"),
-    ];
-    check(&rt, rt.alloc(), &rows)
-}
-
-#[test]
-fn brackets_hold_lists_and_dictionaries(rt: HostRuntime) -> Result<(), Fail> {
-    let rows = [
-        ("x = []", "1 x = []@1;"),
-        ("x = [a, b]", "1 x = [a@1,b@1,]@1;"),
-        ("x = [\na,\n[b],\n]", "1 x = [a@2,[b@3,]@3,]@1;"),
-        ("x = {}", "1 x = {}@1;"),
-        ("x = {'a' : b, c : d,}", "1 x = {'a'@1:b@1,c@1:d@1,}@1;"),
-        ("x = {\n'a' : [b]}", "1 x = {'a'@2:[b@2,]@2,}@1;"),
-        ("x = [a ? b : c]", "1 x = [(a@1 ? b@1 : c@1)@1,]@1;"),
-        ("x = [,]", "E3 at 1"),
-        ("x = [a\nb]", "E3 at 2"),
-        ("x = {a}", "E3 at 1"),
-        ("x = {a : b\n: c}", "E3 at 2"),
-        ("x = {a : }", "E3 at 1"),
-        ("x = [a", "E3 at 1"),
-    ];
-    check(&rt, rt.alloc(), &rows)
-}
-
-#[test]
-fn prefixes_bind_tighter_than_operators(rt: HostRuntime) -> Result<(), Fail> {
-    let rows = [
-        ("x = not a", "1 x = (not a@1)@1;"),
-        ("x = -a", "1 x = (- a@1)@1;"),
-        ("x = not not a", "1 x = (not (not a@1)@1)@1;"),
-        ("x = not a == b", "1 x = ((not a@1)@1 == b@1)@1;"),
-        ("x = not a not in b", "1 x = ((not a@1)@1 not in b@1)@1;"),
-        ("x = -a * b", "1 x = ((- a@1)@1 * b@1)@1;"),
-        ("x = a - -b", "1 x = (a@1 - (- b@1)@1)@1;"),
-        ("x = -a.b()", "1 x = (- (a@1.b())@1)@1;"),
-        ("x = (\nnot a)", "1 x = (not a@2)@2;"),
-        ("x = not", "E3 at 1"),
-        ("x = (-\n)", "E3 at 2"),
-    ];
-    check(&rt, rt.alloc(), &rows)
-}
-
-#[test]
-fn calls_methods_and_indices(rt: HostRuntime) -> Result<(), Fail> {
-    let rows = [
-        ("x = f(a)", "1 x = f(a@1,)@1;"),
-        ("x = f(k: a, l: b)", "1 x = f(k:a@1,l:b@1,)@1;"),
-        ("x = a.m()", "1 x = (a@1.m())@1;"),
-        ("x = a.m(b).n()[c]", "1 x = (a@1.m(b@1,).n()[c@1])@1;"),
-        ("x = f()[a][b]", "1 x = (f()@1[a@1][b@1])@1;"),
-        ("x = 'a'.m()", "1 x = ('a'@1.m())@1;"),
-        ("x = (\na).m()", "1 x = (a@2.m())@1;"),
-        ("x = (a\n.m())", "1 x = (a@1.m())@1;"),
-        ("x = [a].m()", "1 x = ([a@1,]@1.m())@1;"),
-        ("f(a: b,\nc\n)", "E3 at 3"),
-        ("f(a: b, c)", "E3 at 1"),
-        ("f('a': b)", "E3 at 1"),
-        ("x = a()()", "E3 at 1"),
-        ("x = a.b", "E3 at 1"),
-        ("x = a.b\n", "E3 at 1"),
-        ("x = a[]", "E3 at 1"),
-        ("x = a[b\n, c]", "E3 at 2"),
-        ("x = (a)()", "E3 at 1"),
-        ("x = a ? f(\nb ? c : d) : e", "E3 at 2"),
-        ("x = a ? b : [\n\nc ? d : e]", "E3 at 3"),
-        ("x = a ? b : c[\nd ? e : f]", "E3 at 2"),
-        ("x = a ? {b :\nc ? d : e} : f", "E3 at 2"),
-        ("x = a ? b : c.m(k:\nd ? e : f)", "E3 at 2"),
-        ("x = f(a ? b : c)", "1 x = f((a@1 ? b@1 : c@1)@1,)@1;"),
-    ];
-    check(&rt, rt.alloc(), &rows)
+fn rows_of_expressions(rt: HostRuntime) -> Result<(), Fail> {
+    check(&rt, rt.alloc(), TABLES)
 }

@@ -1,6 +1,6 @@
 //! Each front of a file has a tree or one fault, wherever it is cut.
 use std::alloc::Global;
-use std::test::Fail;
+use std::process::Abort;
 use syntax::fault::SyntaxError;
 use syntax::parse;
 
@@ -15,16 +15,17 @@ fn has_tree_or_fault(alloc: Global, source: &str) -> bool {
     !matches!(parse(alloc, source), Err(SyntaxError::Memory))
 }
 
-#[test]
-fn fronts(rt: HostRuntime) -> Result<(), Fail> {
-    let alloc = rt.alloc();
-    for source in [TWO_FOLDERS, LIBRARY, SHARED] {
-        assert!(rt; has_tree_or_fault(alloc, source), "of {source:?}");
-        for end in 0..source.len() {
-            if let Some(front) = source.get(..end) {
-                assert!(rt; has_tree_or_fault(alloc, front), "of {front:?}");
-            }
+fn check_fronts(rt: &impl Abort, alloc: Global, source: &str) {
+    for end in 0..=source.len() {
+        if let Some(front) = source.get(..end) {
+            assert!(rt; has_tree_or_fault(alloc, front), "of {front:?}");
         }
     }
-    Ok(())
+}
+
+#[test]
+fn fronts(rt: HostRuntime) {
+    check_fronts(&rt, rt.alloc(), TWO_FOLDERS);
+    check_fronts(&rt, rt.alloc(), LIBRARY);
+    check_fronts(&rt, rt.alloc(), SHARED);
 }

@@ -1,140 +1,195 @@
+//! Sources of many levels.
 use crate::support::shown;
 use std::alloc::{AllocError, Global};
+use std::process::Abort;
 use std::test::Fail;
 
+/// A head, how many times the first and the last of three parts are repeated, the parts, and what is shown of the source.
+type LevelRow = (
+    &'static str,
+    u32,
+    (&'static str, &'static str, &'static str),
+    &'static str,
+);
+
 // So many times the first text, the middle, and so many times the last.
-fn nested(
-    alloc: Global,
-    count: u32,
-    first: &str,
-    middle: &str,
-    last: &str,
-) -> Result<String, AllocError> {
+fn nested(alloc: Global, count: u32, parts: (&str, &str, &str)) -> Result<String, AllocError> {
+    let (first, middle, last) = parts;
     let mut source = String::new(alloc);
-    for _ in 0..count {
-        source.push_str(first)?;
-    }
+    push_times(&mut source, count, first)?;
     source.push_str(middle)?;
-    for _ in 0..count {
-        source.push_str(last)?;
-    }
+    push_times(&mut source, count, last)?;
     Ok(source)
 }
 
-// Whether there is a tree, or else what is shown.
-fn outcome(alloc: Global, count: u32, parts: (&str, &str, &str)) -> Result<String, AllocError> {
-    let (first, middle, last) = parts;
-    let source = nested(alloc, count, first, middle, last)?;
-    let found = shown(alloc, source.as_str())?;
-    if found.as_str().starts_with("E") {
-        Ok(found)
-    } else {
-        String::from_str(alloc, "a tree")
-    }
-}
-
-#[test]
-fn brackets_open_levels(rt: HostRuntime) -> Result<(), Fail> {
-    let alloc = rt.alloc();
-    let parts = ("(", "y", ")");
-    let source = nested(alloc, 64, parts.0, parts.1, parts.2)?;
-    let assigned = format!(in alloc; "x = {source}")?;
-    assert_eq!(rt; shown(alloc, assigned.as_str())?.as_str(), "1 x = y@1;");
-    let source = nested(alloc, 65, parts.0, parts.1, parts.2)?;
-    let assigned = format!(in alloc; "\nx = {source}")?;
-    assert_eq!(rt; shown(alloc, assigned.as_str())?.as_str(), "E4 at 2");
-    Ok(())
-}
-
-#[test]
-fn each_kind_of_bracket_and_prefix_opens_a_level(rt: HostRuntime) -> Result<(), Fail> {
-    let alloc = rt.alloc();
-    for (first, last) in [
-        ("[", "]"),
-        ("{a : ", "}"),
-        ("f(", ")"),
-        ("a[", "]"),
-        ("a.m(", ")"),
-        ("-", ""),
-        ("not ", ""),
-    ] {
-        let parts = (first, "y", last);
-        assert_eq!(rt;
-            outcome(alloc, 64, parts)?.as_str(),
-            "a tree",
-            "of {first:?}"
-        );
-        assert_eq!(rt;
-            outcome(alloc, 65, parts)?.as_str(),
-            "E4 at 1",
-            "of {first:?}"
-        );
+fn push_times(text: &mut String, count: u32, part: &str) -> Result<(), AllocError> {
+    for _ in 0..count {
+        text.push_str(part)?;
     }
     Ok(())
 }
 
-#[test]
-fn blocks_open_levels(rt: HostRuntime) -> Result<(), Fail> {
-    let alloc = rt.alloc();
-    let conditional = ("if a\n", "x = y\n", "endif\n");
-    assert_eq!(rt; outcome(alloc, 64, conditional)?.as_str(), "a tree");
-    assert_eq!(rt; outcome(alloc, 65, conditional)?.as_str(), "E4 at 65");
-    let rounds = ("foreach a : b\n", "x = y\n", "endforeach\n");
-    assert_eq!(rt; outcome(alloc, 64, rounds)?.as_str(), "a tree");
-    assert_eq!(rt; outcome(alloc, 65, rounds)?.as_str(), "E4 at 65");
-    let both = ("foreach a : b\nif a\n", "break\n", "endif\nendforeach\n");
-    assert_eq!(rt; outcome(alloc, 32, both)?.as_str(), "a tree");
-    assert_eq!(rt; outcome(alloc, 33, both)?.as_str(), "E4 at 65");
+fn outcome(alloc: Global, row: &LevelRow) -> Result<String, AllocError> {
+    let (head, count, parts, _) = row;
+    let source = nested(alloc, *count, *parts)?;
+    let source = format!(in alloc; "{head}{source}")?;
+    shown(alloc, source.as_str())
+}
+
+// Each row's source is shown so.
+fn check_whole(rt: &impl Abort, alloc: Global, rows: &[LevelRow]) -> Result<(), Fail> {
+    for (number, row) in rows.iter().enumerate() {
+        let found = outcome(alloc, row)?;
+        assert_eq!(rt; found.as_str(), row.3, "in row {number}");
+    }
     Ok(())
 }
 
+// What is shown of each row's source begins so.
+fn check_begun(rt: &impl Abort, alloc: Global, rows: &[LevelRow]) -> Result<(), Fail> {
+    for (number, row) in rows.iter().enumerate() {
+        let found = outcome(alloc, row)?;
+        assert!(rt; found.as_str().starts_with(row.3), "in row {number}");
+    }
+    Ok(())
+}
+
+const BRACKETS_OPEN_LEVELS: &[LevelRow] = &[
+    ("x = ", 64, ("(", "y", ")"), "1 x = y@1;"),
+    ("\nx = ", 65, ("(", "y", ")"), "E4 at 2"),
+];
+
+const EACH_KIND_OF_BRACKET_AND_PREFIX_OPENS_A_LEVEL: &[LevelRow] = &[
+    ("", 65, ("[", "y", "]"), "E4 at 1"),
+    ("", 65, ("{a : ", "y", "}"), "E4 at 1"),
+    ("", 65, ("f(", "y", ")"), "E4 at 1"),
+    ("", 65, ("a[", "y", "]"), "E4 at 1"),
+    ("", 65, ("a.m(", "y", ")"), "E4 at 1"),
+    ("", 65, ("-", "y", ""), "E4 at 1"),
+    ("", 65, ("not ", "y", ""), "E4 at 1"),
+];
+
+const SO_MANY_LEVELS_MAY_BE_OPEN: &[LevelRow] = &[
+    ("", 64, ("[", "y", "]"), "1 [[[["),
+    ("", 64, ("{a : ", "y", "}"), "1 {a@1:{a@1:{"),
+    ("", 64, ("f(", "y", ")"), "1 f(f(f("),
+    ("", 64, ("a[", "y", "]"), "1 (a@1[(a@1[("),
+    ("", 64, ("a.m(", "y", ")"), "1 (a@1.m((a@1.m(("),
+    ("", 64, ("-", "y", ""), "1 (- (- ("),
+    ("", 64, ("not ", "y", ""), "1 (not (not ("),
+];
+
+const BLOCKS_OPEN_LEVELS: &[LevelRow] = &[
+    ("", 65, ("if a\n", "x = y\n", "endif\n"), "E4 at 65"),
+    (
+        "",
+        65,
+        ("foreach a : b\n", "x = y\n", "endforeach\n"),
+        "E4 at 65",
+    ),
+    (
+        "",
+        33,
+        ("foreach a : b\nif a\n", "break\n", "endif\nendforeach\n"),
+        "E4 at 65",
+    ),
+];
+
+const SO_MANY_BLOCKS_MAY_BE_OPEN: &[LevelRow] = &[
+    (
+        "",
+        64,
+        ("if a\n", "x = y\n", "endif\n"),
+        "1 if [1] a@1 {2 if [2] a@2 {3 if",
+    ),
+    (
+        "",
+        64,
+        ("foreach a : b\n", "x = y\n", "endforeach\n"),
+        "1 foreach a,- [1] b@1 {2 foreach a,- [2] b@2 {3 foreach",
+    ),
+    (
+        "",
+        32,
+        ("foreach a : b\nif a\n", "break\n", "endif\nendforeach\n"),
+        "1 foreach a,- [1] b@1 {2 if [2] a@2 {3 foreach",
+    ),
+    // Blocks behind one another open no level in each other.
+    ("", 100, ("if a\nendif\n", "", ""), "1 if"),
+];
+
+const CONDITIONS_STAND_INSIDE_THEIR_BLOCK: &[LevelRow] = &[
+    ("", 63, ("if a\n", "if (a)\nendif\n", "endif\n"), "E4 at 64"),
+    (
+        "",
+        63,
+        ("if a\n", "foreach a : (b)\nendforeach\n", "endif\n"),
+        "E4 at 64",
+    ),
+    ("", 64, ("if a\n", "x = (y)\n", "endif\n"), "E4 at 65"),
+];
+
+const CONDITIONS_ON_THE_LAST_LEVEL: &[LevelRow] = &[
+    ("", 62, ("if a\n", "if (a)\nendif\n", "endif\n"), "1 if"),
+    (
+        "",
+        62,
+        ("if a\n", "foreach a : (b)\nendforeach\n", "endif\n"),
+        "1 if",
+    ),
+    ("", 63, ("if a\n", "x = (y)\n", "endif\n"), "1 if"),
+];
+
+const THE_EARLIER_FAULT_DECIDES: &[LevelRow] = &[
+    ("", 65, ("if a\n", "x = y\n", "endif )\n"), "E4 at 65"),
+    ("", 64, ("if a\n", "x = y\n", "endif )\n"), "E3 at 66"),
+    ("", 65, ("if a b\n", "x = y\n", "endif\n"), "E3 at 1"),
+    ("", 64, ("if a\n", "x = y z\n", "endif\n"), "E3 at 65"),
+];
+
+const A_BRACKET_BEHIND_A_TEXT_GOES_ON_WITH_NO_FILE: &[LevelRow] = &[
+    ("", 64, ("(", "\ny (", ")"), "E4 at 2"),
+    ("", 64, ("(", "\n'y' (", ")"), "E3 at 2"),
+];
+
+const WHOLE: &[&'static [LevelRow]] = &[
+    BRACKETS_OPEN_LEVELS,
+    EACH_KIND_OF_BRACKET_AND_PREFIX_OPENS_A_LEVEL,
+    BLOCKS_OPEN_LEVELS,
+    CONDITIONS_STAND_INSIDE_THEIR_BLOCK,
+    THE_EARLIER_FAULT_DECIDES,
+    A_BRACKET_BEHIND_A_TEXT_GOES_ON_WITH_NO_FILE,
+];
+
 #[test]
-fn conditions_stand_inside_their_block(rt: HostRuntime) -> Result<(), Fail> {
-    let alloc = rt.alloc();
-    let bracket = ("if a\n", "if (a)\nendif\n", "endif\n");
-    assert_eq!(rt; outcome(alloc, 62, bracket)?.as_str(), "a tree");
-    assert_eq!(rt; outcome(alloc, 63, bracket)?.as_str(), "E4 at 64");
-    let list = ("if a\n", "foreach a : (b)\nendforeach\n", "endif\n");
-    assert_eq!(rt; outcome(alloc, 62, list)?.as_str(), "a tree");
-    assert_eq!(rt; outcome(alloc, 63, list)?.as_str(), "E4 at 64");
-    let value = ("if a\n", "x = (y)\n", "endif\n");
-    assert_eq!(rt; outcome(alloc, 63, value)?.as_str(), "a tree");
-    assert_eq!(rt; outcome(alloc, 64, value)?.as_str(), "E4 at 65");
+fn rows_shown_whole(rt: HostRuntime) -> Result<(), Fail> {
+    for rows in WHOLE {
+        check_whole(&rt, rt.alloc(), rows)?;
+    }
+    Ok(())
+}
+
+const BEGUN: &[&'static [LevelRow]] = &[
+    SO_MANY_LEVELS_MAY_BE_OPEN,
+    SO_MANY_BLOCKS_MAY_BE_OPEN,
+    CONDITIONS_ON_THE_LAST_LEVEL,
+];
+
+#[test]
+fn rows_of_which_the_beginning_is_shown(rt: HostRuntime) -> Result<(), Fail> {
+    for rows in BEGUN {
+        check_begun(&rt, rt.alloc(), rows)?;
+    }
     Ok(())
 }
 
 #[test]
 fn further_parts_open_no_level(rt: HostRuntime) -> Result<(), Fail> {
     let alloc = rt.alloc();
-    let chain = nested(alloc, 100, "elif b\n", "else\n", "x = y\n")?;
+    let chain = nested(alloc, 100, ("elif b\n", "else\n", "x = y\n"))?;
     let source = format!(in alloc; "if a\n{chain}endif\n")?;
-    let deep = nested(alloc, 63, "if a\n", source.as_str(), "endif\n")?;
+    let deep = nested(alloc, 63, ("if a\n", source.as_str(), "endif\n"))?;
     let found = shown(alloc, deep.as_str())?;
     assert!(rt; found.as_str().starts_with("1 if [1] a@1 {2 if [2] a@2 {"));
-    let blocks = nested(alloc, 100, "if a\nendif\n", "", "")?;
-    assert!(rt; shown(alloc, blocks.as_str())?.as_str().starts_with("1 if"));
-    Ok(())
-}
-
-#[test]
-fn the_earlier_fault_decides(rt: HostRuntime) -> Result<(), Fail> {
-    let alloc = rt.alloc();
-    let late = ("if a\n", "x = y\n", "endif )\n");
-    assert_eq!(rt; outcome(alloc, 65, late)?.as_str(), "E4 at 65");
-    assert_eq!(rt; outcome(alloc, 64, late)?.as_str(), "E3 at 66");
-    let early = ("if a b\n", "x = y\n", "endif\n");
-    assert_eq!(rt; outcome(alloc, 65, early)?.as_str(), "E3 at 1");
-    let last = ("if a\n", "x = y z\n", "endif\n");
-    assert_eq!(rt; outcome(alloc, 64, last)?.as_str(), "E3 at 65");
-    Ok(())
-}
-
-#[test]
-fn a_bracket_behind_a_text_goes_on_with_no_file(rt: HostRuntime) -> Result<(), Fail> {
-    let alloc = rt.alloc();
-    for (middle, found) in [("\ny (", "E4 at 2"), ("\n'y' (", "E3 at 2")] {
-        let parts = ("(", middle, ")");
-        assert_eq!(rt; outcome(alloc, 64, parts)?.as_str(), found, "of {middle:?}");
-    }
     Ok(())
 }

@@ -1,4 +1,5 @@
-//! Tests of the crate `syntax`: sources with their trees, or with their faults, and files made flat.
+//! Tests of the crate `syntax`: sources with their tokens, with their trees or with their faults, what tokens stand for, and files made
+//! flat.
 #![tactic(auto)]
 
 #[cfg(test)]
@@ -17,3 +18,9 @@ mod levels;
 mod statements;
 #[cfg(test)]
 mod support;
+#[cfg(test)]
+mod token_kinds;
+#[cfg(test)]
+mod token_lines;
+#[cfg(test)]
+mod token_texts;

@@ -203,11 +203,29 @@ fn bytes_of_joined_texts(rt: HostRuntime) -> Result<(), Fail> {
 }
 
 #[test]
+fn bytes_behind_a_full_text(rt: HostRuntime) -> Result<(), Fail> {
+    let alloc = rt.alloc();
+    let past = vec![in alloc; long(alloc, 24)?, text_value(alloc, "b")?]?;
+    let nothing = text_value(alloc, "")?;
+    assert_eq!(rt;
+        refusal(alloc, &nothing, "join", &past)?,
+        Some(Refusal::Limit)
+    );
+    let places = text_value(alloc, "@0@@1@")?;
+    assert_eq!(rt;
+        refusal(alloc, &places, "format", &past)?,
+        Some(Refusal::Limit)
+    );
+    Ok(())
+}
+
+#[test]
 fn bytes_of_replaced_texts(rt: HostRuntime) -> Result<(), Fail> {
     let alloc = rt.alloc();
     let text = long(alloc, 12)?;
     let arguments = vec![in alloc; long(alloc, 0)?, text.clone()?]?;
-    assert!(rt; refusal(alloc, &text, "replace", &arguments)?.is_none());
+    let full = method(alloc, &text, "replace", &arguments)??;
+    assert_eq!(rt; full.weight(), 16_777_217);
     let longer = binary(alloc, Add, text, text_value(alloc, "b")?)??;
     assert_eq!(rt;
         refusal(alloc, &longer, "replace", &arguments)?,
@@ -228,5 +246,50 @@ fn pieces_of_texts(rt: HostRuntime) -> Result<(), Fail> {
     let bounds = vec![in alloc; Value::Integer(1)]?;
     let shorter = method(alloc, &text, "substring", &bounds)??;
     assert!(rt; refusal(alloc, &shorter, "split", &letter)?.is_none());
+    Ok(())
+}
+
+// A piece, how many times it stands in a text, the method that cuts the text, its arguments, and how many pieces it gives, if it isn't E22.
+const PIECES: &[(
+    &'static str,
+    usize,
+    &'static str,
+    &'static [&'static str],
+    Option<i128>,
+)] = &[
+    (",", 65_535, "split", &[","], Some(65_536)),
+    (",", 65_536, "split", &[","], None),
+    ("a ", 65_536, "split", &[], Some(65_536)),
+    ("a ", 65_537, "split", &[], None),
+    ("\n", 65_536, "splitlines", &[], Some(65_536)),
+    ("\n", 65_537, "splitlines", &[], None),
+];
+
+// How many items a list has, or E22.
+fn length(alloc: Global, list: Result<Value, Refusal>) -> Result<Option<i128>, Fail> {
+    match list {
+        Ok(list) => Ok(method(alloc, &list, "length", &[])??.as_integer()),
+        Err(Refusal::Limit) => Ok(None),
+        Err(_) => Err(Fail::from("another refusal")),
+    }
+}
+
+fn texts(alloc: Global, texts: &[&str]) -> Result<Vec<Value>, Fail> {
+    let mut values = Vec::new(alloc);
+    for text in texts {
+        values.push(text_value(alloc, text)?)?;
+    }
+    Ok(values)
+}
+
+#[test]
+fn pieces_up_to_the_limit_of_a_list(rt: HostRuntime) -> Result<(), Fail> {
+    let alloc = rt.alloc();
+    for (piece, count, name, arguments, expected) in PIECES {
+        let text = Value::of_string(alloc, (*piece).repeat(alloc, *count)?)??;
+        let arguments = texts(alloc, *arguments)?;
+        let found = length(alloc, method(alloc, &text, *name, &arguments)?)?;
+        assert_eq!(rt; found, *expected, "of {count} pieces for {name}");
+    }
     Ok(())
 }

@@ -19,6 +19,8 @@ mod relations;
 #[cfg(test)]
 mod searches;
 #[cfg(test)]
+mod shared;
+#[cfg(test)]
 mod sums;
 #[cfg(test)]
 mod support;

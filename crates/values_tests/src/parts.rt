@@ -13,6 +13,11 @@ const ITEMS_CHARACTERS_AND_ENTRIES: &[PartRow] = &[
         Integer(9_223_372_036_854_775_808),
         "E10",
     ),
+    (
+        Items(&[Integer(1), Integer(2)]),
+        Integer(9_223_372_036_854_775_808),
+        "E10",
+    ),
     (Items(&[Integer(1)]), Integer(i128::MIN), "E10"),
     (Text("a\u{e9}z"), Integer(-2), "'\u{e9}'"),
     (Text("abc"), Integer(3), "E10"),

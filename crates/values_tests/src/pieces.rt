@@ -41,6 +41,12 @@ const ENDS_ARE_STRIPPED: &[MethodRow] = &[
     (Text(""), "strip", &[], "''"),
     (Text("\u{a0}a "), "strip", &[], "'\u{a0}a'"),
     (Text("\u{e9}xa\u{e9}x"), "strip", &[Text("x\u{e9}")], "'a'"),
+    (
+        Text("\u{e9}xa\u{e9} x\u{e9}"),
+        "strip",
+        &[Text("x\u{e9}")],
+        "'a\u{e9} '",
+    ),
     (Text(" a "), "strip", &[Text("")], "' a '"),
     (Text("a"), "strip", &[Integer(1)], "E9"),
     (Text("a"), "strip", &[Text("a"), Text("a")], "E9"),
@@ -79,6 +85,7 @@ const PARTS_ARE_CUT_INTO_RANGE: &[MethodRow] = &[
         &[Integer(1), Integer(2)],
         "'\u{e9}'",
     ),
+    (Text("a\u{e9}i"), "substring", &[Integer(1)], "'\u{e9}i'"),
     (
         Text("a\u{e9}i"),
         "substring",

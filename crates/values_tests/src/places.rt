@@ -57,6 +57,7 @@ const PRINTED_VALUES_STAND_AT_PLACES: &[MethodRow] = &[
 const PLACES_WITHOUT_A_VALUE: &[MethodRow] = &[
     (Text("@0@"), "format", &[], "E10"),
     (Text("@1@"), "format", &[Text("a")], "E10"),
+    (Text("@0@ @1@"), "format", &[Text("a")], "E10"),
     (Text("@0@ @2@"), "format", &[Text("a"), Text("b")], "E10"),
     (
         Text("@18446744073709551616@"),
@@ -81,6 +82,12 @@ const TEXTS_ARE_JOINED: &[MethodRow] = &[
     (Text(", "), "join", &[Items(&[])], "''"),
     (Text("-"), "join", &[Items(&[Text("")])], "''"),
     (Text("-"), "join", &[Text(""), Text("")], "'-'"),
+    (
+        Text("-"),
+        "join",
+        &[Text("a"), Text(""), Text("b")],
+        "'a--b'",
+    ),
     (
         Text("\u{e9}"),
         "join",
@@ -112,6 +119,7 @@ const TEXTS_ARE_REPLACED: &[MethodRow] = &[
     ),
     (Text("ab"), "replace", &[Text("a"), Text("aa")], "'aab'"),
     (Text("a"), "replace", &[Text(""), Text("x")], "E9"),
+    (Text("a"), "replace", &[Text(""), Text("b")], "E9"),
     (Text("a"), "replace", &[Text("a")], "E9"),
     (Text("a"), "replace", &[Text("a"), Integer(1)], "E9"),
     (Text("a"), "replace", &[Integer(1), Text("a")], "E9"),

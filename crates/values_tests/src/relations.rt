@@ -88,6 +88,7 @@ const DISABLERS_ANSWER_DISABLERS: &[OperatorRow] = &[
     (Disabler, In, Items(&[Integer(1)]), "disabler"),
     (Integer(1), Add, Disabler, "disabler"),
     (Disabler, Equal, Disabler, "disabler"),
+    (Integer(1), Equal, Disabler, "disabler"),
     (Disabler, Divide, Integer(0), "disabler"),
     (Text("a"), Less, Disabler, "disabler"),
     (Meson, Add, Disabler, "disabler"),

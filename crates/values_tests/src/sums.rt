@@ -68,6 +68,12 @@ const LISTS_ARE_ADDED: &[OperatorRow] = &[
         Items(&[Integer(2), Integer(3)]),
         "[1, 2, 3]",
     ),
+    (
+        Items(&[Integer(1), Integer(2)]),
+        Add,
+        Items(&[Integer(3)]),
+        "[1, 2, 3]",
+    ),
     (Items(&[]), Add, Items(&[]), "[]"),
     (Items(&[Integer(1)]), Add, Entries(&[]), "[1, {}]"),
     (Items(&[Integer(1)]), Add, Text("a"), "[1, 'a']"),

@@ -1,9 +1,13 @@
+//! Devices, in memory and on a disk: what they answer, and what they are told.
 ghost use Rattle.std.specs.Prelude.{◌≡◌, ◌+◌, ◌^◌, ◌<◌, ◌≤◌, IfOk};
 ghost use Rattle.ports.specs.MemTree.{mem_tree_seen};
 ghost use Rattle.ports.specs.Outputs.{OutputState};
 ghost use Rattle.ports.specs.Tree.{TreeState};
 
-use super::*;
+use ports::{
+    DeviceFault, DiskOutputs, DiskTree, Event, MemOutputs, MemTree, OutputCall, Outputs, Tree,
+    TreeCall, fault_all, log_all, put_all,
+};
 use std::alloc::{AllocError, Global};
 use std::test::Fail;
 use std::{env, fs, process};
@@ -164,7 +168,7 @@ fn a_folder_is_written_and_read(rt: HostRuntime) -> Result<(), Fail> {
     let alloc = rt.alloc();
     let base = env::temp_dir(&rt)?.into_string();
     let id = process::id(rt.process());
-    let folder = format!(in alloc; "{base}/ports-{id}")?;
+    let folder = format!(in alloc; "{base}/devices-{id}")?;
     let name = folder.clone()?;
     let mut out = DiskOutputs::new(&rt, alloc, name, Vec::new(alloc), Vec::new(alloc))?;
     assert!(rt; write_sample(&mut out).is_ok());

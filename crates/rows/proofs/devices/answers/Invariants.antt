@@ -1,5 +1,5 @@
 use Rattle.std.proofs.Common.{◌≤◌}
-use Rattle.ports.proofs.tests.answers.Given as goal
+use Rattle.rows.proofs.devices.answers.Given as goal
 
 abbrev pub invariant-loop-call : goal.invariant-loop-call
 invariant-loop-call g l = (g.T.Tree.seen l.tree).failures ≤ l.call-index

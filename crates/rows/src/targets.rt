@@ -1,4 +1,5 @@
-use crate::*;
+//! The targets of a project, and their edges.
+use build::{Duplicate, Project, Rule, Target, edges};
 use std::test::Fail;
 
 #[test]

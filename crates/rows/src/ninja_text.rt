@@ -1,16 +1,14 @@
-use crate::*;
+//! The text of edges, and of a whole `build.ninja`.
+use crate::build_files::SMALLEST_BUILD_FILE;
+use crate::given::strings;
 use build::{Edge, Project, Rule, Target, edges};
+use ninja::{
+    can_hold_edge, can_hold_edges, can_hold_path, can_hold_value, write_edge, write_head,
+    write_path, write_tail, write_value, write_words,
+};
 use ports::{Event, MemOutputs, Outputs};
 use std::alloc::{AllocError, Global};
 use std::test::Fail;
-
-fn strings(alloc: Global, texts: &[&str]) -> Result<Vec<String>, AllocError> {
-    let mut strings = Vec::new(alloc);
-    for text in texts {
-        strings.push(String::from_str(alloc, text)?)?;
-    }
-    Ok(strings)
-}
 
 // The bytes of all outputs, one behind the other.
 fn written(alloc: Global, out: &MemOutputs) -> Result<Vec<u8>, AllocError> {
@@ -94,50 +92,6 @@ fn an_edge_with_blanks_and_quotes(rt: HostRuntime) -> Result<(), Fail> {
     Ok(())
 }
 
-// The file of a program `prog` with the source `main.c`.
-const PROGRAM: &str = "ninja_required_version = 1.3
-
-rule c_compile
- command = $COMMAND
- description = $DESC
- depfile = $DEPFILE
- deps = gcc
-
-rule ar
- command = $COMMAND
- description = $DESC
-
-rule c_link
- command = $COMMAND
- description = $DESC
-
-rule symlink
- command = $COMMAND
- description = $DESC
-
-rule custom
- command = $COMMAND
- description = $DESC
-
-rule custom_dep
- command = $COMMAND
- description = $DESC
- depfile = $DEPFILE
-
-build prog.p/main.c.o: c_compile ../main.c
- COMMAND = cc -I. -I.. -Wall -O0 -g -MD -MQ prog.p/main.c.o -MF prog.p/main.c.o.d -o prog.p/main.c.o -c ../main.c
- DESC = Compiling C object prog.p/main.c.o
- DEPFILE = prog.p/main.c.o.d
-
-build prog: c_link prog.p/main.c.o
- COMMAND = cc -o prog prog.p/main.c.o
- DESC = Linking target prog
-
-build all: phony prog
-
-default all
-";
-
 #[test]
 fn the_file_of_a_program(rt: HostRuntime) -> Result<(), Fail> {
     let alloc = rt.alloc();
@@ -156,6 +110,9 @@ fn the_file_of_a_program(rt: HostRuntime) -> Result<(), Fail> {
     write_edge(&edges[0], &mut out)?;
     write_edge(&edges[1], &mut out)?;
     write_tail(&project, &mut out)?;
-    assert_eq!(rt; written(alloc, &out)?.as_slice(), PROGRAM.as_bytes());
+    assert_eq!(rt;
+        written(alloc, &out)?.as_slice(),
+        SMALLEST_BUILD_FILE.as_bytes()
+    );
     Ok(())
 }
