@@ -3,6 +3,7 @@ pub mod Lines
 pub mod Numbers
 pub mod Values
 pub mod Sections
+pub mod Fault
 pub mod Files
 pub mod Reads
 pub mod View

@@ -1,5 +1,8 @@
 //! Why bytes are no machine file.
 
+ghost use Rattle.std.specs.Prelude.{◌≡◌};
+ghost use Rattle.machine.specs.Fault.{number_of};
+
 use thiserror::Error;
 
 /// What is wrong with a machine file.
@@ -11,6 +14,18 @@ pub enum FaultKind {
     /// E16: the lines up to this one begin no machine file.
     #[error("machine file")]
     MachineFile,
+}
+
+impl FaultKind {
+    /// The number of the fault: E1 or E16.
+    pub fn number(self) -> u8
+        ensures { result ≡ number_of self }
+    {
+        match self {
+            FaultKind::NotUtf8 => 1,
+            FaultKind::MachineFile => 16,
+        }
+    }
 }
 
 /// A fault, and its line, from 1.

@@ -1,6 +1,7 @@
 pub mod Calls
 pub mod Declarations
 pub mod Declares
+pub mod Fault
 pub mod Given
 pub mod Keywords
 pub mod KeywordsView

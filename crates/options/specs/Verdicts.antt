@@ -12,8 +12,8 @@ use Rattle.option_file.specs.Declarations.{Declaration}
 use Rattle.option_file.specs.Lookups.{option_named}
 use Rattle.options.specs.declared.fault.Place.{Place}
 use Rattle.options.specs.declared.fault.Place.TheVariants.{Declared, Project, MachineFile, CommandLine}
-use Rattle.options.specs.declared.fault.FaultKind.TheVariants as faults
-use Rattle.options.specs.declared.fault.FaultKind.{FaultKind}
+use Rattle.option_file.specs.declared.fault.FaultKind.TheVariants as faults
+use Rattle.option_file.specs.declared.fault.FaultKind.{FaultKind}
 use Rattle.options.specs.declared.fault.OptionFault.{OptionFault}
 use Rattle.options.specs.declared.known.Scope.{Scope}
 use Rattle.options.specs.declared.known.Scope.TheVariants.{BuiltIn, OfProject}

@@ -1,17 +1,7 @@
 //! Why options have no values.
 
+pub use option_file::fault::FaultKind;
 use thiserror::Error;
-
-/// What is wrong with a value.
-#[derive(Clone, Copy, PartialEq, Eq, Debug, Error)]
-pub enum FaultKind {
-    /// E15: it is no value of its option, there is no such option, or it is no name with a value.
-    #[error("option")]
-    Option,
-    /// E23: a value that is left out.
-    #[error("left out by name")]
-    NotYet,
-}
 
 /// Where a value stands.
 #[derive(Clone, Copy, PartialEq, Eq, Debug)]

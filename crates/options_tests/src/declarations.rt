@@ -9,7 +9,7 @@ mod types;
 use crate::support::shown_texts;
 use grammar::fault::SyntaxError;
 use grammar::parse;
-use option_file::fault::{DeclareFault, FaultKind};
+use option_file::fault::DeclareFault;
 use option_file::{Declaration, Declared, Given, declare};
 use option_values::OptionKind;
 use std::alloc::{AllocError, Global};
@@ -70,11 +70,9 @@ fn shown_all(alloc: Global, declared: &Declared) -> Result<String, AllocError> {
 
 // A fault: its number and its line.
 fn shown_fault(alloc: Global, fault: DeclareFault) -> Result<String, AllocError> {
+    let number = fault.kind.number();
     let line = fault.line;
-    match fault.kind {
-        FaultKind::Option => format!(in alloc; "E15 at {line}"),
-        FaultKind::NotYet => format!(in alloc; "E23 at {line}"),
-    }
+    format!(in alloc; "E{number} at {line}")
 }
 
 /// What the statements of a source declare; nothing where it has no tree.

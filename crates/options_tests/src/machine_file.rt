@@ -4,7 +4,7 @@ mod faults;
 mod values;
 
 use crate::support::shown_texts;
-use machine::fault::{FaultKind, MachineFault};
+use machine::fault::MachineFault;
 use machine::{Machine, MachineValue};
 use std::alloc::{AllocError, Global};
 
@@ -21,11 +21,9 @@ pub fn shown(alloc: Global, value: Option<&MachineValue>) -> Result<String, Allo
 
 // A fault: its number and its line.
 fn shown_fault(alloc: Global, fault: MachineFault) -> Result<String, AllocError> {
+    let number = fault.kind.number();
     let line = fault.line;
-    match fault.kind {
-        FaultKind::NotUtf8 => format!(in alloc; "E1 at {line}"),
-        FaultKind::MachineFile => format!(in alloc; "E16 at {line}"),
-    }
+    format!(in alloc; "E{number} at {line}")
 }
 
 /// What a file of these bytes says at a section and a key, or its fault.

@@ -10,22 +10,19 @@ mod places;
 use crate::declarations::declared_by;
 use crate::support::{shown_value, strings};
 use machine::Machine;
-use options::fault::{FaultKind, OptionFault, Place};
+use options::fault::{OptionFault, Place};
 use options::{Options, Resolved, resolve};
 use std::alloc::{AllocError, Global};
 use std::process::Abort;
 
 // A fault: its place and its number.
 fn shown_fault(alloc: Global, fault: &OptionFault) -> Result<String, AllocError> {
-    let number = match fault.kind {
-        FaultKind::Option => "E15",
-        FaultKind::NotYet => "E23",
-    };
+    let number = fault.kind.number();
     match fault.place {
-        Place::Declared(line) => format!(in alloc; "declared:{line} {number}"),
-        Place::Project => format!(in alloc; "project {number}"),
-        Place::MachineFile(line) => format!(in alloc; "machine:{line} {number}"),
-        Place::CommandLine(word) => format!(in alloc; "word:{word} {number}"),
+        Place::Declared(line) => format!(in alloc; "declared:{line} E{number}"),
+        Place::Project => format!(in alloc; "project E{number}"),
+        Place::MachineFile(line) => format!(in alloc; "machine:{line} E{number}"),
+        Place::CommandLine(word) => format!(in alloc; "word:{word} E{number}"),
     }
 }
 
