@@ -3,17 +3,17 @@
 ghost use Rattle.std.specs.Prelude.{true, false, Some, IfOk, ◌≡◌, ◌-◌, ◌<◌, ◌≤◌, length, map, OnOk};
 ghost use Rattle.std.specs.Option.{OnSome};
 ghost use Rattle.lexer.specs.Lexeme.{lexeme_of, lexemes};
-ghost use Rattle.grammar.specs.ExpressionTree.{expression_of, operand_of};
-ghost use Rattle.grammar.specs.Expressions.{comparative};
+ghost use Rattle.grammar.specs.ExpressionTree.{ChoiceTree, expression_of, operand_of};
+ghost use Rattle.grammar.specs.Expressions.{chain_tree, comparative};
 ghost use Rattle.grammar.specs.Parts.{first_line, taken};
 ghost use Rattle.grammar.specs.Reading.{Gives, head_is, two_begin};
-ghost use Rattle.grammar.specs.ReadingExpressions.{chain_at, choice_at, comparison_at, comparison_operator_at, compares, enter_at, expr_at, not_in_at, operands_at, operator_of, part_at, unary_at};
+ghost use Rattle.grammar.specs.ReadingExpressions.{branches_at, chain_at, choice_at, compared_at, comparison_at, comparison_operator_at, compares, disjunction_at, enter_at, expr_at, not_in_at, operands_at, operator_of, part_at, sum_at, unary_at};
 
 use super::Parser;
 use crate::stop::{ReadError, Stop};
 use crate::tree::{Expression, Operand, Operator};
 use lexer::token::{Kind, Token};
-use std::alloc::Global;
+use std::alloc::{AllocError, Global};
 
 /// Which operators stand between the parts of a chain. They bind tighter from the first to the last.
 #[derive(Clone, Copy)]
@@ -67,6 +67,44 @@ fn comparative(kind: Kind) -> Option<Operator>
         Kind::In => Some(Operator::In),
         _ => None,
     }
+}
+
+// A first value and others with their operators: one node, or the value itself where it stands alone.
+fn chain_of<'a>(
+    alloc: Global,
+    first: Expression<'a>,
+    others: Vec<Operand<'a>>,
+    line: usize,
+) -> Result<Expression<'a>, AllocError>
+    ensures { IfOk result (λ e. expression_of e ≡ chain_tree line (expression_of first.entry) (map operand_of others.entry.items)) }
+{
+    if others.is_empty() {
+        return Ok(first);
+    }
+    let first = Box::new(alloc, first)?;
+    Ok(Expression::Chain {
+        first,
+        others,
+        line,
+    })
+}
+
+// A choice between two values.
+fn choice_of<'a>(
+    alloc: Global,
+    test: Expression<'a>,
+    yes: Expression<'a>,
+    no: Expression<'a>,
+    line: usize,
+) -> Result<Expression<'a>, AllocError>
+    ensures { IfOk result (λ e. expression_of e ≡ ChoiceTree (expression_of test.entry) (expression_of yes.entry) (expression_of no.entry) line) }
+{
+    Ok(Expression::Choice {
+        test: Box::new(alloc, test)?,
+        yes: Box::new(alloc, yes)?,
+        no: Box::new(alloc, no)?,
+        line,
+    })
 }
 
 impl<'a> Parser<'_, 'a> {
@@ -232,20 +270,29 @@ impl<'a> Parser<'_, 'a> {
         let line = self.first_line();
         let first = self.part(alloc, levels, choices, rank)?;
         let others = self.operands(alloc, levels, choices, rank)?;
-        if others.is_empty() {
-            return Ok(first);
-        }
-        let first = Box::new(alloc, first)?;
-        Ok(Expression::Chain {
-            first,
-            others,
-            line,
-        })
+        Ok(chain_of(alloc, first, others, line)?)
+    }
+
+    // A comparison and the sum behind it.
+    #[cycle(expression)]
+    #[tactic(auto, unfolding(crate::specs::ReadingExpressions::compared_at, crate::specs::ReadingExpressions::sum_at))]
+    fn compared(
+        &mut self,
+        alloc: Global,
+        levels: u32,
+        choices: bool,
+    ) -> Result<Operand<'a>, ReadError>
+        ensures read { Gives operand_of result (lexemes self.new.rest.now) (compared_at (sum_at (unary_at levels choices)) (lexemes self.old.rest.now)) }
+        ensures shorter { OnOk result (length self.new.rest.now < length self.old.rest.now) }
+    {
+        let operator = self.comparison_operator()?;
+        let value = self.chain(alloc, levels, choices, Rank::Sum)?;
+        Ok(Operand { operator, value })
     }
 
     // A sum, or two that are compared.
     #[cycle(expression)]
-    #[tactic(auto, unfolding(crate::specs::ReadingExpressions::comparison_at, crate::specs::ReadingExpressions::compared_at, crate::specs::ReadingExpressions::sum_at, crate::specs::Reading::optional_at, crate::specs::Reading::or_at))]
+    #[tactic(auto, unfolding(crate::specs::ReadingExpressions::comparison_at, crate::specs::ReadingExpressions::sum_at, crate::specs::Reading::optional_at, crate::specs::Reading::or_at))]
     fn comparison(
         &mut self,
         alloc: Global,
@@ -260,20 +307,33 @@ impl<'a> Parser<'_, 'a> {
         if !self.compares() {
             return Ok(first);
         }
-        let operator = self.comparison_operator()?;
-        let value = self.chain(alloc, levels, choices, Rank::Sum)?;
-        let others = vec![in alloc; Operand { operator, value }]?;
-        let first = Box::new(alloc, first)?;
-        Ok(Expression::Chain {
-            first,
-            others,
-            line,
-        })
+        let other = self.compared(alloc, levels, choices)?;
+        let others = vec![in alloc; other]?;
+        Ok(chain_of(alloc, first, others, line)?)
+    }
+
+    // Both values of a choice, behind its test.
+    #[cycle(expression)]
+    #[tactic(auto, unfolding(crate::specs::ReadingExpressions::branches_at, crate::specs::ReadingExpressions::disjunction_at))]
+    fn branches(
+        &mut self,
+        alloc: Global,
+        levels: u32,
+    ) -> Result<(Expression<'a>, Expression<'a>), ReadError>
+        ensures read { Gives (λ p. (expression_of p.0, expression_of p.1)) result (lexemes self.new.rest.now)
+            (branches_at (disjunction_at (unary_at levels false)) (lexemes self.old.rest.now)) }
+        ensures shorter { OnOk result (length self.new.rest.now < length self.old.rest.now) }
+    {
+        self.take(Kind::Question)?;
+        let yes = self.chain(alloc, levels, false, Rank::Or)?;
+        self.take(Kind::Colon)?;
+        let no = self.chain(alloc, levels, false, Rank::Or)?;
+        Ok((yes, no))
     }
 
     // An expression, which may be a choice.
     #[cycle(expression)]
-    #[tactic(auto, unfolding(crate::specs::ReadingExpressions::choice_at, crate::specs::ReadingExpressions::branches_at, crate::specs::ReadingExpressions::disjunction_at, crate::specs::Reading::optional_at, crate::specs::Reading::or_at))]
+    #[tactic(auto, unfolding(crate::specs::ReadingExpressions::choice_at, crate::specs::ReadingExpressions::disjunction_at, crate::specs::Reading::optional_at, crate::specs::Reading::or_at))]
     fn ternary(&mut self, alloc: Global, levels: u32) -> Result<Expression<'a>, ReadError>
         ensures read { Gives expression_of result (lexemes self.new.rest.now) (choice_at (unary_at levels) true (lexemes self.old.rest.now)) }
         ensures shorter { OnOk result (length self.new.rest.now < length self.old.rest.now) }
@@ -283,16 +343,8 @@ impl<'a> Parser<'_, 'a> {
         if !self.begins(Kind::Question) {
             return Ok(test);
         }
-        self.take(Kind::Question)?;
-        let yes = self.chain(alloc, levels, false, Rank::Or)?;
-        self.take(Kind::Colon)?;
-        let no = self.chain(alloc, levels, false, Rank::Or)?;
-        Ok(Expression::Choice {
-            test: Box::new(alloc, test)?,
-            yes: Box::new(alloc, yes)?,
-            no: Box::new(alloc, no)?,
-            line,
-        })
+        let (yes, no) = self.branches(alloc, levels)?;
+        Ok(choice_of(alloc, test, yes, no, line)?)
     }
 
     // An expression, in which a choice may stand or not.

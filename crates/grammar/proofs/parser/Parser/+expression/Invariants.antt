@@ -77,6 +77,12 @@ decreases-unary l = 64 * l.levels + 7
 abbrev pub decreases-comparison : goal.decreases-comparison
 decreases-comparison l = 64 * l.levels + 20
 
+abbrev pub decreases-compared : goal.decreases-compared
+decreases-compared l = 64 * l.levels + 19
+
+abbrev pub decreases-branches : goal.decreases-branches
+decreases-branches l = 64 * l.levels + 49
+
 abbrev pub decreases-choice : goal.decreases-choice
 decreases-choice l = 64 * l.levels + 60
 
