@@ -59,7 +59,8 @@ fn machine_of(alloc: Global, text: &str) -> Result<Machine, Stop> {
 
 // The options with their values, where none is refused.
 fn options_of(resolved: Resolved) -> Result<Options, Stop> {
-    match resolved.outcome {
+    let Resolved { outcome, .. } = resolved;
+    match outcome {
         Ok(options) => Ok(options),
         Err(_) => Err(Stop("a value is refused")),
     }
