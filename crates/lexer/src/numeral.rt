@@ -1,6 +1,6 @@
 //! What number tokens stand for.
 
-ghost use Rattle.std.specs.Prelude.{◌≡◌, ◌<◌, ◌≤◌, ◌^◌, ◌||◌, SomeIff};
+ghost use Rattle.std.specs.Prelude.{◌≡◌, ◌<◌, ◌≤◌, ◌^◌, SomeIff};
 ghost use Rattle.lexer.specs.Numerals.{digit, spelled, base_of, magnitude};
 
 // What a digit stands for: 0 to 9, and then the letters.

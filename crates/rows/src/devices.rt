@@ -4,6 +4,7 @@ ghost use Rattle.ports.specs.MemTree.{mem_tree_seen};
 ghost use Rattle.ports.specs.Outputs.{OutputState};
 ghost use Rattle.ports.specs.Tree.{TreeState};
 
+use crate::given::strings;
 use ports::{
     DeviceFault, DiskOutputs, DiskTree, Event, MemOutputs, MemTree, OutputCall, Outputs, Tree,
     TreeCall, fault_all, log_all, put_all,
@@ -95,10 +96,7 @@ fn a_tree_fails_once_as_planned(rt: HostRuntime) -> Result<(), Fail> {
 #[test]
 fn a_tree_answers_only_for_some_paths(rt: HostRuntime) -> Result<(), Fail> {
     let alloc = rt.alloc();
-    let mut paths = Vec::new(alloc);
-    for path in ["a", "none"] {
-        paths.push(String::from_str(alloc, path)?)?;
-    }
+    let paths = strings(alloc, &["a", "none"])?;
     let mut tree = small_tree(alloc)?.only(alloc, paths)?;
     let expected = [
         (Call::Size("a"), Ok(Some(5))),
