@@ -49,3 +49,25 @@ pub fn names(alloc: Global, kind: &str, count: usize) -> Result<Vec<String>, All
     }
     Ok(all)
 }
+
+/// An option file of one array with so many choices.
+pub fn array_of_choices(alloc: Global, count: usize) -> Result<String, AllocError> {
+    let mut text = String::from_str(
+        alloc,
+        "option('array', type: 'array', value: [], choices: [",
+    )?;
+    for i in 0..count {
+        text.push_str(format!(in alloc; "'choice{i}',")?.as_str())?;
+    }
+    text.push_str("])\n")?;
+    Ok(text)
+}
+
+/// The word of a command line that gives this array all of them.
+pub fn all_choices(alloc: Global, count: usize) -> Result<String, AllocError> {
+    let mut text = String::from_str(alloc, "array=choice0")?;
+    for i in 1..count {
+        text.push_str(format!(in alloc; ",choice{i}")?.as_str())?;
+    }
+    Ok(text)
+}

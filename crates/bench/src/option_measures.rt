@@ -1,18 +1,21 @@
 //! Calls on options and on machine files, of so many items, timed without what is made for them.
 //!
 //! The measures are `declare` (an option file of so many options), `words` (so many options resolved with as many words),
-//! `places` (the same with as many texts of `default_options` and keys of a machine file too), `get` (each option looked up by its
+//! `places` (the same with as many texts of `default_options` and keys of a machine file too), `choices` (one option of so many
+//! choices, declared, and given as many items by a word), `get` (each option looked up by its
 //! name), `at` (each looked up by its place, 100 times over, since one walk is too short to time), `sections` (a machine file with
 //! so many dependencies), `keys` (one with so many keys in a section) and `answers` (a key of each dependency looked up).
 
 use crate::measured::{Measured, count_of};
-use crate::option_inputs::{keys, names, option_file, sections, words};
+use crate::option_inputs::{
+    all_choices, array_of_choices, keys, names, option_file, sections, words,
+};
 use crate::stop::Stop;
 use crate::syntax_measures::tree;
 use grammar::tree::File;
-use machine::Machine;
-use option_file::{Declared, declare};
-use options::{Options, Resolved, resolve};
+use options::{
+    Declared, Machine, OptionValue, Options, ProjectDefault, Resolved, declare, resolve,
+};
 use std::alloc::Global;
 use std::time::Instant;
 
@@ -26,6 +29,7 @@ pub fn measured(rt: &HostRuntime, measure: &str, of: &str) -> Result<Measured, S
         "declare" => measure_declare(rt, count),
         "words" => measure_words(rt, count),
         "places" => measure_places(rt, count),
+        "choices" => measure_choices(rt, count),
         "get" => measure_get(rt, count),
         "at" => measure_at(rt, count),
         "sections" => measure_sections(rt, count),
@@ -86,7 +90,7 @@ fn measure_declare(rt: &HostRuntime, count: usize) -> Result<Measured, Stop> {
 fn measure_resolve(
     rt: &HostRuntime,
     declared: &Declared,
-    defaults: &[String],
+    defaults: &[ProjectDefault<'_>],
     machine: &Machine,
     words: &[String],
 ) -> Result<Measured, Stop> {
@@ -108,7 +112,32 @@ fn measure_places(rt: &HostRuntime, count: usize) -> Result<Measured, Stop> {
     let words = words(alloc, count)?;
     let keys = keys(alloc, count)?;
     let machine = machine_of(alloc, keys.as_str())?;
-    measure_resolve(rt, &declared, &words, &machine, &words)
+    let mut defaults = Vec::new(alloc);
+    for word in &words {
+        defaults.push(ProjectDefault::Assignment(word.as_str()))?;
+    }
+    measure_resolve(rt, &declared, &defaults, &machine, &words)
+}
+
+// How many items the option of this name has.
+fn item_count(options: &Options, name: &str) -> usize {
+    match options.get(name) {
+        Some(OptionValue::Array(items)) => items.len(),
+        _ => 0,
+    }
+}
+
+fn measure_choices(rt: &HostRuntime, count: usize) -> Result<Measured, Stop> {
+    let alloc = rt.alloc();
+    let source = array_of_choices(alloc, count)?;
+    let word = all_choices(alloc, count)?;
+    let start = Instant::now(rt)?;
+    let file = tree(alloc, source.as_str())?;
+    let declared = declared(alloc, &file)?;
+    let machine = Machine::empty(alloc);
+    let options = options_of(resolve(alloc, &declared, &[], &machine, &[word])?)?;
+    let made = item_count(&options, "array");
+    Measured::since(rt, start, made)
 }
 
 fn measure_get(rt: &HostRuntime, count: usize) -> Result<Measured, Stop> {

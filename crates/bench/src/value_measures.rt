@@ -1,8 +1,9 @@
 //! So many operations of one kind on values.
 //!
-//! The measures are `append` (items put at the end of a list that is not shared), `double` (a text put after itself up to
-//! so many bytes), `entries` (entries put into a dictionary that is not shared), `lookups` (the same, and each looked up),
-//! `format` (a text with so many places) and `join` (so many texts).
+//! The measures are `append` (items put at the end of a list that is not shared), `characters` (characters put at the end of
+//! a text that is not shared), `double` (a text put after itself up to so many bytes), `entries` (entries put into a dictionary
+//! that is not shared), `replaced` (the same, and each replaced), `lookups` (the same, and each looked up), `format` (a text
+//! with so many places), `unused` (the same, with a long text that no place names) and `join` (so many texts).
 
 use crate::measured::{Measured, count_of};
 use crate::stop::Stop;
@@ -22,10 +23,13 @@ pub fn measured(rt: &HostRuntime, measure: &str, of: &str) -> Result<Measured, S
 fn made(alloc: Global, measure: &str, count: usize) -> Result<usize, Stop> {
     match measure {
         "append" => append(alloc, count),
+        "characters" => characters(alloc, count),
         "double" => double(alloc, count),
         "entries" => entries(alloc, count),
+        "replaced" => replaced(alloc, count),
         "lookups" => lookups(alloc, count),
-        "format" => format_places(alloc, count),
+        "format" => format_places(alloc, count, "word"),
+        "unused" => format_unused(alloc, count),
         "join" => join(alloc, count),
         _ => Err(Stop("there is no such measure of values")),
     }
@@ -61,6 +65,15 @@ fn append(alloc: Global, count: usize) -> Result<usize, Stop> {
     Ok(size(&list))
 }
 
+fn characters(alloc: Global, count: usize) -> Result<usize, Stop> {
+    let mut grown = text(alloc, String::new(alloc))?;
+    let character = text(alloc, String::from_str(alloc, "a")?)?;
+    for _ in 0..count {
+        grown = given(binary(alloc, Binary::Add, grown, character.clone()?)?)?;
+    }
+    Ok(size(&grown))
+}
+
 fn double(alloc: Global, bytes: usize) -> Result<usize, Stop> {
     let mut grown = text(alloc, String::from_str(alloc, "a")?)?;
     for _ in 0..24 {
@@ -76,9 +89,13 @@ fn key(alloc: Global, number: usize) -> Result<Value, Stop> {
     text(alloc, format!(in alloc; "key{number}")?)
 }
 
-// A dictionary of so many entries, put in one by one.
-fn table(alloc: Global, count: usize) -> Result<Value, Stop> {
-    let mut table = given(dictionary(alloc, Vec::new(alloc))?)?;
+fn empty_table(alloc: Global) -> Result<Value, Stop> {
+    given(dictionary(alloc, Vec::new(alloc))?)
+}
+
+// A dictionary with so many entries put in one by one.
+fn put_each(alloc: Global, table: Value, count: usize) -> Result<Value, Stop> {
+    let mut table = table;
     for i in 0..count {
         let pair = (key(alloc, i)?, Value::Integer(7));
         let entry = given(dictionary(alloc, vec![in alloc; pair]?)?)?;
@@ -88,11 +105,16 @@ fn table(alloc: Global, count: usize) -> Result<Value, Stop> {
 }
 
 fn entries(alloc: Global, count: usize) -> Result<usize, Stop> {
-    Ok(size(&table(alloc, count)?))
+    Ok(size(&put_each(alloc, empty_table(alloc)?, count)?))
+}
+
+fn replaced(alloc: Global, count: usize) -> Result<usize, Stop> {
+    let table = put_each(alloc, empty_table(alloc)?, count)?;
+    Ok(size(&put_each(alloc, table, count)?))
 }
 
 fn lookups(alloc: Global, count: usize) -> Result<usize, Stop> {
-    let table = table(alloc, count)?;
+    let table = put_each(alloc, empty_table(alloc)?, count)?;
     for i in 0..count {
         let _value = given(index(alloc, &table, &key(alloc, i)?)?)?;
     }
@@ -108,14 +130,20 @@ fn repeated(alloc: Global, piece: &str, count: usize) -> Result<String, Stop> {
     Ok(text)
 }
 
-fn format_places(alloc: Global, count: usize) -> Result<usize, Stop> {
+fn format_places(alloc: Global, count: usize, unused: &str) -> Result<usize, Stop> {
     let places = text(alloc, repeated(alloc, "@0@ @1@ ", count / 2)?)?;
     let values = vec![in alloc;
         Value::Integer(7),
         text(alloc, String::from_str(alloc, "word")?)?,
+        text(alloc, String::from_str(alloc, unused)?)?,
     ]?;
     let formatted = given(method(alloc, &places, "format", &values)?)?;
     Ok(size(&formatted))
+}
+
+fn format_unused(alloc: Global, count: usize) -> Result<usize, Stop> {
+    let unused = repeated(alloc, "word", count)?;
+    format_places(alloc, count, unused.as_str())
 }
 
 fn join(alloc: Global, count: usize) -> Result<usize, Stop> {

@@ -3,7 +3,7 @@ use Rattle.std.proofs.Common.{◌≡◌, ℕ, zero, suc, ◌+◌, ◌<◌, List,
 use Rattle.std.specs.Prelude.{nat_lt, ◌&&◌, IsTrue}
 use Rattle.std.specs.List.{list_all}
 use Rattle.std.specs.Option.{option_map}
-use Rattle.grammar.specs.ExpressionTree.{ExpressionTree, NameTree, ListTree, DictionaryTree, FunctionTree, PostfixTree, PrefixTree, ChainTree, ChoiceTree, expressions, entries, arguments, links, operands}
+use Rattle.grammar.specs.ExpressionTree.{ExpressionTree, NameTree, ListTree, DictionaryTree, FunctionTree, PostfixTree, PrefixTree, ChainTree, TernaryTree, expressions, entries, arguments, links, operands}
 use Rattle.grammar.specs.Tree.{StatementTree, BreakTree, IfTree, ForeachTree, branches, statements}
 use Rattle.code.specs.declared.node.Node.{Node}
 use Rattle.code.specs.declared.node.Node.TheVariants as flat
@@ -37,12 +37,12 @@ node_kept names ts more k (flat.Chain first others line) h =
     let p = both_true (nat_lt first (length ts)) (list_all (operand_within (length ts)) others.items) h in
     ap (λ t. ChainTree t (operands (map (operand_at (ts ++ more)) others.items)) line) (tree_same ts more first p.0)
     ∙ ap (λ l. ChainTree (tree_at ts first) (operands l) line) (all_same operand_within operand_at keeps_operand ts more others.items p.1)
-node_kept names ts more k (flat.Choice test one other line) h =
+node_kept names ts more k (flat.Ternary test one other line) h =
     let p = both_true (nat_lt test (length ts)) (nat_lt one (length ts) && nat_lt other (length ts)) h in
     let q = both_true (nat_lt one (length ts)) (nat_lt other (length ts)) p.1 in
-    ap (λ t. ChoiceTree t (tree_at (ts ++ more) one) (tree_at (ts ++ more) other) line) (tree_same ts more test p.0)
-    ∙ ap (λ t. ChoiceTree (tree_at ts test) t (tree_at (ts ++ more) other) line) (tree_same ts more one q.0)
-    ∙ ap (λ t. ChoiceTree (tree_at ts test) (tree_at ts one) t line) (tree_same ts more other q.1)
+    ap (λ t. TernaryTree t (tree_at (ts ++ more) one) (tree_at (ts ++ more) other) line) (tree_same ts more test p.0)
+    ∙ ap (λ t. TernaryTree (tree_at ts test) t (tree_at (ts ++ more) other) line) (tree_same ts more one q.0)
+    ∙ ap (λ t. TernaryTree (tree_at ts test) (tree_at ts one) t line) (tree_same ts more other q.1)
 
 nodes_stay : (names : List (List ℕ)) (done : List ExpressionTree) (xs : List Node) → Begins done (fold (with_node names) done xs)
 nodes_stay names done [] = record { more = []; is = sym (append-nil done) }

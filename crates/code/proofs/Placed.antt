@@ -1,12 +1,14 @@
 -- Parts of statements stay what they are as a file's code grows.
-use Rattle.std.proofs.Common.{◌≡◌, ℕ, ◌+◌, ◌<◌, Bool, true, List, [], ◌∷◌, ◌++◌, length, map, take, get_or, refl, sym, ap, subst, ◌∙◌, Option, Result, IfOk, Vec, Global}
+use Rattle.std.proofs.Common.{◌≡◌, ℕ, ◌+◌, ◌<◌, Bool, true, false, List, [], ◌∷◌, ◌++◌, length, map, take, get_or, refl, sym, ap, subst, ◌∙◌, Option, Result, IfOk, Vec, Global, Bor}
+use Rattle.std.specs.Option.{option_map}
+use Rattle.grammar.specs.declared.tree.Expression.{Expression}
 use Rattle.std.specs.Prelude.{nat_lt, ◌&&◌, IsTrue}
 use Rattle.std.specs.List.{list_all}
 use Rattle.std.specs.declared.alloc.AllocError.{AllocError}
 use Rattle.std.proofs.lemmas.List.{map_push}
 use Rattle.std.proofs.lemmas.List.Folds.{list_all-append}
 use Rattle.grammar.specs.ExpressionTree.{ExpressionTree, expression_of}
-use Rattle.grammar.specs.Tree.{StatementTree, BranchTree, IfTree, ForeachTree, statement_of, branch_of, statement_step, branch_step, statements, branches}
+use Rattle.grammar.specs.Tree.{AppendTree, AssignTree, BreakTree, ContinueTree, ValueTree, StatementTree, BranchTree, IfTree, ForeachTree, statement_of, branch_of, statement_step, branch_step, statements, branches}
 use Rattle.grammar.specs.declared.tree.Statement.{Statement}
 use Rattle.grammar.specs.declared.tree.Statement.TheVariants as Variants
 use Rattle.grammar.specs.declared.tree.Statement.TheOpen as Open
@@ -15,7 +17,8 @@ use Rattle.grammar.specs.declared.tree.Branch.{Branch}
 use Rattle.code.specs.declared.file_draft.FileDraft.{FileDraft}
 use Rattle.code.specs.declared.node.BranchNode.{BranchNode}
 use Rattle.code.specs.Nodes.{tree_at}
-use Rattle.code.specs.Statements.{statement_at, branch_at, branch_within}
+use Rattle.code.specs.Statements.{name_at, set_node, statement_at, statement_tree, statement_within, branch_at, branch_within}
+use Rattle.grammar.specs.ReadingStatements.{set_tree}
 use Rattle.code.specs.Draft.{trees_in}
 use Rattle.code.specs.FileDraft.{Extends, IsStatement, AreStatements, AreBranches, statements_in}
 use Rattle.code.proofs.Trees.{both_true, and_both, length_begins}
@@ -140,3 +143,41 @@ foreach_made line list_line a b o p t u qs rs e f g h =
 
 pub and_three : (a b c d : Bool) → IsTrue a → IsTrue b → IsTrue c → IsTrue d → IsTrue (a && (b && (c && d)))
 and_three a b c d e f g h = and_both a (b && (c && d)) e (and_both b (c && d) f (and_both c d g h))
+
+pub set_within : (adds : Bool) (k m n name line value : ℕ) → IsTrue (nat_lt name k) → IsTrue (nat_lt value m)
+    → IsTrue (statement_within k m n (set_node adds name line value))
+set_within true k m n name line value h g = and_both (nat_lt name k) (nat_lt value m) h g
+set_within false k m n name line value h g = and_both (nat_lt name k) (nat_lt value m) h g
+
+pub set_is : (adds : Bool) (names : List (List ℕ)) (ts : List ExpressionTree) (ss : List StatementTree) (name line value : ℕ)
+    (word : List ℕ) (t : ExpressionTree) → name_at names name ≡ word → tree_at ts value ≡ t
+    → statement_tree names ts ss (set_node adds name line value) ≡ set_tree adds word line t
+set_is true names ts ss name line value word t e f =
+    ap (λ w. AppendTree w line (tree_at ts value)) e ∙ ap (λ x. AppendTree word line x) f
+set_is false names ts ss name line value word t e f =
+    ap (λ w. AssignTree w line (tree_at ts value)) e ∙ ap (λ x. AssignTree word line x) f
+
+-- ---- a statement by its variant
+
+module _ (s : Statement) (line : ℕ) where
+  pub assign_made : (name : Bor (List ℕ)) (value : Expression) → s ≡ Variants.Assign name line value → AssignTree name.now line (expression_of value) ≡ statement_of s
+  assign_made name value is = sym (ap statement_of is ∙ ap statement_of (sym (Variants.rolls-Assign name line value)) ∙ fold-roll-Statement StatementTree BranchTree statement_step branch_step (Open.Assign name line value))
+
+  pub append_made : (name : Bor (List ℕ)) (value : Expression) → s ≡ Variants.Append name line value → AppendTree name.now line (expression_of value) ≡ statement_of s
+  append_made name value is = sym (ap statement_of is ∙ ap statement_of (sym (Variants.rolls-Append name line value)) ∙ fold-roll-Statement StatementTree BranchTree statement_step branch_step (Open.Append name line value))
+
+  pub value_made : (value : Expression) → s ≡ Variants.Expression value line → ValueTree (expression_of value) line ≡ statement_of s
+  value_made value is = sym (ap statement_of is ∙ ap statement_of (sym (Variants.rolls-Expression value line)) ∙ fold-roll-Statement StatementTree BranchTree statement_step branch_step (Open.Expression value line))
+
+  pub break_made : s ≡ Variants.Break line → BreakTree line ≡ statement_of s
+  break_made is = sym (ap statement_of is ∙ ap statement_of (sym (Variants.rolls-Break line)) ∙ fold-roll-Statement StatementTree BranchTree statement_step branch_step (Open.Break line))
+
+  pub continue_made : s ≡ Variants.Continue line → ContinueTree line ≡ statement_of s
+  continue_made is = sym (ap statement_of is ∙ ap statement_of (sym (Variants.rolls-Continue line)) ∙ fold-roll-Statement StatementTree BranchTree statement_step branch_step (Open.Continue line))
+
+  pub each_made : (first : Bor (List ℕ)) (second : Option (Bor (List ℕ))) (list : Expression) (list_line : ℕ) (body : Vec Statement Global) (xs : List Statement) (ys : List StatementTree)
+      → s ≡ Variants.Foreach line first second list list_line body → xs ≡ body.items → ys ≡ map statement_of xs
+      → ForeachTree line first.now (option_map (λ n. n.now) second) (expression_of list) list_line (statements ys) ≡ statement_of s
+  each_made first second list list_line body xs ys is same wanted =
+      ap (λ l. ForeachTree line first.now (option_map (λ n. n.now) second) (expression_of list) list_line (statements l)) (wanted ∙ ap (map statement_of) same)
+      ∙ sym (ap statement_of is ∙ ap statement_of (sym (Variants.rolls-Foreach line first second list list_line body)) ∙ fold-roll-Statement StatementTree BranchTree statement_step branch_step (Open.Foreach line first second list list_line body))

@@ -56,7 +56,7 @@ tree_kept names more m ts (flat.Call name items line) h = refl
 tree_kept names more m ts (flat.Postfix first ls line) h = refl
 tree_kept names more m ts (flat.Prefix prefix value line) h = refl
 tree_kept names more m ts (flat.Chain first others line) h = refl
-tree_kept names more m ts (flat.Choice test one other line) h = refl
+tree_kept names more m ts (flat.Ternary test one other line) h = refl
 
 kept_from : (names more : List (List ℕ)) (m : ℕ) (ts : List ExpressionTree) (nodes : List Node)
     → IsTrue (all_within (length names) m nodes) → fold (with_node (names ++ more)) ts nodes ≡ fold (with_node names) ts nodes
@@ -79,7 +79,7 @@ within_wider j k n (flat.Call name items line) l h = h
 within_wider j k n (flat.Postfix first ls line) l h = h
 within_wider j k n (flat.Prefix prefix value line) l h = h
 within_wider j k n (flat.Chain first others line) l h = h
-within_wider j k n (flat.Choice test one other line) l h = h
+within_wider j k n (flat.Ternary test one other line) l h = h
 
 pub all_wider : (j k n : ℕ) (xs : List Node) → j ≤ k → IsTrue (all_within j n xs) → IsTrue (all_within k n xs)
 all_wider j k n [] l h = h

@@ -2,7 +2,7 @@
 use Rattle.std.specs.Prelude.{ℕ, ◌+◌, Bool, true, ◌&&◌, nat_lt, List, [], ◌∷◌, ◌++◌, map, fold, slice_index_or, string_bytes}
 use Rattle.std.specs.List.{list_all}
 use Rattle.std.specs.Option.{option_map}
-use Rattle.grammar.specs.ExpressionTree.{ExpressionTree, EntryTree, ArgumentTree, OperandTree, LinkTree, NameTree, LiteralTree, ListTree, DictionaryTree, FunctionTree, PostfixTree, PrefixTree, ChainTree, ChoiceTree, MethodTree, IndexTree, expressions, entries, arguments, links, operands}
+use Rattle.grammar.specs.ExpressionTree.{ExpressionTree, EntryTree, ArgumentTree, OperandTree, LinkTree, NameTree, LiteralTree, ListTree, DictionaryTree, FunctionTree, PostfixTree, PrefixTree, ChainTree, TernaryTree, MethodTree, IndexTree, expressions, entries, arguments, links, operands}
 use Rattle.code.specs.declared.node.Node.{Node}
 use Rattle.code.specs.declared.node.Node.TheVariants as flat
 use Rattle.code.specs.declared.node.EntryNode.{EntryNode}
@@ -38,7 +38,7 @@ tree_of names ts (flat.Call name items line) = FunctionTree (string_bytes name) 
 tree_of names ts (flat.Postfix first ls line) = PostfixTree (tree_at ts first) (links (map (link_at ts) ls.items)) line
 tree_of names ts (flat.Prefix prefix value line) = PrefixTree prefix (tree_at ts value) line
 tree_of names ts (flat.Chain first others line) = ChainTree (tree_at ts first) (operands (map (operand_at ts) others.items)) line
-tree_of names ts (flat.Choice test one other line) = ChoiceTree (tree_at ts test) (tree_at ts one) (tree_at ts other) line
+tree_of names ts (flat.Ternary test one other line) = TernaryTree (tree_at ts test) (tree_at ts one) (tree_at ts other) line
 
 -- the trees with that of one node more
 abbrev pub with_node : List (List ℕ) → List ExpressionTree → Node → List ExpressionTree
@@ -72,7 +72,7 @@ within k n (flat.Call name items line) = list_all (argument_within n) items.item
 within k n (flat.Postfix first ls line) = nat_lt first n && list_all (link_within n) ls.items
 within k n (flat.Prefix prefix value line) = nat_lt value n
 within k n (flat.Chain first others line) = nat_lt first n && list_all (operand_within n) others.items
-within k n (flat.Choice test one other line) = nat_lt test n && (nat_lt one n && nat_lt other n)
+within k n (flat.Ternary test one other line) = nat_lt test n && (nat_lt one n && nat_lt other n)
 
 -- each node stands after its parts, where the first of these has the number n
 abbrev pub all_within : ℕ → ℕ → List Node → Bool

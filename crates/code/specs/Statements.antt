@@ -1,5 +1,5 @@
 -- The trees of statements that a list of nodes stands for, and the file that code stands for.
-use Rattle.std.specs.Prelude.{ℕ, ◌+◌, Bool, true, ◌&&◌, nat_lt, List, [], ◌∷◌, ◌++◌, map, fold, slice_index_or, Option, Some, None}
+use Rattle.std.specs.Prelude.{ℕ, ◌+◌, Bool, true, false, ◌&&◌, nat_lt, List, [], ◌∷◌, ◌++◌, map, fold, slice_index_or, Option, Some, None}
 use Rattle.std.specs.List.{list_all}
 use Rattle.std.specs.Option.{option_map}
 use Rattle.grammar.specs.ExpressionTree.{ExpressionTree}
@@ -40,6 +40,11 @@ with_statement names ts ss s = ss ++ statement_tree names ts ss s ∷ []
 -- the trees of all statements, in their order
 abbrev pub statement_trees : List (List ℕ) → List ExpressionTree → List StatementNode → List StatementTree
 statement_trees names ts nodes = fold (with_statement names ts) [] nodes
+
+-- what gives a name a value, or adds one to what it has
+abbrev pub set_node : Bool → ℕ → ℕ → ℕ → StatementNode
+set_node true name line value = flat.Append name line value
+set_node false name line value = flat.Assign name line value
 
 -- ---- Tests: all parts are among the first n statements, expressions among the first m, names among the first k.
 

@@ -1,6 +1,6 @@
 //! Expressions, made flat.
 ghost use Rattle.std.specs.Prelude.{◌≡◌, IfOk, IsTrue, map, length, nat_lt, option_map, string_bytes};
-ghost use Rattle.grammar.specs.ExpressionTree.{NameTree, LiteralTree, ListTree, DictionaryTree, FunctionTree, PostfixTree, PrefixTree, ChainTree, ChoiceTree, expressions, entries as entry_trees, argument_trees, links as link_trees, operands as operand_trees, expression_of, entry_of, argument_of, operand_of, link_of};
+ghost use Rattle.grammar.specs.ExpressionTree.{NameTree, LiteralTree, ListTree, DictionaryTree, FunctionTree, PostfixTree, PrefixTree, ChainTree, TernaryTree, expressions, entries as entry_trees, argument_trees, links as link_trees, operands as operand_trees, expression_of, entry_of, argument_of, operand_of, link_of};
 ghost use Rattle.code.specs.Nodes.{tree_at, entry_at, argument_at, operand_at, link_at, entry_within, argument_within, operand_within, link_within};
 
 use crate::draft::Draft;
@@ -52,12 +52,12 @@ impl Draft {
                 others,
                 line,
             } => self.chain(first, others, *line),
-            Expression::Choice {
+            Expression::Ternary {
                 test,
                 yes,
                 no,
                 line,
-            } => self.choice(test, yes, no, *line),
+            } => self.ternary(test, yes, no, *line),
         }
     }
 
@@ -182,7 +182,7 @@ impl Draft {
 
     // `test ? yes : no`
     #[cycle(flatten)]
-    fn choice(
+    fn ternary(
         &mut self,
         test: &Expression<'_>,
         yes: &Expression<'_>,
@@ -191,12 +191,12 @@ impl Draft {
     ) -> Result<usize, AllocError>
         ensures grows { Grows self.old self.new }
         ensures stands { IfOk result (λ number. Stands (trees_in self.new) number
-            (ChoiceTree (expression_of test.now) (expression_of yes.now) (expression_of no.now) line)) }
+            (TernaryTree (expression_of test.now) (expression_of yes.now) (expression_of no.now) line)) }
     {
         let test = self.expression(test)?;
         let yes = self.expression(yes)?;
         let no = self.expression(no)?;
-        self.push(Node::Choice {
+        self.push(Node::Ternary {
             test,
             yes,
             no,

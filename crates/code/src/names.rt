@@ -3,15 +3,15 @@ ghost use Rattle.std.specs.Prelude.{◌≡◌, Some, [], length, option_map, sli
 ghost use Rattle.std.specs.List.{IsDistinct};
 ghost use Rattle.code.specs.Names.{number_in, with_name};
 
-use indexmap::IndexSet;
 use std::alloc::{AllocError, Global};
 use std::marker::Model;
+use tables::{SipSet, new_set};
 
 /// Names, each once, in the order in which they were put. The number of a name is its place, from 0 on, and never changes.
 #[derive(Drop)]
 pub struct Names {
     alloc: Global,
-    names: IndexSet<String>,
+    names: SipSet<String>,
 }
 
 impl Model for Names {
@@ -31,7 +31,7 @@ impl Names {
     {
         Names {
             alloc,
-            names: IndexSet::new(alloc),
+            names: new_set(alloc),
         }
     }
 

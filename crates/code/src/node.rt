@@ -50,7 +50,7 @@ pub enum Node {
         line: usize,
     },
     /// `test ? yes : no`
-    Choice {
+    Ternary {
         test: usize,
         yes: usize,
         no: usize,

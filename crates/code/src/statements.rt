@@ -3,45 +3,43 @@ ghost use Rattle.std.specs.Prelude.{◌≡◌, IsTrue, IfOk, map, length, nat_lt
 ghost use Rattle.std.specs.List.{list_all};
 ghost use Rattle.std.specs.Option.{option_map};
 ghost use Rattle.grammar.specs.ExpressionTree.{expression_of};
-ghost use Rattle.grammar.specs.Tree.{AssignTree, AppendTree, ValueTree, ForeachTree, statement_of, branch_of, statements};
-ghost use Rattle.code.specs.Statements.{statement_at, name_at, second_within};
+ghost use Rattle.grammar.specs.ReadingStatements.{set_tree};
+ghost use Rattle.grammar.specs.Tree.{ValueTree, ForeachTree, IfTree, statement_of, branch_of, branches as branch_trees, statements};
+ghost use Rattle.code.specs.Statements.{statement_at, name_at, second_within, set_node};
 
 use crate::file_draft::FileDraft;
 use crate::node::{BranchNode, StatementNode};
 use grammar::tree::{Branch, Expression, Statement};
 use std::alloc::AllocError;
 
+// The node that gives a name a value, or adds one to what it has.
+fn set(adds: bool, name: usize, line: usize, value: usize) -> StatementNode
+    ensures { result ≡ set_node adds name line value }
+{
+    if adds {
+        StatementNode::Append { name, line, value }
+    } else {
+        StatementNode::Assign { name, line, value }
+    }
+}
+
 impl FileDraft {
     ghost use Rattle.code.specs.FileDraft.{statements_in, Extends, IsStatement, AreStatements, AreBranches};
 
-    // `name = value`
+    // `name = value`, or `name += value`, which adds to what the name has.
     fn assign(
         &mut self,
+        adds: bool,
         name: &str,
         line: usize,
         value: &Expression<'_>,
     ) -> Result<usize, AllocError>
         ensures extends { Extends self.old self.new }
-        ensures is { IfOk result (λ i. IsStatement self.new i (AssignTree name.now line (expression_of value.now))) }
+        ensures is { IfOk result (λ i. IsStatement self.new i (set_tree adds name.now line (expression_of value.now))) }
     {
         let value = self.expression(value)?;
         let name = self.name(name)?;
-        self.push(StatementNode::Assign { name, line, value })
-    }
-
-    // `name += value`
-    fn append(
-        &mut self,
-        name: &str,
-        line: usize,
-        value: &Expression<'_>,
-    ) -> Result<usize, AllocError>
-        ensures extends { Extends self.old self.new }
-        ensures is { IfOk result (λ i. IsStatement self.new i (AppendTree name.now line (expression_of value.now))) }
-    {
-        let value = self.expression(value)?;
-        let name = self.name(name)?;
-        self.push(StatementNode::Append { name, line, value })
+        self.push(set(adds, name, line, value))
     }
 
     // An expression alone.
@@ -101,8 +99,8 @@ impl FileDraft {
         ensures is { IfOk result (λ i. IsStatement self.new i (statement_of statement.now)) }
     {
         match statement {
-            Statement::Assign { name, line, value } => self.assign(name, *line, value),
-            Statement::Append { name, line, value } => self.append(name, *line, value),
+            Statement::Assign { name, line, value } => self.assign(false, name, *line, value),
+            Statement::Append { name, line, value } => self.assign(true, name, *line, value),
             Statement::Expression { value, line } => self.value(value, *line),
             Statement::Break { line } => self.push(StatementNode::Break { line: *line }),
             Statement::Continue { line } => self.push(StatementNode::Continue { line: *line }),
@@ -110,15 +108,7 @@ impl FileDraft {
                 line,
                 branches,
                 otherwise,
-            } => {
-                let branches = self.branches(branches)?;
-                let otherwise = self.body(otherwise)?;
-                self.push(StatementNode::If {
-                    line: *line,
-                    branches,
-                    otherwise,
-                })
-            }
+            } => self.conditional(*line, branches, otherwise),
             Statement::Foreach {
                 line,
                 first,
@@ -131,6 +121,27 @@ impl FileDraft {
                 self.foreach(*line, first, *second, list, *list_line, body)
             }
         }
+    }
+
+    // `if`, its parts with a condition, and what stands behind `else`.
+    #[cycle(flatten_statement)]
+    fn conditional(
+        &mut self,
+        line: usize,
+        branches: &[Branch<'_>],
+        otherwise: &[Statement<'_>],
+    ) -> Result<usize, AllocError>
+        ensures extends { Extends self.old self.new }
+        ensures is { IfOk result (λ i. IsStatement self.new i
+            (IfTree line (branch_trees (map branch_of branches.now)) (statements (map statement_of otherwise.now)))) }
+    {
+        let branches = self.branches(branches)?;
+        let otherwise = self.body(otherwise)?;
+        self.push(StatementNode::If {
+            line,
+            branches,
+            otherwise,
+        })
     }
 
     /// Puts the nodes of these statements, and answers their numbers.

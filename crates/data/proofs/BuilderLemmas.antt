@@ -1,6 +1,8 @@
 -- What a dictionary keeps when a value is put into it.
-use Rattle.std.proofs.Common.{◌≡◌, ℕ, zero, suc, ◌+◌, ◌<◌, ◌≤◌, Bool, true, false, List, [], ◌∷◌, length, get_or, set, Some, None, cond, String, Global, string_bytes, bytes_eq, refl, sym, ap, ◌∙◌, subst, arith, Option}
-use Rattle.std.specs.Prelude.{max, option_map, IfSome, slice_get, not, ◌||◌, if◌then◌else◌}
+use Rattle.std.proofs.Common.{◌≡◌, ℕ, zero, suc, ◌+◌, ◌<◌, ◌≤◌, Bool, true, false, List, [], ◌∷◌, length, get_or, set, Some, None, cond, bytes_eq, refl, sym, ap, ◌∙◌, subst, arith, Option}
+use Rattle.std.specs.Prelude.{max, nat_le, nat_lt, option_map, option_and_then, IfSome, slice_get, not, ◌||◌, if◌then◌else◌}
+use Rattle.std.proofs.lemmas.Bool.{leb-true, leb-false, ltb-true}
+use Rattle.data.specs.Builder.{replaced_depth}
 use Rattle.std.specs.List.{position_or_len, list_any}
 use Rattle.std.specs.Cmp.Lexicographic.{bytes_decides}
 use Rattle.data.specs.Data.{Data, count, Entries, no_entries, entry, entry_count, entry_values, keys_in, find, put, merged, AreDistinct}
@@ -10,17 +12,17 @@ use Rattle.data.specs.View.{data_of, items_of, entries_of}
 use Rattle.data.specs.declared.value.Value.{Value}
 use Rattle.data.proofs.ItemsLemmas.{weight-le-items_weight}
 
-abbrev keys_weight : List (String Global) → ℕ
+abbrev keys_weight : List (List ℕ) → ℕ
 keys_weight [] = 0
-keys_weight (k ∷ ks) = length (string_bytes k) + 1 + keys_weight ks
+keys_weight (k ∷ ks) = length k + 1 + keys_weight ks
 
-entries_weight-entries_of : (ks : List (String Global)) (vs : List Value) → length ks ≡ length vs → entries_weight (entries_of ks vs) ≡ keys_weight ks + items_weight (items_of vs)
+entries_weight-entries_of : (ks : List (List ℕ)) (vs : List Value) → length ks ≡ length vs → entries_weight (entries_of ks vs) ≡ keys_weight ks + items_weight (items_of vs)
 entries_weight-entries_of [] [] fit = omega arith
 entries_weight-entries_of [] (v ∷ vs) fit = absurd (omega arith)
 entries_weight-entries_of (k ∷ ks) [] fit = absurd (omega arith)
 entries_weight-entries_of (k ∷ ks) (v ∷ vs) fit = omega (arith, entries_weight-entries_of ks vs (omega arith))
 
-pub entries_depth-entries_of : (ks : List (String Global)) (vs : List Value) → length ks ≡ length vs → entries_depth (entries_of ks vs) ≡ items_depth (items_of vs)
+pub entries_depth-entries_of : (ks : List (List ℕ)) (vs : List Value) → length ks ≡ length vs → entries_depth (entries_of ks vs) ≡ items_depth (items_of vs)
 entries_depth-entries_of [] [] fit = refl
 entries_depth-entries_of [] (v ∷ vs) fit = absurd (omega arith)
 entries_depth-entries_of (k ∷ ks) [] fit = absurd (omega arith)
@@ -37,7 +39,7 @@ length-set-values (v ∷ vs) zero w = refl
 length-set-values (v ∷ vs) (suc i) w = ap suc (length-set-values vs i w)
 
 -- a value written over another changes the weight by theirs
-pub weight_replaced : (ks : List (String Global)) (vs : List Value) (i : ℕ) (w d : Value) → length ks ≡ length vs → i < length vs
+pub weight_replaced : (ks : List (List ℕ)) (vs : List Value) (i : ℕ) (w d : Value) → length ks ≡ length vs → i < length vs
     → entries_weight (entries_of ks (set vs i w)) + weight (data_of (get_or vs i d)) ≡ entries_weight (entries_of ks vs) + weight (data_of w)
 weight_replaced ks vs i w d fit h =
     omega (arith, entries_weight-entries_of ks vs fit, entries_weight-entries_of ks (set vs i w) (fit ∙ sym (length-set-values vs i w)), items_weight-set vs i w d h)
@@ -109,7 +111,7 @@ pub not_any : {X : Type 0} (p : X → Bool) (xs : List X) → length xs ≤ posi
 not_any p [] h = refl
 not_any p (x ∷ xs) h = not_any_at (p x) (list_any p xs) (position_or_len p xs) (length xs) h (not_any p xs)
 
-pub weight-le-entries_weight : (ks : List (String Global)) (vs : List Value) (i : ℕ) (d : Value) → length ks ≡ length vs → i < length vs → weight (data_of (get_or vs i d)) ≤ entries_weight (entries_of ks vs)
+pub weight-le-entries_weight : (ks : List (List ℕ)) (vs : List Value) (i : ℕ) (d : Value) → length ks ≡ length vs → i < length vs → weight (data_of (get_or vs i d)) ≤ entries_weight (entries_of ks vs)
 weight-le-entries_weight ks vs i d fit h = omega (arith, entries_weight-entries_of ks vs fit, weight-le-items_weight vs i d h)
 
 pub length-set : (vs : List Value) (i : ℕ) (w : Value) → length (set vs i w) ≡ length vs
@@ -223,3 +225,61 @@ deeper_is (Some k) r n m more is known e = subst (λ x. IfSome x (λ d. d ≡ m)
 pub deeper_small : (o r : Option ℕ) (more : ℕ) → r ≡ option_map (λ d. max d more) o → IfSome o (λ d. d ≤ 64) → more ≤ 64 → IfSome r (λ d. d ≤ 64)
 deeper_small None r more is small h = subst (λ x. IfSome x (λ d. d ≤ 64)) (sym is) tt
 deeper_small (Some k) r more is small h = subst (λ x. IfSome x (λ d. d ≤ 64)) (sym is) (omega arith)
+
+-- ---- the depth with a value in place of another
+
+-- the deepest with one in place of another: no less than it, and no more than all before and it; and what was the deepest
+-- before is so still, or it was the one that has gone
+record Replaced (before after old new : ℕ) : Type 0 where
+  there : new ≤ after
+  high : after ≤ max before new
+  low : before ≤ max after old
+
+items_depth-set : (vs : List Value) (i : ℕ) (w d : Value) → i < length vs
+    → Replaced (items_depth (items_of vs)) (items_depth (items_of (set vs i w))) (depth (data_of (get_or vs i d))) (depth (data_of w))
+items_depth-set [] i w d h = absurd (omega arith)
+items_depth-set (v ∷ vs) zero w d h = record { there = omega arith; high = omega arith; low = omega arith }
+items_depth-set (v ∷ vs) (suc i) w d h =
+    let r = items_depth-set vs i w d (omega arith) in
+    record { there = omega (arith, r.there); high = omega (arith, r.high); low = omega (arith, r.low) }
+
+known_replaced : (b c : Bool) (before after old new : ℕ) (r : Option ℕ) → Replaced before after old new → nat_le old new ≡ b → nat_lt old before ≡ c
+    → r ≡ (if b then Some (max before new) else if c then Some before else None) → IfSome r (λ d. d ≡ after)
+known_replaced true c before after old new r set b_is c_is is =
+    let le : old ≤ new = leb-true old new b_is in
+    subst (λ x. IfSome x (λ d. d ≡ after)) (sym is) (omega (arith, set.there, set.high, set.low))
+known_replaced false true before after old new r set b_is c_is is =
+    let gt : new < old = leb-false old new b_is in
+    let lt : old < before = ltb-true old before c_is in
+    subst (λ x. IfSome x (λ d. d ≡ after)) (sym is) (omega (arith, set.there, set.high, set.low))
+known_replaced false false before after old new r set b_is c_is is = subst (λ x. IfSome x (λ d. d ≡ after)) (sym is) tt
+
+replaced_from : (o r : Option ℕ) (before after old new : ℕ) → Replaced before after old new → r ≡ option_and_then (replaced_depth old new) o
+    → IfSome o (λ d. d ≡ before) → IfSome r (λ d. d ≡ after)
+replaced_from None r before after old new set is known = subst (λ x. IfSome x (λ d. d ≡ after)) (sym is) tt
+replaced_from (Some k) r before after old new set is known =
+    known_replaced (nat_le old new) (nat_lt old before) before after old new r set refl refl (is ∙ ap (replaced_depth old new) known)
+
+pub replaced_is : (o r : Option ℕ) (ks : List (List ℕ)) (vs : List Value) (i : ℕ) (w d : Value) (old new : ℕ) → length ks ≡ length vs → i < length vs
+    → old ≡ depth (data_of (get_or vs i d)) → new ≡ depth (data_of w) → r ≡ option_and_then (replaced_depth old new) o
+    → IfSome o (λ n. n ≡ entries_depth (entries_of ks vs)) → IfSome r (λ n. n ≡ entries_depth (entries_of ks (set vs i w)))
+replaced_is o r ks vs i w d old new fit h old_is new_is is known =
+    let before = entries_depth-entries_of ks vs fit in
+    let after = entries_depth-entries_of ks (set vs i w) (fit ∙ sym (length-set-values vs i w)) in
+    subst (λ n. IfSome r (λ m. m ≡ n)) (sym after)
+    (replaced_from o r (items_depth (items_of vs)) (items_depth (items_of (set vs i w))) old new
+    (subst (λ n. Replaced (items_depth (items_of vs)) (items_depth (items_of (set vs i w))) old n) (sym new_is)
+    (subst (λ m. Replaced (items_depth (items_of vs)) (items_depth (items_of (set vs i w))) m (depth (data_of w))) (sym old_is)
+    (items_depth-set vs i w d h)))
+    is (subst (λ n. IfSome o (λ m. m ≡ n)) before known))
+
+small_replaced : (b c : Bool) (before new : ℕ) (r : Option ℕ) → before ≤ 64 → new ≤ 64
+    → r ≡ (if b then Some (max before new) else if c then Some before else None) → IfSome r (λ d. d ≤ 64)
+small_replaced true c before new r h k is = subst (λ x. IfSome x (λ d. d ≤ 64)) (sym is) (omega arith)
+small_replaced false true before new r h k is = subst (λ x. IfSome x (λ d. d ≤ 64)) (sym is) h
+small_replaced false false before new r h k is = subst (λ x. IfSome x (λ d. d ≤ 64)) (sym is) tt
+
+pub replaced_small : (o r : Option ℕ) (old new : ℕ) → r ≡ option_and_then (replaced_depth old new) o → IfSome o (λ d. d ≤ 64) → new ≤ 64
+    → IfSome r (λ d. d ≤ 64)
+replaced_small None r old new is small h = subst (λ x. IfSome x (λ d. d ≤ 64)) (sym is) tt
+replaced_small (Some k) r old new is small h = small_replaced (nat_le old new) (nat_lt old k) k new r small h is

@@ -1,9 +1,11 @@
 -- Items, and the lists of values that they stand for.
-use Rattle.std.proofs.Common.{◌≡◌, ℕ, zero, suc, ◌+◌, ◌<◌, ◌≤◌, true, List, [], ◌∷◌, ◌++◌, length, get_or, drop, refl, sym, ap, ◌∙◌, arith, add-one}
+use Rattle.std.proofs.Common.{◌≡◌, ℕ, zero, suc, ◌+◌, ◌<◌, ◌≤◌, Bool, true, false, List, [], ◌∷◌, ◌++◌, length, get_or, drop, refl, sym, ap, ◌∙◌, arith, add-one}
 use Rattle.std.proofs.Math.Seq.{drop-cons}
-use Rattle.std.specs.Prelude.{max}
+use Rattle.std.specs.Prelude.{max, ◌||◌, Ok, Err, if◌then◌else◌}
 use Rattle.std.proofs.lemmas.Bool.Decides.{nat_tests}
+use Rattle.data.specs.declared.refusal.Refusal.TheVariants as refusal
 use Rattle.data.specs.Data.{Data, Items, no_items, item, items_append, count}
+use Rattle.data.specs.Data.{has_disabler, have_disabler}
 use Rattle.data.specs.Weight.{weight, depth, items_weight, items_depth}
 use Rattle.data.specs.Limits.{is_within, items_fit}
 use Rattle.data.specs.View.{data_of, items_of}
@@ -98,3 +100,32 @@ weight-le-items_weight (v ∷ vs) (suc i) d h = omega (arith, weight-le-items_we
 
 pub length-same_items : (xs ys : List Value) → items_of xs ≡ items_of ys → length xs ≡ length ys
 length-same_items xs ys e = sym (count-items_of xs) ∙ ap count e ∙ count-items_of ys
+
+-- ---- a list from items, by the numbers that are counted
+
+too_many : (n w l : ℕ) → 65536 < n → is_within n w l ≡ false
+too_many n w l h = grind (arith, nat_tests)
+
+pub refused_many : (ds : Items) → 65536 < count ds → Err refusal.Limit ≡ (if items_fit ds then Ok ds else Err refusal.Limit)
+refused_many ds h = sym (ap (λ (b : Bool). if b then Ok ds else Err refusal.Limit) (too_many (count ds) (items_weight ds + 1) (items_depth ds + 1) h))
+
+pub taken_where : (ds : Items) (n w l : ℕ) → n ≡ count ds → w ≡ items_weight ds → l ≡ items_depth ds → is_within n (w + 1) (l + 1) ≡ true
+    → Ok ds ≡ (if items_fit ds then Ok ds else Err refusal.Limit)
+taken_where ds n w l a b c fit =
+    let fits : items_fit ds ≡ true = cc in
+    sym (ap (λ (b : Bool). if b then Ok ds else Err refusal.Limit) fits)
+
+-- ---- disablers among items
+
+or_assoc : (a b c : Bool) → ((a || b) || c) ≡ (a || (b || c))
+or_assoc true b c = refl
+or_assoc false b c = refl
+
+or_false : (a : Bool) → (a || false) ≡ a
+or_false true = refl
+or_false false = refl
+
+pub disabler_pushed : (ds : Items) (d : Data) → have_disabler (items_append ds (item d no_items)) ≡ (have_disabler ds || has_disabler d)
+disabler_pushed no_items d = or_false (has_disabler d)
+disabler_pushed (item x xs) d =
+    ap (λ b. has_disabler x || b) (disabler_pushed xs d) ∙ sym (or_assoc (has_disabler x) (have_disabler xs) (has_disabler d))

@@ -15,8 +15,8 @@ use Rattle.data.specs.declared.object.Source.{Source}
 use Rattle.data.specs.declared.object.Source.TheVariants as TheSource
 use Rattle.data.specs.declared.object.Dependency.{Dependency}
 use Rattle.data.specs.declared.object.Machine.{Machine}
-use Rattle.data.specs.Data.{Data, truth, integer, text, list, dictionary, object, Items, no_items, item, Entries, no_entries, entry}
-use Rattle.data.specs.Same.{same_truth, same_texts, same_feature, same_program, same_source, same_sources, same_dependency, same_machine, same_object, same, same_items, same_entries}
+use Rattle.data.specs.Data.{Data, boolean, integer, text, list, dictionary, object, Items, no_items, item, Entries, no_entries, entry}
+use Rattle.data.specs.Same.{same_boolean, same_texts, same_feature, same_program, same_source, same_sources, same_dependency, same_machine, same_object, same, same_items, same_entries}
 
 first_of : (a b : Bool) → (a && b) ≡ true → a ≡ true
 first_of true b h = refl
@@ -26,11 +26,11 @@ second_of : (a b : Bool) → (a && b) ≡ true → b ≡ true
 second_of true b h = h
 second_of false b h = absurd cc
 
-same_truth-is : (a b : Bool) → same_truth a b ≡ true → a ≡ b
-same_truth-is true true h = refl
-same_truth-is true false h = absurd cc
-same_truth-is false true h = absurd cc
-same_truth-is false false h = refl
+same_boolean-is : (a b : Bool) → same_boolean a b ≡ true → a ≡ b
+same_boolean-is true true h = refl
+same_boolean-is true false h = absurd cc
+same_boolean-is false true h = absurd cc
+same_boolean-is false false h = refl
 
 bytes_eq-is : (xs ys : List ℕ) → bytes_eq xs ys ≡ true → xs ≡ ys
 bytes_eq-is xs ys h = (bytes_decides xs ys).0 h
@@ -51,9 +51,9 @@ both : (a b : Bool) → a ≡ true → b ≡ true → (a && b) ≡ true
 both true b e f = f
 both false b e f = absurd cc
 
-same_truth-self : (a : Bool) → same_truth a a ≡ true
-same_truth-self true = refl
-same_truth-self false = refl
+same_boolean-self : (a : Bool) → same_boolean a a ≡ true
+same_boolean-self true = refl
+same_boolean-self false = refl
 
 same_texts-is : (xs ys : List (List ℕ)) → same_texts xs ys ≡ true → xs ≡ ys
 same_texts-is [] [] h = refl
@@ -93,8 +93,8 @@ same_program-self (TheProgram.File p) = bytes_eq-self p
 same_numbers-is : (m i n j : ℕ) → ((m == n) && (i == j)) ≡ true → (m ≡ n) × (i ≡ j)
 same_numbers-is m i n j h = (eqb-true m n (first_of (m == n) (i == j) h), eqb-true i j (second_of (m == n) (i == j) h))
 
-same_file-is : (p q : List ℕ) (b c : Bool) → (bytes_eq p q && same_truth b c) ≡ true → (p ≡ q) × (b ≡ c)
-same_file-is p q b c h = (bytes_eq-is p q (first_of (bytes_eq p q) (same_truth b c) h), same_truth-is b c (second_of (bytes_eq p q) (same_truth b c) h))
+same_file-is : (p q : List ℕ) (b c : Bool) → (bytes_eq p q && same_boolean b c) ≡ true → (p ≡ q) × (b ≡ c)
+same_file-is p q b c h = (bytes_eq-is p q (first_of (bytes_eq p q) (same_boolean b c) h), same_boolean-is b c (second_of (bytes_eq p q) (same_boolean b c) h))
 
 same_source-is : (x y : Source) → same_source x y ≡ true → x ≡ y
 same_source-is (TheSource.File p b) (TheSource.File q c) h = let e = same_file-is p q b c h in cc
@@ -103,7 +103,7 @@ same_source-is (TheSource.CustomOutput m i) (TheSource.CustomOutput n j) h = let
 same_source-is _ _ h = absurd cc
 
 same_source-self : (x : Source) → same_source x x ≡ true
-same_source-self (TheSource.File p b) = both (bytes_eq p p) (same_truth b b) (bytes_eq-self p) (same_truth-self b)
+same_source-self (TheSource.File p b) = both (bytes_eq p p) (same_boolean b b) (bytes_eq-self p) (same_boolean-self b)
 same_source-self (TheSource.CustomTarget m i) = both (m == m) (i == i) (eq-self m) (eq-self i)
 same_source-self (TheSource.CustomOutput m i) = both (m == m) (i == i) (eq-self m) (eq-self i)
 
@@ -160,8 +160,8 @@ same_dependency_from m n a b c d e f g h =
 
 same_dependency-is : (d e : Dependency) → same_dependency d e ≡ true → d ≡ e
 same_dependency-is d e h =
-    let e0 = same_truth-is d.is_found e.is_found (first_of (same_truth d.is_found e.is_found) _ h) in
-    let h0 = second_of (same_truth d.is_found e.is_found) _ h in
+    let e0 = same_boolean-is d.is_found e.is_found (first_of (same_boolean d.is_found e.is_found) _ h) in
+    let h0 = second_of (same_boolean d.is_found e.is_found) _ h in
     let e1 = bytes_eq-is d.name e.name (first_of (bytes_eq d.name e.name) _ h0) in
     let h1 = second_of (bytes_eq d.name e.name) _ h0 in
     let e2 = bytes_eq-is d.version e.version (first_of (bytes_eq d.version e.version) _ h1) in
@@ -179,7 +179,7 @@ same_dependency-is d e h =
 
 same_dependency-self : (d : Dependency) → same_dependency d d ≡ true
 same_dependency-self d =
-    both (same_truth d.is_found d.is_found) _ (same_truth-self d.is_found) (both (bytes_eq d.name d.name) _ (bytes_eq-self d.name) (both (bytes_eq d.version d.version) _ (bytes_eq-self d.version)
+    both (same_boolean d.is_found d.is_found) _ (same_boolean-self d.is_found) (both (bytes_eq d.name d.name) _ (bytes_eq-self d.name) (both (bytes_eq d.version d.version) _ (bytes_eq-self d.version)
     (both (same_texts d.include_directories d.include_directories) _ (same_texts-self d.include_directories) (both (same_texts d.compile_args d.compile_args) _ (same_texts-self d.compile_args)
     (both (same_texts d.link_args d.link_args) _ (same_texts-self d.link_args) (both (bytes_eq d.link_with d.link_with) _ (bytes_eq-self d.link_with) (same_sources-self d.sources)))))))
 
@@ -206,7 +206,7 @@ same_object-self (TheObject.Program p) = same_program-self p
 same_object-self (TheObject.BuildTarget m) = eq-self m
 same_object-self (TheObject.CustomTarget m i) = both (m == m) (i == i) (eq-self m) (eq-self i)
 same_object-self (TheObject.CustomOutput m i) = both (m == m) (i == i) (eq-self m) (eq-self i)
-same_object-self (TheObject.File p b) = both (bytes_eq p p) (same_truth b b) (bytes_eq-self p) (same_truth-self b)
+same_object-self (TheObject.File p b) = both (bytes_eq p p) (same_boolean b b) (bytes_eq-self p) (same_boolean-self b)
 same_object-self (TheObject.IncludeDirectories v) = same_texts-self v
 same_object-self (TheObject.Machine m) = same_machine-self m
 same_object-self TheObject.Meson = refl
@@ -216,7 +216,7 @@ same_object-self TheObject.Disabler = refl
 
 mutual
   pub same-is : (d e : Data) → same d e ≡ true → d ≡ e
-  same-is (truth b) (truth c) h = ap truth (same_truth-is b c h)
+  same-is (boolean b) (boolean c) h = ap boolean (same_boolean-is b c h)
   same-is (integer y) (integer z) h = ap integer (int_eq-is y z h)
   same-is (text s) (text t) h = ap text (bytes_eq-is s t h)
   same-is (list xs) (list ys) h = ap list (same_items-is xs ys h)
@@ -244,7 +244,7 @@ mutual
 
 mutual
   pub same-self : (d : Data) → same d d ≡ true
-  same-self (truth b) = same_truth-self b
+  same-self (boolean b) = same_boolean-self b
   same-self (integer z) = int_eq-self z
   same-self (text t) = bytes_eq-self t
   same-self (list xs) = same_items-self xs

@@ -6,10 +6,10 @@ use Rattle.std.specs.Coded.{Coded, code_by, coded⊎, coded_ℕ, coded_ℤ, code
 use base.Stored.{coded_unit}
 use Rattle.data.specs.declared.object.Object.{Object}
 use Rattle.data.specs.contracts.object.Object.{the_row as object_row}
-use Rattle.data.specs.Data.{Data, truth, integer, text, list, dictionary, object, Items, no_items, item, Entries, no_entries, entry}
+use Rattle.data.specs.Data.{Data, boolean, integer, text, list, dictionary, object, Items, no_items, item, Entries, no_entries, entry}
 
 pub data Step : Type 0 where
-  make_truth : Bool → Step
+  make_boolean : Bool → Step
   make_integer : ℤ → Step
   make_text : List ℕ → Step
   make_object : Object → Step
@@ -22,7 +22,7 @@ abbrev pub Stored : Type 0
 Stored = ((Bool ⊎ ℤ) ⊎ (List ℕ ⊎ Object)) ⊎ ((Unit {0} ⊎ Unit {0}) ⊎ (Unit {0} ⊎ List ℕ))
 
 abbrev pub stored : Step → Stored
-stored (make_truth b) = inl (inl (inl b))
+stored (make_boolean b) = inl (inl (inl b))
 stored (make_integer z) = inl (inl (inr z))
 stored (make_text t) = inl (inr (inl t))
 stored (make_object o) = inl (inr (inr o))
@@ -32,7 +32,7 @@ stored start_dictionary = inr (inr (inl tt))
 stored (put_entry k) = inr (inr (inr k))
 
 abbrev pub step_in : Stored → Step
-step_in (inl (inl (inl b))) = make_truth b
+step_in (inl (inl (inl b))) = make_boolean b
 step_in (inl (inl (inr z))) = make_integer z
 step_in (inl (inr (inl t))) = make_text t
 step_in (inl (inr (inr o))) = make_object o
@@ -42,7 +42,7 @@ step_in (inr (inr (inl u))) = start_dictionary
 step_in (inr (inr (inr k))) = put_entry k
 
 pub step_in_stored : (s : Step) → step_in (stored s) ≡ s
-step_in_stored (make_truth b) = refl
+step_in_stored (make_boolean b) = refl
 step_in_stored (make_integer z) = refl
 step_in_stored (make_text t) = refl
 step_in_stored (make_object o) = refl
@@ -56,7 +56,7 @@ step_code = code_by Stored (coded⊎ (coded⊎ (coded⊎ coded_bool coded_ℤ) (
 
 abbrev mutual
   pub steps : Data → List Step
-  steps (truth b) = make_truth b ∷ []
+  steps (boolean b) = make_boolean b ∷ []
   steps (integer z) = make_integer z ∷ []
   steps (text t) = make_text t ∷ []
   steps (list ds) = item_steps ds
@@ -72,7 +72,7 @@ abbrev mutual
   entry_steps (entry k d es) = steps d ++ (entry_steps es ++ put_entry k ∷ [])
 
 abbrev pub taken : Step → List Data → List Data
-taken (make_truth b) s = truth b ∷ s
+taken (make_boolean b) s = boolean b ∷ s
 taken (make_integer z) s = integer z ∷ s
 taken (make_text t) s = text t ∷ s
 taken (make_object o) s = object o ∷ s
@@ -89,7 +89,7 @@ built (t ∷ ts) s = built ts (taken t s)
 
 mutual
   pub built-steps : (d : Data) (ts : List Step) (s : List Data) → built (steps d ++ ts) s ≡ built ts (d ∷ s)
-  built-steps (truth b) ts s = refl
+  built-steps (boolean b) ts s = refl
   built-steps (integer z) ts s = refl
   built-steps (text t) ts s = refl
   built-steps (list ds) ts s = built-item_steps ds ts s

@@ -1,11 +1,11 @@
 -- Values as plain data.
-use Rattle.std.specs.Prelude.{◌≡◌, ℕ, suc, ℤ, Bool, true, false, List, [], ◌∷◌, Option, Some, None, if◌then◌else◌, bytes_eq}
+use Rattle.std.specs.Prelude.{◌≡◌, ℕ, suc, ℤ, Bool, true, false, List, [], ◌∷◌, Option, Some, None, if◌then◌else◌, bytes_eq, ◌||◌}
 use Rattle.data.specs.declared.object.Object.{Object}
 use Rattle.data.specs.declared.object.Object.TheVariants as TheObject
 
 mutual
   pub data Data : Type 0 where
-    truth : Bool → Data
+    boolean : Bool → Data
     integer : ℤ → Data
     text : List ℕ → Data
     list : Items → Data
@@ -56,9 +56,9 @@ entry_values no_entries = no_items
 entry_values (entry k d es) = item d (entry_values es)
 
 -- what a value is, where it is of that type
-abbrev pub truth_in : Data → Option Bool
-truth_in (truth b) = Some b
-truth_in _ = None
+abbrev pub boolean_in : Data → Option Bool
+boolean_in (boolean b) = Some b
+boolean_in _ = None
 
 abbrev pub integer_in : Data → Option ℤ
 integer_in (integer z) = Some z
@@ -84,6 +84,20 @@ object_in _ = None
 abbrev pub is_disabler : Data → Bool
 is_disabler (object TheObject.Disabler) = true
 is_disabler _ = false
+
+-- a disabler, or a list with one at any depth of lists
+abbrev mutual
+  pub has_disabler : Data → Bool
+  has_disabler (boolean b) = false
+  has_disabler (integer z) = false
+  has_disabler (text t) = false
+  has_disabler (list ds) = have_disabler ds
+  has_disabler (dictionary es) = false
+  has_disabler (object o) = is_disabler (object o)
+
+  pub have_disabler : Items → Bool
+  have_disabler no_items = false
+  have_disabler (item d ds) = has_disabler d || have_disabler ds
 
 -- no key stands twice
 abbrev pub AreDistinct : Entries → Type 0

@@ -1,8 +1,8 @@
 -- How large a value may be: 65,536 items, 64 levels and a weight of 33,554,432; a text 16,777,216 bytes.
-use Rattle.std.specs.Prelude.{◌+◌, ℕ, Bool, true, ◌&&◌, nat_le, length, Result, Ok, Err, if◌then◌else◌}
+use Rattle.std.specs.Prelude.{◌≡◌, ◌<◌, ◌≤◌, ◌++◌, ◌+◌, ℕ, Bool, true, ◌&&◌, nat_le, List, length, Result, Ok, Err, if◌then◌else◌}
 use Rattle.data.specs.declared.refusal.Refusal.{Refusal}
 use Rattle.data.specs.declared.refusal.Refusal.TheVariants as refusal
-use Rattle.data.specs.Data.{Data, truth, integer, text, list, dictionary, object, Items, Entries, count, entry_count}
+use Rattle.data.specs.Data.{Data, boolean, integer, text, list, dictionary, object, Items, Entries, count, entry_count}
 use Rattle.data.specs.Weight.{items_weight, items_depth, entries_weight, entries_depth}
 
 -- a list or a dictionary of this many items, this weight and this many levels is within the limits
@@ -17,12 +17,21 @@ entries_fit es = is_within (entry_count es) (entries_weight es + 1) (entries_dep
 
 -- whether a value is within the limits
 abbrev pub fits : Data → Bool
-fits (truth b) = true
+fits (boolean b) = true
 fits (integer z) = true
 fits (text t) = nat_le (length t) 16777216
 fits (list ds) = items_fit ds
 fits (dictionary es) = entries_fit es
 fits (object o) = true
+
+-- a text within the limit, or the refusal
+abbrev pub within_bytes : List ℕ → Result (List ℕ) Refusal
+within_bytes t = if nat_le (length t) 16777216 then Ok t else Err refusal.Limit
+
+-- a text has become longer by a piece, or it would have become too long
+abbrev pub Appends : List ℕ → List ℕ → List ℕ → Result (Unit {0}) Refusal → Type 0
+Appends before piece after (Ok done) = (after ≡ before ++ piece) × (length after ≤ 16777216)
+Appends before piece after (Err e) = (e ≡ refusal.Limit) × (16777216 < length (before ++ piece))
 
 -- a value within the limits, or the refusal
 abbrev pub within : Data → Result Data Refusal

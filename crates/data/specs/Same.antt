@@ -11,11 +11,11 @@ use Rattle.data.specs.declared.object.Source.{Source}
 use Rattle.data.specs.declared.object.Source.TheVariants as TheSource
 use Rattle.data.specs.declared.object.Dependency.{Dependency}
 use Rattle.data.specs.declared.object.Machine.{Machine}
-use Rattle.data.specs.Data.{Data, truth, integer, text, list, dictionary, object, Items, no_items, item, Entries, no_entries, entry}
+use Rattle.data.specs.Data.{Data, boolean, integer, text, list, dictionary, object, Items, no_items, item, Entries, no_entries, entry}
 
-abbrev pub same_truth : Bool → Bool → Bool
-same_truth true b = b
-same_truth false b = not b
+abbrev pub same_boolean : Bool → Bool → Bool
+same_boolean true b = b
+same_boolean false b = not b
 
 abbrev pub same_texts : List (List ℕ) → List (List ℕ) → Bool
 same_texts [] [] = true
@@ -35,7 +35,7 @@ same_program (TheProgram.File p) (TheProgram.File q) = bytes_eq p q
 same_program _ _ = false
 
 abbrev pub same_source : Source → Source → Bool
-same_source (TheSource.File p b) (TheSource.File q c) = bytes_eq p q && same_truth b c
+same_source (TheSource.File p b) (TheSource.File q c) = bytes_eq p q && same_boolean b c
 same_source (TheSource.CustomTarget m i) (TheSource.CustomTarget n j) = (m == n) && (i == j)
 same_source (TheSource.CustomOutput m i) (TheSource.CustomOutput n j) = (m == n) && (i == j)
 same_source _ _ = false
@@ -47,7 +47,7 @@ same_sources _ _ = false
 
 abbrev pub same_dependency : Dependency → Dependency → Bool
 same_dependency d e =
-    same_truth d.is_found e.is_found && (bytes_eq d.name e.name && (bytes_eq d.version e.version
+    same_boolean d.is_found e.is_found && (bytes_eq d.name e.name && (bytes_eq d.version e.version
     && (same_texts d.include_directories e.include_directories && (same_texts d.compile_args e.compile_args
     && (same_texts d.link_args e.link_args && (bytes_eq d.link_with e.link_with && same_sources d.sources e.sources))))))
 
@@ -61,7 +61,7 @@ same_object (TheObject.Program p) (TheObject.Program q) = same_program p q
 same_object (TheObject.BuildTarget m) (TheObject.BuildTarget n) = m == n
 same_object (TheObject.CustomTarget m i) (TheObject.CustomTarget n j) = (m == n) && (i == j)
 same_object (TheObject.CustomOutput m i) (TheObject.CustomOutput n j) = (m == n) && (i == j)
-same_object (TheObject.File p b) (TheObject.File q c) = bytes_eq p q && same_truth b c
+same_object (TheObject.File p b) (TheObject.File q c) = bytes_eq p q && same_boolean b c
 same_object (TheObject.IncludeDirectories v) (TheObject.IncludeDirectories w) = same_texts v w
 same_object (TheObject.Machine m) (TheObject.Machine n) = same_machine m n
 same_object TheObject.Meson TheObject.Meson = true
@@ -73,7 +73,7 @@ same_object _ _ = false
 -- two values are the same where they are of one type and made of the same parts, entries in the same order
 abbrev mutual
   pub same : Data → Data → Bool
-  same (truth b) (truth c) = same_truth b c
+  same (boolean b) (boolean c) = same_boolean b c
   same (integer y) (integer z) = int_eq y z
   same (text s) (text t) = bytes_eq s t
   same (list xs) (list ys) = same_items xs ys

@@ -1,5 +1,5 @@
--- An answer of an operation beside what its definition gives.
-use Rattle.std.specs.Prelude.{◌≡◌, Result, Ok, Err}
+-- An answer beside what its definition gives.
+use Rattle.std.specs.Prelude.{◌≡◌, ℕ, List, String, string_bytes, Result, Ok, Err}
 use Rattle.data.specs.declared.refusal.Refusal.{Refusal}
 use Rattle.data.specs.Data.{Data}
 use Rattle.data.specs.View.{data_of}
@@ -9,3 +9,8 @@ use Rattle.data.specs.declared.value.Value.{Value}
 abbrev pub Answers : Result Data Refusal → Result Value Refusal → Type 0
 Answers given (Ok v) = given ≡ Ok (data_of v)
 Answers given (Err r) = given ≡ Err r
+
+-- the text that an answer has, or the refusal
+abbrev pub string_in : {Z : Type 0} → Result (String Z) Refusal → Result (List ℕ) Refusal
+string_in (Ok text) = Ok (string_bytes text)
+string_in (Err refusal) = Err refusal

@@ -1,11 +1,11 @@
 -- What a value weighs, and how deep its lists and dictionaries stand in one another.
 use Rattle.std.specs.Prelude.{ℕ, ◌+◌, max, length}
-use Rattle.data.specs.Data.{Data, truth, integer, text, list, dictionary, object, Items, no_items, item, Entries, no_entries, entry}
+use Rattle.data.specs.Data.{Data, boolean, integer, text, list, dictionary, object, Items, no_items, item, Entries, no_entries, entry}
 
 -- a text weighs its bytes and one, a list or a dictionary one and its items and keys, anything else one
 abbrev mutual
   pub weight : Data → ℕ
-  weight (truth b) = 1
+  weight (boolean b) = 1
   weight (integer z) = 1
   weight (text t) = length t + 1
   weight (list ds) = items_weight ds + 1
@@ -23,7 +23,7 @@ abbrev mutual
 -- the levels of lists and dictionaries
 abbrev mutual
   pub depth : Data → ℕ
-  depth (truth b) = 0
+  depth (boolean b) = 0
   depth (integer z) = 0
   depth (text t) = 0
   depth (list ds) = items_depth ds + 1

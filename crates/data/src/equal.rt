@@ -23,8 +23,8 @@ fn are_equal(value: &Value, other: &Value) -> bool
     ensures { IsTrue result ↔ (data_of value.now ≡ data_of other.now) }
 {
     match value {
-        Value::Truth(truth) => match other {
-            Value::Truth(other) => truth == other,
+        Value::Boolean(boolean) => match other {
+            Value::Boolean(other) => boolean == other,
             _ => false,
         },
         Value::Integer(integer) => match other {
@@ -116,7 +116,7 @@ pub fn equal_objects(object: &Object, other: &Object) -> bool
 }
 
 // Whether an object is the custom target of this number, with so many outputs.
-fn is_custom_target(object: &Object, other_number: u32, other_outputs: u32) -> bool
+fn is_custom_target(object: &Object, other_number: usize, other_outputs: usize) -> bool
     ensures { IsTrue result ↔ (CustomTarget other_number other_outputs ≡ object.now) }
 {
     match object {
@@ -128,7 +128,7 @@ fn is_custom_target(object: &Object, other_number: u32, other_outputs: u32) -> b
 }
 
 // Whether an object is this output of the custom target of this number.
-fn is_custom_output(object: &Object, other_target: u32, other_output: u32) -> bool
+fn is_custom_output(object: &Object, other_target: usize, other_output: usize) -> bool
     ensures { IsTrue result ↔ (CustomOutput other_target other_output ≡ object.now) }
 {
     match object {

@@ -1,4 +1,4 @@
-//!
+//! Values of the language, shared, and within its limits.
 #![tactic(auto)]
 
 mod equal;
@@ -10,5 +10,5 @@ mod value;
 pub use equal::{equal_objects, is_equal};
 pub use object::{Dependency, Feature, Machine, Numbers, Object, Program, Source, Sources};
 pub use refusal::Refusal;
-pub use text::{Text, Texts};
-pub use value::{Dictionary, DictionaryBuilder, List, Value};
+pub use text::{Text, Texts, append};
+pub use value::{Dictionary, DictionaryBuilder, List, Value, have_disabler};

@@ -14,11 +14,11 @@ pub enum Object {
     Dependency(Dependency),
     Program(Program),
     /// An executable or a library, by its number.
-    BuildTarget(u32),
+    BuildTarget(usize),
     /// A custom target, by its number, and how many outputs it has.
-    CustomTarget { number: u32, outputs: u32 },
+    CustomTarget { number: usize, outputs: usize },
     /// An output of a custom target.
-    CustomOutput { target: u32, output: u32 },
+    CustomOutput { target: usize, output: usize },
     /// A file of the source tree, or one that is built, by its path.
     File { path: Text, is_built: bool },
     /// Paths of folders.
@@ -30,7 +30,7 @@ pub enum Object {
     /// The C compiler.
     Compiler,
     /// Configuration data, by its number.
-    ConfigurationData(u32),
+    ConfigurationData(usize),
     Disabler,
 }
 
@@ -70,8 +70,31 @@ pub enum Program {
 #[derive(Drop)]
 pub enum Source {
     File { path: Text, is_built: bool },
-    CustomTarget { number: u32, outputs: u32 },
-    CustomOutput { target: u32, output: u32 },
+    CustomTarget { number: usize, outputs: usize },
+    CustomOutput { target: usize, output: usize },
+}
+
+impl Clone for Source {
+    ghost use Rattle.std.specs.Prelude.{◌≡◌};
+
+    ghost is_clone = { λ s t. t ≡ s };
+
+    fn clone(&self) -> Result<Source, AllocError> {
+        match self {
+            Source::File { path, is_built } => Ok(Source::File {
+                path: path.clone()?,
+                is_built: *is_built,
+            }),
+            Source::CustomTarget { number, outputs } => Ok(Source::CustomTarget {
+                number: *number,
+                outputs: *outputs,
+            }),
+            Source::CustomOutput { target, output } => Ok(Source::CustomOutput {
+                target: *target,
+                output: *output,
+            }),
+        }
+    }
 }
 
 /// What the machine file says of a machine.
@@ -86,7 +109,7 @@ pub struct Machine {
 /// A list of numbers of targets.
 #[derive(Drop)]
 pub struct Numbers {
-    items: Vec<u32>,
+    items: Vec<usize>,
 }
 
 impl Model for Numbers {
@@ -104,14 +127,24 @@ impl Numbers {
         }
     }
 
-    pub fn push(&mut self, number: u32) -> Result<(), AllocError>
+    pub fn push(&mut self, number: usize) -> Result<(), AllocError>
         ensures { OnOk result (self.new ≡ self.old ++ number ∷ []) }
     {
         self.items.push(number)?;
         Ok(())
     }
 
-    pub fn as_slice(&self) -> &[u32]
+    /// Puts further numbers at the end.
+    pub fn extend(&mut self, others: &[usize]) -> Result<(), AllocError>
+        ensures { OnOk result (self.new ≡ self.old ++ others.now) }
+    {
+        for number in others {
+            self.push(*number)?;
+        }
+        Ok(())
+    }
+
+    pub fn as_slice(&self) -> &[usize]
         ensures { result.now ≡ self.now }
     {
         &self.items
@@ -146,6 +179,16 @@ impl Sources {
         ensures { OnOk result (self.new ≡ self.old ++ source ∷ []) }
     {
         self.items.push(source)?;
+        Ok(())
+    }
+
+    /// Puts further sources at the end. Their paths are shared, and no byte is copied.
+    pub fn extend(&mut self, others: &[Source]) -> Result<(), AllocError>
+        ensures { OnOk result (self.new ≡ self.old ++ others.now) }
+    {
+        for source in others {
+            self.push(source.clone()?)?;
+        }
         Ok(())
     }
 

@@ -1,24 +1,29 @@
-//! Texts within the limit, and lists of them.
+//! Texts within the limit, and lists of texts.
 
-ghost use Rattle.std.specs.Prelude.{◌≡◌, ◌≤◌, ◌<◌, ◌++◌, ◌∷◌, [], List, ℕ, length, OnOk, MatchResult, string_bytes, bytes_eq};
-ghost use Rattle.data.specs.declared.refusal.Refusal.TheVariants as refusal;
+ghost use Rattle.std.specs.Prelude.{◌≡◌, ◌++◌, ◌∷◌, [], ◌≤◌, length, OnOk, IfOk, string_bytes};
+ghost use Rattle.data.specs.Limits.{within_bytes, Appends};
 
 use crate::refusal::Refusal;
 use std::alloc::{AllocError, Global};
+use std::cmp::Ordering;
+use std::hash::{Hash, Hasher};
 use std::marker::Model;
+use std::rc::Rc;
 
-/// A text of at most 16,777,216 bytes.
+/// A text of at most 16,777,216 bytes, ordered by them. A clone shares them.
 #[derive(Drop)]
 pub struct Text {
-    string: String,
+    string: Rc<String>,
 }
 
 impl Model for Text {
+    ghost use Rattle.std.specs.Prelude.{◌≤◌, List, ℕ, length, string_bytes};
+
     ghost Value = { List ℕ };
 
-    ghost view = { λ t. string_bytes t.string };
+    ghost view = { λ t. string_bytes t.string.value };
 
-    ghost invariant = { λ t. length (string_bytes t.string) ≤ 16777216 };
+    ghost invariant = { λ t. length (string_bytes t.string.value) ≤ 16777216 };
 }
 
 impl Text {
@@ -26,13 +31,14 @@ impl Text {
     pub const MOST_BYTES: usize = 16_777_216;
 
     /// The text of a string, or `Refusal::Limit` where that is too long.
-    pub fn new(string: String) -> Result<Text, Refusal>
-        ensures { MatchResult result (λ t. t ≡ string_bytes string) (λ e. (e ≡ refusal.Limit) × (16777216 < length (string_bytes string))) }
+    pub fn new(alloc: Global, string: String) -> Result<Result<Text, Refusal>, AllocError>
+        ensures { IfOk result (λ r. r ≡ within_bytes (string_bytes string)) }
     {
         if string.len() > Text::MOST_BYTES {
-            return Err(Refusal::Limit);
+            return Ok(Err(Refusal::Limit));
         }
-        Ok(Text { string })
+        let string = Rc::new(alloc, string)?;
+        Ok(Ok(Text { string }))
     }
 
     pub fn as_str(&self) -> &str
@@ -41,15 +47,131 @@ impl Text {
     {
         self.string.as_str()
     }
+
+    /// The text and a piece behind it, or `Refusal::Limit` where that is too long.
+    ///
+    /// Where nobody else holds the text it grows in place, and the work is that of the piece.
+    pub fn append(self, alloc: Global, piece: &str) -> Result<Result<Text, Refusal>, AllocError>
+        ensures { IfOk result (λ r. r ≡ within_bytes (self ++ piece.now)) }
+    {
+        if self.as_str().len() + piece.len() > Text::MOST_BYTES {
+            return Ok(Err(Refusal::Limit));
+        }
+        let mut string = self.into_string(alloc)?;
+        string.push_str(piece)?;
+        Text::new(alloc, string)
+    }
+
+    // Its string, where nobody else holds it, and else a copy.
+    fn into_string(self, alloc: Global) -> Result<String, AllocError>
+        ensures { IfOk result (λ s. string_bytes s ≡ self) }
+    {
+        let Text { string } = self;
+        match Rc::try_unwrap(string) {
+            Ok(string) => Ok(string),
+            Err(shared) => String::from_str(alloc, shared.as_str()),
+        }
+    }
 }
 
-/// A list of texts.
+impl Clone for Text {
+    ghost use Rattle.std.specs.Prelude.{◌≡◌};
+
+    ghost is_clone = { λ t u. u ≡ t };
+
+    fn clone(&self) -> Result<Text, AllocError> {
+        Ok(Text {
+            string: self.string.clone()?,
+        })
+    }
+}
+
+impl PartialEq for Text {
+    ghost use Rattle.std.specs.Prelude.{bytes_eq};
+    ghost use Rattle.std.specs.Cmp.{partial_equiv_from_equiv};
+    ghost use Rattle.std.specs.Cmp.Lexicographic.{nat_list_eq_equiv};
+
+    ghost eq = { bytes_eq };
+
+    ghost laws = { partial_equiv_from_equiv nat_list_eq_equiv };
+
+    fn eq(&self, other: &Text) -> bool {
+        self.as_str() == other.as_str()
+    }
+}
+
+impl Eq for Text {
+    ghost use Rattle.std.specs.Cmp.Lexicographic.{nat_list_eq_equiv};
+
+    ghost laws = { nat_list_eq_equiv };
+}
+
+impl PartialOrd for Text {
+    ghost use Rattle.std.specs.Prelude.{Some};
+    ghost use Rattle.std.specs.Ordering.{nat_cmp};
+    ghost use Rattle.std.specs.Cmp.Lexicographic.{slice_cmp, texts_po};
+
+    ghost partial_cmp = { λ t u. Some (slice_cmp nat_cmp t u) };
+
+    ghost laws = { texts_po };
+
+    fn partial_cmp(&self, other: &Text) -> Option<Ordering> {
+        Some(self.cmp(other))
+    }
+}
+
+impl Ord for Text {
+    ghost use Rattle.std.specs.Ordering.{nat_cmp};
+    ghost use Rattle.std.specs.Cmp.Lexicographic.{slice_cmp, nat_list_cmp_total, texts_ties};
+    ghost use Rattle.std.proofs.Common.{refl};
+
+    ghost cmp = { slice_cmp nat_cmp };
+
+    ghost total = { nat_list_cmp_total };
+
+    ghost matches_partial_cmp = { λ t u. refl };
+
+    ghost matches_eq = { λ t u. texts_ties t u };
+
+    fn cmp(&self, other: &Text) -> Ordering {
+        self.as_str().cmp(other.as_str())
+    }
+}
+
+impl Hash for Text {
+    ghost use Rattle.std.specs.Hash as fed;
+    ghost use Rattle.std.specs.Cmp.Lexicographic.{bytes_decides};
+    ghost use Rattle.std.proofs.Common.{ap};
+
+    ghost hash_input = { λ t. fed.str t };
+
+    ghost respects_eq = { λ t u h. ap fed.str ((bytes_decides t u).0 h) };
+
+    fn hash<H: Hasher>(&self, state: &mut H) {
+        self.as_str().hash(state);
+    }
+}
+
+/// Puts a piece behind a string that is to be a text, or answers `Refusal::Limit` where it becomes longer than 16,777,216 bytes.
+pub fn append(string: &mut String, piece: &str) -> Result<Result<(), Refusal>, AllocError>
+    ensures { IfOk result (λ r. Appends (string_bytes string.old) piece.now (string_bytes string.new) r) }
+{
+    if string.len() + piece.len() > Text::MOST_BYTES {
+        return Ok(Err(Refusal::Limit));
+    }
+    string.push_str(piece)?;
+    Ok(Ok(()))
+}
+
+/// A list of texts, which it shares.
 #[derive(Drop)]
 pub struct Texts {
     items: Vec<Text>,
 }
 
 impl Model for Texts {
+    ghost use Rattle.std.specs.Prelude.{List, ℕ};
+
     ghost Value = { List (List ℕ) };
 
     ghost view = { λ t. t.items.items };
@@ -68,6 +190,16 @@ impl Texts {
         ensures { OnOk result (self.new ≡ self.old ++ text ∷ []) }
     {
         self.items.push(text)?;
+        Ok(())
+    }
+
+    /// Puts the texts of another list at the end. They are shared, and no byte is copied.
+    pub fn extend(&mut self, others: &[Text]) -> Result<(), AllocError>
+        ensures { OnOk result (self.new ≡ self.old ++ others.now) }
+    {
+        for text in others {
+            self.push(text.clone()?)?;
+        }
         Ok(())
     }
 

@@ -1,11 +1,15 @@
 //! Values, lists and dictionaries.
 
-ghost use Rattle.std.specs.Prelude.{◌≡◌, ◌↔◌, ◌<◌, ◌≤◌, ◌∷◌, ◌+◌, [], length, OnOk, OnErr, IfOk, IfSome, IsTrue, ◌==◌, option_map, string_bytes, slice_get, Some};
-ghost use Rattle.data.specs.Data.{no_items, item, items_append, count, no_entries, entry_count, entry_values, AreDistinct, keys_in, find, truth_in, integer_in, text_in, items_in, entries_in, object_in, is_disabler, text, list as list_data, dictionary as dictionary_data, object as object_data};
+ghost use Rattle.std.specs.Prelude.{◌≡◌, ◌<◌, ◌≤◌, ◌+◌, ◌*◌, ◌||◌, length, OnOk, OnErr, IfOk, IsTrue, ◌==◌};
+ghost use Rattle.std.specs.Prelude.{option_map, string_bytes, slice_get, Some, Ok, Err, if◌then◌else◌};
+ghost use Rattle.data.specs.Data.{no_items, item, items_append, count, no_entries, entry_count, entry_values, AreDistinct, keys_in, find};
+ghost use Rattle.data.specs.Data.{boolean_in, integer_in, text_in, items_in, entries_in, object_in, is_disabler, has_disabler, have_disabler};
+ghost use Rattle.data.specs.Data.{text, list as list_data, dictionary as dictionary_data, object as object_data};
+ghost use Rattle.data.specs.declared.refusal.Refusal.TheVariants as refusal;
 ghost use Rattle.data.specs.Tables.{Answers};
 ghost use Rattle.data.specs.Weight.{weight, depth, items_weight, items_depth, entries_weight, entries_depth};
 ghost use Rattle.data.specs.Limits.{is_within as is_within_limits, items_fit, within as within_limits};
-ghost use Rattle.data.specs.View.{data_of, items_of, entries_of};
+ghost use Rattle.data.specs.View.{data_of, items_of};
 
 mod builder;
 
@@ -13,18 +17,21 @@ use crate::object::Object;
 use crate::refusal::Refusal;
 use crate::text::Text;
 pub use builder::DictionaryBuilder;
-use indexmap::IndexSet;
 use std::alloc::{AllocError, Global};
 use std::marker::Model;
 use std::rc::Rc;
+use tables::{SipSet, new_set};
+
+/// The most items of a list, and the most entries of a dictionary.
+const MOST_ITEMS: usize = 65_536;
 
 /// A value.
 #[cycle(value)]
 #[derive(Drop)]
 pub enum Value {
-    Truth(bool),
+    Boolean(bool),
     Integer(i128),
-    Text(Rc<Text>),
+    Text(Text),
     List(Rc<List>),
     Dictionary(Rc<Dictionary>),
     Object(Rc<Object>),
@@ -39,13 +46,14 @@ pub struct List {
     weight: u64,
     // of the deepest item
     depth: u32,
+    has_disabler: bool,
 }
 
 /// A dictionary, in order of insertion, of at most 65,536 entries, 64 levels and weight 33,554,432.
 #[cycle(value)]
 #[derive(Drop)]
 pub struct Dictionary {
-    keys: IndexSet<String>,
+    keys: SipSet<Text>,
     // the value of each key, at the key's index
     values: Vec<Value>,
     weight: u64,
@@ -106,7 +114,7 @@ impl Clone for Value {
 
     fn clone(&self) -> Result<Value, AllocError> {
         match self {
-            Value::Truth(truth) => Ok(Value::Truth(*truth)),
+            Value::Boolean(boolean) => Ok(Value::Boolean(*boolean)),
             Value::Integer(integer) => Ok(Value::Integer(*integer)),
             Value::Text(text) => Ok(Value::Text(text.clone()?)),
             Value::List(list) => Ok(Value::List(list.clone()?)),
@@ -117,12 +125,12 @@ impl Clone for Value {
 }
 
 impl Value {
-    /// The truth value that it is.
-    pub fn as_truth(&self) -> Option<bool>
-        ensures { result ≡ truth_in (data_of self.now) }
+    /// The boolean that it is.
+    pub fn as_boolean(&self) -> Option<bool>
+        ensures { result ≡ boolean_in (data_of self.now) }
     {
         match self {
-            Value::Truth(truth) => Some(*truth),
+            Value::Boolean(boolean) => Some(*boolean),
             _ => None,
         }
     }
@@ -138,12 +146,11 @@ impl Value {
     }
 
     /// The text that it is.
-    pub fn as_text(&self) -> Option<&str>
-        ensures text { option_map (λ t. t.now) result ≡ text_in (data_of self.now) }
-        ensures within { IfSome result (λ t. length t.now ≤ 16777216) }
+    pub fn as_text(&self) -> Option<&Text>
+        ensures { option_map (λ t. t.now) result ≡ text_in (data_of self.now) }
     {
         match self {
-            Value::Text(text) => Some(text.as_str()),
+            Value::Text(text) => Some(text),
             _ => None,
         }
     }
@@ -188,12 +195,22 @@ impl Value {
         }
     }
 
+    /// Whether it is a disabler, or a list with one at any depth of lists. Dictionaries are not looked into.
+    pub fn has_disabler(&self) -> bool
+        ensures { result ≡ has_disabler (data_of self.now) }
+    {
+        match self {
+            Value::List(list) => list.has_disabler(),
+            _ => self.is_disabler(),
+        }
+    }
+
     /// The value of a text, or `Refusal::Limit` where it is longer than 16,777,216 bytes.
     pub fn of_string(alloc: Global, string: String) -> Result<Result<Value, Refusal>, AllocError>
         ensures { IfOk result (λ r. Answers (within_limits (text (string_bytes string))) r) }
     {
-        match Text::new(string) {
-            Ok(text) => Ok(Ok(Value::Text(Rc::new(alloc, text)?))),
+        match Text::new(alloc, string)? {
+            Ok(text) => Ok(Ok(Value::Text(text))),
             Err(refusal) => Ok(Err(refusal)),
         }
     }
@@ -228,7 +245,7 @@ impl Value {
             Value::Text(text) => text.as_str().len() as u64 + 1,
             Value::List(list) => list.weight() + 1,
             Value::Dictionary(dictionary) => dictionary.weight() + 1,
-            Value::Truth(_) | Value::Integer(_) | Value::Object(_) => 1,
+            Value::Boolean(_) | Value::Integer(_) | Value::Object(_) => 1,
         }
     }
 
@@ -240,7 +257,7 @@ impl Value {
         match self {
             Value::List(list) => list.depth() + 1,
             Value::Dictionary(dictionary) => dictionary.depth() + 1,
-            Value::Truth(_) | Value::Integer(_) | Value::Text(_) | Value::Object(_) => 0,
+            Value::Boolean(_) | Value::Integer(_) | Value::Text(_) | Value::Object(_) => 0,
         }
     }
 }
@@ -249,7 +266,7 @@ impl Value {
 fn is_within(items: usize, weight: u128, levels: u32) -> bool
     ensures { result ≡ is_within_limits items weight levels }
 {
-    items <= 65_536 && weight <= 33_554_432 && levels <= 64
+    items <= MOST_ITEMS && weight <= 33_554_432 && levels <= 64
 }
 
 impl List {
@@ -260,7 +277,29 @@ impl List {
             items: Vec::new(alloc),
             weight: 0,
             depth: 0,
+            has_disabler: false,
         }
+    }
+
+    /// The list of some items, or `Refusal::Limit` where it is too large.
+    pub fn from_items(items: Vec<Value>) -> Result<List, Refusal>
+        ensures { result ≡ (if items_fit (items_of items.items) then Ok (items_of items.items) else Err refusal.Limit) }
+    {
+        if items.len() > MOST_ITEMS {
+            return Err(Refusal::Limit);
+        }
+        let weight = weight_of(&items);
+        let depth = deepest(&items);
+        if !is_within(items.len(), (weight + 1) as u128, depth + 1) {
+            return Err(Refusal::Limit);
+        }
+        let has_disabler = have_disabler(&items);
+        Ok(List {
+            items,
+            weight,
+            depth,
+            has_disabler,
+        })
     }
 
     pub fn items(&self) -> &[Value]
@@ -294,6 +333,13 @@ impl List {
         ensures within { result + 1 ≤ 64 }
     {
         self.depth
+    }
+
+    /// Whether a disabler is among the items, or in a list among them at any depth of lists.
+    pub fn has_disabler(&self) -> bool
+        ensures { result ≡ have_disabler self.now }
+    {
+        self.has_disabler
     }
 
     pub fn len(&self) -> usize
@@ -339,9 +385,11 @@ impl List {
     {
         let weight = value.weight();
         let depth = value.depth();
+        let has_disabler = either(self.has_disabler, value.has_disabler());
         self.items.push(value)?;
         self.weight += weight;
         self.depth = self.depth.max(depth);
+        self.has_disabler = has_disabler;
         Ok(())
     }
 
@@ -363,7 +411,7 @@ impl Dictionary {
         ensures { result ≡ no_entries }
     {
         Dictionary {
-            keys: IndexSet::new(alloc),
+            keys: new_set(alloc),
             values: Vec::new(alloc),
             weight: 0,
             depth: 0,
@@ -394,11 +442,18 @@ impl Dictionary {
     }
 
     /// The value at a key.
-    pub fn get(&self, key: &str) -> Option<&Value>
+    pub fn get(&self, key: &Text) -> Option<&Value>
         ensures { option_map (λ v. data_of v.now) result ≡ find key.now self.now }
     {
         let index = self.keys.get_index_of(key)?;
         self.values.get(index)
+    }
+
+    /// The keys, in order of insertion.
+    pub fn keys(&self) -> &[Text]
+        ensures { result.now ≡ keys_in self.now }
+    {
+        self.keys.as_slice()
     }
 
     /// The values, in order of insertion.
@@ -411,13 +466,56 @@ impl Dictionary {
     }
 
     /// The key of the value at an index.
-    pub fn key(&self, index: usize) -> &str
+    pub fn key(&self, index: usize) -> &Text
         requires { index < entry_count self.now }
         ensures { slice_get (keys_in self.now) index ≡ Some result.now }
     {
         match self.keys.get_index(index) {
-            Some(key) => key.as_str(),
+            Some(key) => key,
             None => unreachable!(),
         }
     }
+}
+
+fn either(one: bool, other: bool) -> bool
+    ensures { result ≡ (one || other) }
+{
+    one || other
+}
+
+/// Whether one of some values is a disabler, or a list with one at any depth of lists.
+pub fn have_disabler(values: &[Value]) -> bool
+    ensures { result ≡ have_disabler (items_of values.now) }
+{
+    for value in values {
+        if value.has_disabler() {
+            return true;
+        }
+    }
+    false
+}
+
+// What some values weigh.
+fn weight_of(values: &[Value]) -> u64
+    requires { length values.now ≤ 65536 }
+    ensures weight { result ≡ items_weight (items_of values.now) }
+    ensures within { result ≤ 65536 * 33554432 }
+{
+    let mut weight = 0;
+    for value in values {
+        weight += value.weight();
+    }
+    weight
+}
+
+// The levels of the deepest of some values.
+fn deepest(values: &[Value]) -> u32
+    ensures deepest { result ≡ items_depth (items_of values.now) }
+    ensures within { result ≤ 64 }
+{
+    let mut depth = 0;
+    for value in values {
+        depth = depth.max(value.depth());
+    }
+    depth
 }

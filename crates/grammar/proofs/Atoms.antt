@@ -7,13 +7,13 @@ use Rattle.lexer.specs.declared.token.Kind.TheVariants as Kinds
 use Rattle.grammar.specs.ExpressionTree.{ExpressionTree, NameTree, LiteralTree, ListTree, DictionaryTree, ArgumentTree, entries, expressions}
 use Rattle.grammar.specs.Form.{Form, token, give, listed_by, same_state, ◌>>=◌, ◌or◌}
 use Rattle.grammar.specs.Parts.{stands_for, token_as, token_as_at}
-use Rattle.grammar.specs.Expressions.{argument, choice, dictionary, entry, group, list, literal, literal_of, name, positional}
+use Rattle.grammar.specs.Expressions.{argument, ternary, dictionary, entry, group, list, literal, literal_of, name, positional}
 use Rattle.grammar.specs.Reading.{Reader, begins, head_is, listed_at, token_at}
-use Rattle.grammar.specs.ReadingExpressions.{argument_at, choice_at, dictionary_at, entry_at, group_at, list_at, literal_at, name_at, named_at, positional_at}
+use Rattle.grammar.specs.ReadingExpressions.{argument_at, ternary_at, dictionary_at, entry_at, group_at, list_at, literal_at, name_at, named_at, positional_at}
 use Rattle.grammar.proofs.Alike.{line-alike}
 use Rattle.grammar.proofs.Binding.{After, after_kind}
 use Rattle.grammar.proofs.Chains.{line-map}
-use Rattle.grammar.proofs.ChoiceLines.{line-before, line-choice-of, single_choice, starts-choice}
+use Rattle.grammar.proofs.TernaryLines.{line-before, line-ternary, single_ternary, starts-ternary}
 use Rattle.grammar.proofs.Laws.{bind_at, give_at}
 use Rattle.grammar.proofs.Line.{Line, Any, line-bind, line-give, line-stops, line-then, line-token, begins_token, begun_token}
 use Rattle.grammar.proofs.Lists.{line-listed}
@@ -77,57 +77,57 @@ line-closed k F F' r r' step g Stops not_first not_comma at_comma at_end starts 
     (λ xs ts more h. begun_token k (λ c. give (g xs)) ts more h)
 
 module _ (U U' : Bool → Form ExpressionTree) (v v' : Bool → Reader ExpressionTree) (u : (b : Bool) → IsUnary (U b) (U' b) (v b) (v' b)) (b : Bool) where
-  pub inside : Line (choice U b) (choice U' b) (choice_at v b) (choice_at v' b) (After 7) 1
-  inside = line-choice-of U U' v v' (λ c. (u c).line) b
+  pub inside : Line (ternary U b) (ternary U' b) (ternary_at v b) (ternary_at v' b) (After 7) 1
+  inside = line-ternary U U' v v' (λ c. (u c).line) b
 
-  pub starts-inside : Starts (choice U b) opens_expr
-  starts-inside = starts-choice U opens_expr (λ c. (u c).starts) b
+  pub starts-inside : Starts (ternary U b) opens_expr
+  starts-inside = starts-ternary U opens_expr (λ c. (u c).starts) b
 
   pub line-group : (o : Lexeme) → Line (group U b o) (group U' b o) (group_at v b o) (group_at v' b o) Any 0
   unfolding group_at
   line-group o =
       line-stops _ _ _ _ Any Any 1 0 (λ ts st. st) (omega arith)
-      (line-before Kinds.CloseParenthesis 7 (choice U b) (choice U' b) (λ e c. give e) (λ e c. give e) (choice_at v b) (choice_at v' b) (λ e c. give_at e) (λ e c. give_at e) Any (lit≤ tt) inside (λ e c. line-give e Any))
+      (line-before Kinds.CloseParenthesis 7 (ternary U b) (ternary U' b) (λ e c. give e) (λ e c. give e) (ternary_at v b) (ternary_at v' b) (λ e c. give_at e) (λ e c. give_at e) Any (lit≤ tt) inside (λ e c. line-give e Any))
 
   pub line-list : (o : Lexeme) → Line (list U b o) (list U' b o) (list_at v b o) (list_at v' b o) Any 0
   unfolding list_at
-  line-list o = line-closed Kinds.CloseBracket (λ s. choice U b) (λ s. choice U' b) (λ s. choice_at v b) (λ s. choice_at v' b) same_state (λ es. ListTree (expressions es) o.line) (After 7) refl refl (λ ts b. after_kind Kinds.Comma 7 ts (lit≤ tt) b) (λ ts b. after_kind Kinds.CloseBracket 7 ts (lit≤ tt) b) (λ s. starts-inside) (λ s. inside) tt
+  line-list o = line-closed Kinds.CloseBracket (λ s. ternary U b) (λ s. ternary U' b) (λ s. ternary_at v b) (λ s. ternary_at v' b) same_state (λ es. ListTree (expressions es) o.line) (After 7) refl refl (λ ts b. after_kind Kinds.Comma 7 ts (lit≤ tt) b) (λ ts b. after_kind Kinds.CloseBracket 7 ts (lit≤ tt) b) (λ s. starts-inside) (λ s. inside) tt
 
-  line-entry : Line (entry (choice U b)) (entry (choice U' b)) (entry_at (choice_at v b)) (entry_at (choice_at v' b)) (After 7) 1
+  line-entry : Line (entry (ternary U b)) (entry (ternary U' b)) (entry_at (ternary_at v b)) (entry_at (ternary_at v' b)) (After 7) 1
   unfolding entry_at
-  line-entry = line-before Kinds.Colon 7 (choice U b) (choice U' b) (λ k c. choice U b >>= λ e. give (k, e)) (λ k c. choice U' b >>= λ e. give (k, e)) (choice_at v b) (choice_at v' b) (λ k c. bind_at (choice_at v b) (λ e. give_at (k, e))) (λ k c. bind_at (choice_at v' b) (λ e. give_at (k, e))) (After 7) (lit≤ tt) inside
-      (λ k c. line-stops _ _ _ _ (After 7) (After 7) 1 0 (λ ts st. st) (omega arith) (line-map (choice U b) (choice U' b) (λ e. (k, e)) (choice_at v b) (choice_at v' b) (After 7) 1 inside))
+  line-entry = line-before Kinds.Colon 7 (ternary U b) (ternary U' b) (λ k c. ternary U b >>= λ e. give (k, e)) (λ k c. ternary U' b >>= λ e. give (k, e)) (ternary_at v b) (ternary_at v' b) (λ k c. bind_at (ternary_at v b) (λ e. give_at (k, e))) (λ k c. bind_at (ternary_at v' b) (λ e. give_at (k, e))) (After 7) (lit≤ tt) inside
+      (λ k c. line-stops _ _ _ _ (After 7) (After 7) 1 0 (λ ts st. st) (omega arith) (line-map (ternary U b) (ternary U' b) (λ e. (k, e)) (ternary_at v b) (ternary_at v' b) (After 7) 1 inside))
 
   pub line-dictionary : (o : Lexeme) → Line (dictionary U b o) (dictionary U' b o) (dictionary_at v b o) (dictionary_at v' b o) Any 0
   unfolding dictionary_at
-  line-dictionary o = line-closed Kinds.CloseBrace (λ s. entry (choice U b)) (λ s. entry (choice U' b)) (λ s. entry_at (choice_at v b)) (λ s. entry_at (choice_at v' b)) same_state (λ es. DictionaryTree (entries es) o.line) (After 7) refl refl (λ ts b. after_kind Kinds.Comma 7 ts (lit≤ tt) b) (λ ts b. after_kind Kinds.CloseBrace 7 ts (lit≤ tt) b)
-      (λ s. starts-bind (choice U b) _ opens_expr starts-inside) (λ s. line-entry) tt
+  line-dictionary o = line-closed Kinds.CloseBrace (λ s. entry (ternary U b)) (λ s. entry (ternary U' b)) (λ s. entry_at (ternary_at v b)) (λ s. entry_at (ternary_at v' b)) same_state (λ es. DictionaryTree (entries es) o.line) (After 7) refl refl (λ ts b. after_kind Kinds.Comma 7 ts (lit≤ tt) b) (λ ts b. after_kind Kinds.CloseBrace 7 ts (lit≤ tt) b)
+      (λ s. starts-bind (ternary U b) _ opens_expr starts-inside) (λ s. line-entry) tt
 
   -- ---- arguments
 
-  line-name-value : (t : Lexeme) → Line {A = ArgumentTree} (token Kinds.Colon >>= λ c. choice U b >>= λ e. give (Some t.text, e)) (token Kinds.Colon >>= λ c. choice U' b >>= λ e. give (Some t.text, e))
-      (bind_at (token_at Kinds.Colon) (λ c. bind_at (choice_at v b) (λ e. give_at (Some t.text, e)))) (bind_at (token_at Kinds.Colon) (λ c. bind_at (choice_at v' b) (λ e. give_at (Some t.text, e)))) (After 7) 0
+  line-name-value : (t : Lexeme) → Line {A = ArgumentTree} (token Kinds.Colon >>= λ c. ternary U b >>= λ e. give (Some t.text, e)) (token Kinds.Colon >>= λ c. ternary U' b >>= λ e. give (Some t.text, e))
+      (bind_at (token_at Kinds.Colon) (λ c. bind_at (ternary_at v b) (λ e. give_at (Some t.text, e)))) (bind_at (token_at Kinds.Colon) (λ c. bind_at (ternary_at v' b) (λ e. give_at (Some t.text, e)))) (After 7) 0
   line-name-value t =
       line-stops _ _ _ _ (After 7) (After 7) 2 0 (λ ts st. st) (omega arith)
-      (line-then (token Kinds.Colon) (token Kinds.Colon) _ _ (token_at Kinds.Colon) (token_at Kinds.Colon) _ _ (After 7) 1 1 (line-token Kinds.Colon) (λ c. line-map {B = ArgumentTree} (choice U b) (choice U' b) (λ e. (Some t.text, e)) (choice_at v b) (choice_at v' b) (After 7) 1 inside))
+      (line-then (token Kinds.Colon) (token Kinds.Colon) _ _ (token_at Kinds.Colon) (token_at Kinds.Colon) _ _ (After 7) 1 1 (line-token Kinds.Colon) (λ c. line-map {B = ArgumentTree} (ternary U b) (ternary U' b) (λ e. (Some t.text, e)) (ternary_at v b) (ternary_at v' b) (After 7) 1 inside))
 
-  line-positional : Line (positional (choice U b)) (positional (choice U' b)) (positional_at (choice_at v b)) (positional_at (choice_at v' b)) (After 7) 1
+  line-positional : Line (positional (ternary U b)) (positional (ternary U' b)) (positional_at (ternary_at v b)) (positional_at (ternary_at v' b)) (After 7) 1
   unfolding positional_at
-  line-positional = line-map (choice U b) (choice U' b) (λ e. (None, e)) (choice_at v b) (choice_at v' b) (After 7) 1 inside
+  line-positional = line-map (ternary U b) (ternary U' b) (λ e. (None, e)) (ternary_at v b) (ternary_at v' b) (After 7) 1 inside
 
-  single : (t : Lexeme) (us : List Lexeme) → t.kind ≡ Kinds.Name → (a : ArgumentTree) × (positional (choice U b)).spells a (t ∷ us) us
-  single t us k = ((None, NameTree t.text t.line), (NameTree t.text t.line, us, single_choice U b (NameTree t.text t.line) (t ∷ us) us ((u b).single t us k), (refl, refl)))
+  single : (t : Lexeme) (us : List Lexeme) → t.kind ≡ Kinds.Name → (a : ArgumentTree) × (positional (ternary U b)).spells a (t ∷ us) us
+  single t us k = ((None, NameTree t.text t.line), (NameTree t.text t.line, us, single_ternary U b (NameTree t.text t.line) (t ∷ us) us ((u b).single t us k), (refl, refl)))
 
   -- what stands behind an argument
   abbrev pub AfterArgument : List Lexeme → Type 0
   AfterArgument ts = After 7 ts × (begins Kinds.Colon ts ≡ false)
 
-  pub line-argument : (s : Bool) → Line (argument (choice U b) s) (argument (choice U' b) s) (argument_at (choice_at v b) s) (argument_at (choice_at v' b) s) AfterArgument 1
+  pub line-argument : (s : Bool) → Line (argument (ternary U b) s) (argument (ternary U' b) s) (argument_at (ternary_at v b) s) (argument_at (ternary_at v' b) s) AfterArgument 1
   unfolding argument_at named_at
   line-argument true =
       line-stops _ _ _ _ (After 7) AfterArgument (1 + 0) 1 (λ ts st. st.0) (omega arith)
       (line-then (token Kinds.Name) (token Kinds.Name) _ _ (token_at Kinds.Name) (token_at Kinds.Name) _ _ (After 7) 1 0 (line-token Kinds.Name) line-name-value)
-  line-argument false = line-alike Kinds.Name Kinds.Colon _ _ (positional (choice U b)) (positional (choice U' b)) _ _ (positional_at (choice_at v b)) (positional_at (choice_at v' b)) AfterArgument (After 7)
+  line-argument false = line-alike Kinds.Name Kinds.Colon _ _ (positional (ternary U b)) (positional (ternary U' b)) _ _ (positional_at (ternary_at v b)) (positional_at (ternary_at v' b)) AfterArgument (After 7)
       (λ t. starts-bind (token Kinds.Colon) _ (of_kind Kinds.Colon) (starts-token Kinds.Colon))
       (λ t. line-stops _ _ _ _ (After 7) AfterArgument 0 0 (λ ts st. st.0) (omega arith) (line-name-value t))
       line-positional single

@@ -9,10 +9,10 @@ use Rattle.grammar.specs.ExpressionTree.{ExpressionTree}
 use Rattle.grammar.specs.Tree.{StatementTree, IfTree, ForeachTree, statements, BranchTree, branches}
 use Rattle.grammar.specs.Form.{Form, token, give, never, many, optional, ◌>>=◌, ◌or◌}
 use Rattle.grammar.specs.Expressions.{expr}
-use Rattle.grammar.specs.Statements.{simple, line, given, body, second, foreach, branch, elif, parts, last_part, otherwise, conditional, block, stmt}
+use Rattle.grammar.specs.Statements.{simple, line, given, body, second, names, foreach, branch, elif, parts, last_part, otherwise, conditional, block, stmt}
 use Rattle.grammar.specs.Reading.{Reader, begins, deep_at, many_at, optional_at, or_at}
 use Rattle.grammar.specs.ReadingExpressions.{expr_at}
-use Rattle.grammar.specs.ReadingStatements.{simple_at, in_line, ends_body, in_body, ended_line_at, body_at, second_at, foreach_at, branch_at, elif_at, parts_at, last_part_at, otherwise_at, conditional_at, opens_block, begins_block, block_at, stmt_at}
+use Rattle.grammar.specs.ReadingStatements.{simple_at, in_line, ends_body, in_body, ended_line_at, body_at, second_at, names_at, foreach_at, branch_at, elif_at, parts_at, last_part_at, otherwise_at, conditional_at, opens_block, begins_block, block_at, stmt_at}
 use Rattle.grammar.proofs.Chain.{then_line, before_line, at_kind, EndsBefore, line-optional, line-many, weaken, give_line, line-apart, starts-weaker, leads-optional, leads-many, leads-give, starts-behind, before_leads, line-same, AreSame, are-same}
 use Rattle.grammar.proofs.Expressions.{line-expr}
 use Rattle.grammar.proofs.Laws.{cases_bool}
@@ -108,22 +108,13 @@ after_second ts h = (begins-head Kinds.Comma ts ∙ head_not is_colon is_comma (
 starts-kind : {B : Type 0} (k : Kind) (G : Lexeme → Form B) → Starts (token k >>= G) (λ l. is l k)
 starts-kind k G = starts-bind (token k) G (λ l. is l k) (starts-token k)
 
-line-foreach : {S S' : Form StatementTree} {s s' : Reader StatementTree} (n : ℕ) → Starts S opens_stmt → Line S S' s s' AtLineEnd 1
-    → Line (foreach (expr n) S) (foreach (expr (suc n)) S') (foreach_at (expr_at n) s) (foreach_at (expr_at (suc n)) s') Any 1
-unfolding foreach_at
-line-foreach n starts f =
+line-names : Line names names names_at names_at Any 2
+unfolding names_at
+line-names =
     weaken (λ ts st. tt) (omega arith)
-    (then_line (line-token Kinds.Foreach) (λ (w : Lexeme). then_line (line-token Kinds.Name) (λ (a : Lexeme).
+    (then_line (line-token Kinds.Name) (λ (a : Lexeme).
     before_line is_colon after_second (λ (b : Option (List ℕ)). starts-kind Kinds.Colon _) line-second
-    (λ (b : Option (List ℕ)). then_line (line-token Kinds.Colon) (λ (c : Lexeme).
-    then_line line-here (λ (l : ℕ). before_line is_newline (λ ts h. ended_expr ts (at_newline ts h))
-    (λ (e : ExpressionTree). starts-kind Kinds.Newline _) (line-expr n)
-    (λ (e : ExpressionTree). then_line (line-token Kinds.Newline) (λ (t : Lexeme).
-    before_line (λ l. is l Kinds.EndForeach) (ends_at_kind Kinds.EndForeach refl)
-    (λ (ss : List StatementTree). starts-kind Kinds.EndForeach _) (line-body starts f) (λ (ss : List StatementTree).
-    give_line (λ (end : Lexeme). ForeachTree w.line a.text b e l (statements ss)) (line-token Kinds.EndForeach))))))))))
-
--- ---- if
+    (λ (b : Option (List ℕ)). give_line (λ (c : Lexeme). let x : List ℕ × Option (List ℕ) = (a.text, b) in x) (line-token Kinds.Colon))))
 
 line-branch : {S S' : Form StatementTree} {s s' : Reader StatementTree} (n : ℕ) → Starts S opens_stmt → Line S S' s s' AtLineEnd 1
     → Line (branch (expr n) S) (branch (expr (suc n)) S') (branch_at (expr_at n) s) (branch_at (expr_at (suc n)) s') AfterBody 2
@@ -133,6 +124,18 @@ line-branch n starts f =
     (λ (e : ExpressionTree). starts-kind Kinds.Newline _) (line-expr n)
     (λ (e : ExpressionTree). then_line (line-token Kinds.Newline) (λ (t : Lexeme).
     give_line (λ (ss : List StatementTree). let b : BranchTree = (e, l, statements ss) in b) (line-body starts f))))
+
+line-foreach : {S S' : Form StatementTree} {s s' : Reader StatementTree} (n : ℕ) → Starts S opens_stmt → Line S S' s s' AtLineEnd 1
+    → Line (foreach (expr n) S) (foreach (expr (suc n)) S') (foreach_at (expr_at n) s) (foreach_at (expr_at (suc n)) s') Any 1
+unfolding foreach_at
+line-foreach n starts f =
+    weaken (λ ts st. tt) (omega arith)
+    (then_line (line-token Kinds.Foreach) (λ (w : Lexeme). then_line line-names (λ (x : List ℕ × Option (List ℕ)).
+    before_line (λ l. is l Kinds.EndForeach) (ends_at_kind Kinds.EndForeach refl)
+    (λ (b : BranchTree). starts-kind Kinds.EndForeach _) (line-branch n starts f) (λ (b : BranchTree).
+    give_line (λ (end : Lexeme). ForeachTree w.line x.0 x.1 b.0 b.1 b.2) (line-token Kinds.EndForeach)))))
+
+-- ---- if
 
 line-elif : {S S' : Form StatementTree} {s s' : Reader StatementTree} (n : ℕ) → Starts S opens_stmt → Line S S' s s' AtLineEnd 1
     → Line (elif (expr n) S) (elif (expr (suc n)) S') (elif_at (expr_at n) s) (elif_at (expr_at (suc n)) s') AfterBody 3

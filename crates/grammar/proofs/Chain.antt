@@ -58,7 +58,7 @@ line-optional {F = F} {F' = F'} {r = r} {r' = r'} {Stops = Stops} {i = i} first 
       (bind_at r' (λ a. give_at (Some a))) (give_at None) (give_at None) first
       (raises-bind F F' (λ a. give (Some a)) (λ a. give (Some a)) r r' (λ a. give_at (Some a))
       (λ a. give_at (Some a)) f.reads.sound f.raises (λ a. raises-give (Some a))) (raises-give None);
-  ends = ends-or (F then λ a. give (Some a)) (give None) (ends-bind F (λ a. give (Some a)) f.ends (λ a. ends-give (Some a)))
+  ends = ends-or (F then λ a. give (Some a)) (give None) (ends-bind F (λ a. give (Some a)) f.form f.ends (λ a. ends-give (Some a)))
       (ends-give None);
   takes = takes-or (F then λ a. give (Some a)) (give None) 0
       (takes-less (F then λ a. give (Some a)) (i + 0) 0 (omega arith)
@@ -78,7 +78,7 @@ line-many {F = F} {F' = F'} {r = r} {r' = r'} {Stops = Stops} {i = i} next le be
       (EndsBefore next Stops) f.form f.reads begin (λ a ts rest h. omega (arith, f.takes.taken a ts rest h)) again (λ ts st. st)
       begin_front;
   raises = raises-many F F' r r' next f.reads.sound f.raises;
-  ends = ends-many F f.ends;
+  ends = ends-many F f.form f.ends;
   takes = takes-many F (takes-less F i 0 (omega arith) f.takes);
 }
 
@@ -268,6 +268,7 @@ line-same F F' G G' r r' Stops i s t l = record {
     same = l.raises.same;
   };
   ends = record {
+    between = λ ts mid more p q h. s.front_to ts mid (l.ends.between ts mid more p q (s.front_from ts more h));
     spelled = λ a ts rest h. l.ends.spelled a ts rest (s.spells_from a ts rest h);
     begun = λ ts more h. l.ends.begun ts more
         (s.front_from ts more h);

@@ -43,7 +43,7 @@ module _ {A : Type 0} (F F' : Form A) (r r' : Reader A) (p : Kind → Bool) (Sto
     form = IsForm-many F f.form;
     reads = reads-many F r (head_is p) Stops StopsMany f.form f.reads s.spelled (λ a ts rest h. omega (arith, f.takes.taken a ts rest h)) again ends unbegun;
     raises = raises-many F F' r r' (head_is p) f.reads.sound f.raises;
-    ends = ends-many F f.ends;
+    ends = ends-many F f.form f.ends;
     takes = takes-many F (takes-less F 1 0 (omega arith) f.takes);
   }
 
@@ -57,7 +57,7 @@ module _ {A : Type 0} (F F' : Form A) (r r' : Reader A) (p : Kind → Bool) (Sto
     reads = reads-optional F r (head_is p) Stops f.form f.reads s.spelled unbegun;
     raises = raises-or (F >>= λ a. give (Some a)) (F' >>= λ a. give (Some a)) (give None) (give None) (bind_at r (λ a. give_at (Some a))) (bind_at r' (λ a. give_at (Some a))) (give_at None) (give_at None) (head_is p)
         (raises-bind F F' (λ a. give (Some a)) (λ a. give (Some a)) r r' (λ a. give_at (Some a)) (λ a. give_at (Some a)) f.reads.sound f.raises (λ a. raises-give (Some a))) (raises-give None);
-    ends = ends-or (F >>= λ a. give (Some a)) (give None) (ends-bind F (λ a. give (Some a)) f.ends (λ a. ends-give (Some a))) (ends-give None);
+    ends = ends-or (F >>= λ a. give (Some a)) (give None) (ends-bind F (λ a. give (Some a)) f.form f.ends (λ a. ends-give (Some a))) (ends-give None);
     takes = takes-or (F >>= λ a. give (Some a)) (give None) 0 (takes-less (F >>= λ a. give (Some a)) 1 0 (omega arith) (takes-bind F (λ a. give (Some a)) 1 0 f.takes (λ a. takes-give (Some a)))) (takes-give None);
   }
 

@@ -1,36 +1,39 @@
 -- What the functions that read expressions answer, case by case.
-use Rattle.std.proofs.Common.{inl, inr, take, drop, get_or, Bool, Option, Some, None, ◌≡◌, ℕ, zero, suc, ◌+◌, ◌-◌, ◌≤◌, ◌<◌, true, false, List, [], ◌∷◌, length, Ok, Err, refl, sym, ap, ◌∙◌, arith, sub-one}
+use Rattle.std.proofs.Common.{◌⊎◌, ◌&&◌, ◌||◌, if◌then◌else◌, subst, inl, inr, take, drop, get_or, Bool, Option, Some, None, ◌≡◌, ℕ, zero, suc, ◌+◌, ◌-◌, ◌≤◌, ◌<◌, true, false, List, [], ◌∷◌, length, Result, Ok, Err, refl, sym, ap, ◌∙◌, arith, sub-one}
 use Rattle.std.proofs.Common.{rules}
 use Rattle.std.proofs.lemmas.Grind.{common_steps}
 use Rattle.lexer.specs.declared.token.Kind.{Kind}
 use Rattle.lexer.specs.declared.token.Token.{Token}
 use Rattle.lexer.specs.declared.token.Kind.TheVariants as Kinds
+use Rattle.grammar.specs.declared.stop.Stop.{Stop}
 use Rattle.grammar.specs.declared.stop.Stop.TheVariants.{Unexpected, TooDeep}
 use Rattle.grammar.specs.declared.stop.ReadError.{ReadError}
 use Rattle.grammar.specs.declared.stop.ReadError.TheVariants as errors
 use Rattle.lexer.specs.Lexeme.{Lexeme, lexeme_of, lexemes}
-use Rattle.grammar.specs.ExpressionTree.{ArgumentTree, ExpressionTree, LiteralTree}
+use Rattle.grammar.specs.ExpressionTree.{ArgumentTree, ChainTree, DictionaryTree, EntryTree, ListTree, entries, expressions, ExpressionTree, FunctionTree, IndexTree, LinkTree, LiteralTree, MethodTree, OperandTree, PostfixTree, PrefixTree, TernaryTree, arguments, links, operands}
+use Rattle.grammar.specs.declared.tree.Prefix.{Prefix}
 use Rattle.grammar.specs.declared.tree.Prefix.TheVariants as prefixes
 use Rattle.grammar.proofs.Laws.{cases_bool, cases_result}
-use Rattle.grammar.specs.Reading.{Reader, Fails, begins, deep_at, head_is, or_at, token_at, two_begin}
+use Rattle.grammar.proofs.Gathered.{head_long, many_none}
+use Rattle.grammar.proofs.Loops.{many_some}
+use Rattle.grammar.proofs.Starts.{begins-head}
+use Rattle.grammar.specs.Reading.{Reader, ◌>>=◌, Fails, begins, deep_at, head_is, listed_at, optional_at, or_at, token_at, two_begin}
 use Rattle.grammar.specs.declared.parser.expression.Rank.{Rank}
 use Rattle.grammar.specs.declared.parser.expression.Rank.TheVariants as ranks
 use Rattle.std.specs.Option.{is_some}
 use Rattle.grammar.specs.declared.tree.Literal.{Literal}
 use Rattle.grammar.specs.declared.tree.Operator.{Operator}
-use Rattle.grammar.specs.Expressions.{comparative, literal_of}
-use Rattle.grammar.specs.Parts.{after_as, opened_at, stands_for, taken, token_as_at}
-use Rattle.grammar.specs.ReadingExpressions.{argument_at, atom_at, base_at, call_at, choice_at, comparison_operator_at, dictionary_at, disjunction_at, enter_at, entered_at, group_at, index_at, inner_at, items_at, link_at, list_at, literal_at, method_at, name_at, named_at, not_in_at, operand_at, plain_comparison_at, positional_at, postfix_at, prefixed_at, unary_at, unary_in_at}
+use Rattle.grammar.specs.Expressions.{comparative, is_named, literal_of, ternary_tree}
+use Rattle.grammar.specs.Form.{same_state}
+use Rattle.grammar.specs.Parts.{after_as, first_line, opened_at, stands_for, taken, token_as_at}
+use Rattle.grammar.specs.ReadingExpressions.{argument_at, atom_at, base_at, branches_at, call_at, chain_at, ternary_at, comparison_operator_at, dictionary_at, disjunction_at, enter_at, entered_at, entry_at, group_at, index_at, inner_at, items_at, link_at, list_at, label_at, links_at, links_on, literal_at, method_at, name_at, name_colon_at, named_at, not_in_at, operand_at, operands_at, plain_comparison_at, positional_at, postfix_at, prefix_of, prefixed_at, unary_at, unary_in_at, word_of}
 use Rattle.grammar.proofs.Steps.{cases_option}
-use Rattle.grammar.proofs.Tails.{length_lexemes}
+use Rattle.grammar.proofs.Tails.{length_lexemes, rest_is}
 
 -- ---- tokens that stand for something
 
-take_all : {A : Type 0} (ts : List A) → take (length ts) ts ≡ ts
-take_all ts = search (rules, common_steps)
-
-rest_is : (t : Token) (ts : List Token) → ts ≡ take (length (t ∷ ts) - 1) ts
-rest_is t ts = sym (ap (λ (n : ℕ). take n ts) (let q : length (t ∷ ts) - 1 ≡ length ts = omega arith in q) ∙ take_all ts)
+some_same : {B : Type 0} (x y : B) → ◌≡◌ {A = Option B} (Some x) (Some y) → x ≡ y
+some_same x y e = cc
 
 some_none : {B : Type 0} (x : B) → ◌≡◌ {A = Option B} (Some x) None → ⊥
 some_none x e = cc
@@ -114,10 +117,6 @@ comparison_other o ts rest e n = let w = taken_other comparative o ts rest e n i
 pub taken_head : {B : Type 0} (f : Kind → Option B) (o : Option B) (x : B) (ts rest : List Lexeme) → (o, rest) ≡ taken f ts → o ≡ Some x → head_is (stands_for f) ts ≡ true
 taken_head f o x ts rest e s = (taken_some f x ts rest (ap (λ (p : Option _). (p, rest)) (sym s) ∙ e)).2
 
-pub head_long : (p : Kind → Bool) (ts : List Lexeme) → head_is p ts ≡ true → 0 < length ts
-head_long p [] b = absurd cc
-head_long p (t ∷ ts) b = omega arith
-
 pub operand_reads : (f : Kind → Option Operator) (part : Reader ExpressionTree) (o : Option Operator) (x : Operator) (ts mid : List Lexeme) (a : ExpressionTree) (rest : List Lexeme)
     → (o, mid) ≡ taken f ts → o ≡ Some x → part mid ≡ Ok (a, rest) → operand_at f part ts ≡ Ok ((x, a), rest)
 unfolding operand_at
@@ -129,16 +128,60 @@ unfolding operand_at
 operand_fails f part o x ts mid errors.Memory e s h = tt
 operand_fails f part o x ts mid (errors.Stop d) e s h = let w = taken_some f x ts mid (ap (λ (p : Option Operator). (p, mid)) (sym s) ∙ e) in rw (w.1, h) refl
 
--- ---- expressions
+-- ---- chains and ternaries
 
-pub choice_plain : (u : Bool → Reader ExpressionTree) (b : Bool) (ts : List Lexeme) → b ≡ false → choice_at u b ts ≡ disjunction_at (u b) ts
-unfolding choice_at
-choice_plain u true ts e = absurd cc
-choice_plain u false ts e = refl
+pub chain_alone : (f : Kind → Option Operator) (part : Reader ExpressionTree) (ts : List Lexeme) (a : ExpressionTree) (mid : List Lexeme)
+    → part ts ≡ Ok (a, mid) → head_is (stands_for f) mid ≡ false → chain_at f part ts ≡ Ok (a, mid)
+unfolding chain_at operands_at
+chain_alone f part ts a mid h b = rw (h, many_none (head_is (stands_for f)) (operand_at f part) (length mid) mid b) refl
 
-pub choice_any : (u : Bool → Reader ExpressionTree) (b : Bool) (ts : List Lexeme) → b ≡ true → choice_at u b ts ≡ choice_at u true ts
-choice_any u true ts e = refl
-choice_any u false ts e = absurd cc
+pub chain_more : (f : Kind → Option Operator) (part : Reader ExpressionTree) (ts : List Lexeme) (a : ExpressionTree) (mid : List Lexeme)
+    (os : List OperandTree) (rest : List Lexeme) → part ts ≡ Ok (a, mid) → head_is (stands_for f) mid ≡ true
+    → operands_at f part mid ≡ Ok (os, rest) → chain_at f part ts ≡ Ok (ChainTree a (operands os) (first_line ts), rest)
+unfolding chain_at operands_at
+chain_more f part ts a mid os rest h b e =
+    let w = many_some (head_is (stands_for f)) (operand_at f part) mid os rest b (head_long (stands_for f) mid b) e in
+    rw (h, e, w.2) refl
+
+module _ (u : Bool → Reader ExpressionTree) (b : Bool) (ts : List Lexeme) where
+  abbrev asked : Bool → Result (ExpressionTree × List Lexeme) Stop
+  asked z = disjunction_at (u z) ts >>= λ test. optional_at (λ us. z && begins Kinds.Question us) (branches_at (disjunction_at (u false))) test.1
+      >>= λ rest. Ok (ternary_tree (first_line ts) test.0 rest.0, rest.1)
+
+  any_of : ternary_at u true ts ≡ asked true
+  unfolding ternary_at optional_at or_at
+  any_of = elim (cases_result (disjunction_at (u true) ts)) [
+    | inl x ↦ rw (x.1, begins-head Kinds.Question x.0.1) refl
+    | inr d ↦ rw d.1 refl
+  ]
+
+  none_of : ternary_at u false ts ≡ asked false
+  unfolding ternary_at optional_at or_at
+  none_of = elim (cases_result (disjunction_at (u false) ts)) [ inl x ↦ rw x.1 refl | inr d ↦ rw d.1 refl ]
+
+  test_of : ternary_at u b ts ≡ asked b
+  test_of = elim b as (λ z. ternary_at u z ts ≡ asked z) [ true ↦ any_of | false ↦ none_of ]
+
+  pub ternary_test_fails : (d : ReadError) → Fails d (disjunction_at (u b) ts) → Fails d (ternary_at u b ts)
+  ternary_test_fails errors.Memory h = tt
+  ternary_test_fails (errors.Stop f) h = test_of ∙ rw h refl
+
+  pub ternary_alone : (a : ExpressionTree) (mid : List Lexeme) → disjunction_at (u b) ts ≡ Ok (a, mid) → (b && begins Kinds.Question mid) ≡ false
+      → ternary_at u b ts ≡ Ok (a, mid)
+  unfolding optional_at or_at
+  ternary_alone a mid h e = test_of ∙ rw (h, e) refl
+
+  pub ternary_branches_fail : (a : ExpressionTree) (mid : List Lexeme) (d : ReadError) → disjunction_at (u b) ts ≡ Ok (a, mid)
+      → (b && begins Kinds.Question mid) ≡ true → Fails d (branches_at (disjunction_at (u false)) mid) → Fails d (ternary_at u b ts)
+  unfolding optional_at or_at
+  ternary_branches_fail a mid errors.Memory h e g = tt
+  ternary_branches_fail a mid (errors.Stop f) h e g = test_of ∙ rw (h, e, g) refl
+
+  pub ternary_asks : (a : ExpressionTree) (mid : List Lexeme) (one other : ExpressionTree) (rest : List Lexeme) → disjunction_at (u b) ts ≡ Ok (a, mid)
+      → (b && begins Kinds.Question mid) ≡ true → branches_at (disjunction_at (u false)) mid ≡ Ok ((one, other), rest)
+      → ternary_at u b ts ≡ Ok (TernaryTree a one other (first_line ts), rest)
+  unfolding optional_at or_at
+  ternary_asks a mid one other rest h e g = test_of ∙ rw (h, e, g) refl
 
 -- ---- what opens a level
 
@@ -175,33 +218,40 @@ enter_missing k (suc n) ts le b = absurd (omega arith)
 -- ---- atoms
 
 module _ (n : ℕ) (b : Bool) (ts : List Lexeme) where
-  pub atom_name : begins Kinds.Name ts ≡ true → atom_at (inner_at n) b ts ≡ name_at ts
-  unfolding atom_at or_at
-  atom_name e = rw e
-
-  pub atom_group : begins Kinds.Name ts ≡ false → begins Kinds.OpenParenthesis ts ≡ true → atom_at (inner_at n) b ts ≡ entered_at Kinds.OpenParenthesis n (λ e. group_at e b) ts
-  unfolding atom_at or_at
-  atom_group e f = rw (e, f) (opened_entered Kinds.OpenParenthesis (λ e. group_at e b) n ts)
-
-  pub atom_list : begins Kinds.Name ts ≡ false → begins Kinds.OpenParenthesis ts ≡ false → begins Kinds.OpenBracket ts ≡ true → atom_at (inner_at n) b ts ≡ entered_at Kinds.OpenBracket n (λ e. list_at e b) ts
-  unfolding atom_at or_at
-  atom_list e f g = rw (e, f, g) (opened_entered Kinds.OpenBracket (λ e. list_at e b) n ts)
-
-  pub atom_dictionary : begins Kinds.Name ts ≡ false → begins Kinds.OpenParenthesis ts ≡ false → begins Kinds.OpenBracket ts ≡ false → begins Kinds.OpenBrace ts ≡ true → atom_at (inner_at n) b ts ≡ entered_at Kinds.OpenBrace n (λ e. dictionary_at e b) ts
-  unfolding atom_at or_at
-  atom_dictionary e f g h = rw (e, f, g, h) (opened_entered Kinds.OpenBrace (λ e. dictionary_at e b) n ts)
-
-  pub atom_literal : begins Kinds.Name ts ≡ false → begins Kinds.OpenParenthesis ts ≡ false → begins Kinds.OpenBracket ts ≡ false → begins Kinds.OpenBrace ts ≡ false → atom_at (inner_at n) b ts ≡ literal_at ts
-  unfolding atom_at or_at
-  atom_literal e f g h = rw (e, f, g, h)
-
   pub base_call : two_begin Kinds.Name Kinds.OpenParenthesis ts ≡ true → base_at (inner_at n) b ts ≡ call_at (entered_at Kinds.OpenParenthesis n (λ e. items_at e b)) ts
   unfolding base_at or_at
   base_call e = rw e (ap (λ (q : Reader (List ArgumentTree)). call_at q ts) (opened_is Kinds.OpenParenthesis (λ e. items_at e b) n))
 
-  pub base_atom : two_begin Kinds.Name Kinds.OpenParenthesis ts ≡ false → base_at (inner_at n) b ts ≡ atom_at (inner_at n) b ts
-  unfolding base_at or_at
-  base_atom e = rw e
+  pub call_reads : (t : Lexeme) (mid : List Lexeme) (xs : List ArgumentTree) (rest : List Lexeme) → two_begin Kinds.Name Kinds.OpenParenthesis ts ≡ true
+      → token_at Kinds.Name ts ≡ Ok (t, mid) → entered_at Kinds.OpenParenthesis n (λ e. items_at e b) mid ≡ Ok (xs, rest)
+      → base_at (inner_at n) b ts ≡ Ok (FunctionTree t.text (arguments xs) t.line, rest)
+  unfolding call_at
+  call_reads t mid xs rest e h g = base_call e ∙ rw (h, g) refl
+
+  module _ (no_call : two_begin Kinds.Name Kinds.OpenParenthesis ts ≡ false) where
+    base_atom : base_at (inner_at n) b ts ≡ atom_at (inner_at n) b ts
+    unfolding base_at or_at
+    base_atom = rw no_call
+
+    pub atom_name : begins Kinds.Name ts ≡ true → base_at (inner_at n) b ts ≡ name_at ts
+    unfolding atom_at or_at
+    atom_name e = base_atom ∙ rw e refl
+
+    pub atom_group : begins Kinds.Name ts ≡ false → begins Kinds.OpenParenthesis ts ≡ true → base_at (inner_at n) b ts ≡ entered_at Kinds.OpenParenthesis n (λ e. group_at e b) ts
+    unfolding atom_at or_at
+    atom_group e f = base_atom ∙ rw (e, f) (opened_entered Kinds.OpenParenthesis (λ e. group_at e b) n ts)
+
+    pub atom_list : begins Kinds.Name ts ≡ false → begins Kinds.OpenParenthesis ts ≡ false → begins Kinds.OpenBracket ts ≡ true → base_at (inner_at n) b ts ≡ entered_at Kinds.OpenBracket n (λ e. list_at e b) ts
+    unfolding atom_at or_at
+    atom_list e f g = base_atom ∙ rw (e, f, g) (opened_entered Kinds.OpenBracket (λ e. list_at e b) n ts)
+
+    pub atom_dictionary : begins Kinds.Name ts ≡ false → begins Kinds.OpenParenthesis ts ≡ false → begins Kinds.OpenBracket ts ≡ false → begins Kinds.OpenBrace ts ≡ true → base_at (inner_at n) b ts ≡ entered_at Kinds.OpenBrace n (λ e. dictionary_at e b) ts
+    unfolding atom_at or_at
+    atom_dictionary e f g h = base_atom ∙ rw (e, f, g, h) (opened_entered Kinds.OpenBrace (λ e. dictionary_at e b) n ts)
+
+    pub atom_literal : begins Kinds.Name ts ≡ false → begins Kinds.OpenParenthesis ts ≡ false → begins Kinds.OpenBracket ts ≡ false → begins Kinds.OpenBrace ts ≡ false → base_at (inner_at n) b ts ≡ literal_at ts
+    unfolding atom_at or_at
+    atom_literal e f g h = base_atom ∙ rw (e, f, g, h) refl
 
   pub link_method : begins Kinds.Dot ts ≡ true → link_at (inner_at n) b ts ≡ method_at (entered_at Kinds.OpenParenthesis n (λ e. items_at e b)) ts
   unfolding link_at or_at
@@ -211,38 +261,197 @@ module _ (n : ℕ) (b : Bool) (ts : List Lexeme) where
   unfolding link_at or_at
   link_index e = rw e (opened_entered Kinds.OpenBracket (λ e. index_at e b) n ts)
 
+  pub method_reads : (d : Lexeme) (after : List Lexeme) (t : Lexeme) (mid : List Lexeme) (xs : List ArgumentTree) (rest : List Lexeme) → begins Kinds.Dot ts ≡ true
+      → token_at Kinds.Dot ts ≡ Ok (d, after) → token_at Kinds.Name after ≡ Ok (t, mid)
+      → entered_at Kinds.OpenParenthesis n (λ e. items_at e b) mid ≡ Ok (xs, rest)
+      → link_at (inner_at n) b ts ≡ Ok (MethodTree t.text (arguments xs), rest)
+  unfolding method_at
+  method_reads d after t mid xs rest e h g f = link_method e ∙ rw (h, g, f) refl
+
+  pub index_reads : (o : Lexeme) (m : ℕ) (inside : List Lexeme) (i : ExpressionTree) (mid : List Lexeme) (c : Lexeme) (rest : List Lexeme) → begins Kinds.Dot ts ≡ false
+      → enter_at Kinds.OpenBracket n ts ≡ Ok ((o, m), inside) → ternary_at (unary_at m) b inside ≡ Ok (i, mid) → token_at Kinds.CloseBracket mid ≡ Ok (c, rest)
+      → link_at (inner_at n) b ts ≡ Ok (IndexTree i, rest)
+  unfolding entered_at index_at
+  index_reads o m inside i mid c rest e h g f = link_index e ∙ rw (h, g, f) refl
+
 unary_inner : (n : ℕ) (b : Bool) (ts : List Lexeme) → unary_at n b ts ≡ unary_in_at (inner_at n) b ts
 unfolding unary_at
 unary_inner zero b ts = refl
 unary_inner (suc n) b ts = refl
 
 module _ (n : ℕ) (b : Bool) (ts : List Lexeme) where
-  pub unary_not : begins Kinds.Not ts ≡ true → unary_at n b ts ≡ entered_at Kinds.Not n (λ e. prefixed_at prefixes.Not e b) ts
+  unary_not : begins Kinds.Not ts ≡ true → unary_at n b ts ≡ entered_at Kinds.Not n (λ e. prefixed_at prefixes.Not e b) ts
   unfolding unary_in_at or_at
   unary_not e = unary_inner n b ts ∙ rw e (opened_entered Kinds.Not (λ e. prefixed_at prefixes.Not e b) n ts)
 
-  pub unary_minus : begins Kinds.Not ts ≡ false → begins Kinds.Minus ts ≡ true → unary_at n b ts ≡ entered_at Kinds.Minus n (λ e. prefixed_at prefixes.Negative e b) ts
+  unary_minus : begins Kinds.Not ts ≡ false → begins Kinds.Minus ts ≡ true → unary_at n b ts ≡ entered_at Kinds.Minus n (λ e. prefixed_at prefixes.Negative e b) ts
   unfolding unary_in_at or_at
   unary_minus e f = unary_inner n b ts ∙ rw (e, f) (opened_entered Kinds.Minus (λ e. prefixed_at prefixes.Negative e b) n ts)
 
-  pub unary_postfix : begins Kinds.Not ts ≡ false → begins Kinds.Minus ts ≡ false → unary_at n b ts ≡ postfix_at (inner_at n) b ts
+  unary_other : begins Kinds.Not ts ≡ false → begins Kinds.Minus ts ≡ false → unary_at n b ts ≡ postfix_at (inner_at n) b ts
   unfolding unary_in_at or_at
-  unary_postfix e f = unary_inner n b ts ∙ rw (e, f) refl
+  unary_other e f = unary_inner n b ts ∙ rw (e, f) refl
+
+  unary_prefixed : (p : Prefix) → prefix_of ts ≡ Some p → unary_at n b ts ≡ entered_at (word_of p) n (λ e. prefixed_at p e b) ts
+  unary_prefixed p e = elim (cases_bool (begins Kinds.Not ts)) [
+    | inl y ↦ let same : prefixes.Not ≡ p = some_same _ _ (sym (rw y refl) ∙ e) in
+        subst (λ (q : Prefix). unary_at n b ts ≡ entered_at (word_of q) n (λ i. prefixed_at q i b) ts) same (unary_not y)
+    | inr m ↦ elim (cases_bool (begins Kinds.Minus ts)) [
+      | inl y ↦ let same : prefixes.Negative ≡ p = some_same _ _ (sym (rw (m, y) refl) ∙ e) in
+          subst (λ (q : Prefix). unary_at n b ts ≡ entered_at (word_of q) n (λ i. prefixed_at q i b) ts) same (unary_minus m y)
+      | inr o ↦ absurd (some_none p (sym e ∙ rw (m, o) refl))
+    ]
+  ]
+
+  module _ (p : Prefix) (k : Kind) (found : prefix_of ts ≡ Some p) (word : k ≡ word_of p) where
+    prefixed_is : unary_at n b ts ≡ entered_at k n (λ e. prefixed_at p e b) ts
+    prefixed_is = subst (λ (w : Kind). unary_at n b ts ≡ entered_at w n (λ e. prefixed_at p e b) ts) (sym word) (unary_prefixed p found)
+
+    pub prefixed_word_fails : (d : ReadError) → Fails d (enter_at k n ts) → Fails d (unary_at n b ts)
+    unfolding entered_at
+    prefixed_word_fails errors.Memory h = tt
+    prefixed_word_fails (errors.Stop f) h = prefixed_is ∙ rw h refl
+
+    pub prefixed_value_fails : (o : Lexeme) (m : ℕ) (mid : List Lexeme) (d : ReadError) → enter_at k n ts ≡ Ok ((o, m), mid) → Fails d (unary_at m b mid) → Fails d (unary_at n b ts)
+    unfolding entered_at prefixed_at
+    prefixed_value_fails o m mid errors.Memory e h = tt
+    prefixed_value_fails o m mid (errors.Stop f) e h = prefixed_is ∙ rw (e, h) refl
+
+    pub prefixed_reads : (o : Lexeme) (m : ℕ) (mid : List Lexeme) (a : ExpressionTree) (rest : List Lexeme) → enter_at k n ts ≡ Ok ((o, m), mid) → unary_at m b mid ≡ Ok (a, rest)
+        → unary_at n b ts ≡ Ok (PrefixTree p a o.line, rest)
+    unfolding entered_at prefixed_at
+    prefixed_reads o m mid a rest e h = prefixed_is ∙ rw (e, h) refl
+
+  pub unary_postfix : prefix_of ts ≡ None → unary_at n b ts ≡ postfix_at (inner_at n) b ts
+  unary_postfix e = elim (cases_bool (begins Kinds.Not ts)) [
+    | inl y ↦ absurd (some_none prefixes.Not (sym (rw y refl) ∙ e))
+    | inr m ↦ elim (cases_bool (begins Kinds.Minus ts)) [
+      | inl y ↦ absurd (some_none prefixes.Negative (sym (rw (m, y) refl) ∙ e))
+      | inr o ↦ unary_other m o
+    ]
+  ]
+
+  pub postfix_alone : (a : ExpressionTree) (mid : List Lexeme) → base_at (inner_at n) b ts ≡ Ok (a, mid) → head_is links_on mid ≡ false
+      → postfix_at (inner_at n) b ts ≡ Ok (a, mid)
+  unfolding postfix_at links_at
+  postfix_alone a mid h e = rw (h, many_none (head_is links_on) (link_at (inner_at n) b) (length mid) mid e) refl
+
+  pub postfix_more : (a : ExpressionTree) (mid : List Lexeme) (ls : List LinkTree) (rest : List Lexeme) → base_at (inner_at n) b ts ≡ Ok (a, mid)
+      → head_is links_on mid ≡ true → links_at (inner_at n) b mid ≡ Ok (ls, rest)
+      → postfix_at (inner_at n) b ts ≡ Ok (PostfixTree a (links ls) (first_line ts), rest)
+  unfolding postfix_at links_at
+  postfix_more a mid ls rest h e g =
+      let w = many_some (head_is links_on) (link_at (inner_at n) b) mid ls rest e (head_long links_on mid e) g in
+      rw (h, g, w.2) refl
 
 -- ---- arguments
 
+module _ (s : Bool) (ts : List Lexeme) where
+  label_is : (s ≡ true) ⊎ (two_begin Kinds.Name Kinds.Colon ts ≡ true) → label_at s ts ≡ (name_colon_at ts >>= λ x. Ok (Some x.0, x.1))
+  unfolding label_at optional_at or_at
+  label_is (inl e) = rw e refl
+  label_is (inr e) = elim s as (λ z. label_at z ts ≡ (name_colon_at ts >>= λ x. Ok (Some x.0, x.1))) [ true ↦ refl | false ↦ rw e refl ]
+
+  either_label : (s || two_begin Kinds.Name Kinds.Colon ts) ≡ true → (s ≡ true) ⊎ (two_begin Kinds.Name Kinds.Colon ts ≡ true)
+  either_label e = elim (cases_bool s) [ inl y ↦ inl y | inr n ↦ inr (sym (rw n refl) ∙ e) ]
+
+  pub label_none : (s || two_begin Kinds.Name Kinds.Colon ts) ≡ false → label_at s ts ≡ Ok (None, ts)
+  unfolding label_at optional_at or_at
+  label_none e = elim (cases_bool s) [
+    | inl y ↦ absurd (let x : (s || two_begin Kinds.Name Kinds.Colon ts) ≡ true = rw y refl in cc)
+    | inr n ↦ let two : two_begin Kinds.Name Kinds.Colon ts ≡ false = sym (rw n refl) ∙ e in rw (n, two) refl
+  ]
+
+  pub label_some : (k : List ℕ) (rest : List Lexeme) → (s || two_begin Kinds.Name Kinds.Colon ts) ≡ true → name_colon_at ts ≡ Ok (k, rest) → label_at s ts ≡ Ok (Some k, rest)
+  label_some k rest e h = label_is (either_label e) ∙ rw h refl
+
+  pub label_fails : (d : ReadError) → (s || two_begin Kinds.Name Kinds.Colon ts) ≡ true → Fails d (name_colon_at ts) → Fails d (label_at s ts)
+  label_fails errors.Memory e h = tt
+  label_fails (errors.Stop f) e h = label_is (either_label e) ∙ rw h refl
+
 module _ (r : Reader ExpressionTree) (s : Bool) (ts : List Lexeme) where
-  pub argument_named : two_begin Kinds.Name Kinds.Colon ts ≡ true → argument_at r s ts ≡ named_at r ts
-  unfolding argument_at or_at
-  argument_named e = elim s as (λ z. argument_at r z ts ≡ named_at r ts) [ true ↦ refl | false ↦ rw e ]
+  named_is : named_at r ts ≡ (label_at true ts >>= λ n. r n.1 >>= λ e. Ok ((n.0, e.0), e.1))
+  unfolding named_at label_at name_colon_at
+  named_is = elim (cases_result (token_at Kinds.Name ts)) [
+    | inl x ↦ elim (cases_result (token_at Kinds.Colon x.0.1)) [ inl y ↦ rw (x.1, y.1) refl | inr d ↦ rw (x.1, d.1) refl ]
+    | inr d ↦ rw d.1 refl
+  ]
 
-  pub argument_behind : s ≡ true → argument_at r s ts ≡ named_at r ts
-  unfolding argument_at
-  argument_behind e = rw e refl
+  argument_is : argument_at r s ts ≡ (label_at s ts >>= λ n. r n.1 >>= λ e. Ok ((n.0, e.0), e.1))
+  unfolding argument_at or_at positional_at
+  argument_is = elim s as (λ z. argument_at r z ts ≡ (label_at z ts >>= λ n. r n.1 >>= λ e. Ok ((n.0, e.0), e.1))) [
+    | true ↦ named_is
+    | false ↦ elim (cases_bool (two_begin Kinds.Name Kinds.Colon ts)) [
+      | inl y ↦ rw y (named_is ∙ rw (label_is true ts (inl refl), label_is false ts (inr y)) refl)
+      | inr n ↦ rw (n, label_none false ts n) refl
+    ]
+  ]
 
-  pub argument_positional : s ≡ false → two_begin Kinds.Name Kinds.Colon ts ≡ false → argument_at r s ts ≡ positional_at r ts
-  unfolding argument_at or_at
-  argument_positional e f = rw (e, f) refl
+  pub argument_reads : (o : Option (List ℕ)) (mid : List Lexeme) (e : ExpressionTree) (rest : List Lexeme) → label_at s ts ≡ Ok (o, mid)
+      → r mid ≡ Ok (e, rest) → argument_at r s ts ≡ Ok ((o, e), rest)
+  argument_reads o mid e rest h g = argument_is ∙ rw (h, g) refl
+
+  pub argument_label_fails : (d : ReadError) → Fails d (label_at s ts) → Fails d (argument_at r s ts)
+  argument_label_fails errors.Memory h = tt
+  argument_label_fails (errors.Stop f) h = argument_is ∙ rw h refl
+
+  pub argument_value_fails : (o : Option (List ℕ)) (mid : List Lexeme) (d : ReadError) → label_at s ts ≡ Ok (o, mid) → Fails d (r mid)
+      → Fails d (argument_at r s ts)
+  argument_value_fails o mid errors.Memory h g = tt
+  argument_value_fails o mid (errors.Stop f) h g = argument_is ∙ rw (h, g) refl
+
+-- ---- what stands in brackets, with commas
+
+module _ (n : ℕ) (b : Bool) (ts : List Lexeme) (o : Lexeme) (m : ℕ) (inside : List Lexeme) (entered : enter_at Kinds.OpenBracket n ts ≡ Ok ((o, m), inside)) where
+  pub list_stops : (d : ReadError) → Fails d (listed_at Kinds.CloseBracket (λ (s : Unit {0}). ternary_at (unary_at m) b) same_state tt inside) → Fails d (entered_at Kinds.OpenBracket n (λ e. list_at e b) ts)
+  unfolding entered_at list_at
+  list_stops errors.Memory h = tt
+  list_stops (errors.Stop f) h = rw (entered, h) refl
+
+  pub list_unclosed : (es : List ExpressionTree) (after : List Lexeme) (d : ReadError) → listed_at Kinds.CloseBracket (λ (s : Unit {0}). ternary_at (unary_at m) b) same_state tt inside ≡ Ok (es, after) → Fails d (token_at Kinds.CloseBracket after)
+      → Fails d (entered_at Kinds.OpenBracket n (λ e. list_at e b) ts)
+  unfolding entered_at list_at
+  list_unclosed es after errors.Memory h c = tt
+  list_unclosed es after (errors.Stop f) h c = rw (entered, h, c) refl
+
+  pub list_reads : (es : List ExpressionTree) (after : List Lexeme) (c : Lexeme) (rest : List Lexeme) → listed_at Kinds.CloseBracket (λ (s : Unit {0}). ternary_at (unary_at m) b) same_state tt inside ≡ Ok (es, after)
+      → token_at Kinds.CloseBracket after ≡ Ok (c, rest) → entered_at Kinds.OpenBracket n (λ e. list_at e b) ts ≡ Ok (ListTree (expressions es) o.line, rest)
+  unfolding entered_at list_at
+  list_reads es after c rest h t = rw (entered, h, t) refl
+
+module _ (n : ℕ) (b : Bool) (ts : List Lexeme) (o : Lexeme) (m : ℕ) (inside : List Lexeme) (entered : enter_at Kinds.OpenBrace n ts ≡ Ok ((o, m), inside)) where
+  pub dictionary_stops : (d : ReadError) → Fails d (listed_at Kinds.CloseBrace (λ (s : Unit {0}). entry_at (ternary_at (unary_at m) b)) same_state tt inside) → Fails d (entered_at Kinds.OpenBrace n (λ e. dictionary_at e b) ts)
+  unfolding entered_at dictionary_at
+  dictionary_stops errors.Memory h = tt
+  dictionary_stops (errors.Stop f) h = rw (entered, h) refl
+
+  pub dictionary_unclosed : (es : List EntryTree) (after : List Lexeme) (d : ReadError) → listed_at Kinds.CloseBrace (λ (s : Unit {0}). entry_at (ternary_at (unary_at m) b)) same_state tt inside ≡ Ok (es, after) → Fails d (token_at Kinds.CloseBrace after)
+      → Fails d (entered_at Kinds.OpenBrace n (λ e. dictionary_at e b) ts)
+  unfolding entered_at dictionary_at
+  dictionary_unclosed es after errors.Memory h c = tt
+  dictionary_unclosed es after (errors.Stop f) h c = rw (entered, h, c) refl
+
+  pub dictionary_reads : (es : List EntryTree) (after : List Lexeme) (c : Lexeme) (rest : List Lexeme) → listed_at Kinds.CloseBrace (λ (s : Unit {0}). entry_at (ternary_at (unary_at m) b)) same_state tt inside ≡ Ok (es, after)
+      → token_at Kinds.CloseBrace after ≡ Ok (c, rest) → entered_at Kinds.OpenBrace n (λ e. dictionary_at e b) ts ≡ Ok (DictionaryTree (entries es) o.line, rest)
+  unfolding entered_at dictionary_at
+  dictionary_reads es after c rest h t = rw (entered, h, t) refl
+
+module _ (n : ℕ) (b : Bool) (ts : List Lexeme) (o : Lexeme) (m : ℕ) (inside : List Lexeme) (entered : enter_at Kinds.OpenParenthesis n ts ≡ Ok ((o, m), inside)) where
+  pub arguments_stops : (d : ReadError) → Fails d (listed_at Kinds.CloseParenthesis (argument_at (ternary_at (unary_at m) b)) is_named false inside) → Fails d (entered_at Kinds.OpenParenthesis n (λ e. items_at e b) ts)
+  unfolding entered_at items_at
+  arguments_stops errors.Memory h = tt
+  arguments_stops (errors.Stop f) h = rw (entered, h) refl
+
+  pub arguments_unclosed : (es : List ArgumentTree) (after : List Lexeme) (d : ReadError) → listed_at Kinds.CloseParenthesis (argument_at (ternary_at (unary_at m) b)) is_named false inside ≡ Ok (es, after) → Fails d (token_at Kinds.CloseParenthesis after)
+      → Fails d (entered_at Kinds.OpenParenthesis n (λ e. items_at e b) ts)
+  unfolding entered_at items_at
+  arguments_unclosed es after errors.Memory h c = tt
+  arguments_unclosed es after (errors.Stop f) h c = rw (entered, h, c) refl
+
+  pub arguments_reads : (es : List ArgumentTree) (after : List Lexeme) (c : Lexeme) (rest : List Lexeme) → listed_at Kinds.CloseParenthesis (argument_at (ternary_at (unary_at m) b)) is_named false inside ≡ Ok (es, after)
+      → token_at Kinds.CloseParenthesis after ≡ Ok (c, rest) → entered_at Kinds.OpenParenthesis n (λ e. items_at e b) ts ≡ Ok (es, rest)
+  unfolding entered_at items_at
+  arguments_reads es after c rest h t = rw (entered, h, t) refl
 
 -- ---- the order of the calls
 

@@ -9,14 +9,14 @@ use Rattle.grammar.specs.declared.tree.Prefix.TheVariants as prefixes
 use Rattle.grammar.specs.ExpressionTree.{ExpressionTree, NameTree, FunctionTree, MethodTree, IndexTree, PrefixTree, arguments}
 use Rattle.grammar.specs.Form.{Form, token, give, ◌or◌}
 use Rattle.grammar.specs.Parts.{Inner, Closed, Inside, here, here_at, opened, stands_for}
-use Rattle.grammar.specs.Expressions.{atom, call, choice, dictionary, expr, group, in_parentheses, index, is_named, items, link, list, literal, literal_of, method, name, postfix, postfix_tree, prefixed, unary, unary_in, argument}
+use Rattle.grammar.specs.Expressions.{atom, call, ternary, dictionary, expr, group, in_parentheses, index, is_named, items, link, list, literal, literal_of, method, name, postfix, postfix_tree, prefixed, unary, unary_in, argument}
 use Rattle.grammar.specs.Reading.{Reader, begins, token_at}
-use Rattle.grammar.specs.ReadingExpressions.{argument_at, atom_at, base_at, call_at, choice_at, dictionary_at, expr_at, group_at, in_parentheses_at, index_at, items_at, link_at, links_at, links_on, list_at, literal_at, method_at, name_at, postfix_at, prefixed_at, unary_at, unary_in_at}
+use Rattle.grammar.specs.ReadingExpressions.{argument_at, atom_at, base_at, call_at, ternary_at, dictionary_at, expr_at, group_at, in_parentheses_at, index_at, items_at, link_at, links_at, links_on, list_at, literal_at, method_at, name_at, postfix_at, prefixed_at, unary_at, unary_in_at}
 use Rattle.grammar.proofs.Alike.{line-alike}
 use Rattle.grammar.proofs.Atoms.{either, inside, line-argument, line-closed, line-dictionary, line-group, line-list, line-literal, line-name, of_kind, starts-either, starts-weaker, starts-inside, starts-literal, starts-name, AfterArgument}
 use Rattle.grammar.proofs.Binding.{After, AfterExpression, after_kind, binding}
 use Rattle.grammar.proofs.Chains.{line-map, line-then-many}
-use Rattle.grammar.proofs.ChoiceLines.{line-before, single_choice}
+use Rattle.grammar.proofs.TernaryLines.{line-before, single_ternary}
 use Rattle.grammar.proofs.Laws.{give_at}
 use Rattle.grammar.proofs.Line.{Line, Any, line-choice, line-give, line-stops, line-then, line-token}
 use Rattle.grammar.proofs.Numbers.{is-true}
@@ -74,7 +74,7 @@ module _ (u u' : Inner) (v v' : Option (Bool → Reader ExpressionTree)) (h : Is
 
   line-items : (G G' : Bool → Form ExpressionTree) (s s' : Bool → Reader ExpressionTree) → ((b : Bool) → IsUnary (G b) (G' b) (s b) (s' b)) → (o : Lexeme) → Line (items G b o) (items G' b o) (items_at s b o) (items_at s' b o) Any 0
   unfolding items_at
-  line-items G G' s s' i o = line-closed Kinds.CloseParenthesis (argument (choice G b)) (argument (choice G' b)) (argument_at (choice_at s b)) (argument_at (choice_at s' b)) is_named (λ xs. xs) (AfterArgument G G' s s' i b) refl refl
+  line-items G G' s s' i o = line-closed Kinds.CloseParenthesis (argument (ternary G b)) (argument (ternary G' b)) (argument_at (ternary_at s b)) (argument_at (ternary_at s' b)) is_named (λ xs. xs) (AfterArgument G G' s s' i b) refl refl
       (λ ts c. (after_kind Kinds.Comma 7 ts (lit≤ tt) c, not_colon Kinds.Comma refl ts c)) (λ ts c. (after_kind Kinds.CloseParenthesis 7 ts (lit≤ tt) c, not_colon Kinds.CloseParenthesis refl ts c))
       starts_argument (line-argument G G' s s' i b) false
     where
@@ -85,9 +85,9 @@ module _ (u u' : Inner) (v v' : Option (Bool → Reader ExpressionTree)) (h : Is
       from_name : (k : Kind) → is k Kinds.Name ≡ true → opens_expr k ≡ true
       from_name k e = ap opens_expr (is-true k Kinds.Name e)
 
-      starts_argument : (n : Bool) → Starts (argument (choice G b) n) opens_expr
+      starts_argument : (n : Bool) → Starts (argument (ternary G b) n) opens_expr
       starts_argument true = starts-weaker (of_kind Kinds.Name) opens_expr _ from_name (starts-bind (token Kinds.Name) _ (of_kind Kinds.Name) (starts-token Kinds.Name))
-      starts_argument false = starts-or _ _ (of_kind Kinds.Name) opens_expr opens_expr (starts-bind (token Kinds.Name) _ (of_kind Kinds.Name) (starts-token Kinds.Name)) (starts-bind (choice G b) _ opens_expr (starts-inside G G' s s' i b)) from_name (λ k e. e)
+      starts_argument false = starts-or _ _ (of_kind Kinds.Name) opens_expr opens_expr (starts-bind (token Kinds.Name) _ (of_kind Kinds.Name) (starts-token Kinds.Name)) (starts-bind (ternary G b) _ opens_expr (starts-inside G G' s s' i b)) from_name (λ k e. e)
 
   line-in-parentheses : Line (in_parentheses u b) (in_parentheses u' b) (in_parentheses_at v b) (in_parentheses_at v' b) Any 1
   line-in-parentheses = line-opened Kinds.OpenParenthesis (λ e. items e b) (λ e. items_at e b) Any line-items u u' v v' h
@@ -125,7 +125,7 @@ module _ (u u' : Inner) (v v' : Option (Bool → Reader ExpressionTree)) (h : Is
   unfolding index_at
   line-index G G' s s' i o =
       line-stops _ _ _ _ Any Any 1 0 (λ ts st. st) (omega arith)
-      (line-before Kinds.CloseBracket 7 (choice G b) (choice G' b) (λ e c. give (IndexTree e)) (λ e c. give (IndexTree e)) (choice_at s b) (choice_at s' b) (λ e c. give_at (IndexTree e)) (λ e c. give_at (IndexTree e)) Any (lit≤ tt) (inside G G' s s' i b) (λ e c. line-give (IndexTree e) Any))
+      (line-before Kinds.CloseBracket 7 (ternary G b) (ternary G' b) (λ e c. give (IndexTree e)) (λ e c. give (IndexTree e)) (ternary_at s b) (ternary_at s' b) (λ e c. give_at (IndexTree e)) (λ e c. give_at (IndexTree e)) Any (lit≤ tt) (inside G G' s s' i b) (λ e c. line-give (IndexTree e) Any))
 
   starts-method : Starts (method (in_parentheses u b)) (of_kind Kinds.Dot)
   starts-method = starts-bind (token Kinds.Dot) _ (of_kind Kinds.Dot) (starts-token Kinds.Dot)
@@ -226,4 +226,4 @@ starts-expr n = starts-inside (unary n) (unary (suc n)) (unary_at n) (unary_at (
 -- a name alone is an expression
 pub name-is-expr : (n : ℕ) (t : Lexeme) (us : List Lexeme) → t.kind ≡ Kinds.Name → (expr n).spells (NameTree t.text t.line) (t ∷ us) us
 unfolding expr
-name-is-expr n t us k = single_choice (unary n) true (NameTree t.text t.line) (t ∷ us) us ((is-unary n true).single t us k)
+name-is-expr n t us k = single_ternary (unary n) true (NameTree t.text t.line) (t ∷ us) us ((is-unary n true).single t us k)

@@ -1,5 +1,6 @@
 -- What a loop has read so far, and what it still reads, make what is read from its first token on.
 use Rattle.std.proofs.Common.{◌≡◌, ℕ, zero, suc, ◌≤◌, ◌<◌, Bool, true, false, List, [], ◌∷◌, ◌++◌, length, Result, Ok, Err, refl, sym, ap, ◌∙◌, arith, Option, Some, None, append_assoc}
+use Rattle.std.proofs.lemmas.List.{append-nil}
 use Rattle.lexer.specs.Lexeme.{Lexeme}
 use Rattle.lexer.specs.declared.token.Kind.{Kind}
 use Rattle.grammar.specs.declared.stop.Stop.{Stop}
@@ -7,7 +8,12 @@ use Rattle.grammar.specs.declared.stop.ReadError.{ReadError}
 use Rattle.grammar.specs.declared.stop.ReadError.TheVariants as errors
 use Rattle.grammar.specs.Statements.{given}
 use Rattle.grammar.specs.Tree.{StatementTree}
-use Rattle.grammar.specs.Reading.{Reader, ◌>>=◌, Fails, begins, many_at}
+use Rattle.grammar.specs.Reading.{Reader, ◌>>=◌, Fails, begins, head_is, many_at}
+
+-- where the form does not come, none is read
+pub many_none : {A : Type 0} (next : List Lexeme → Bool) (r : Reader A) (k : ℕ) (ts : List Lexeme) → next ts ≡ false → many_at next r k ts ≡ Ok ([], ts)
+many_none next r zero ts stop = refl
+many_none next r (suc k) ts stop = rw stop refl
 
 -- `gathered` makes of all that r reads what the loop gathers, `put` adds one more.
 module _ {A B : Type 0} (next : List Lexeme → Bool) (r : Reader A) (gathered : List A → List B) (put : List B → A → List B)
@@ -19,10 +25,6 @@ module _ {A B : Type 0} (next : List Lexeme → Bool) (r : Reader A) (gathered :
 
   abbrev pub StillReads : List B → List Lexeme → Result (List B × List Lexeme) Stop → Type 0
   StillReads before ts total = (fuel : ℕ) × (length ts ≤ fuel) × (with_more before (many_at next r fuel ts) ≡ total)
-
-  none_more : (k : ℕ) (ts : List Lexeme) → next ts ≡ false → many_at next r k ts ≡ Ok ([], ts)
-  none_more zero ts stop = refl
-  none_more (suc k) ts stop = rw stop refl
 
   more_regroup : (before : List B) (a : A) (read : Result (List A × List Lexeme) Stop)
       → with_more before (read >>= λ x. Ok (a ∷ x.0, x.1)) ≡ with_more (put before a) read
@@ -43,11 +45,15 @@ module _ {A B : Type 0} (next : List Lexeme → Bool) (r : Reader A) (gathered :
 
   pub still_end : (before : List B) (ts : List Lexeme) (total : Result (List B × List Lexeme) Stop) → StillReads before ts total
       → next ts ≡ false → total ≡ Ok (before, ts)
-  still_end before ts total (k, le, e) b = sym e ∙ rw (none_more k ts b) (ap (λ (bs : List B). Ok (bs, ts)) (nothing before))
+  still_end before ts total (k, le, e) b = sym e ∙ rw (many_none next r k ts b) (ap (λ (bs : List B). Ok (bs, ts)) (nothing before))
 
 pub begins_long : (k : Kind) (ts : List Lexeme) → begins k ts ≡ true → 0 < length ts
 begins_long k [] b = absurd cc
 begins_long k (t ∷ ts) b = omega arith
+
+pub head_long : (p : Kind → Bool) (ts : List Lexeme) → head_is p ts ≡ true → 0 < length ts
+head_long p [] b = absurd cc
+head_long p (t ∷ ts) b = omega arith
 
 -- ---- values
 
@@ -63,10 +69,9 @@ one_regroup before a more = simp append_assoc
 -- ---- lines, of which some are empty
 
 abbrev pub with_line : List StatementTree → Option StatementTree → List StatementTree
-with_line before None = before
-with_line before (Some s) = before ++ s ∷ []
+with_line before o = before ++ given (o ∷ [])
 
 pub line_regroup : (before : List StatementTree) (o : Option StatementTree) (more : List (Option StatementTree))
     → before ++ given (o ∷ more) ≡ with_line before o ++ given more
-line_regroup before None more = refl
+line_regroup before None more = ap (λ (l : List StatementTree). l ++ given more) (sym (append-nil before))
 line_regroup before (Some s) more = simp append_assoc

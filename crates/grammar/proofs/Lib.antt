@@ -4,7 +4,7 @@ pub mod Binding
 pub mod Blocks
 pub mod Chain
 pub mod Chains
-pub mod ChoiceLines
+pub mod TernaryLines
 pub mod Ends
 pub mod ExpressionTails
 pub mod Expressions

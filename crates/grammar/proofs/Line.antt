@@ -62,7 +62,7 @@ line-bind F F' G G' r r' s s' StopsF StopsG i j f g follows goes_on = record {
   form = IsForm-bind F G f.form (λ a. (g a).form);
   reads = reads-bind F G r s StopsF StopsG f.form (λ a. (g a).form) f.reads (λ a. (g a).reads) follows goes_on;
   raises = raises-bind F F' G G' r r' s s' f.reads.sound f.raises (λ a. (g a).raises);
-  ends = ends-bind F G f.ends (λ a. (g a).ends);
+  ends = ends-bind F G f.form f.ends (λ a. (g a).ends);
   takes = takes-bind F G i j f.takes (λ a. (g a).takes);
 }
 

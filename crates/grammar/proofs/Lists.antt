@@ -9,7 +9,7 @@ use Rattle.grammar.specs.Form.{Form, token, give, optional, comma_then, Further,
 use Rattle.grammar.specs.Form.{◌>>=◌ as ◌then◌}
 use Rattle.lexer.specs.Kinds.{is}
 use Rattle.grammar.specs.Reading.{Reader, ◌>>=◌, begins, token_at, tail_at, items_by, listed_at}
-use Rattle.grammar.proofs.Ends.{Ends, IsEnd, end_then, ends-bind, ends-give, ends-or, ends-token}
+use Rattle.grammar.proofs.Ends.{Ends, IsEnd, end_then, end_within, le_or_more, ends-bind, ends-give, ends-or, ends-token}
 use Rattle.grammar.proofs.Laws.{IsForm, IsForm-bind, IsForm-give, IsForm-optional, IsForm-or, IsForm-token, bind_err, cases_bool, reads-token}
 use Rattle.grammar.proofs.Line.{Line}
 use Rattle.grammar.proofs.Listed.{reads-listed}
@@ -173,22 +173,40 @@ module _ {S A : Type 0} (F : S → Form A) (step : S → A → S) where
       (IsForm-give [])
 
   ends_then : (s : S) → Ends (F s) → Ends (comma_then (F s))
-  ends_then s f = ends-bind (token Kinds.Comma) (λ c. F s) (ends-token Kinds.Comma) (λ c. f)
+  ends_then s f = ends-bind (token Kinds.Comma) (λ c. F s) (IsForm-token Kinds.Comma) (ends-token Kinds.Comma) (λ c. f)
 
   ends_further : ((s : S) → Ends (F s)) → (s : S) (xs : List A) (ts rest : List Lexeme) → Further F step s xs ts rest → IsEnd rest ts
   ends_further f s [] ts rest h = record { before = []; parts = h }
   ends_further f s (x ∷ xs) ts rest h = end_then ts h.0 rest ((ends_then s (f s)).spelled x ts h.0 h.1) (ends_further f (step s x) xs h.0 rest h.2)
 
-  ends-further : ((s : S) → Ends (F s)) → (s : S) → Ends (further F step s)
-  ends-further f s = record {
+  is_then : (s : S) → IsForm (F s) → IsForm (comma_then (F s))
+  is_then s f = IsForm-bind (token Kinds.Comma) (λ c. F s) (IsForm-token Kinds.Comma) (λ c. f)
+
+  between_further : ((s : S) → IsForm (F s)) → ((s : S) → Ends (F s)) → (s : S) (xs : List A) (ts at mid more : List Lexeme) → Further F step s xs ts at
+      → (comma_then (F (state_after F step s xs))).front at more → IsEnd mid ts → IsEnd more mid → (further F step s).front ts mid
+  between_further is f s [] ts at mid more r h p q =
+      ([], ts, refl, (ends_then s (f s)).between ts mid more p q (subst (λ (l : List Lexeme). (comma_then (F s)).front l more) (sym r) h))
+  between_further is f s (x ∷ xs) ts at mid more (m1, e, r) h p q =
+      let m = (ends_then s (f s)).spelled x ts m1 e in
+      elim (le_or_more (length m1) (length mid)) [
+        | inl le ↦ ([], ts, refl, (ends_then s (f s)).between ts mid m1 p (end_within ts mid m1 p m le) ((is_then s (is s)).whole x ts m1 e))
+        | inr gt ↦
+            let w = between_further is f (step s x) xs m1 at mid more r h (end_within ts m1 mid m p (omega arith)) q in
+            (x ∷ w.0, w.1, (m1, e, w.2), w.3)
+      ]
+
+  ends-further : ((s : S) → IsForm (F s)) → ((s : S) → Ends (F s)) → (s : S) → Ends (further F step s)
+  ends-further is f s = record {
+    between = λ ts mid more p q h. between_further is f s h.0 ts h.1 mid more h.2 h.3 p q;
     spelled = ends_further f s;
     begun = λ ts more h. end_then ts h.1 more (ends_further f s h.0 ts h.1 h.2) ((ends_then (state_after F step s h.0) (f (state_after F step s h.0))).begun h.1 more h.3);
   }
 
-  ends-listed : ((s : S) → Ends (F s)) → (s : S) → Ends (listed_by F step s)
-  ends-listed f s = ends-or (some_listed_by F step s) (give [])
-      (ends-bind (F s) _ (f s) (λ first. ends-bind (further F step (step s first)) _ (ends-further f (step s first))
-      (λ others. ends-bind (optional (token Kinds.Comma)) (λ last. give (first ∷ others)) (ends-or _ _ (ends-bind (token Kinds.Comma) (λ a. give (Some a)) (ends-token Kinds.Comma) (λ a. ends-give (Some a))) (ends-give None)) (λ last. ends-give (first ∷ others)))))
+  ends-listed : ((s : S) → IsForm (F s)) → ((s : S) → Ends (F s)) → (s : S) → Ends (listed_by F step s)
+  ends-listed is f s = ends-or (some_listed_by F step s) (give [])
+      (ends-bind (F s) _ (is s) (f s) (λ first. ends-bind (further F step (step s first)) _ (IsForm-further is (step s first)) (ends-further is f (step s first))
+      (λ others. ends-bind (optional (token Kinds.Comma)) (λ last. give (first ∷ others)) (IsForm-optional (token Kinds.Comma) (IsForm-token Kinds.Comma))
+      (ends-or _ _ (ends-bind (token Kinds.Comma) (λ a. give (Some a)) (IsForm-token Kinds.Comma) (ends-token Kinds.Comma) (λ a. ends-give (Some a))) (ends-give None)) (λ last. ends-give (first ∷ others)))))
       (ends-give [])
 
   takes_further : ((s : S) → Takes (F s) 0) → (s : S) (xs : List A) (ts rest : List Lexeme) → Further F step s xs ts rest → length rest ≤ length ts
@@ -217,7 +235,7 @@ line-listed {S} {A} k q F F' r r' step Stops apart comma starts at_comma at_end 
       at_end
       not_comma s;
   raises = raises-listed F F' r r' step (begins k) (λ s. (f s).reads.sound) (λ s. (f s).raises) s;
-  ends = ends-listed F step (λ s. (f s).ends) s;
+  ends = ends-listed F step (λ s. (f s).form) (λ s. (f s).ends) s;
   takes = takes-listed F step (λ s. takes-less (F s) 1 0 (omega arith) (f s).takes) s;
 }
   where

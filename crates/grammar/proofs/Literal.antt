@@ -8,7 +8,7 @@ use Rattle.grammar.specs.Tree.{StatementTree, FileTree}
 use Rattle.grammar.specs.Form.{Form, token, Repeats}
 use Rattle.grammar.specs.Grammar.{file}
 use Rattle.grammar.specs.Statements.{given, stmt, line as ended_line}
-use Rattle.grammar.specs.Outcome.{IsUnexpected, IsTooDeep}
+use Rattle.grammar.specs.Outcome.{BeginsBy, IsUnexpected, IsTooDeep}
 use Rattle.grammar.specs.Reading.{all_of, tokens_left}
 use Rattle.grammar.specs.ReadingStatements.{file_at}
 use Rattle.grammar.proofs.Files.{lines, line-lines, line-first, others, next, maybe, AfterLines}
@@ -180,3 +180,27 @@ file_too_deep = whole.all_too_deep file file_at AfterLines (λ n. (line-file n).
 pub file_left : (n : ℕ) (ts : List Lexeme) (f : Stop) → all_of (file_at n) ts ≡ Err f → tokens_left f ≤ length ts
 file_left = whole.all_left_le file file_at AfterLines (λ n. (line-file n).form) (λ n. (line-file n).reads) (λ n. (line-file n).raises)
     (λ n. (line-file n).ends) at_end
+
+pub file_shorter : (n : ℕ) (ts : List Lexeme) (j k : ℕ) → j ≤ k → BeginsBy (file n) ts k → BeginsBy (file n) ts j
+file_shorter = whole.all_shorter file file_at AfterLines (λ n. (line-file n).form) (λ n. (line-file n).reads)
+    (λ n. (line-file n).raises) (λ n. (line-file n).ends) at_end
+
+pub file_one_unexpected : (n : ℕ) (ts : List Lexeme) (j k : ℕ) → IsUnexpected file n ts j → IsUnexpected file n ts k → j ≡ k
+file_one_unexpected = whole.one_unexpected file file_at AfterLines (λ n. (line-file n).form) (λ n. (line-file n).reads)
+    (λ n. (line-file n).raises) (λ n. (line-file n).ends) at_end
+
+pub file_one_too_deep : (n : ℕ) (ts : List Lexeme) (j k : ℕ) → IsTooDeep file n ts j → IsTooDeep file n ts k → j ≡ k
+file_one_too_deep = whole.one_too_deep file file_at AfterLines (λ n. (line-file n).form) (λ n. (line-file n).reads)
+    (λ n. (line-file n).raises) (λ n. (line-file n).ends) at_end
+
+pub file_not_both : (n : ℕ) (ts : List Lexeme) (j k : ℕ) → IsUnexpected file n ts j → IsTooDeep file n ts k → ⊥
+file_not_both = whole.not_both file file_at AfterLines (λ n. (line-file n).form) (λ n. (line-file n).reads)
+    (λ n. (line-file n).raises) (λ n. (line-file n).ends) at_end
+
+pub file_none_unexpected : (n : ℕ) (ts : List Lexeme) (f : FileTree) (k : ℕ) → (file n).spells f ts [] → IsUnexpected file n ts k → ⊥
+file_none_unexpected = whole.none_unexpected file file_at AfterLines (λ n. (line-file n).form) (λ n. (line-file n).reads)
+    (λ n. (line-file n).raises) (λ n. (line-file n).ends) at_end
+
+pub file_none_too_deep : (n : ℕ) (ts : List Lexeme) (f : FileTree) (k : ℕ) → (file n).spells f ts [] → IsTooDeep file n ts k → ⊥
+file_none_too_deep = whole.none_too_deep file file_at AfterLines (λ n. (line-file n).form) (λ n. (line-file n).reads)
+    (λ n. (line-file n).raises) (λ n. (line-file n).ends) at_end

@@ -7,7 +7,7 @@ use Rattle.lexer.specs.declared.token.Kind.{Kind}
 use Rattle.lexer.specs.declared.token.Kind.TheVariants as Kinds
 use Rattle.grammar.specs.declared.stop.Stop.{Stop}
 use Rattle.grammar.specs.ExpressionTree.{ExpressionTree, NameTree}
-use Rattle.grammar.specs.Expressions.{additive, chain, choice, comparison, conjunction, conjunctive, disjunctive, expr, multiplicative, product, unary, unary_in}
+use Rattle.grammar.specs.Expressions.{additive, chain, ternary, comparison, conjunction, conjunctive, disjunctive, expr, multiplicative, product, unary, unary_in}
 use Rattle.grammar.specs.Form.{Form}
 use Rattle.grammar.specs.Parts.{Inner, Closed, Inside, first_line}
 use Rattle.grammar.specs.declared.tree.Operator.{Operator}
@@ -80,8 +80,8 @@ comparison_one : (unary : Form ExpressionTree) (e : ExpressionTree) (ts rest : L
 comparison_one unary e ts rest h =
     (first_line ts, ts, (refl, refl), (e, rest, chain_one additive (product unary) e ts rest (chain_one multiplicative unary e ts rest h), (None, rest, inr (refl, refl), (refl, refl))))
 
-choice_one : (unary : Bool → Form ExpressionTree) (e : ExpressionTree) (ts rest : List Lexeme) → (unary true).spells e ts rest → (choice unary true).spells e ts rest
-choice_one unary e ts rest h =
+ternary_one : (unary : Bool → Form ExpressionTree) (e : ExpressionTree) (ts rest : List Lexeme) → (unary true).spells e ts rest → (ternary unary true).spells e ts rest
+ternary_one unary e ts rest h =
     let test = chain_one disjunctive (conjunction (unary true)) e ts rest (chain_one conjunctive (comparison (unary true)) e ts rest (comparison_one (unary true) e ts rest h)) in
     (first_line ts, ts, (refl, refl), (e, rest, test, (None, rest, inr (refl, refl), (refl, refl))))
 
@@ -97,4 +97,4 @@ unary_name (suc n) b t us k = in_name (Inside (unary n)) b t us k
 
 pub named_expr : (n : ℕ) (t : Lexeme) (us : List Lexeme) → t.kind ≡ Kinds.Name → (expr n).spells (NameTree t.text t.line) (t ∷ us) us
 unfolding expr
-named_expr n t us k = choice_one (unary n) (NameTree t.text t.line) (t ∷ us) us (unary_name n true t us k)
+named_expr n t us k = ternary_one (unary n) (NameTree t.text t.line) (t ∷ us) us (unary_name n true t us k)

@@ -2,14 +2,17 @@
 use Rattle.std.proofs.Common.{◌≡◌, ℕ, ◌-◌, ◌≤◌, List, [], length, refl, sym, ap, subst, ◌∙◌, ◌⊎◌, inl, inr, Result, Ok, Err}
 use Rattle.std.specs.Prelude.{IfOk, MatchResult}
 use Rattle.lexer.specs.Lexeme.{Lexeme, lexemes}
-use Rattle.lexer.specs.Lexing.{lexed}
-use Rattle.lexer.specs.Tokens.{AreTokens}
+use Rattle.lexer.specs.Lexing.{fault_at, lexed}
+use Rattle.lexer.specs.Tokens.{AreTokens, IsUnreadable}
 use Rattle.grammar.specs.Tree.{FileTree, file_of}
 use Rattle.grammar.specs.Grammar.{file, most_levels}
 use Rattle.grammar.specs.Reading.{Fails, all_of, tokens_left}
 use Rattle.grammar.specs.ReadingStatements.{file_at}
 use Rattle.lexer.specs.Answers.{Answers, Refuses}
-use Rattle.grammar.specs.Parsed.{Spells, HasFault, located, in_source, parsed}
+use Rattle.grammar.specs.Parsed.{Spells, FaultsBy, FrontsAreShorter, HasFault, line_of, located, in_source, parsed}
+use Rattle.grammar.specs.Outcome.{IsTooDeep, IsUnexpected}
+use Rattle.lexer.specs.declared.fault.FaultKind.{FaultKind}
+use Rattle.lexer.specs.declared.fault.FaultKind.TheVariants as Faults
 use Rattle.lexer.specs.declared.fault.SyntaxFault.{SyntaxFault}
 use Rattle.lexer.specs.declared.fault.SyntaxError.{SyntaxError}
 use Rattle.lexer.specs.declared.fault.SyntaxError.TheVariants as errors
@@ -19,9 +22,9 @@ use Rattle.grammar.specs.declared.stop.ReadError.{ReadError}
 use Rattle.grammar.specs.declared.stop.ReadError.TheVariants as reads
 use Rattle.lexer.specs.declared.token.Token.{Token}
 use Rattle.grammar.specs.declared.tree.File.{File}
-use Rattle.grammar.proofs.Literal.{file_ok, file_complete, file_only, file_unexpected, file_too_deep, file_left}
+use Rattle.grammar.proofs.Literal.{file_ok, file_complete, file_only, file_unexpected, file_too_deep, file_left, file_none_too_deep, file_none_unexpected, file_not_both, file_one_too_deep, file_one_unexpected, file_shorter}
 use Rattle.grammar.proofs.Tails.{length_lexemes}
-use Rattle.lexer.proofs.Spans.{lexed_sound, lexed_complete, lexed_fault, lexed_only}
+use Rattle.lexer.proofs.Spans.{lexed_breaks, lexed_sound, lexed_complete, lexed_fault, lexed_only}
 
 pub parsed_ok_tokens : (source : List ℕ) (ts : List Lexeme) → lexed source ≡ Ok ts → parsed source ≡ in_source source ts (all_of (file_at most_levels) ts)
 unfolding parsed
@@ -80,6 +83,71 @@ parsed_fault source f e = elim (cases_lexed (lexed source)) [
       subst (HasFault source) (sym w.0 ∙ same) w.1
 ]
 
+-- ---- a source has no second fault, and none where it spells a file
+
+line_at : (source : List ℕ) (ts us : List Lexeme) (j k line other : ℕ) → ts ≡ us → j ≡ k → line ≡ line_of source ts j → other ≡ line_of source us k → line ≡ other
+line_at source ts us j k line other same index e g = e ∙ ap (λ (l : List Lexeme). line_of source l j) same ∙ ap (line_of source us) index ∙ sym g
+
+no_tokens_at : (source : List ℕ) (line : ℕ) (ts : List Lexeme) → IsUnreadable source line → AreTokens source ts → ⊥
+no_tokens_at source line ts h a = let e = lexed_breaks source line h in let g = lexed_complete source ts a in cc
+
+fault_line : (source : List ℕ) (j k : ℕ) → IsUnreadable source j → IsUnreadable source k → j ≡ k
+fault_line source j k h g = same_line (sym (lexed_breaks source j h) ∙ lexed_breaks source k g)
+  where
+    same_line : ◌≡◌ {A = Result (List Lexeme) SyntaxFault} (Err (fault_at j)) (Err (fault_at k)) → j ≡ k
+    same_line e = let f : fault_at j ≡ fault_at k = cc in ap (λ (x : SyntaxFault). x.line) f
+
+fault_same : (k : FaultKind) (line other : ℕ) → line ≡ other → ◌≡◌ {A = SyntaxFault} (record { kind = k; line = line }) (record { kind = k; line = other })
+fault_same k line other e = ap (λ (l : ℕ). record { kind = k; line = l }) e
+
+one_of : (source : List ℕ) (k l : FaultKind) (line other : ℕ) → FaultsBy k source line → FaultsBy l source other
+    → ◌≡◌ {A = SyntaxFault} (record { kind = k; line = line }) (record { kind = l; line = other })
+one_of source Faults.Token Faults.Token line other h g = fault_same Faults.Token line other (fault_line source line other h g)
+one_of source Faults.Token Faults.Grammar line other h g = absurd (no_tokens_at source line g.tokens h g.are_tokens)
+one_of source Faults.Token Faults.Nesting line other h g = absurd (no_tokens_at source line g.tokens h g.are_tokens)
+one_of source Faults.Grammar Faults.Token line other h g = absurd (no_tokens_at source other h.tokens g h.are_tokens)
+one_of source Faults.Nesting Faults.Token line other h g = absurd (no_tokens_at source other h.tokens g h.are_tokens)
+one_of source Faults.Grammar Faults.Grammar line other h g =
+    let same = lexed_only source h.tokens g.tokens h.are_tokens g.are_tokens in
+    let u = subst (λ (ts : List Lexeme). IsUnexpected file most_levels ts h.index) same h.unexpected in
+    fault_same Faults.Grammar line other (line_at source h.tokens g.tokens h.index g.index line other same (file_one_unexpected most_levels g.tokens h.index g.index u g.unexpected) h.here g.here)
+one_of source Faults.Nesting Faults.Nesting line other h g =
+    let same = lexed_only source h.tokens g.tokens h.are_tokens g.are_tokens in
+    let u = subst (λ (ts : List Lexeme). IsTooDeep file most_levels ts h.index) same h.too_deep in
+    fault_same Faults.Nesting line other (line_at source h.tokens g.tokens h.index g.index line other same (file_one_too_deep most_levels g.tokens h.index g.index u g.too_deep) h.here g.here)
+one_of source Faults.Grammar Faults.Nesting line other h g =
+    let same = lexed_only source h.tokens g.tokens h.are_tokens g.are_tokens in
+    absurd (file_not_both most_levels g.tokens h.index g.index (subst (λ (ts : List Lexeme). IsUnexpected file most_levels ts h.index) same h.unexpected) g.too_deep)
+one_of source Faults.Nesting Faults.Grammar line other h g =
+    let same = lexed_only source h.tokens g.tokens h.are_tokens g.are_tokens in
+    absurd (file_not_both most_levels g.tokens g.index h.index g.unexpected (subst (λ (ts : List Lexeme). IsTooDeep file most_levels ts h.index) same h.too_deep))
+
+one_fault : (source : List ℕ) (f g : SyntaxFault) → HasFault source f → HasFault source g → f ≡ g
+one_fault source f g h i = one_of source f.kind g.kind f.line g.line h i
+
+no_file_by : (source : List ℕ) (k : FaultKind) (line : ℕ) (t : FileTree) → FaultsBy k source line → Spells most_levels source t → ⊥
+no_file_by source Faults.Token line t h s = no_tokens_at source line s.tokens h s.are_tokens
+no_file_by source Faults.Grammar line t h s =
+    let same = lexed_only source h.tokens s.tokens h.are_tokens s.are_tokens in
+    file_none_unexpected most_levels s.tokens t h.index s.spelled (subst (λ (ts : List Lexeme). IsUnexpected file most_levels ts h.index) same h.unexpected)
+no_file_by source Faults.Nesting line t h s =
+    let same = lexed_only source h.tokens s.tokens h.are_tokens s.are_tokens in
+    file_none_too_deep most_levels s.tokens t h.index s.spelled (subst (λ (ts : List Lexeme). IsTooDeep file most_levels ts h.index) same h.too_deep)
+
+cases_parsed : (r : Result FileTree SyntaxFault) → ((t : FileTree) × (r ≡ Ok t)) ⊎ ((g : SyntaxFault) × (r ≡ Err g))
+cases_parsed (Ok t) = inl (t, refl)
+cases_parsed (Err g) = inr (g, refl)
+
+parsed_faulty : (source : List ℕ) (f : SyntaxFault) → HasFault source f → parsed source ≡ Err f
+parsed_faulty source f h = elim (cases_parsed (parsed source)) [
+  | inl w ↦ absurd (no_file_by source f.kind f.line w.0 h (parsed_spelled source w.0 w.1))
+  | inr w ↦ w.1 ∙ ap (λ (g : SyntaxFault). Err g) (one_fault source w.0 f (parsed_fault source w.0 w.1) h)
+]
+
+-- the tokens of a source begin a file up to any token that stands before one up to which they do
+pub fronts_shorter : (source : List ℕ) → FrontsAreShorter source
+fronts_shorter source n ts j k a le h = file_shorter n ts j k le h
+
 -- ---- what an answer says
 
 pub spelled_all : (source : List ℕ) (r : Result File SyntaxError) → Answers file_of r (parsed source) → IfOk r (λ f. Spells most_levels source (file_of f))
@@ -105,6 +173,15 @@ refused_all source (Err errors.Memory) e f h = absurd (memory_is h)
     memory_is : ◌≡◌ {A = Result File SyntaxError} (Err errors.Memory) (Err (errors.Fault f)) → ⊥
     memory_is h = let e' : ◌≡◌ {A = SyntaxError} errors.Memory (errors.Fault f) = cc in cc
 refused_all source (Err (errors.Fault g)) e f h = subst (HasFault source) (fault_is g f h) (parsed_fault source g e)
+
+pub faulty_all : (source : List ℕ) (r : Result File SyntaxError) → Answers file_of r (parsed source) → (f : SyntaxFault) → HasFault source f
+    → MatchResult r (λ x. ⊥) (λ e. (e ≡ errors.Fault f) ⊎ (e ≡ errors.Memory))
+faulty_all source (Ok x) e f h = absurd (let p = parsed_faulty source f h in cc)
+faulty_all source (Err errors.Memory) e f h = inr refl
+faulty_all source (Err (errors.Fault g)) e f h = inl (ap (λ (x : SyntaxFault). errors.Fault x) (same (sym e ∙ parsed_faulty source f h)))
+  where
+    same : ◌≡◌ {A = Result FileTree SyntaxFault} (Err g) (Err f) → g ≡ f
+    same p = cc
 
 -- ---- the steps of parse
 

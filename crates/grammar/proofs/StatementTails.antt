@@ -1,5 +1,5 @@
 -- What the functions that read statements answer, case by case.
-use Rattle.std.proofs.Common.{◌≡◌, ℕ, zero, suc, ◌-◌, ◌≤◌, ◌<◌, Bool, true, false, List, [], ◌∷◌, length, Result, Ok, Err, refl, sym, ap, arith, sub-one, Option, Some, None}
+use Rattle.std.proofs.Common.{◌++◌, ◌∙◌, subst, ◌≡◌, ℕ, zero, suc, ◌-◌, ◌≤◌, ◌<◌, Bool, true, false, List, [], ◌∷◌, length, Result, Ok, Err, refl, sym, ap, arith, sub-one, Option, Some, None}
 use Rattle.std.proofs.lemmas.List.{append-nil}
 use Rattle.std.specs.Prelude.{unwrap_or}
 use Rattle.lexer.specs.declared.token.Token.{Token}
@@ -15,7 +15,7 @@ use Rattle.grammar.specs.ExpressionTree.{ExpressionTree}
 use Rattle.grammar.specs.Tree.{StatementTree, AssignTree, AppendTree, BreakTree, ContinueTree, BranchTree}
 use Rattle.grammar.specs.Reading.{Reader, ◌>>=◌, Fails, begins, deep_at, optional_at, or_at, token_at, two_begin}
 use Rattle.grammar.specs.ReadingExpressions.{expr_at}
-use Rattle.grammar.specs.ReadingStatements.{set_at, plain_at, leave_at, simple_at, ends_line, in_line, maybe_at, in_body, ended_line_at, body_at, elif_at, branch_at, parts_at, last_part_at, otherwise_at, foreach_at, conditional_at, begins_block, block_at, stmt_at, line_at, next_line_at, file_at}
+use Rattle.grammar.specs.ReadingStatements.{GivesLine, set_at, plain_at, leave_at, simple_at, ends_line, in_line, maybe_at, in_body, ended_line_at, body_at, elif_at, branch_at, parts_at, last_part_at, otherwise_at, foreach_at, conditional_at, begins_block, block_at, stmt_at, line_at, next_line_at, file_at}
 use Rattle.grammar.proofs.Gathered as loops
 use Rattle.grammar.proofs.Gathered.{all, with_one, one_regroup, with_line, line_regroup, begins_long}
 use Rattle.grammar.proofs.Tails.{length_lexemes}
@@ -93,7 +93,7 @@ simple_plain inside n ts b c a p = rw (b, c, a, p) refl
 
 -- ---- statements
 
-pub stmt_block : (inside : Bool) (n : ℕ) (ts : List Lexeme) → begins_block ts ≡ true → stmt_at inside n ts ≡ block_at inside n ts
+stmt_block : (inside : Bool) (n : ℕ) (ts : List Lexeme) → begins_block ts ≡ true → stmt_at inside n ts ≡ block_at inside n ts
 unfolding stmt_at or_at
 stmt_block inside n ts b = rw b refl
 
@@ -101,31 +101,36 @@ pub stmt_simple : (inside : Bool) (n : ℕ) (ts : List Lexeme) → begins_block 
 unfolding stmt_at or_at
 stmt_simple inside n ts b = rw b refl
 
-pub block_foreach : (inside : Bool) (n : ℕ) (ts : List Lexeme) → 0 < n → begins Kinds.Foreach ts ≡ true
+block_foreach : (inside : Bool) (n : ℕ) (ts : List Lexeme) → 0 < n → begins Kinds.Foreach ts ≡ true
     → block_at inside n ts ≡ foreach_at (expr_at (n - 1)) (stmt_at true (n - 1)) ts
 unfolding block_at stmt_at or_at
 block_foreach inside zero ts lt b = absurd (omega arith)
 block_foreach inside (suc n) ts lt b = rw (b, sub-one) refl
 
-pub block_conditional : (inside : Bool) (n : ℕ) (ts : List Lexeme) → 0 < n → begins Kinds.Foreach ts ≡ false
+block_conditional : (inside : Bool) (n : ℕ) (ts : List Lexeme) → 0 < n → begins Kinds.Foreach ts ≡ false
     → block_at inside n ts ≡ conditional_at (expr_at (n - 1)) (stmt_at inside (n - 1)) ts
 unfolding block_at stmt_at or_at
 block_conditional inside zero ts lt b = absurd (omega arith)
 block_conditional inside (suc n) ts lt b = rw (b, sub-one) refl
 
-pub block_deep : (inside : Bool) (n : ℕ) (ts : List Token) → n ≤ 0 → begins_block (lexemes ts) ≡ true
+block_deep : (inside : Bool) (n : ℕ) (ts : List Token) → n ≤ 0 → begins_block (lexemes ts) ≡ true
     → block_at inside n (lexemes ts) ≡ Err (TooDeep (length ts))
 unfolding block_at deep_at or_at
 block_deep inside (suc n) ts le b = absurd (omega arith)
 block_deep inside zero [] le b = absurd cc
 block_deep inside zero (t ∷ ts) le b = grind (arith, length_lexemes (t ∷ ts))
 
-pub block_unexpected : (inside : Bool) (n : ℕ) (ts : List Token) → n ≤ 0 → begins_block (lexemes ts) ≡ false
-    → block_at inside n (lexemes ts) ≡ Err (Unexpected (length ts))
-unfolding block_at deep_at or_at
-block_unexpected inside (suc n) ts le b = absurd (omega arith)
-block_unexpected inside zero [] le b = refl
-block_unexpected inside zero (t ∷ ts) le b = grind (arith, length_lexemes (t ∷ ts))
+module _ (inside : Bool) (n : ℕ) where
+  pub stmt_deep : (ts : List Token) → n ≡ 0 → begins_block (lexemes ts) ≡ true → stmt_at inside n (lexemes ts) ≡ Err (TooDeep (length ts))
+  stmt_deep ts z b = stmt_block inside n (lexemes ts) b ∙ block_deep inside n ts (omega arith) b
+
+  pub stmt_foreach : (ts : List Lexeme) → 0 < n → begins_block ts ≡ true → begins Kinds.Foreach ts ≡ true
+      → stmt_at inside n ts ≡ foreach_at (expr_at (n - 1)) (stmt_at true (n - 1)) ts
+  stmt_foreach ts lt b f = stmt_block inside n ts b ∙ block_foreach inside n ts lt f
+
+  pub stmt_conditional : (ts : List Lexeme) → 0 < n → begins_block ts ≡ true → begins Kinds.Foreach ts ≡ false
+      → stmt_at inside n ts ≡ conditional_at (expr_at (n - 1)) (stmt_at inside (n - 1)) ts
+  stmt_conditional ts lt b f = stmt_block inside n ts b ∙ block_conditional inside n ts lt f
 
 -- ---- a form or nothing
 
@@ -145,17 +150,17 @@ unfolding optional_at or_at
 optional_fails first r ts errors.Memory b h = tt
 optional_fails first r ts (errors.Stop f) b h = rw (b, h) refl
 
--- a line, told by where it ends
-pub maybe_some : (r : Reader StatementTree) (ts : List Lexeme) (s : StatementTree) (rest : List Lexeme) → ends_line ts ≡ false
-    → r ts ≡ Ok (s, rest) → maybe_at r ts ≡ Ok (Some s, rest)
-maybe_some r ts s rest b e = optional_some in_line r ts s rest (rw b refl) e
+-- the statement of a line, told by where the line ends
+module _ (r : Reader StatementTree) (before : List StatementTree) (ts : List Lexeme) where
+  pub line_some : {X : Type 0} (x : X) (s : StatementTree) (after : List StatementTree) (rest : List Lexeme) → ends_line ts ≡ false
+      → r ts ≡ Ok (s, rest) → after ≡ before ++ s ∷ [] → GivesLine before after (Ok x) rest (maybe_at r ts)
+  line_some x s after rest b e same = (Some s, optional_some in_line r ts s rest (rw b refl) e, same)
 
-pub maybe_none : (r : Reader StatementTree) (ts : List Lexeme) → ends_line ts ≡ true → maybe_at r ts ≡ Ok (None, ts)
-maybe_none r ts b = optional_none in_line r ts (rw b refl)
+  pub line_none : {X : Type 0} (x : X) → ends_line ts ≡ true → GivesLine before before (Ok x) ts (maybe_at r ts)
+  line_none x b = (None, optional_none in_line r ts (rw b refl), sym (append-nil before))
 
-pub maybe_fails : (r : Reader StatementTree) (ts : List Lexeme) (e : ReadError) → ends_line ts ≡ false → Fails e (r ts)
-    → Fails e (maybe_at r ts)
-maybe_fails r ts e b h = optional_fails in_line r ts e (rw b refl) h
+  pub line_fails : (e : ReadError) → ends_line ts ≡ false → Fails e (r ts) → Fails e (maybe_at r ts)
+  line_fails e b h = optional_fails in_line r ts e (rw b refl) h
 
 -- ---- the parts of an `if`
 
@@ -174,6 +179,22 @@ unfolding otherwise_at optional_at or_at
 otherwise_none r ts b = rw b refl
 
 module _ (expr : Reader ExpressionTree) (stmt : Reader StatementTree) where
+  elif_reads : (ts : List Lexeme) (w : Lexeme) (mid : List Lexeme) (b : BranchTree) (rest : List Lexeme) → token_at Kinds.Elif ts ≡ Ok (w, mid)
+      → branch_at expr stmt mid ≡ Ok (b, rest) → elif_at expr stmt ts ≡ Ok (b, rest)
+  unfolding elif_at
+  elif_reads ts w mid b rest t h = rw (t, h) refl
+
+  pub elif_word_fails : (ts : List Lexeme) (e : ReadError) → Fails e (token_at Kinds.Elif ts) → Fails e (elif_at expr stmt ts)
+  unfolding elif_at
+  elif_word_fails ts errors.Memory h = tt
+  elif_word_fails ts (errors.Stop f) h = rw h refl
+
+  pub elif_branch_fails : (ts : List Lexeme) (w : Lexeme) (mid : List Lexeme) (e : ReadError) → token_at Kinds.Elif ts ≡ Ok (w, mid)
+      → Fails e (branch_at expr stmt mid) → Fails e (elif_at expr stmt ts)
+  unfolding elif_at
+  elif_branch_fails ts w mid errors.Memory t h = tt
+  elif_branch_fails ts w mid (errors.Stop f) t h = rw (t, h) refl
+
   abbrev pub StillParts : List BranchTree → List Lexeme → Result (List BranchTree × List Lexeme) Stop → Type 0
   StillParts = loops.StillReads (begins Kinds.Elif) (elif_at expr stmt) all with_one append-nil one_regroup (begins_long Kinds.Elif)
 
@@ -187,11 +208,13 @@ module _ (expr : Reader ExpressionTree) (stmt : Reader StatementTree) where
   parts_fails ts errors.Memory h = tt
   parts_fails ts (errors.Stop f) h = rw h refl
 
-  pub parts_more : (before : List BranchTree) (ts : List Lexeme) (total : Result (List BranchTree × List Lexeme) Stop) (a : BranchTree)
-      (rest : List Lexeme)
-      → StillParts before ts total → begins Kinds.Elif ts ≡ true → elif_at expr stmt ts ≡ Ok (a, rest) → length rest < length ts
-      → StillParts (with_one before a) rest total
-  parts_more = loops.still_more (begins Kinds.Elif) (elif_at expr stmt) all with_one append-nil one_regroup (begins_long Kinds.Elif)
+  pub parts_more : (before : List BranchTree) (ts : List Lexeme) (total : Result (List BranchTree × List Lexeme) Stop) (w : Lexeme)
+      (mid : List Lexeme) (a : BranchTree) (rest : List Lexeme)
+      → StillParts before ts total → begins Kinds.Elif ts ≡ true → token_at Kinds.Elif ts ≡ Ok (w, mid) → branch_at expr stmt mid ≡ Ok (a, rest)
+      → length rest < length ts → StillParts (with_one before a) rest total
+  parts_more before ts total w mid a rest s b t h lt =
+      loops.still_more (begins Kinds.Elif) (elif_at expr stmt) all with_one append-nil one_regroup (begins_long Kinds.Elif)
+      before ts total a rest s b (elif_reads ts w mid a rest t h) lt
 
   pub parts_stop : (before : List BranchTree) (ts : List Lexeme) (total : Result (List BranchTree × List Lexeme) Stop) (e : ReadError)
       → StillParts before ts total → begins Kinds.Elif ts ≡ true → Fails e (elif_at expr stmt ts) → Fails e total
@@ -215,15 +238,40 @@ module _ (stmt : Reader StatementTree) where
   unfolding body_at
   body_first ts = (length ts, omega arith, refl)
 
-  pub body_more : (before : List StatementTree) (ts : List Lexeme) (total : Result (List StatementTree × List Lexeme) Stop)
-      (o : Option StatementTree) (rest : List Lexeme)
-      → StillBody before ts total → in_body ts ≡ true → ended_line_at stmt ts ≡ Ok (o, rest) → length rest < length ts
-      → StillBody (with_line before o) rest total
-  body_more = loops.still_more in_body (ended_line_at stmt) given with_line append-nil line_regroup in_body_long
+  ended_reads : (ts mid : List Lexeme) (o : Option StatementTree) (t : Lexeme) (rest : List Lexeme) → maybe_at stmt ts ≡ Ok (o, mid)
+      → token_at Kinds.Newline mid ≡ Ok (t, rest) → ended_line_at stmt ts ≡ Ok (o, rest)
+  unfolding ended_line_at
+  ended_reads ts mid o t rest h e = rw (h, e) refl
 
-  pub body_fails : (before : List StatementTree) (ts : List Lexeme) (total : Result (List StatementTree × List Lexeme) Stop)
-      (e : ReadError) → StillBody before ts total → in_body ts ≡ true → Fails e (ended_line_at stmt ts) → Fails e total
-  body_fails = loops.still_fails in_body (ended_line_at stmt) given with_line append-nil line_regroup in_body_long
+  line_fails_ended : (ts : List Lexeme) (e : ReadError) → Fails e (maybe_at stmt ts) → Fails e (ended_line_at stmt ts)
+  unfolding ended_line_at
+  line_fails_ended ts errors.Memory h = tt
+  line_fails_ended ts (errors.Stop f) h = rw h refl
+
+  newline_fails_ended : (ts mid : List Lexeme) (o : Option StatementTree) (e : ReadError) → maybe_at stmt ts ≡ Ok (o, mid)
+      → Fails e (token_at Kinds.Newline mid) → Fails e (ended_line_at stmt ts)
+  unfolding ended_line_at
+  newline_fails_ended ts mid o errors.Memory h e = tt
+  newline_fails_ended ts mid o (errors.Stop f) h e = rw (h, e) refl
+
+  module _ (before : List StatementTree) (ts : List Lexeme) (total : Result (List StatementTree × List Lexeme) Stop)
+      (still : StillBody before ts total) (goes_on : in_body ts ≡ true) where
+    pub body_more : {X : Type 0} (x : X) (after : List StatementTree) (mid : List Lexeme) (t : Lexeme) (rest : List Lexeme)
+        → GivesLine before after (Ok x) mid (maybe_at stmt ts) → token_at Kinds.Newline mid ≡ Ok (t, rest) → length rest < length ts
+        → StillBody after rest total
+    body_more x after mid t rest (o, h, same) e lt = subst (λ (l : List StatementTree). StillBody l rest total) (sym same)
+        (loops.still_more in_body (ended_line_at stmt) given with_line append-nil line_regroup in_body_long
+        before ts total o rest still goes_on (ended_reads ts mid o t rest h e) lt)
+
+    body_fails : (e : ReadError) → Fails e (ended_line_at stmt ts) → Fails e total
+    body_fails e h = loops.still_fails in_body (ended_line_at stmt) given with_line append-nil line_regroup in_body_long before ts total e still goes_on h
+
+    pub body_line_fails : (e : ReadError) → Fails e (maybe_at stmt ts) → Fails e total
+    body_line_fails e h = body_fails e (line_fails_ended ts e h)
+
+    pub body_newline_fails : {X : Type 0} (x : X) (after : List StatementTree) (mid : List Lexeme) (e : ReadError)
+        → GivesLine before after (Ok x) mid (maybe_at stmt ts) → Fails e (token_at Kinds.Newline mid) → Fails e total
+    body_newline_fails x after mid e (o, h, same) g = body_fails e (newline_fails_ended ts mid o e h g)
 
   pub body_end : (before : List StatementTree) (ts : List Lexeme) (total : Result (List StatementTree × List Lexeme) Stop)
       → StillBody before ts total → in_body ts ≡ false → total ≡ Ok (before, ts)
@@ -235,26 +283,52 @@ module _ (n : ℕ) where
   abbrev pub StillLines : List StatementTree → List Lexeme → Result (List StatementTree × List Lexeme) Stop → Type 0
   StillLines = loops.StillReads (begins Kinds.Newline) (next_line_at n) given with_line append-nil line_regroup (begins_long Kinds.Newline)
 
-  pub lines_first : (ts : List Lexeme) (o : Option StatementTree) (rest : List Lexeme) → line_at n ts ≡ Ok (o, rest)
-      → StillLines (with_line [] o) rest (file_at n ts)
+  pub lines_first : {X : Type 0} (x : X) (ts : List Lexeme) (after : List StatementTree) (rest : List Lexeme)
+      → GivesLine [] after (Ok x) rest (line_at n ts) → StillLines after rest (file_at n ts)
   unfolding file_at
-  lines_first ts None rest e = (length rest, omega arith, sym (rw e refl))
-  lines_first ts (Some s) rest e = (length rest, omega arith, sym (rw e refl))
+  lines_first x ts after rest (None, h, same) = rw same (length rest, omega arith, sym (rw h refl))
+  lines_first x ts after rest (Some s, h, same) = rw same (length rest, omega arith, sym (rw h refl))
 
   pub lines_fail : (ts : List Lexeme) (e : ReadError) → Fails e (line_at n ts) → Fails e (file_at n ts)
   unfolding file_at
   lines_fail ts errors.Memory h = tt
   lines_fail ts (errors.Stop f) h = rw h refl
 
-  pub lines_more : (before : List StatementTree) (ts : List Lexeme) (total : Result (List StatementTree × List Lexeme) Stop)
-      (o : Option StatementTree) (rest : List Lexeme)
-      → StillLines before ts total → begins Kinds.Newline ts ≡ true → next_line_at n ts ≡ Ok (o, rest) → length rest < length ts
-      → StillLines (with_line before o) rest total
-  lines_more = loops.still_more (begins Kinds.Newline) (next_line_at n) given with_line append-nil line_regroup (begins_long Kinds.Newline)
+  next_reads : (ts : List Lexeme) (t : Lexeme) (mid : List Lexeme) (o : Option StatementTree) (rest : List Lexeme)
+      → token_at Kinds.Newline ts ≡ Ok (t, mid) → line_at n mid ≡ Ok (o, rest) → next_line_at n ts ≡ Ok (o, rest)
+  unfolding next_line_at
+  next_reads ts t mid o rest e h = rw (e, h) refl
 
-  pub lines_stop : (before : List StatementTree) (ts : List Lexeme) (total : Result (List StatementTree × List Lexeme) Stop)
-      (e : ReadError) → StillLines before ts total → begins Kinds.Newline ts ≡ true → Fails e (next_line_at n ts) → Fails e total
-  lines_stop = loops.still_fails (begins Kinds.Newline) (next_line_at n) given with_line append-nil line_regroup (begins_long Kinds.Newline)
+  newline_fails_next : (ts : List Lexeme) (e : ReadError) → Fails e (token_at Kinds.Newline ts) → Fails e (next_line_at n ts)
+  unfolding next_line_at
+  newline_fails_next ts errors.Memory h = tt
+  newline_fails_next ts (errors.Stop f) h = rw h refl
+
+  line_fails_next : (ts : List Lexeme) (t : Lexeme) (mid : List Lexeme) (e : ReadError) → token_at Kinds.Newline ts ≡ Ok (t, mid)
+      → Fails e (line_at n mid) → Fails e (next_line_at n ts)
+  unfolding next_line_at
+  line_fails_next ts t mid errors.Memory h g = tt
+  line_fails_next ts t mid (errors.Stop f) h g = rw (h, g) refl
+
+  module _ (before : List StatementTree) (ts : List Lexeme) (total : Result (List StatementTree × List Lexeme) Stop)
+      (still : StillLines before ts total) (goes_on : begins Kinds.Newline ts ≡ true) where
+    pub lines_more : {X : Type 0} (x : X) (t : Lexeme) (mid : List Lexeme) (after : List StatementTree) (rest : List Lexeme)
+        → token_at Kinds.Newline ts ≡ Ok (t, mid) → GivesLine before after (Ok x) rest (line_at n mid) → length rest < length ts
+        → StillLines after rest total
+    lines_more x t mid after rest e (o, h, same) lt = subst (λ (l : List StatementTree). StillLines l rest total) (sym same)
+        (loops.still_more (begins Kinds.Newline) (next_line_at n) given with_line append-nil line_regroup (begins_long Kinds.Newline)
+        before ts total o rest still goes_on (next_reads ts t mid o rest e h) lt)
+
+    lines_stop : (e : ReadError) → Fails e (next_line_at n ts) → Fails e total
+    lines_stop e h = loops.still_fails (begins Kinds.Newline) (next_line_at n) given with_line append-nil line_regroup (begins_long Kinds.Newline)
+        before ts total e still goes_on h
+
+    pub lines_newline_fails : (e : ReadError) → Fails e (token_at Kinds.Newline ts) → Fails e total
+    lines_newline_fails e h = lines_stop e (newline_fails_next ts e h)
+
+    pub lines_line_fails : (t : Lexeme) (mid : List Lexeme) (e : ReadError) → token_at Kinds.Newline ts ≡ Ok (t, mid) → Fails e (line_at n mid)
+        → Fails e total
+    lines_line_fails t mid e h g = lines_stop e (line_fails_next ts t mid e h g)
 
   pub lines_end : (before : List StatementTree) (ts : List Lexeme) (total : Result (List StatementTree × List Lexeme) Stop)
       → StillLines before ts total → begins Kinds.Newline ts ≡ false → total ≡ Ok (before, ts)

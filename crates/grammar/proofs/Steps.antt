@@ -13,7 +13,7 @@ use Rattle.grammar.specs.Form.{Form, token, never, ◌>>=◌}
 use Rattle.grammar.specs.Parts.{Inner, Closed, Inside, first_line, here, here_at, opened, opened_at, stands_for, token_as, token_as_at}
 use Rattle.grammar.specs.Reading.{Reader, begins, deep_at, head_is, token_at, tokens_left}
 use Rattle.grammar.proofs.Binding.{After}
-use Rattle.grammar.proofs.Ends.{ends-never}
+use Rattle.grammar.proofs.Ends.{between_one, end_shorter, end_whole, ends-flat, ends-never}
 use Rattle.grammar.proofs.Laws.{bind_at, cases_bool, left_of}
 use Rattle.grammar.proofs.Line.{Line, Any, line-then, line-token}
 use Rattle.grammar.proofs.Numbers.{is-true}
@@ -32,7 +32,7 @@ line-here = record {
     reaches = λ ts more h. omega (arith, ap length h);
   };
   raises = raises-flat here here_at (λ ts left e. absurd cc);
-  ends = record { spelled = λ l ts rest h. record { before = []; parts = h.0 }; begun = λ ts more h. record { before = []; parts = h } };
+  ends = ends-flat here (λ l ts rest h. h.0) (λ ts more h. h) (λ ts more e. e);
   takes = record { taken = λ l ts rest h. omega (arith, ap length h.0) };
 }
 
@@ -114,6 +114,10 @@ module _ {B : Type 0} (f : Kind → Option B) where
     ends = record {
       spelled = λ x ts rest h. record { before = x.1 ∷ []; parts = h.0 };
       begun = λ ts more h. elim h [ inl same ↦ record { before = []; parts = same } | inr w ↦ record { before = w.0.1 ∷ []; parts = w.1 } ];
+      between = λ ts mid more p q h. elim h [
+        | inl same ↦ inl (sym (end_whole ts mid p (omega (arith, ap length same, end_shorter mid more q))))
+        | inr w ↦ elim (between_one ts mid more w.0.1 w.1 p q) [ inl same ↦ inl (sym same) | inr same ↦ inr (w.0, w.1 ∙ ap (λ (l : List Lexeme). w.0.1 ∷ l) (sym same), w.2) ]
+      ];
     };
     takes = record { taken = λ x ts rest h. omega (arith, ap length h.0) };
   }

@@ -1,5 +1,5 @@
 -- What the functions of the parser answer, case by case.
-use Rattle.std.proofs.Common.{◌≡◌, ℕ, zero, suc, ◌+◌, ◌-◌, ◌≤◌, ◌<◌, true, false, List, [], ◌∷◌, length, get_or, take, drop, Result, Ok, Err, refl, sym, ap, ◌∙◌, arith, rules}
+use Rattle.std.proofs.Common.{inl, inr, ◌≡◌, ℕ, zero, suc, ◌+◌, ◌-◌, ◌≤◌, ◌<◌, true, false, List, [], ◌∷◌, length, get_or, take, drop, Result, Ok, Err, refl, sym, ap, ◌∙◌, arith, rules}
 use Rattle.std.proofs.lemmas.Grind.{common_steps}
 use Rattle.lexer.specs.declared.token.Token.{Token}
 use Rattle.lexer.specs.declared.token.Kind.{Kind}
@@ -9,13 +9,17 @@ use Rattle.grammar.specs.declared.stop.ReadError.{ReadError}
 use Rattle.grammar.specs.declared.stop.ReadError.TheVariants as errors
 use Rattle.lexer.specs.Kinds.{is}
 use Rattle.lexer.specs.Lexeme.{Lexeme, lexeme_of, lexemes}
-use Rattle.grammar.specs.Reading.{Reader, Fails, token_at, all_of}
+use Rattle.grammar.specs.Reading.{Reader, Fails, all_of, first_of, token_at}
+use Rattle.grammar.proofs.Laws.{cases_bool}
 use Rattle.grammar.specs.Parsed.{line_of}
 
 -- ---- one token
 
 take_all : {A : Type 0} (ts : List A) → take (length ts) ts ≡ ts
 take_all ts = search (rules, common_steps)
+
+pub rest_is : (t : Token) (ts : List Token) → ts ≡ take (length (t ∷ ts) - 1) ts
+rest_is t ts = sym (ap (λ (n : ℕ). take n ts) (let q : length (t ∷ ts) - 1 ≡ length ts = omega arith in q) ∙ take_all ts)
 
 pub length_lexemes : (ts : List Token) → length (lexemes ts) ≡ length ts
 length_lexemes [] = refl
@@ -38,6 +42,16 @@ pub token_end : (k : Kind) (ts : List Token) → length ts < 1 → token_at k (l
 unfolding token_at
 token_end k [] le = refl
 token_end k (t ∷ ts) le = absurd (omega arith)
+
+-- a token that was taken is the first
+pub first_taken : (k : Kind) (ts : List Lexeme) (t : Lexeme) (rest : List Lexeme) → token_at k ts ≡ Ok (t, rest) → token_at k ts ≡ Ok (first_of ts, rest)
+unfolding token_at
+first_taken k [] t rest e = absurd cc
+first_taken k (u ∷ us) t rest e = elim (cases_bool (is u.kind k)) [
+  | inl y ↦ let same : ◌≡◌ {A = Result (Lexeme × List Lexeme) Stop} (Ok (u, us)) (Ok (t, rest)) = sym (rw y refl) ∙ e in
+      rw y (ap (λ (l : List Lexeme). Ok (u, l)) (let pair : ◌≡◌ {A = Lexeme × List Lexeme} (u, us) (t, rest) = cc in ap (λ (q : Lexeme × List Lexeme). q.1) pair))
+  | inr n ↦ absurd (let no : ◌≡◌ {A = Result (Lexeme × List Lexeme) Stop} (Err (Unexpected (length us + 1))) (Ok (t, rest)) = sym (rw n refl) ∙ e in cc)
+]
 
 pub fails_at : {Y : Type 0} (e : ReadError) (f : Stop) (read : Result Y Stop) → e ≡ errors.Stop f → read ≡ Err f → Fails e read
 fails_at errors.Memory f read e h = tt

@@ -5,10 +5,12 @@ use Rattle.grammar.specs.declared.stop.Stop.{Stop}
 use Rattle.grammar.specs.declared.stop.Stop.TheVariants.{Unexpected, TooDeep}
 use Rattle.grammar.specs.Form.{Form}
 use Rattle.grammar.specs.Reading.{Reader, all_of, ends_at, tokens_left}
-use Rattle.grammar.specs.Outcome.{IsUnexpected, IsTooDeep}
+use Rattle.grammar.specs.Outcome.{BeginsBy, IsUnexpected, IsTooDeep}
 use Rattle.grammar.proofs.Laws.{Reads, IsForm, bind_ok, bind_err, left_of}
 use Rattle.grammar.proofs.Raises.{Raises, TooDeepAt}
-use Rattle.grammar.proofs.Ends.{Ends, IsEnd, drop_end}
+use Rattle.grammar.proofs.Ends.{Ends, IsEnd, drop_end, end_drop, le_or_more}
+use Rattle.std.proofs.lemmas.List.{drop_all}
+use Rattle.std.proofs.lemmas.List.{drop-drop}
 
 module _ {A : Type 0} (F : ℕ → Form A) (r : ℕ → Reader A) (Stops : List Lexeme → Type 0) (isF : (n : ℕ) → IsForm (F n)) (reads : (n : ℕ) → Reads (F n) (r n) Stops)
     (raises : (n : ℕ) → Raises (F n) (F (suc n)) (r n) (r (suc n))) (ends : (n : ℕ) → Ends (F n)) (stops_end : Stops []) where
@@ -147,3 +149,43 @@ module _ {A : Type 0} (F : ℕ → Form A) (r : ℕ → Reader A) (Stops : List 
             here = λ more. omega (arith, (reads n).reaches ts (drop (length ts - left + 1) ts) more.1, ap left_of e1, length-drop (length ts - left + 1) ts);
             deeper = (omega arith, subst (λ (l : List Lexeme). (F (n + 1)).front ts l) (sym (ap (λ (i : ℕ). drop i ts) next ∙ drop_end ts after end2)) (subst (λ (m : ℕ). (F m).front ts after) (omega arith) opened));
           }
+
+  -- ---- a fault is the first
+
+  -- what is shorter than a front is one
+  pub all_shorter : (n : ℕ) (ts : List Lexeme) (j k : ℕ) → j ≤ k → BeginsBy (F n) ts k → BeginsBy (F n) ts j
+  all_shorter n ts j k le h =
+      let sum : k ≡ j + (k - j) = omega arith in
+      let same : drop (k - j) (drop j ts) ≡ drop k ts = drop-drop (k - j) j ts ∙ ap (λ (i : ℕ). drop i ts) (sym sum) in
+      (omega (arith, h.0), (ends n).between ts (drop j ts) (drop k ts) (end_drop j ts) (subst (λ (l : List Lexeme). IsEnd l (drop j ts)) same (end_drop (k - j) (drop j ts))) h.1)
+
+  not_past : (n : ℕ) (ts : List Lexeme) (k j : ℕ) → IsUnexpected F n ts k → (m : ℕ) → BeginsBy (F m) ts j → j ≤ k
+  not_past n ts k j h m b = elim (le_or_more j k) [
+    | inl le ↦ le
+    | inr gt ↦ absurd (h.here m (omega (arith, b.0)) (all_shorter m ts (k + 1) j (omega arith) b))
+  ]
+
+  not_deeper : (n : ℕ) (ts : List Lexeme) (k j : ℕ) → IsTooDeep F n ts k → BeginsBy (F n) ts j → j ≤ k
+  not_deeper n ts k j h b = elim (le_or_more j k) [
+    | inl le ↦ le
+    | inr gt ↦ absurd (h.here (all_shorter n ts (k + 1) j (omega arith) b))
+  ]
+
+  pub one_unexpected : (n : ℕ) (ts : List Lexeme) (j k : ℕ) → IsUnexpected F n ts j → IsUnexpected F n ts k → j ≡ k
+  one_unexpected n ts j k h g = omega (arith, not_past n ts j k h n g.before, not_past n ts k j g n h.before)
+
+  pub one_too_deep : (n : ℕ) (ts : List Lexeme) (j k : ℕ) → IsTooDeep F n ts j → IsTooDeep F n ts k → j ≡ k
+  one_too_deep n ts j k h g = omega (arith, not_deeper n ts j k h g.before, not_deeper n ts k j g h.before)
+
+  pub not_both : (n : ℕ) (ts : List Lexeme) (j k : ℕ) → IsUnexpected F n ts j → IsTooDeep F n ts k → ⊥
+  not_both n ts j k h g = omega (arith, not_past n ts j (k + 1) h (n + 1) g.deeper, not_deeper n ts k j g h.before)
+
+  whole_front : (n : ℕ) (ts : List Lexeme) (a : A) → (F n).spells a ts [] → BeginsBy (F n) ts (length ts)
+  whole_front n ts a h = (omega arith, subst (λ (l : List Lexeme). (F n).front ts l) (sym (drop_all (length ts) ts (omega arith))) ((isF n).whole a ts [] h))
+
+  pub none_unexpected : (n : ℕ) (ts : List Lexeme) (a : A) (k : ℕ) → (F n).spells a ts [] → IsUnexpected F n ts k → ⊥
+  none_unexpected n ts a k h g =
+      g.at_end n a (omega (arith, not_past n ts k (length ts) g n (whole_front n ts a h), g.before.0)) h
+
+  pub none_too_deep : (n : ℕ) (ts : List Lexeme) (a : A) (k : ℕ) → (F n).spells a ts [] → IsTooDeep F n ts k → ⊥
+  none_too_deep n ts a k h g = omega (arith, not_deeper n ts k (length ts) g (whole_front n ts a h), g.deeper.0)

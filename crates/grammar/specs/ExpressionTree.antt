@@ -2,7 +2,7 @@
 use Rattle.std.specs.Prelude.{ℕ, List, [], ◌∷◌, map, Option}
 use Rattle.std.specs.Option.{option_map}
 use Rattle.grammar.specs.declared.tree.Expression.{Expression}
-use Rattle.grammar.specs.declared.tree.Expression.TheOpen.{Expression-F, Operand-F, Link-F, Argument-F, Entry-F, Name, Literal as LiteralOpen, List as ListOpen, Dictionary, Call, Postfix, Prefix as PrefixOpen, Chain, Choice, Method, Index}
+use Rattle.grammar.specs.declared.tree.Expression.TheOpen.{Expression-F, Operand-F, Link-F, Argument-F, Entry-F, Name, Literal as LiteralOpen, List as ListOpen, Dictionary, Call, Postfix, Prefix as PrefixOpen, Chain, Ternary, Method, Index}
 use Rattle.grammar.specs.declared.tree.Expression.TheFolds.{fold-Expression, fold-Operand, fold-Link, fold-Argument, fold-Entry}
 use Rattle.grammar.specs.declared.tree.Argument.{Argument}
 use Rattle.grammar.specs.declared.tree.Entry.{Entry}
@@ -23,7 +23,7 @@ mutual
     PostfixTree : ExpressionTree → LinkTrees → ℕ → ExpressionTree
     PrefixTree : Prefix → ExpressionTree → ℕ → ExpressionTree
     ChainTree : ExpressionTree → OperandTrees → ℕ → ExpressionTree
-    ChoiceTree : ExpressionTree → ExpressionTree → ExpressionTree → ℕ → ExpressionTree
+    TernaryTree : ExpressionTree → ExpressionTree → ExpressionTree → ℕ → ExpressionTree
 
   pub data ExpressionTrees : Type 0 where
     NoExpression : ExpressionTrees
@@ -92,7 +92,7 @@ expression_step (Call name items line) = FunctionTree name.now (arguments items.
 expression_step (Postfix first ls line) = PostfixTree first.value (links ls.items) line
 expression_step (PrefixOpen prefix value line) = PrefixTree prefix value.value line
 expression_step (Chain first others line) = ChainTree first.value (operands others.items) line
-expression_step (Choice test one other line) = ChoiceTree test.value one.value other.value line
+expression_step (Ternary test one other line) = TernaryTree test.value one.value other.value line
 
 abbrev pub operand_step : Operand-F ExpressionTree LinkTree ArgumentTree EntryTree OperandTree → OperandTree
 operand_step o = (o.operator, o.value)
@@ -136,4 +136,4 @@ line_of (FunctionTree name arguments line) = line
 line_of (PostfixTree first links line) = line
 line_of (PrefixTree prefix value line) = line
 line_of (ChainTree first others line) = line
-line_of (ChoiceTree test one other line) = line
+line_of (TernaryTree test one other line) = line

@@ -1,5 +1,5 @@
 -- The grammar of expressions, a form for each line, as the Meson manual's page "Syntax" has it. `b` says whether a
--- choice (`test ? yes : no`) may stand in the expression, `u` what may stand behind a token that opens a level.
+-- ternary (`test ? yes : no`) may stand in the expression, `u` what may stand behind a token that opens a level.
 use Rattle.std.specs.Prelude.{ℕ, zero, suc, Bool, true, false, List, [], ◌∷◌, Option, Some, None}
 use Rattle.std.specs.Option.{is_some, option_to_list}
 use Rattle.lexer.specs.Lexeme.{Lexeme}
@@ -11,7 +11,7 @@ use Rattle.grammar.specs.declared.tree.Operator.{Operator}
 use Rattle.grammar.specs.declared.tree.Operator.TheVariants as operators
 use Rattle.grammar.specs.declared.tree.Prefix.{Prefix}
 use Rattle.grammar.specs.declared.tree.Prefix.TheVariants as prefixes
-use Rattle.grammar.specs.ExpressionTree.{ExpressionTree, NameTree, LiteralTree, ListTree, DictionaryTree, FunctionTree, PostfixTree, PrefixTree, ChainTree, ChoiceTree, ArgumentTree, EntryTree, LinkTree, MethodTree, IndexTree, OperandTree, arguments, entries, expressions, links, operands}
+use Rattle.grammar.specs.ExpressionTree.{ExpressionTree, NameTree, LiteralTree, ListTree, DictionaryTree, FunctionTree, PostfixTree, PrefixTree, ChainTree, TernaryTree, ArgumentTree, EntryTree, LinkTree, MethodTree, IndexTree, OperandTree, arguments, entries, expressions, links, operands}
 use Rattle.grammar.specs.Form.{Form, token, give, ◌>>=◌, ◌or◌, many, optional, listed, listed_by}
 use Rattle.grammar.specs.Parts.{Inner, Closed, Inside, here, opened, token_as}
 
@@ -123,10 +123,10 @@ conjunction unary = chain conjunctive (comparison unary)
 abbrev pub disjunction : Form ExpressionTree → Form ExpressionTree
 disjunction unary = chain disjunctive (conjunction unary)
 
--- a choice without branches is its test
-abbrev pub choice_tree : ℕ → ExpressionTree → Option (ExpressionTree × ExpressionTree) → ExpressionTree
-choice_tree line test None = test
-choice_tree line test (Some x) = ChoiceTree test x.0 x.1 line
+-- a ternary without branches is its test
+abbrev pub ternary_tree : ℕ → ExpressionTree → Option (ExpressionTree × ExpressionTree) → ExpressionTree
+ternary_tree line test None = test
+ternary_tree line test (Some x) = TernaryTree test x.0 x.1 line
 
 -- "?" or ":" or
 abbrev pub branches : Form ExpressionTree → Form (ExpressionTree × ExpressionTree)
@@ -137,14 +137,14 @@ branches part = do
   other ← part
   give (one, other)
 
--- expr = or ["?" or ":" or], where no choice stands inside the branches, brackets or not
-abbrev pub choice : (Bool → Form ExpressionTree) → Bool → Form ExpressionTree
-choice unary false = disjunction (unary false)
-choice unary true = do
+-- expr = or ["?" or ":" or], where no ternary stands inside the branches, brackets or not
+abbrev pub ternary : (Bool → Form ExpressionTree) → Bool → Form ExpressionTree
+ternary unary false = disjunction (unary false)
+ternary unary true = do
   line ← here
   test ← disjunction (unary true)
   rest ← optional (branches (disjunction (unary false)))
-  give (choice_tree line test rest)
+  give (ternary_tree line test rest)
 
 -- ---- atoms
 
@@ -163,14 +163,14 @@ literal = do
 -- expr ")"
 abbrev pub group : (Bool → Form ExpressionTree) → Bool → Lexeme → Form ExpressionTree
 group unary b o = do
-  e ← choice unary b
+  e ← ternary unary b
   c ← token Kinds.CloseParenthesis
   give e
 
 -- [expr {"," expr} [","]] "]"
 abbrev pub list : (Bool → Form ExpressionTree) → Bool → Lexeme → Form ExpressionTree
 list unary b o = do
-  es ← listed (choice unary b)
+  es ← listed (ternary unary b)
   c ← token Kinds.CloseBracket
   give (ListTree (expressions es) o.line)
 
@@ -185,7 +185,7 @@ entry expr = do
 -- [expr ":" expr {"," expr ":" expr} [","]] "}"
 abbrev pub dictionary : (Bool → Form ExpressionTree) → Bool → Lexeme → Form ExpressionTree
 dictionary unary b o = do
-  es ← listed (entry (choice unary b))
+  es ← listed (entry (ternary unary b))
   c ← token Kinds.CloseBrace
   give (DictionaryTree (entries es) o.line)
 
@@ -226,7 +226,7 @@ is_named before a = is_some a.0
 -- args ")", where args = [item {"," item} [","]]
 abbrev pub items : (Bool → Form ExpressionTree) → Bool → Lexeme → Form (List ArgumentTree)
 items unary b o = do
-  xs ← listed_by (argument (choice unary b)) is_named false
+  xs ← listed_by (argument (ternary unary b)) is_named false
   c ← token Kinds.CloseParenthesis
   give xs
 
@@ -254,7 +254,7 @@ method args = do
 -- expr "]"
 abbrev pub index : (Bool → Form ExpressionTree) → Bool → Lexeme → Form LinkTree
 index unary b o = do
-  e ← choice unary b
+  e ← ternary unary b
   c ← token Kinds.CloseBracket
   give (IndexTree e)
 
@@ -296,4 +296,4 @@ unary (suc n) b = unary_in (Inside (unary n)) b
 
 -- expr
 unfoldable pub expr : ℕ → Form ExpressionTree
-expr n = choice (unary n) true
+expr n = ternary (unary n) true

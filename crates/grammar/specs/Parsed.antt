@@ -1,12 +1,12 @@
 -- What a source reads as.
-use Rattle.std.specs.Prelude.{◌≡◌, ℕ, ◌+◌, ◌-◌, List, [], ◌∷◌, length, drop, Result, Ok, Err}
+use Rattle.std.specs.Prelude.{◌≡◌, ℕ, ◌+◌, ◌-◌, ◌≤◌, List, [], ◌∷◌, length, drop, Result, Ok, Err}
 use Rattle.lexer.specs.Bytes.{newlines}
 use Rattle.lexer.specs.Lexeme.{Lexeme}
 use Rattle.grammar.specs.Tree.{FileTree}
 use Rattle.lexer.specs.Tokens.{AreTokens, IsUnreadable}
 use Rattle.lexer.specs.Lexing.{lexed}
 use Rattle.grammar.specs.Grammar.{file, most_levels}
-use Rattle.grammar.specs.Outcome.{IsUnexpected, IsTooDeep}
+use Rattle.grammar.specs.Outcome.{BeginsBy, IsUnexpected, IsTooDeep}
 use Rattle.grammar.specs.Reading.{all_of}
 use Rattle.grammar.specs.ReadingStatements.{file_at}
 use Rattle.grammar.specs.declared.stop.Stop.{Stop}
@@ -74,3 +74,7 @@ FaultsBy Faults.Nesting source line = IsTooDeepOn source line
 -- the source has this fault
 abbrev pub HasFault : List ℕ → SyntaxFault → Type 0
 HasFault source f = FaultsBy f.kind source f.line
+
+-- where the first k tokens begin a file, so do fewer: what no front reaches, no longer one does
+abbrev pub FrontsAreShorter : List ℕ → Type 0
+FrontsAreShorter source = (n : ℕ) (ts : List Lexeme) (j k : ℕ) → AreTokens source ts → j ≤ k → BeginsBy (file n) ts k → BeginsBy (file n) ts j

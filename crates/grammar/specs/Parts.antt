@@ -47,7 +47,7 @@ token_as_at f (t ∷ ts) = as_at (f t.kind) t ts
 
 -- ---- what opens a level
 
--- the expressions of one level less, by whether they may hold a choice; or none, where no level may be opened
+-- the expressions of one level less, by whether they may hold a ternary; or none, where no level may be opened
 pub data Inner : Type 1 where
   Closed : Inner
   Inside : (Bool → Form ExpressionTree) → Inner

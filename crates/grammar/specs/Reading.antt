@@ -1,5 +1,5 @@
 -- Reading tokens by the grammar, as functions: a value and the tokens after it, or where reading stops.
-use Rattle.std.specs.Prelude.{◌≡◌, ℕ, zero, suc, ◌+◌, List, [], ◌∷◌, length, Result, Ok, Err, Bool, false, if◌then◌else◌, ◌&&◌, Option, Some, None}
+use Rattle.std.specs.Prelude.{◌≡◌, ℕ, zero, suc, ◌+◌, List, [], ◌∷◌, length, Result, Ok, Err, Bool, true, false, not, if◌then◌else◌, ◌&&◌, Option, Some, None}
 use Rattle.lexer.specs.Lexeme.{Lexeme}
 use Rattle.lexer.specs.Kinds.{is}
 use Rattle.lexer.specs.declared.token.Kind.{Kind}
@@ -34,6 +34,11 @@ GivesAll view (Err e) read = Fails e read
 abbrev pub tokens_left : Stop → ℕ
 tokens_left (Unexpected n) = n
 tokens_left (TooDeep n) = n
+
+-- the first token; there is always one
+abbrev pub first_of : List Lexeme → Lexeme
+first_of [] = record { kind = Kinds.Newline; text = []; line = 0 }
+first_of (t ∷ ts) = t
 
 -- the first token is of this kind
 abbrev pub begins : Kind → List Lexeme → Bool
@@ -72,6 +77,15 @@ items_by stop r step (suc k) s ts = if stop ts then Ok ([], ts) else (r s ts >>=
 
 unfoldable pub listed_at : {S A : Type 0} → Kind → (S → Reader A) → (S → A → S) → S → Reader (List A)
 listed_at k r step s ts = items_by (begins k) r step (length ts + 1) s ts
+
+-- whether a further element of a list comes behind an element, before what closes the list, and the tokens from it on
+abbrev pub behind_comma : Kind → Bool → Lexeme → List Lexeme → Bool × List Lexeme
+behind_comma close true t ts = (not (begins close ts), ts)
+behind_comma close false t ts = (false, t ∷ ts)
+
+unfoldable pub more_at : Kind → List Lexeme → Bool × List Lexeme
+more_at close [] = (false, [])
+more_at close (t ∷ ts) = behind_comma close (is t.kind Kinds.Comma) t ts
 
 -- the first two tokens are of these kinds
 abbrev pub two_begin : Kind → Kind → List Lexeme → Bool

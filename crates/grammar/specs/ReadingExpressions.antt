@@ -1,5 +1,5 @@
 -- Reading expressions, as functions.
-use Rattle.std.specs.Prelude.{ℕ, zero, suc, Bool, true, false, cond, List, length, Ok, Option, Some, None}
+use Rattle.std.specs.Prelude.{ℕ, zero, suc, Bool, true, false, cond, if◌then◌else◌, List, length, Ok, Option, Some, None}
 use Rattle.std.specs.Option.{option_to_list}
 use Rattle.lexer.specs.Lexeme.{Lexeme}
 use Rattle.lexer.specs.Kinds.{is}
@@ -12,7 +12,7 @@ use Rattle.grammar.specs.declared.parser.expression.Rank.TheVariants as ranks
 use Rattle.grammar.specs.ExpressionTree.{ExpressionTree, NameTree, LiteralTree, ListTree, DictionaryTree, FunctionTree, PrefixTree, ArgumentTree, EntryTree, LinkTree, MethodTree, IndexTree, OperandTree, arguments, entries, expressions}
 use Rattle.grammar.specs.declared.tree.Prefix.{Prefix}
 use Rattle.grammar.specs.declared.tree.Prefix.TheVariants as prefixes
-use Rattle.grammar.specs.Expressions.{additive, chain_tree, choice_tree, comparative, conjunctive, disjunctive, is_named, literal_of, multiplicative, postfix_tree}
+use Rattle.grammar.specs.Expressions.{additive, chain_tree, ternary_tree, comparative, conjunctive, disjunctive, is_named, literal_of, multiplicative, postfix_tree}
 use Rattle.grammar.specs.Parts.{here_at, opened_at, stands_for, token_as_at}
 use Rattle.grammar.specs.Reading.{Reader, ◌>>=◌, begins, deep_at, head_is, listed_at, many_at, optional_at, token_at, or_at, two_begin}
 use Rattle.grammar.specs.Form.{same_state}
@@ -81,7 +81,7 @@ conjunction_at unary ts = chain_at conjunctive (comparison_at unary) ts
 unfoldable pub disjunction_at : Reader ExpressionTree → Reader ExpressionTree
 disjunction_at unary ts = chain_at disjunctive (conjunction_at unary) ts
 
--- a choice goes on
+-- a ternary goes on
 abbrev pub asks : Kind → Bool
 asks k = is k Kinds.Question
 
@@ -93,13 +93,13 @@ branches_at part ts = do
   other ← part c.1
   Ok ((one.0, other.0), other.1)
 
-unfoldable pub choice_at : (Bool → Reader ExpressionTree) → Bool → Reader ExpressionTree
-choice_at unary false ts = disjunction_at (unary false) ts
-choice_at unary true ts = do
+unfoldable pub ternary_at : (Bool → Reader ExpressionTree) → Bool → Reader ExpressionTree
+ternary_at unary false ts = disjunction_at (unary false) ts
+ternary_at unary true ts = do
   line ← here_at ts
   test ← disjunction_at (unary true) line.1
   rest ← optional_at (head_is asks) (branches_at (disjunction_at (unary false))) test.1
-  Ok (choice_tree line.0 test.0 rest.0, rest.1)
+  Ok (ternary_tree line.0 test.0 rest.0, rest.1)
 
 -- ---- atoms
 
@@ -115,13 +115,13 @@ literal_at ts = do
 
 unfoldable pub group_at : (Bool → Reader ExpressionTree) → Bool → Lexeme → Reader ExpressionTree
 group_at unary b o ts = do
-  e ← choice_at unary b ts
+  e ← ternary_at unary b ts
   c ← token_at Kinds.CloseParenthesis e.1
   Ok (e.0, c.1)
 
 unfoldable pub list_at : (Bool → Reader ExpressionTree) → Bool → Lexeme → Reader ExpressionTree
 list_at unary b o ts = do
-  es ← listed_at Kinds.CloseBracket (λ s. choice_at unary b) same_state tt ts
+  es ← listed_at Kinds.CloseBracket (λ s. ternary_at unary b) same_state tt ts
   c ← token_at Kinds.CloseBracket es.1
   Ok (ListTree (expressions es.0) o.line, c.1)
 
@@ -134,7 +134,7 @@ entry_at expr ts = do
 
 unfoldable pub dictionary_at : (Bool → Reader ExpressionTree) → Bool → Lexeme → Reader ExpressionTree
 dictionary_at unary b o ts = do
-  es ← listed_at Kinds.CloseBrace (λ s. entry_at (choice_at unary b)) same_state tt ts
+  es ← listed_at Kinds.CloseBrace (λ s. entry_at (ternary_at unary b)) same_state tt ts
   c ← token_at Kinds.CloseBrace es.1
   Ok (DictionaryTree (entries es.0) o.line, c.1)
 
@@ -164,9 +164,20 @@ unfoldable pub argument_at : Reader ExpressionTree → Bool → Reader ArgumentT
 argument_at expr true ts = named_at expr ts
 argument_at expr false ts = or_at (two_begin Kinds.Name Kinds.Colon) (named_at expr) (positional_at expr) ts
 
+-- the name and the colon alone, which stand before each argument behind one that has them
+unfoldable pub name_colon_at : Reader (List ℕ)
+name_colon_at ts = do
+  t ← token_at Kinds.Name ts
+  c ← token_at Kinds.Colon t.1
+  Ok (t.0.text, c.1)
+
+unfoldable pub label_at : Bool → Reader (Option (List ℕ))
+label_at true ts = name_colon_at ts >>= λ x. Ok (Some x.0, x.1)
+label_at false ts = optional_at (two_begin Kinds.Name Kinds.Colon) name_colon_at ts
+
 unfoldable pub items_at : (Bool → Reader ExpressionTree) → Bool → Lexeme → Reader (List ArgumentTree)
 items_at unary b o ts = do
-  xs ← listed_at Kinds.CloseParenthesis (argument_at (choice_at unary b)) is_named false ts
+  xs ← listed_at Kinds.CloseParenthesis (argument_at (ternary_at unary b)) is_named false ts
   c ← token_at Kinds.CloseParenthesis xs.1
   Ok (xs.0, c.1)
 
@@ -190,7 +201,7 @@ method_at args ts = do
 
 unfoldable pub index_at : (Bool → Reader ExpressionTree) → Bool → Lexeme → Reader LinkTree
 index_at unary b o ts = do
-  e ← choice_at unary b ts
+  e ← ternary_at unary b ts
   c ← token_at Kinds.CloseBracket e.1
   Ok (IndexTree e.0, c.1)
 
@@ -221,6 +232,14 @@ prefixed_at p unary b o ts = do
   e ← unary b ts
   Ok (PrefixTree p e.0 o.line, e.1)
 
+-- the prefix operator that comes, and the token that it is
+abbrev pub prefix_of : List Lexeme → Option Prefix
+prefix_of ts = if begins Kinds.Not ts then Some prefixes.Not else (if begins Kinds.Minus ts then Some prefixes.Negative else None)
+
+abbrev pub word_of : Prefix → Kind
+word_of prefixes.Not = Kinds.Not
+word_of prefixes.Negative = Kinds.Minus
+
 unfoldable pub unary_in_at : Option (Bool → Reader ExpressionTree) → Bool → Reader ExpressionTree
 unary_in_at u b ts =
     or_at (begins Kinds.Not) (opened_at Kinds.Not u (λ e. prefixed_at prefixes.Not e b))
@@ -237,7 +256,7 @@ inner_at zero = None
 inner_at (suc n) = Some (unary_at n)
 
 unfoldable pub expr_at : ℕ → Reader ExpressionTree
-expr_at n ts = choice_at (unary_at n) true ts
+expr_at n ts = ternary_at (unary_at n) true ts
 
 -- a token of this kind, and what follows it where one level less may be opened
 unfoldable pub enter_at : Kind → ℕ → Reader (Lexeme × ℕ)

@@ -1,18 +1,29 @@
 -- Reading statements by their grammar, as functions: a value and the tokens after it, or where reading stops.
-use Rattle.std.specs.Prelude.{ℕ, zero, suc, Bool, true, false, not, ◌||◌, List, [], ◌∷◌, length, Ok, Err, Option, unwrap_or}
+use Rattle.std.specs.Prelude.{◌≡◌, ℕ, zero, suc, Bool, true, false, not, ◌||◌, List, [], ◌∷◌, ◌++◌, length, Result, Ok, Err, Option, unwrap_or}
 use Rattle.lexer.specs.Lexeme.{Lexeme}
 use Rattle.lexer.specs.Kinds.{is}
 use Rattle.lexer.specs.declared.token.Kind.{Kind}
 use Rattle.lexer.specs.declared.token.Kind.TheVariants as Kinds
+use Rattle.grammar.specs.declared.stop.ReadError.{ReadError}
+use Rattle.grammar.specs.declared.stop.Stop.{Stop}
 use Rattle.grammar.specs.declared.stop.Stop.TheVariants.{Unexpected}
 use Rattle.grammar.specs.Parts.{here_at}
 use Rattle.grammar.specs.ExpressionTree.{ExpressionTree}
 use Rattle.grammar.specs.Tree.{StatementTree, AssignTree, AppendTree, ValueTree, BreakTree, ContinueTree, IfTree, ForeachTree, FileTree, statements, BranchTree, branches}
 use Rattle.grammar.specs.Statements.{given}
-use Rattle.grammar.specs.Reading.{Reader, ◌>>=◌, begins, token_at, many_at, or_at, optional_at, deep_at, two_begin}
+use Rattle.grammar.specs.Reading.{Reader, ◌>>=◌, Fails, begins, token_at, many_at, or_at, optional_at, deep_at, two_begin}
 use Rattle.grammar.specs.ReadingExpressions.{expr_at}
 
 -- ---- statements of one line
+
+-- the sign that adds to what a name has, or that gives it a value, and the statement
+abbrev pub sign_of : Bool → Kind
+sign_of true = Kinds.PlusAssign
+sign_of false = Kinds.Assign
+
+abbrev pub set_tree : Bool → List ℕ → ℕ → ExpressionTree → StatementTree
+set_tree true = AppendTree
+set_tree false = AssignTree
 
 -- what gives a name a value, with the token of this kind after the name
 unfoldable pub set_at : Kind → (List ℕ → ℕ → ExpressionTree → StatementTree) → Reader ExpressionTree → Reader StatementTree
@@ -62,6 +73,13 @@ in_body (t ∷ ts) = not (ends_body t.kind)
 abbrev pub maybe_at : Reader StatementTree → Reader (Option StatementTree)
 maybe_at r = optional_at in_line r
 
+-- What a function that puts a line's statement behind the others returned, with the statements before and after it, and
+-- the tokens that it left are what reading gives, unless memory ran out.
+abbrev pub GivesLine : {X : Type 0} → List StatementTree → List StatementTree → Result X ReadError → List Lexeme
+    → Result (Option StatementTree × List Lexeme) Stop → Type 0
+GivesLine before after (Ok x) rest read = (o : Option StatementTree) × (read ≡ Ok (o, rest)) × (after ≡ before ++ given (o ∷ []))
+GivesLine before after (Err e) rest read = Fails e read
+
 -- [stmt] NL
 unfoldable pub ended_line_at : Reader StatementTree → Reader (Option StatementTree)
 ended_line_at r ts = do
@@ -81,18 +99,12 @@ second_at ts = do
   t ← token_at Kinds.Name c.1
   Ok (t.0.text, t.1)
 
-unfoldable pub foreach_at : Reader ExpressionTree → Reader StatementTree → Reader StatementTree
-foreach_at expr stmt ts = do
-  w ← token_at Kinds.Foreach ts
-  a ← token_at Kinds.Name w.1
+unfoldable pub names_at : Reader (List ℕ × Option (List ℕ))
+names_at ts = do
+  a ← token_at Kinds.Name ts
   b ← optional_at (begins Kinds.Comma) second_at a.1
   c ← token_at Kinds.Colon b.1
-  line ← here_at c.1
-  e ← expr line.1
-  t ← token_at Kinds.Newline e.1
-  ss ← body_at stmt t.1
-  end ← token_at Kinds.EndForeach ss.1
-  Ok (ForeachTree w.0.line a.0.text b.0 e.0 line.0 (statements ss.0), end.1)
+  Ok ((a.0.text, b.0), c.1)
 
 unfoldable pub branch_at : Reader ExpressionTree → Reader StatementTree → Reader BranchTree
 branch_at expr stmt ts = do
@@ -101,6 +113,14 @@ branch_at expr stmt ts = do
   t ← token_at Kinds.Newline e.1
   ss ← body_at stmt t.1
   Ok ((e.0, line.0, statements ss.0), ss.1)
+
+unfoldable pub foreach_at : Reader ExpressionTree → Reader StatementTree → Reader StatementTree
+foreach_at expr stmt ts = do
+  w ← token_at Kinds.Foreach ts
+  x ← names_at w.1
+  b ← branch_at expr stmt x.1
+  end ← token_at Kinds.EndForeach b.1
+  Ok (ForeachTree w.0.line x.0.0 x.0.1 b.0.0 b.0.1 b.0.2, end.1)
 
 unfoldable pub elif_at : Reader ExpressionTree → Reader StatementTree → Reader BranchTree
 elif_at expr stmt ts = do

@@ -75,19 +75,13 @@ second = do
   t ← token Name
   give t.text
 
--- "foreach" NAME ["," NAME] ":" expr NL body "endforeach"
-abbrev pub foreach : Form ExpressionTree → Form StatementTree → Form StatementTree
-foreach expr stmt = do
-  w ← token Foreach
+-- NAME ["," NAME] ":"
+abbrev pub names : Form (List ℕ × Option (List ℕ))
+names = do
   a ← token Name
   b ← optional second
   c ← token Colon
-  line ← here
-  e ← expr
-  t ← token Newline
-  ss ← body stmt
-  end ← token EndForeach
-  give (ForeachTree w.line a.text b e line (statements ss))
+  give (a.text, b)
 
 -- expr NL body
 abbrev pub branch : Form ExpressionTree → Form StatementTree → Form BranchTree
@@ -97,6 +91,15 @@ branch expr stmt = do
   t ← token Newline
   ss ← body stmt
   give (e, line, statements ss)
+
+-- "foreach" NAME ["," NAME] ":" expr NL body "endforeach"
+abbrev pub foreach : Form ExpressionTree → Form StatementTree → Form StatementTree
+foreach expr stmt = do
+  w ← token Foreach
+  x ← names
+  b ← branch expr stmt
+  end ← token EndForeach
+  give (ForeachTree w.line x.0 x.1 b.0 b.1 b.2)
 
 -- "elif" expr NL body
 abbrev pub elif : Form ExpressionTree → Form StatementTree → Form BranchTree

@@ -1,14 +1,13 @@
 //! Reads the file that tokens spell, with one token in hand.
 
-ghost use Rattle.std.specs.Prelude.{◌≡◌, ℕ, ◌+◌, ◌-◌, ◌<◌, ◌≤◌, length, map, OnOk, [], ◌∷◌, List, IfOk, MatchResult};
-ghost use Rattle.std.specs.Option.{option_map};
+ghost use Rattle.std.specs.Prelude.{◌≡◌, ℕ, ◌+◌, ◌++◌, ◌-◌, ◌<◌, ◌≤◌, length, map, OnOk, [], ◌∷◌, List, IfOk, MatchResult, ◌⊎◌};
 ghost use Rattle.grammar.specs.Grammar.{most_levels};
 ghost use Rattle.lexer.specs.Kinds.{is};
 ghost use Rattle.lexer.specs.Lexeme.{Lexeme, lexeme_of, lexemes};
 ghost use Rattle.lexer.specs.Answers.{Answers};
-ghost use Rattle.grammar.specs.Parsed.{HasFault, Spells, line_of, located, parsed};
-ghost use Rattle.grammar.specs.Reading.{Gives, GivesAll, all_of, begins, tokens_left, token_at};
-ghost use Rattle.grammar.specs.ReadingStatements.{file_at, next_line_at};
+ghost use Rattle.grammar.specs.Parsed.{FrontsAreShorter, HasFault, Spells, line_of, located, parsed};
+ghost use Rattle.grammar.specs.Reading.{Gives, GivesAll, all_of, begins, first_of, tokens_left, token_at};
+ghost use Rattle.grammar.specs.ReadingStatements.{file_at};
 ghost use Rattle.grammar.specs.Tree.{FileTree, file_of, statement_of};
 
 mod atom;
@@ -21,7 +20,7 @@ use crate::tree::{File, Statement};
 use lexer::fault::{FaultKind, SyntaxError, SyntaxFault};
 use lexer::token::{Kind, Token};
 use lexer::{newlines, tokens};
-use std::alloc::Global;
+use std::alloc::{AllocError, Global};
 
 /// How many levels may be open: brackets, blocks and prefix operators, one inside another.
 pub const LEVELS: u32 = 64;
@@ -30,6 +29,23 @@ pub const LEVELS: u32 = 64;
 #[derive(Drop)]
 struct Parser<'t, 'a> {
     rest: &'t [Token<'a>],
+}
+
+// Puts an item behind the others.
+fn put<T: Drop>(items: &mut Vec<T>, item: T) -> Result<(), AllocError>
+    ensures { IfOk result (λ _. items.new.items ≡ items.old.items ++ item ∷ []) }
+{
+    items.push(item)?;
+    Ok(())
+}
+
+// The items, in no more memory than they need: a tree stands for long, and most of its lists are short.
+fn fitted<T>(items: Vec<T>) -> Vec<T>
+    ensures { result.items ≡ items.items }
+{
+    let mut items = items;
+    items.shrink_to_fit();
+    items
 }
 
 impl<'t, 'a> Parser<'t, 'a> {
@@ -46,6 +62,18 @@ impl<'t, 'a> Parser<'t, 'a> {
             }
             _ => Err(self.unexpected()),
         }
+    }
+
+    // What was read, once a token of this kind has closed it.
+    #[tactic(auto, using(crate::proofs::Tails::first_taken))]
+    fn closed<T: Drop>(&mut self, kind: Kind, value: T) -> Result<T, ReadError>
+        ensures read { Gives (λ v. first_of (lexemes self.old.rest.now)) result (lexemes self.new.rest.now)
+            (token_at kind (lexemes self.old.rest.now)) }
+        ensures same { IfOk result (λ v. v ≡ value) }
+        ensures shorter { OnOk result (length self.new.rest.now < length self.old.rest.now) }
+    {
+        self.take(kind)?;
+        Ok(value)
     }
 
     // Whether the first token is of this kind.
@@ -65,32 +93,18 @@ impl<'t, 'a> Parser<'t, 'a> {
         ReadError::Stop(Stop::Unexpected(self.rest.len()))
     }
 
-    // A newline, and the statement of the line behind it, if there is one.
-    #[tactic(auto, unfolding(crate::specs::ReadingStatements::next_line_at))]
-    fn next_line(&mut self, alloc: Global, levels: u32) -> Result<Option<Statement<'a>>, ReadError>
-        ensures read { Gives (option_map statement_of) result (lexemes self.new.rest.now)
-            (next_line_at levels (lexemes self.old.rest.now)) }
-        ensures shorter { OnOk result (length self.new.rest.now < length self.old.rest.now) }
-    {
-        self.take(Kind::Newline)?;
-        self.line(alloc, false, levels)
-    }
-
     // The statements of the lines.
     fn lines(&mut self, alloc: Global, levels: u32) -> Result<Vec<Statement<'a>>, ReadError>
         ensures read { Gives (λ v. map statement_of v.items) result (lexemes self.new.rest.now)
             (file_at levels (lexemes self.old.rest.now)) }
     {
         let mut statements = Vec::new(alloc);
-        if let Some(first) = self.line(alloc, false, levels)? {
-            statements.push(first)?;
-        }
+        self.line(alloc, false, levels, &mut statements)?;
         while self.begins(Kind::Newline) {
-            if let Some(next) = self.next_line(alloc, levels)? {
-                statements.push(next)?;
-            }
+            self.take(Kind::Newline)?;
+            self.line(alloc, false, levels, &mut statements)?;
         }
-        Ok(statements)
+        Ok(fitted(statements))
     }
 
     // The file that all tokens spell.
@@ -140,7 +154,7 @@ fn located(source: &str, tokens: &[Token<'_>], stop: Stop) -> SyntaxFault
 /// A file is lines with a statement each, or none, of the forms of the Meson manual's page "Syntax": `name = expression`,
 /// `name += expression`, an expression alone, `break` and `continue` inside a `foreach`, `if` with its `elif` and `else`
 /// parts up to `endif`, and `foreach` up to `endforeach`. Expressions are names, literals, lists, dictionaries, calls,
-/// methods, indexes, operators and choices. Two comparisons do not follow one another, no choice stands inside the
+/// methods, indexes, operators and ternaries. Two comparisons do not follow one another, no ternary stands inside the
 /// branches of another, and arguments with a name stand behind the others.
 ///
 /// What is no file has a fault at the line of a token, where the end counts as one: E2 where the source has no tokens; E3
@@ -157,8 +171,13 @@ pub fn parse(alloc: Global, source: &str) -> Result<File<'_>, SyntaxError>
         → MatchResult result (λ x. file_of x ≡ f) (λ e. e ≡ SyntaxError.Memory) }
     ensures only { (n : ℕ) (f : FileTree) → Spells n source.now f → IfOk result (λ x. file_of x ≡ f) }
 
-    // Which fault the source has.
+    // Which fault the source has; it has no other, and none where it spells a file.
     ensures refused { (f : SyntaxFault) → result ≡ Err (SyntaxError.Fault f) → HasFault source.now f }
+    ensures faulty { (f : SyntaxFault) → HasFault source.now f
+        → MatchResult result (λ x. ⊥) (λ e. (e ≡ SyntaxError.Fault f) ⊎ (e ≡ SyntaxError.Memory)) }
+
+    // A fault is the first: no longer front begins a file once a shorter one doesn't.
+    ensures fronts { FrontsAreShorter source.now }
 {
     let tokens = tokens(alloc, source)?;
     let mut parser = Parser { rest: &tokens };

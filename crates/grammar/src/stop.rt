@@ -6,14 +6,14 @@ ghost use Rattle.grammar.specs.declared.stop.ReadError.TheVariants.{Memory};
 use std::alloc::{AllocError, AllocFailed};
 
 /// Where no file goes on, with the number of tokens from there on.
-#[derive(Clone, Copy, PartialEq, Eq, Debug)]
+#[derive(Clone, Copy)]
 pub enum Stop {
     Unexpected(usize),
     TooDeep(usize),
 }
 
 /// A stop, or want of memory.
-#[derive(Clone, Copy, PartialEq, Eq, Debug)]
+#[derive(Clone, Copy)]
 pub enum ReadError {
     Memory,
     Stop(Stop),

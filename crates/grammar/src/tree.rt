@@ -4,14 +4,14 @@
 ghost use Rattle.std.specs.Prelude.{◌≡◌, is_some};
 
 /// A definition file.
-#[derive(Debug, Drop)]
+#[derive(Drop)]
 pub struct File<'a> {
     pub statements: Vec<Statement<'a>>,
 }
 
 /// A statement, of the manual's page "Syntax". Its line is that of its first token.
 #[cycle(statement)]
-#[derive(Debug, Drop)]
+#[derive(Drop)]
 pub enum Statement<'a> {
     /// `name = value`
     Assign {
@@ -60,7 +60,7 @@ pub enum Statement<'a> {
 
 /// A part of an `if`: a condition, and the statements that are run where it holds.
 #[cycle(statement)]
-#[derive(Debug, Drop)]
+#[derive(Drop)]
 pub struct Branch<'a> {
     pub condition: Expression<'a>,
     /// The line of the condition's first token.
@@ -70,7 +70,7 @@ pub struct Branch<'a> {
 
 /// An expression.
 #[cycle(tree)]
-#[derive(Debug, Drop)]
+#[derive(Drop)]
 pub enum Expression<'a> {
     /// A name.
     Name {
@@ -118,7 +118,7 @@ pub enum Expression<'a> {
         line: usize,
     },
     /// `test ? yes : no`
-    Choice {
+    Ternary {
         test: Box<Expression<'a>>,
         yes: Box<Expression<'a>>,
         no: Box<Expression<'a>>,
@@ -145,7 +145,7 @@ impl<'a> Argument<'a> {
 }
 
 /// What a literal is.
-#[derive(Clone, Copy, PartialEq, Eq, Debug)]
+#[derive(Clone, Copy, PartialEq, Eq)]
 pub enum Literal {
     True,
     False,
@@ -162,7 +162,7 @@ pub enum Literal {
 }
 
 /// What stands between two values.
-#[derive(Clone, Copy, PartialEq, Eq, Debug)]
+#[derive(Clone, Copy, PartialEq, Eq)]
 pub enum Operator {
     Or,
     And,
@@ -186,14 +186,14 @@ pub enum Operator {
 
 /// An operator and the value behind it.
 #[cycle(tree)]
-#[derive(Debug, Drop)]
+#[derive(Drop)]
 pub struct Operand<'a> {
     pub operator: Operator,
     pub value: Expression<'a>,
 }
 
 /// What stands before a value.
-#[derive(Clone, Copy, PartialEq, Eq, Debug)]
+#[derive(Clone, Copy, PartialEq, Eq)]
 pub enum Prefix {
     Not,
     /// `-`
@@ -202,7 +202,7 @@ pub enum Prefix {
 
 /// `key : value`
 #[cycle(tree)]
-#[derive(Debug, Drop)]
+#[derive(Drop)]
 pub struct Entry<'a> {
     pub key: Expression<'a>,
     pub value: Expression<'a>,
@@ -210,7 +210,7 @@ pub struct Entry<'a> {
 
 /// An argument, with its name where it is given by one. Those with a name stand behind the others.
 #[cycle(tree)]
-#[derive(Debug, Drop)]
+#[derive(Drop)]
 pub struct Argument<'a> {
     pub name: Option<&'a str>,
     pub value: Expression<'a>,
@@ -218,7 +218,7 @@ pub struct Argument<'a> {
 
 /// What is asked of a value.
 #[cycle(tree)]
-#[derive(Debug, Drop)]
+#[derive(Drop)]
 pub enum Link<'a> {
     /// `.name(argument)`
     Method {

@@ -230,3 +230,32 @@ lexed_only source ts us h g = ok_is ts us (sym (lexed_complete source ts h) ∙ 
   where
     ok_is : (us vs : List Lexeme) → ◌≡◌ {A = Result (List Lexeme) SyntaxFault} (Ok us) (Ok vs) → us ≡ vs
     ok_is us vs e = cc
+
+-- where no token begins behind the first ones, reading stops there
+lex_breaks : (n : ℕ) (p : Place) (before : List Lexeme) (at : Place) → length p.rest < n → Spans p before at → at.rest ≢ [] → NoToken at.rest → lex n p ≡ Err (fault_at at.line)
+lex_breaks zero p before at lt s more none = absurd (omega arith)
+lex_breaks (suc n) p [] at lt s more none =
+    let here : skipped p ≡ at = skips_only p at s in
+    elim (cases_rest (skipped p).rest) [
+      | inl empty ↦ absurd (more (ap (λ (q : Place). q.rest) (sym here) ∙ empty))
+      | inr w ↦ elim (cases_found (token_at (skipped p).rest)) [
+        | inl e ↦ lex_none n p w.0 w.1 w.2 e ∙ ap (λ (q : Place). Err (fault_at q.line)) here
+        | inr x ↦
+            let f = token_sound (skipped p).rest x.0.0 x.0.1 x.1 in
+            absurd (subst (λ (q : Place). NoToken q.rest) (sym here) none x.0.0 f.text f.rest f.parts f.token)
+      ]
+    ]
+lex_breaks (suc n) p (t ∷ ts) to lt (at, after, s, h, rest) more none =
+    let here : skipped p ≡ at = skips_only p at s in
+    let h' : IsNext (skipped p) t after = subst (λ (q : Place). IsNext q t after) (sym here) h in
+    let o = next_only (skipped p) t after h' in
+    let le = shorter n p (o.kind, o.size) lt o.found in
+    let ih = lex_breaks n (after_lexeme (skipped p) (o.kind, o.size)) ts to le (subst (λ (q : Place). Spans q ts to) (sym o.next) rest) more none in
+    elim (cases_rest (skipped p).rest) [
+      | inl empty ↦ absurd (omega (arith, next_some (skipped p) o.kind o.size o.found, ap length empty))
+      | inr w ↦ lex_some n p w.0 w.1 (o.kind, o.size) w.2 o.found ∙ ap (with_first (lexeme_at (skipped p) (o.kind, o.size))) ih
+    ]
+
+pub lexed_breaks : (source : List ℕ) (line : ℕ) → IsUnreadable source line → lexed source ≡ Err (fault_at line)
+unfolding lexed
+lexed_breaks source line h = lex_breaks (length source + 1) (start source) h.before h.at (omega arith) h.spans h.more h.none ∙ ap (λ (l : ℕ). Err (fault_at l)) h.here

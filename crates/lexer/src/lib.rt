@@ -21,4 +21,4 @@ mod word;
 pub use bytes::newlines;
 pub use cut::tokens;
 pub use numeral::magnitude;
-pub use text::text_of;
+pub use text::{text_of, text_of_slice};

@@ -98,10 +98,23 @@ fn stood_for(alloc: Global, kind: Kind, text: &str) -> Result<String, AllocError
     }
 }
 
-/// The text of a string token after its escapes, as the Meson manual's page "Syntax" has them; of any other token its slice.
+/// The text that a token of this kind stands for, with its slice of the source: a string's after its escapes, as the Meson
+/// manual's page "Syntax" has them; of any other token the slice.
 ///
-/// A raw string's text is what stands between its quotes. A token that was not made by [`crate::tokens`] has a text too: an
+/// A raw string's text is what stands between its quotes. A slice that no source has as such a token has a text too: an
 /// escape that names no character stays with its backslash, and a string without its quotes is taken as it stands.
+pub fn text_of_slice(alloc: Global, kind: Kind, slice: &str) -> Result<String, AllocError>
+    // Unless memory runs out, it is this function of the kind and the slice, whatever they are.
+    ensures value { IfOk result (λ s. string_bytes s ≡ text_of kind slice.now) }
+
+    // It is what a token of a source stands for, and the only text that a token stands for.
+    ensures source { (rest : List ℕ) → IsToken kind slice.now rest → IfOk result (λ s. TokenStandsFor kind slice.now (string_bytes s)) }
+    ensures only { (text : List ℕ) → TokenStandsFor kind slice.now text → IfOk result (λ s. string_bytes s ≡ text) }
+{
+    stood_for(alloc, kind, slice)
+}
+
+/// The text that a token stands for, as [`text_of_slice`] gives it.
 pub fn text_of(alloc: Global, token: &Token<'_>) -> Result<String, AllocError>
     // Unless memory runs out, it is this function of the token, whatever the token is.
     ensures value { IfOk result (λ s. string_bytes s ≡ text_of token.now.kind token.now.text.now) }
@@ -111,5 +124,5 @@ pub fn text_of(alloc: Global, token: &Token<'_>) -> Result<String, AllocError>
         → IfOk result (λ s. TokenStandsFor token.now.kind token.now.text.now (string_bytes s)) }
     ensures only { (text : List ℕ) → TokenStandsFor token.now.kind token.now.text.now text → IfOk result (λ s. string_bytes s ≡ text) }
 {
-    stood_for(alloc, token.kind, token.text)
+    text_of_slice(alloc, token.kind, token.text)
 }

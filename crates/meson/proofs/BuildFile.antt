@@ -9,8 +9,8 @@ use Rattle.build.specs.Edges.{edges_of, all_edges, default_outputs}
 use Rattle.build.specs.View.{target_view, edge_view}
 use Rattle.build.specs.declared.target.Target.{Target}
 use Rattle.build.specs.declared.edge.Edge.{Edge}
-use Rattle.ninja.proofs.Puts.{puts-append}
-use Rattle.ninja.specs.Writing.{edge_text, edges_text, head_text, tail_text}
+use Rattle.first_ninja.proofs.Puts.{puts-append}
+use Rattle.first_ninja.specs.Writing.{edge_text, edges_text, head_text, tail_text}
 use Rattle.meson.specs.Setup.{build_steps, parts_steps, head_steps, tail_steps, target_steps}
 
 puts-nil : puts [] ≡ []

@@ -1,6 +1,6 @@
 -- Runs one after another, and what calls say of them.
 use Rattle.std.proofs.Common.{◌≡◌, ℕ, ◌+◌, List, [], ◌∷◌, ◌++◌, Result, Ok, Err, IsErrAnd, IfOk, Vec, Global, refl, sym, subst, ap, ◌∙◌, append_assoc, arith}
-use Rattle.meson.specs.Fault.{FaultData}
+use Rattle.faults.specs.Faults.{FaultData}
 use Rattle.meson.specs.Reading.{IsNoFault}
 use Rattle.meson.specs.Trace.{Mark, Ended, Seen, seen, Adds, Begins}
 use Rattle.meson.specs.Run.{World, Outcome, Run, ran, Act, Done, Faulted, with_end, after, follow, pure, refuse, marks_of, outcome_of}

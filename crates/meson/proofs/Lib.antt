@@ -9,3 +9,4 @@ pub mod Reading
 pub mod BuildFile
 pub mod Runs
 pub mod Trees
+pub mod Stopping

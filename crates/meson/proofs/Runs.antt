@@ -1,12 +1,13 @@
 -- What a whole run tells.
-use Rattle.std.proofs.Common.{◌≡◌, ℕ, true, false, List, ◌++◌, Result, Ok, Err, IsErrAnd, is_ok, refl, sym, ap, subst, ◌∙◌, append_assoc}
+use Rattle.std.proofs.Common.{◌≡◌, ℕ, true, false, List, ◌++◌, Result, Ok, Err, IsErrAnd, refl, sym, ap, subst, ◌∙◌, append_assoc}
+use Rattle.ports.specs.Endings.{is_whole}
 use Rattle.ports.specs.Outputs.{OutputState, Step, Sends, faults}
 use Rattle.ports.proofs.Sending.{sends_then, sends_part, sends_stop, sends_none}
 use Rattle.build.specs.Data.{ProjectData}
 use Rattle.std.proofs.lemmas.Bool.{false≢true}
-use Rattle.meson.specs.Fault.{FaultData, fault_line}
-use Rattle.meson.specs.FaultView.{fault_view}
-use Rattle.meson.specs.Gives.{Gives, Ends}
+use Rattle.faults.specs.Faults.{FaultData, fault_line}
+use Rattle.faults.specs.View.{fault_view}
+use Rattle.meson.specs.Gives.{Gives, Ends, ending_of}
 use Rattle.meson.specs.Reading.{IsNoFault}
 use Rattle.meson.specs.Run.{World, Outcome, Run, ran, Done, Faulted, marks_of, outcome_of}
 use Rattle.meson.specs.Setup.{Whole, whole_of, build_steps, Configures, Settles, Agrees, is_finished}
@@ -51,7 +52,7 @@ done_steps run w e = ap (λ r. (whole_of r).steps) e
 
 -- an evaluation that came to its end, and then the file
 pub configures_file : (run : Run (Unit {0})) (w : World) (p : ProjectData) (old new : OutputState) (t u : ℕ) (result : Result (Unit {0}) Stop) → Ends run (Done tt) w (seen old t) (seen old u) → p ≡ w.project
-    → IsNoFault result → Sends old new (build_steps p) (is_ok result) → Configures run result old new
+    → IsNoFault result → Sends old new (build_steps p) (is_whole (ending_of result)) → Configures run result old new
 configures_file run w p old new t u (Ok x) e is no_fault f = (w, e.is, sends_then e.written.sent (subst (λ q. Sends old new (build_steps q) true) is f))
 configures_file run w p old new t u (Err (stops.Refused fault)) e is no_fault f = absurd no_fault
 configures_file run w p old new t u (Err stops.Device) e is no_fault f =
@@ -83,11 +84,11 @@ agrees run (Ok x) status old mid new c s = record {
 agrees run (Err (stops.Refused fault)) statuses.Done old mid new c s = absurd s
 agrees run (Err (stops.Refused fault)) statuses.Fault old mid new c s = record {
   status = λ h. sym (fault_status run (fault_view fault) c.0);
-  events = subst (λ r. Sends old new r true) (sym (fault_steps run (fault_view fault) c.0)) (sends_then c.1 s.0);
+  events = subst (λ r. Sends old new r true) (sym (fault_steps run (fault_view fault) c.0)) (sends_then c.1 s.sends);
 }
 agrees run (Err (stops.Refused fault)) statuses.Device old mid new c s = record {
   status = λ h. absurd (false≢true h);
-  events = subst (λ r. Sends old new r false) (sym (fault_steps run (fault_view fault) c.0)) (sends_then c.1 s.0);
+  events = subst (λ r. Sends old new r false) (sym (fault_steps run (fault_view fault) c.0)) (sends_then c.1 s.sends);
 }
 agrees run (Err (stops.Refused fault)) statuses.Memory old mid new c s = absurd s
 agrees run (Err stops.Device) status old mid new c s = unfinished (whole_of run) status statuses.Device old mid new refl s.0 s.1 c

@@ -17,14 +17,14 @@ use Rattle.lexer.specs.declared.fault.FaultKind.TheVariants as kinds
 use Rattle.build.specs.Data.{TargetData, ProjectData}
 use Rattle.build.specs.Edges.{edges_of}
 use Rattle.build.specs.Outputs.{is_free, with_target}
-use Rattle.ninja.specs.Holding.{edges_held}
+use Rattle.first_ninja.specs.Holding.{edges_held}
 use Rattle.meson.specs.Data.{Data, text, text_in}
-use Rattle.meson.specs.Fault.{FaultData}
+use Rattle.faults.specs.Faults.{FaultData, plain_fault}
 use Rattle.meson.specs.Paths.{tree_path}
 use Rattle.meson.specs.Settings.{SettingsData}
 use Rattle.meson.specs.Run.{World, ran, Act, Done, pure, refuse, rule, ◌>>=◌}
-use Rattle.meson.specs.declared.refusal.Refusal.{Refusal}
-use Rattle.meson.specs.declared.refusal.Refusal.TheVariants as refusals
+use Rattle.faults.specs.declared.refusal.Refusal.{Refusal}
+use Rattle.faults.specs.declared.refusal.Refusal.TheVariants as refusals
 use Rattle.meson.specs.declared.function.Function.{Function}
 use Rattle.meson.specs.declared.function.Function.TheVariants as functions
 use Rattle.meson.specs.Names.{function_named, is_predefined}
@@ -35,10 +35,6 @@ Files = List (List ℕ × List ℕ)
 
 abbrev pub fault_at : List ℕ → ℕ → Refusal → List ℕ → FaultData
 fault_at file line refusal detail = record { file = file; line = line; refusal = refusal; detail = detail }
-
--- a fault that needs no name or path
-abbrev pub plain_fault : List ℕ → ℕ → Refusal → FaultData
-plain_fault file line refusal = fault_at file line refusal []
 
 -- ---- expressions
 

@@ -1,8 +1,9 @@
 -- What the answer of a call says of a run.
 use Rattle.std.specs.Prelude.{◌≡◌, ℕ, ◌+◌, IsTrue, List, Result, Ok, Err}
+use Rattle.ports.specs.Endings.{Ending, Whole, Failed, Short}
 use Rattle.ports.specs.Tree.{TreeState}
-use Rattle.meson.specs.Fault.{FaultData}
-use Rattle.meson.specs.FaultView.{fault_view}
+use Rattle.faults.specs.Faults.{FaultData}
+use Rattle.faults.specs.View.{fault_view}
 use Rattle.meson.specs.Trace.{Mark, Seen, Adds, Begins}
 use Rattle.meson.specs.Run.{World, Outcome, Run, ran, Done, Faulted, after, marks_of, outcome_of}
 use Rattle.meson.specs.declared.stop.Stop.{Stop}
@@ -44,6 +45,13 @@ failures_after n (Ok x) = n
 failures_after n (Err (stops.Refused fault)) = n
 failures_after n (Err stops.Device) = n + 1
 failures_after n (Err stops.Memory) = n
+
+-- how a call ended that writes: a fault leaves all of its run
+abbrev pub ending_of : {B : Type 0} → Result B Stop → Ending
+ending_of (Ok x) = Whole
+ending_of (Err (stops.Refused fault)) = Whole
+ending_of (Err stops.Device) = Failed
+ending_of (Err stops.Memory) = Short
 
 -- the tree is steady and holds these files
 pub record Holds (tree : TreeState) (wanted : List (List ℕ × List ℕ)) : Type 0 where

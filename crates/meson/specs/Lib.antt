@@ -1,7 +1,5 @@
 pub mod Trace
 pub mod Data
-pub mod Fault
-pub mod FaultView
 pub mod FaultSteps
 pub mod Run
 pub mod Gives

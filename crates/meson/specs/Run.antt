@@ -1,7 +1,7 @@
 -- Runs: how they end, the world after them, and the marks that they leave.
 use Rattle.std.specs.Prelude.{ℕ, List, [], ◌∷◌, ◌++◌, Option}
 use Rattle.meson.specs.Data.{Data}
-use Rattle.meson.specs.Fault.{FaultData}
+use Rattle.faults.specs.Faults.{FaultData}
 use Rattle.meson.specs.Trace.{Mark, Ended}
 use Rattle.build.specs.Data.{ProjectData}
 

@@ -1,15 +1,16 @@
 -- One run: what the outputs are asked to take, and how the run ends.
-use Rattle.std.specs.Prelude.{◌≡◌, ℕ, ◌+◌, Bool, true, false, IsTrue, List, [], ◌++◌, None, Result, Ok, Err, codes}
-use Rattle.ports.specs.Outputs.{OutputState, Step, Sends, opening, closing, puts, faults}
+use Rattle.std.specs.Prelude.{◌≡◌, ℕ, Bool, true, false, IsTrue, List, [], ◌++◌, None, Result, Ok, Err, codes}
+use Rattle.ports.specs.Endings as endings
+use Rattle.ports.specs.Outputs.{OutputState, Step, Sends, Writes, opening, closing, puts, faults}
 use Rattle.build.specs.Data.{TargetData, ProjectData}
 use Rattle.build.specs.Edges.{edges_of, default_outputs}
-use Rattle.ninja.specs.Writing.{build_file, edges_text, head_text, tail_text}
-use Rattle.meson.specs.Fault.{fault_line}
+use Rattle.first_ninja.specs.Writing.{build_file, edges_text, head_text, tail_text}
+use Rattle.faults.specs.Faults.{fault_line}
 use Rattle.meson.specs.Settings.{SettingsData}
 use Rattle.meson.specs.Trace.{steps_of}
 use Rattle.meson.specs.Run.{World, Run, ran, Done, Faulted, marks_of, outcome_of}
 use Rattle.meson.specs.Evaluation.{Files, evaluation}
-use Rattle.meson.specs.FaultView.{fault_view}
+use Rattle.faults.specs.View.{fault_view}
 use Rattle.meson.specs.declared.stop.Stop.{Stop}
 use Rattle.meson.specs.declared.stop.Stop.TheVariants as stops
 use Rattle.meson.specs.declared.running.Status.{Status}
@@ -92,8 +93,8 @@ OnRefusal stops.Memory p = Unit {0}
 abbrev pub Settles : Result (Unit {0}) Stop → Status → OutputState → OutputState → Type 0
 Settles (Ok x) status old new = (status ≡ statuses.Done) × (new ≡ old)
 Settles (Err (stops.Refused fault)) statuses.Done old new = ⊥
-Settles (Err (stops.Refused fault)) statuses.Fault old new = Sends old new (faults (fault_line (fault_view fault))) true × (new.failures ≡ old.failures)
-Settles (Err (stops.Refused fault)) statuses.Device old new = Sends old new (faults (fault_line (fault_view fault))) false × (new.failures ≡ old.failures + 1)
+Settles (Err (stops.Refused fault)) statuses.Fault old new = Writes old (faults (fault_line (fault_view fault))) endings.Whole new
+Settles (Err (stops.Refused fault)) statuses.Device old new = Writes old (faults (fault_line (fault_view fault))) endings.Failed new
 Settles (Err (stops.Refused fault)) statuses.Memory old new = ⊥
 Settles (Err stops.Device) status old new = (status ≡ statuses.Device) × (new ≡ old)
 Settles (Err stops.Memory) status old new = (status ≡ statuses.Memory) × (new ≡ old)

@@ -12,13 +12,13 @@ ghost use Rattle.meson.specs.Store.{world_of};
 ghost use Rattle.meson.specs.Trace.{Seen, seen};
 
 use crate::read::{line_at, read_file};
-use crate::refusal::Refusal;
 use crate::refuse::{refused, refused_here};
 use crate::settings::Settings;
 use crate::statements::root;
 use crate::steps::Steps;
 use crate::stop::Stop;
 use crate::store::{Store, note_look};
+use faults::Refusal;
 use grammar::fault::{FaultKind, SyntaxError};
 use grammar::parse;
 use grammar::tree::File;

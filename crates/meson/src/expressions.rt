@@ -13,15 +13,15 @@ ghost use Rattle.meson.specs.Trace.{Seen, seen};
 ghost use Rattle.meson.specs.ValueView.{view, values_view};
 
 use crate::function::is_predefined;
-use crate::refusal::Refusal;
 use crate::refuse::{refused, refused_here};
 use crate::steps::{Steps, ended};
 use crate::stop::Stop;
 use crate::store::{Store, look_up};
 use crate::value::Value;
+use faults::Refusal;
 use grammar::tree::{Argument, Expression, Literal};
-use lexer::text_of;
-use lexer::token::{Kind, Token};
+use lexer::text_of_slice;
+use lexer::token::Kind;
 use std::alloc::Global;
 use std::sync::ledger::Ledger;
 
@@ -53,16 +53,11 @@ fn left_out(alloc: Global, file: &str, line: usize) -> Result<Value, Stop>
 }
 
 // The text of a string of this kind.
-fn string_value(alloc: Global, kind: Kind, slice: &str, line: usize) -> Result<Value, Stop>
+fn string_value(alloc: Global, kind: Kind, slice: &str) -> Result<Value, Stop>
     ensures gives { (w : World) (old : Seen) → Gives view (pure (text (text_of kind slice.now)) w) result w old old }
     ensures quiet { (n : ℕ) → failures_after n result ≡ n }
 {
-    let token = Token {
-        kind,
-        text: slice,
-        line,
-    };
-    let string = text_of(alloc, &token)?;
+    let string = text_of_slice(alloc, kind, slice)?;
     Ok(Value::of_string(alloc, string)?)
 }
 
@@ -77,8 +72,8 @@ fn literal_value(
     ensures quiet { (n : ℕ) → failures_after n result ≡ n }
 {
     match literal {
-        Literal::String => string_value(alloc, Kind::String, text, line),
-        Literal::RawString => string_value(alloc, Kind::RawString, text, line),
+        Literal::String => string_value(alloc, Kind::String, text),
+        Literal::RawString => string_value(alloc, Kind::RawString, text),
         Literal::True => left_out(alloc, file, line),
         Literal::False => left_out(alloc, file, line),
         Literal::Number => left_out(alloc, file, line),
@@ -109,7 +104,7 @@ fn form_value(
         Expression::Postfix { line, .. } => left_out(alloc, file, *line),
         Expression::Prefix { line, .. } => left_out(alloc, file, *line),
         Expression::Chain { line, .. } => left_out(alloc, file, *line),
-        Expression::Choice { line, .. } => left_out(alloc, file, *line),
+        Expression::Ternary { line, .. } => left_out(alloc, file, *line),
     }
 }
 

@@ -11,7 +11,6 @@ mod paths;
 mod program;
 mod project;
 mod read;
-mod refusal;
 mod refuse;
 mod running;
 mod settings;
@@ -22,8 +21,7 @@ mod store;
 mod value;
 
 pub use command::{Line, LineFault, command_line};
-pub use fault::Fault;
+pub use faults::{Fault, Refusal};
 pub use program::run;
-pub use refusal::Refusal;
 pub use running::{Status, setup};
 pub use settings::Settings;

@@ -6,10 +6,10 @@ ghost use Rattle.meson.specs.Gives.{Gives, Holds, failures_after};
 ghost use Rattle.meson.specs.Store.{world_of};
 ghost use Rattle.meson.specs.Trace.{Seen};
 
-use crate::refusal::Refusal;
 use crate::refuse::refused;
 use crate::stop::Stop;
 use crate::store::{Store, note_look};
+use faults::Refusal;
 use ports::Tree;
 use std::alloc::Global;
 

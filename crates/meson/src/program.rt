@@ -60,24 +60,37 @@ fn configure<R: Files + AllocGlobal, L: Write + Drop, F: Write + Drop>(
     log: L,
     faults: F,
 ) -> io::Result<Status> {
-    let alloc = rt.alloc();
+    let machine = machine_bytes(rt, root, &line.machine_file)?;
+    let settings = settings_of(rt.alloc(), line, root)?;
+    configure_folder(rt, root, &settings, machine.as_slice(), log, faults)
+}
+
+// What the line says of a run over the sources in this folder.
+fn settings_of(alloc: Global, line: Line, root: &str) -> Result<Settings, AllocError> {
     let depth = line.depth();
-    let Line {
-        words,
-        machine_file,
-        folder,
-    } = line;
-    let machine = machine_bytes(rt, root, &machine_file)?;
-    let build_root = path_below(alloc, root, folder.as_str())?;
-    let mut tree = DiskTree::new(rt, alloc, String::from_str(alloc, root)?);
-    let mut out = DiskOutputs::new(rt, alloc, build_root.clone()?, log, faults)?;
-    let settings = Settings {
-        words,
-        depth,
+    let build_root = path_below(alloc, root, line.folder.as_str())?;
+    Ok(Settings {
         source_root: String::from_str(alloc, root)?,
         build_root,
-    };
-    Ok(setup(alloc, &mut tree, &settings, machine.as_slice(), &mut out))
+        depth,
+        words: line.words,
+    })
+}
+
+// Configures the sources in this folder, with these bytes of a machine file.
+fn configure_folder<R: Files + AllocGlobal, L: Write + Drop, F: Write + Drop>(
+    rt: &R,
+    root: &str,
+    settings: &Settings,
+    machine: &[u8],
+    log: L,
+    faults: F,
+) -> io::Result<Status> {
+    let alloc = rt.alloc();
+    let mut tree = DiskTree::new(rt, alloc, String::from_str(alloc, root)?);
+    let folder = settings.build_root.clone()?;
+    let mut out = DiskOutputs::new(rt, alloc, folder, log, faults)?;
+    Ok(setup(alloc, &mut tree, settings, machine, &mut out))
 }
 
 // The bytes of the machine file; none where none is named.

@@ -14,13 +14,13 @@ ghost use Rattle.meson.specs.ValueView.{view};
 
 use crate::expressions::arguments_of;
 use crate::look::is_there;
-use crate::refusal::Refusal;
 use crate::refuse::refused_here;
 use crate::settings::Settings;
 use crate::steps::Steps;
 use crate::stop::Stop;
 use crate::store::Store;
 use crate::value::Value;
+use faults::Refusal;
 use grammar::tree::Argument;
 use ports::Tree;
 use std::alloc::Global;

@@ -1,6 +1,7 @@
 //! The bytes of a definition file.
-ghost use Rattle.std.specs.Prelude.{◌≡◌, ℕ, ◌+◌, ◌^◌, ◌<◌, ◌≤◌, List, length, is_ok, IfOk, if◌then◌else◌};
-ghost use Rattle.ports.specs.Tree.{bytes_at, Stays};
+ghost use Rattle.std.specs.Prelude.{◌≡◌, ℕ, ◌+◌, ◌^◌, ◌<◌, ◌≤◌, List, length, IfOk};
+ghost use Rattle.ports.specs.Endings.{HasRoom, ended};
+ghost use Rattle.ports.specs.Tree.{bytes_at, Asks, Stays};
 ghost use Rattle.meson.specs.Evaluation.{line_at};
 ghost use Rattle.meson.specs.Gives.{Holds, failures_after};
 ghost use Rattle.meson.specs.Reading.{IsNoFault};
@@ -11,11 +12,12 @@ use std::alloc::Global;
 
 // Reads until the buffer is full or the file ends, and says how many bytes it read.
 fn fill<T: Tree>(tree: &mut T, path: &str, buffer: &mut [u8]) -> Result<usize, DeviceFault>
-    requires { (T.seen tree.old).failures + 1 < 2 ^ 64 }
+    requires { HasRoom (T.seen tree.old).failures }
     ensures within { IfOk result (λ n. n ≤ length buffer.old) }
-    ensures bytes { (files : List (List ℕ × List ℕ)) → Holds (T.seen tree.old) files → length buffer.old ≡ length (bytes_at files path.now) → IfOk result (λ n. (n ≡ length buffer.old) × (buffer.new ≡ bytes_at files path.now)) }
-    ensures stays { Stays (T.seen tree.old) (T.seen tree.new) }
-    ensures failures { (T.seen tree.new).failures ≡ (if is_ok result then (T.seen tree.old).failures else (T.seen tree.old).failures + 1) }
+    ensures bytes { (files : List (List ℕ × List ℕ)) → Holds (T.seen tree.old) files
+        → length buffer.old ≡ length (bytes_at files path.now)
+        → IfOk result (λ n. (n ≡ length buffer.old) × (buffer.new ≡ bytes_at files path.now)) }
+    ensures asks { Asks (T.seen tree.old) (ended result) (T.seen tree.new) }
 {
     let mut at = 0;
     while at < buffer.len() {

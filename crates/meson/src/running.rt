@@ -1,11 +1,12 @@
 //! One run, from the bytes of a tree to the events of the outputs.
-ghost use Rattle.std.specs.Prelude.{◌≡◌, ◌+◌, ◌^◌, ◌<◌, IfErr, IsSome, flat_map, is_ok, if◌then◌else◌};
+ghost use Rattle.std.specs.Prelude.{◌≡◌, ◌+◌, ◌<◌, IfErr, flat_map};
 ghost use Rattle.std.specs.Result.{ForErr};
-ghost use Rattle.ports.specs.Outputs.{Sends, puts};
+ghost use Rattle.ports.specs.Endings.{HasRoom, ended};
+ghost use Rattle.ports.specs.Outputs.{IsOpen, Makes, Writes, puts};
 ghost use Rattle.build.specs.View.{edge_view, target_view};
-ghost use Rattle.ninja.specs.Writing.{edge_text};
+ghost use Rattle.first_ninja.specs.Writing.{edge_text};
 ghost use Rattle.meson.specs.Evaluation.{Files, evaluation};
-ghost use Rattle.meson.specs.Gives.{Holds, failures_after};
+ghost use Rattle.meson.specs.Gives.{Holds, ending_of, failures_after};
 ghost use Rattle.meson.specs.Reading.{IsNoFault};
 ghost use Rattle.meson.specs.SettingsView.{settings_view};
 ghost use Rattle.meson.specs.Setup.{Agrees, Configures, OnRefusal, Settles, build_steps, failed_devices, first_world, head_steps, parts_steps, run_of, tail_steps, target_steps};
@@ -17,7 +18,7 @@ use crate::steps::{Steps, new_steps};
 use crate::stop::Stop;
 use crate::store::{new_store, project};
 use build::{Edge, Project, Target, edges};
-use ninja::{write_edge, write_head, write_tail};
+use first_ninja::{write_edge, write_head, write_tail};
 use ports::{DeviceFault, Outputs, Tree};
 use std::alloc::Global;
 use std::marker::Brand;
@@ -38,11 +39,8 @@ pub enum Status {
 
 #[tactic(auto, using(ports::proofs::Sending::sending))]
 fn write_edges<O: Outputs>(edges: &[Edge], out: &mut O) -> Result<(), DeviceFault>
-    requires room { (O.seen out.old).failures + 1 < 2 ^ 64 }
-    requires is_open { IsSome (O.seen out.old).open_name }
-    ensures events { Sends (O.seen out.old) (O.seen out.new) (flat_map (λ e. puts (edge_text (edge_view e))) edges.now) (is_ok result) }
-    ensures name { (O.seen out.new).open_name ≡ (O.seen out.old).open_name }
-    ensures failures { (O.seen out.new).failures ≡ (if is_ok result then (O.seen out.old).failures else (O.seen out.old).failures + 1) }
+    requires { IsOpen (O.seen out.old) }
+    ensures { Writes (O.seen out.old) (flat_map (λ e. puts (edge_text (edge_view e))) edges.now) (ended result) (O.seen out.new) }
 {
     for edge in edges {
         write_edge(edge, out)?;
@@ -52,22 +50,16 @@ fn write_edges<O: Outputs>(edges: &[Edge], out: &mut O) -> Result<(), DeviceFaul
 
 #[tactic(auto, unfolding(crate::specs::Setup::head_steps))]
 fn put_head<O: Outputs>(out: &mut O) -> Result<(), DeviceFault>
-    requires room { (O.seen out.old).failures + 1 < 2 ^ 64 }
-    requires is_open { IsSome (O.seen out.old).open_name }
-    ensures events { Sends (O.seen out.old) (O.seen out.new) head_steps (is_ok result) }
-    ensures name { (O.seen out.new).open_name ≡ (O.seen out.old).open_name }
-    ensures failures { (O.seen out.new).failures ≡ (if is_ok result then (O.seen out.old).failures else (O.seen out.old).failures + 1) }
+    requires { IsOpen (O.seen out.old) }
+    ensures { Writes (O.seen out.old) head_steps (ended result) (O.seen out.new) }
 {
     write_head(out)
 }
 
 #[tactic(auto, unfolding(crate::specs::Setup::tail_steps))]
 fn put_tail<O: Outputs>(project: &Project, out: &mut O) -> Result<(), DeviceFault>
-    requires room { (O.seen out.old).failures + 1 < 2 ^ 64 }
-    requires is_open { IsSome (O.seen out.old).open_name }
-    ensures events { Sends (O.seen out.old) (O.seen out.new) (tail_steps project.now) (is_ok result) }
-    ensures name { (O.seen out.new).open_name ≡ (O.seen out.old).open_name }
-    ensures failures { (O.seen out.new).failures ≡ (if is_ok result then (O.seen out.old).failures else (O.seen out.old).failures + 1) }
+    requires { IsOpen (O.seen out.old) }
+    ensures { Writes (O.seen out.old) (tail_steps project.now) (ended result) (O.seen out.new) }
 {
     write_tail(project, out)
 }
@@ -79,11 +71,8 @@ fn write_target<O: Outputs>(
     target: &Target,
     out: &mut O,
 ) -> Result<(), Stop>
-    requires room { (O.seen out.old).failures + 1 < 2 ^ 64 }
-    requires is_open { IsSome (O.seen out.old).open_name }
-    ensures events { Sends (O.seen out.old) (O.seen out.new) (target_steps depth (target_view target.now)) (is_ok result) }
-    ensures name { (O.seen out.new).open_name ≡ (O.seen out.old).open_name }
-    ensures failures { (O.seen out.new).failures ≡ failures_after (O.seen out.old).failures result }
+    requires { IsOpen (O.seen out.old) }
+    ensures writes { Writes (O.seen out.old) (target_steps depth (target_view target.now)) (ending_of result) (O.seen out.new) }
     ensures no_fault { IsNoFault result }
 {
     let edges = edges(alloc, depth, target)?;
@@ -98,11 +87,9 @@ fn write_targets<O: Outputs>(
     targets: &[Target],
     out: &mut O,
 ) -> Result<(), Stop>
-    requires room { (O.seen out.old).failures + 1 < 2 ^ 64 }
-    requires is_open { IsSome (O.seen out.old).open_name }
-    ensures events { Sends (O.seen out.old) (O.seen out.new) (flat_map (λ t. target_steps depth (target_view t)) targets.now) (is_ok result) }
-    ensures name { (O.seen out.new).open_name ≡ (O.seen out.old).open_name }
-    ensures failures { (O.seen out.new).failures ≡ failures_after (O.seen out.old).failures result }
+    requires { IsOpen (O.seen out.old) }
+    ensures writes { let run = flat_map (λ t. target_steps depth (target_view t)) targets.now in
+        Writes (O.seen out.old) run (ending_of result) (O.seen out.new) }
     ensures no_fault { IsNoFault result }
 {
     for target in targets {
@@ -118,9 +105,9 @@ fn write_parts<O: Outputs>(
     targets: &[Target],
     out: &mut O,
 ) -> Result<(), Stop>
-    requires { (O.seen out.old).failures + 1 < 2 ^ 64 }
-    ensures events { Sends (O.seen out.old) (O.seen out.new) (parts_steps project.now (flat_map (λ t. target_steps project.now.depth (target_view t)) targets.now)) (is_ok result) }
-    ensures failures { (O.seen out.new).failures ≡ failures_after (O.seen out.old).failures result }
+    requires { HasRoom (O.seen out.old).failures }
+    ensures makes { let targets = flat_map (λ t. target_steps project.now.depth (target_view t)) targets.now in
+        Makes (O.seen out.old) (parts_steps project.now targets) (ending_of result) (O.seen out.new) }
     ensures no_fault { IsNoFault result }
 {
     out.open("build.ninja")?;
@@ -133,9 +120,8 @@ fn write_parts<O: Outputs>(
 
 // Writes `build.ninja`.
 fn write_build_file<O: Outputs>(alloc: Global, project: &Project, out: &mut O) -> Result<(), Stop>
-    requires { (O.seen out.old).failures + 1 < 2 ^ 64 }
-    ensures events { Sends (O.seen out.old) (O.seen out.new) (build_steps project.now) (is_ok result) }
-    ensures failures { (O.seen out.new).failures ≡ failures_after (O.seen out.old).failures result }
+    requires { HasRoom (O.seen out.old).failures }
+    ensures makes { Makes (O.seen out.old) (build_steps project.now) (ending_of result) (O.seen out.new) }
     ensures no_fault { IsNoFault result }
 {
     write_parts(alloc, project, project.targets(), out)
@@ -150,10 +136,12 @@ fn configure<T: Tree, O: Outputs, L: Ledger>(
     out: &mut O,
     steps: &mut Steps<L>,
 ) -> Result<(), Stop>
-    requires tree_room { (T.seen tree.old).failures + 1 < 2 ^ 64 }
-    requires out_room { (O.seen out.old).failures + 1 < 2 ^ 64 }
-    ensures run { (files : Files) → Holds (T.seen tree.old) files → Configures (evaluation files (settings_view settings.now) machine.now (first_world (settings_view settings.now))) result (O.seen out.old) (O.seen out.new) }
-    ensures failures { (T.seen tree.new).failures + (O.seen out.new).failures ≡ failures_after ((T.seen tree.old).failures + (O.seen out.old).failures) result }
+    requires tree { HasRoom (T.seen tree.old).failures }
+    requires out { HasRoom (O.seen out.old).failures }
+    ensures run { let s = settings_view settings.now in (files : Files) → Holds (T.seen tree.old) files
+        → Configures (evaluation files s machine.now (first_world s)) result (O.seen out.old) (O.seen out.new) }
+    ensures failures { (T.seen tree.new).failures + (O.seen out.new).failures
+        ≡ failures_after ((T.seen tree.old).failures + (O.seen out.old).failures) result }
     ensures room { IfErr result (λ stop. OnRefusal stop ((O.seen out.new).failures ≡ (O.seen out.old).failures)) }
 {
     let mut store = new_store(alloc, settings.depth)?;
@@ -163,7 +151,7 @@ fn configure<T: Tree, O: Outputs, L: Ledger>(
 
 // The status of a run that came to this answer. Of a refusal the line is written first.
 fn settle<O: Outputs>(answer: Result<(), Stop>, out: &mut O) -> Status
-    requires { ForErr answer (λ stop. OnRefusal stop ((O.seen out.old).failures + 1 < 2 ^ 64)) }
+    requires { ForErr answer (λ stop. OnRefusal stop (HasRoom (O.seen out.old).failures)) }
     ensures { Settles answer result (O.seen out.old) (O.seen out.new) }
 {
     match answer {
@@ -185,13 +173,15 @@ fn run_with<T: Tree, O: Outputs, L: Ledger>(
     out: &mut O,
     blank: Blank,
 ) -> Status
-    requires tree_room { (T.seen tree.old).failures + 1 < 2 ^ 64 }
-    requires out_room { (O.seen out.old).failures + 1 < 2 ^ 64 }
+    requires tree { HasRoom (T.seen tree.old).failures }
+    requires out { HasRoom (O.seen out.old).failures }
     requires name { blank.name ≡ L.name }
     requires parts { blank.parts ≡ L.parts }
     requires some { 0 < blank.parts }
-    ensures run { (files : Files) → Holds (T.seen tree.old) files → Agrees (run_of files (settings_view settings.now) machine.now) result (O.seen out.old) (O.seen out.new) }
-    ensures device { (T.seen tree.new).failures + (O.seen out.new).failures ≡ (T.seen tree.old).failures + (O.seen out.old).failures + failed_devices result }
+    ensures run { (files : Files) → Holds (T.seen tree.old) files
+        → Agrees (run_of files (settings_view settings.now) machine.now) result (O.seen out.old) (O.seen out.new) }
+    ensures device { (T.seen tree.new).failures + (O.seen out.new).failures
+        ≡ (T.seen tree.old).failures + (O.seen out.old).failures + failed_devices result }
 {
     let mut steps = new_steps::<L>(blank);
     let answer = configure(alloc, tree, settings, machine, out, &mut steps);
@@ -209,15 +199,17 @@ pub fn setup<T: Tree, O: Outputs>(
     machine: &[u8],
     out: &mut O,
 ) -> Status
-    requires tree_room { (T.seen tree.old).failures + 1 < 2 ^ 64 }
-    requires out_room { (O.seen out.old).failures + 1 < 2 ^ 64 }
+    requires tree { HasRoom (T.seen tree.old).failures }
+    requires out { HasRoom (O.seen out.old).failures }
 
     // Over a steady tree, status `Done` or `Fault` is that of the run, and outputs that tell took all of its steps. With status
     // `Device` or `Memory` they took a beginning.
-    ensures run { (files : Files) → Holds (T.seen tree.old) files → Agrees (run_of files (settings_view settings.now) machine.now) result (O.seen out.old) (O.seen out.new) }
+    ensures run { (files : Files) → Holds (T.seen tree.old) files
+        → Agrees (run_of files (settings_view settings.now) machine.now) result (O.seen out.old) (O.seen out.new) }
 
     // Of any devices: one of them failed once where the status is `Device`, and else none did.
-    ensures device { (T.seen tree.new).failures + (O.seen out.new).failures ≡ (T.seen tree.old).failures + (O.seen out.old).failures + failed_devices result }
+    ensures device { (T.seen tree.new).failures + (O.seen out.new).failures
+        ≡ (T.seen tree.old).failures + (O.seen out.old).failures + failed_devices result }
 {
     run_with::<T, O, Brand>(alloc, tree, settings, machine, out, Blank::new(1))
 }

@@ -16,12 +16,12 @@ use crate::executable::call_executable;
 use crate::expressions::value_of;
 use crate::function::{Function, function_named, is_predefined};
 use crate::project::{call_project, call_project_again};
-use crate::refusal::Refusal;
 use crate::refuse::{refused, refused_here};
 use crate::settings::Settings;
 use crate::steps::{Steps, ended};
 use crate::stop::Stop;
 use crate::store::{Store, set_variable};
+use faults::Refusal;
 use grammar::tree::{Argument, Expression, File, Statement};
 use ports::Tree;
 use std::alloc::Global;
@@ -119,7 +119,7 @@ fn carry_out_expression<T: Tree, L: Ledger>(
         Expression::Postfix { line, .. } => left_out(alloc, file, *line),
         Expression::Prefix { line, .. } => left_out(alloc, file, *line),
         Expression::Chain { line, .. } => left_out(alloc, file, *line),
-        Expression::Choice { line, .. } => left_out(alloc, file, *line),
+        Expression::Ternary { line, .. } => left_out(alloc, file, *line),
     }
 }
 
@@ -248,7 +248,7 @@ fn begin_with<T: Tree, L: Ledger>(
         Expression::Postfix { .. } => no_project_call(alloc, file, line),
         Expression::Prefix { .. } => no_project_call(alloc, file, line),
         Expression::Chain { .. } => no_project_call(alloc, file, line),
-        Expression::Choice { .. } => no_project_call(alloc, file, line),
+        Expression::Ternary { .. } => no_project_call(alloc, file, line),
     }
 }
 

@@ -1,11 +1,11 @@
 ghost use Rattle.std.specs.Prelude.{◌≡◌};
 
-use crate::fault::Fault;
+use faults::Fault;
 use ports::DeviceFault;
 use std::alloc::{AllocError, AllocFailed};
 
 /// Why an evaluation came to no value.
-#[derive(Drop, Debug)]
+#[derive(Drop)]
 pub enum Stop {
     /// The definitions are refused.
     Refused(Fault),

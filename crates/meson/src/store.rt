@@ -8,13 +8,13 @@ ghost use Rattle.meson.specs.ValueView.{view};
 
 use crate::value::Value;
 use build::{Duplicate, Project, Target};
-use indexmap::IndexMap;
 use std::alloc::{AllocError, Global};
+use tables::{SipMap, new_map};
 
 /// The world of an evaluation.
 #[derive(Drop)]
 pub struct Store {
-    variables: IndexMap<String, Value>,
+    variables: SipMap<String, Value>,
     project: Project,
     looked: Vec<String>,
 }
@@ -24,7 +24,7 @@ pub fn new_store(alloc: Global, depth: usize) -> Result<Store, AllocError>
     ensures { IfOk result (λ s. world_of s ≡ record { variables = λ _. None; project = record { depth = depth; targets = [] }; looked = [] }) }
 {
     Ok(Store {
-        variables: IndexMap::new(alloc),
+        variables: new_map(alloc),
         project: Project::new(alloc, depth)?,
         looked: Vec::new(alloc),
     })

@@ -1,40 +1,20 @@
--- Values that are printed one after another.
-use Rattle.std.proofs.Common.{◌≡◌, ℕ, Bool, true, false, List, [], ◌∷◌, ◌++◌, Ok, Err, map, refl, sym, ap, ◌∙◌, append_assoc}
-use Rattle.std.specs.Prelude.{Result, ◌&&◌, if◌then◌else◌}
-use Rattle.std.specs.List.{list_all}
+-- Texts with places, and values in lists of any depth.
+use Rattle.std.proofs.Common.{◌≡◌, ℕ, ◌<◌, ◌≤◌, Bool, true, false, List, [], ◌∷◌, ◌++◌, Ok, Err, map, length, refl, sym, ap, ◌∙◌, arith}
+use Rattle.std.specs.Prelude.{Result, ◌&&◌, nat_le, if◌then◌else◌}
+use Rattle.std.specs.List.{list_all, flat_map}
+use Rattle.std.proofs.lemmas.Bool.Decides.{nat_tests}
 use Rattle.data.specs.declared.refusal.Refusal.{Refusal}
 use Rattle.data.specs.declared.refusal.Refusal.TheVariants as refusal
 use Rattle.data.specs.declared.value.Value.{Value}
 use Rattle.data.specs.Data.{Data, item}
+use Rattle.data.specs.Limits.{within_bytes}
 use Rattle.data.specs.View.{data_of, items_of}
-use Rattle.printing.specs.Printed.{is_printable, printed}
-use Rattle.methods.specs.Steps.{◌>>=◌}
-use Rattle.texts.specs.Format.{formatted}
-use Rattle.methods.specs.Formatted.{printed_each, formatted_text}
-use Rattle.methods.specs.Flat.{as_items, are_texts, flat_items, flat_texts}
-
--- texts behind those that are there
-abbrev pub behind : List (List ℕ) → Result (List (List ℕ)) Refusal → Result (List (List ℕ)) Refusal
-behind front rest = rest >>= λ ts. Ok (front ++ ts)
-
-pub behind_none : (r : Result (List (List ℕ)) Refusal) → behind [] r ≡ r
-behind_none (Ok ts) = refl
-behind_none (Err e) = refl
-
--- one more text in front of the others
-behind_one : (front : List (List ℕ)) (t : List ℕ) (r : Result (List (List ℕ)) Refusal)
-    → behind (front ++ t ∷ []) r ≡ behind front (r >>= λ ts. Ok (t ∷ ts))
-behind_one front t (Ok ts) = ap (λ x. Ok x) (append_assoc front (t ∷ []) ts)
-behind_one front t (Err e) = refl
-
-pub behind_next : (front : List (List ℕ)) (d : Data) (ds : List Data) (t : List ℕ) → printed d ≡ Ok t
-    → behind (front ++ t ∷ []) (printed_each ds) ≡ behind front (printed_each (d ∷ ds))
-behind_next front d ds t is = behind_one front t (printed_each ds)
-    ∙ ap (λ r. behind front (r >>= λ s. printed_each ds >>= λ ts. Ok (s ∷ ts))) (sym is)
-
-pub behind_refused : (front : List (List ℕ)) (d : Data) (ds : List Data) (e : Refusal) → printed d ≡ Err e
-    → behind front (printed_each (d ∷ ds)) ≡ Err e
-behind_refused front d ds e is = ap (λ r. behind front (r >>= λ s. printed_each ds >>= λ ts. Ok (s ∷ ts))) is
+use Rattle.printing.specs.Printed.{is_printable}
+use Rattle.printing.specs.Writes.{Writes}
+use Rattle.texts.specs.declared.placed.Places.TheVariants as places
+use Rattle.texts.specs.Segments.{Segment, segments}
+use Rattle.methods.specs.Formatted.{has_value, filled, formatted_text}
+use Rattle.methods.specs.Flat.{as_items, are_texts, flat_items, flat_texts, opened, opened_items, flat_values}
 
 list_all-data_of : (vs : List Value) → list_all is_printable (map data_of vs) ≡ list_all (λ v. is_printable (data_of v)) vs
 list_all-data_of [] = refl
@@ -64,22 +44,65 @@ flat_found vs found e is =
     (ap are_texts (as_items-data_of vs) ∙ e)
     ∙ ap (λ ds. Ok (flat_items ds)) (as_items-data_of vs) ∙ ap (λ ts. Ok ts) (sym is)
 
+pub flat_values-data_of : (vs : List Value) → flat_values (map data_of vs) ≡ opened_items (items_of vs)
+flat_values-data_of [] = refl
+flat_values-data_of (v ∷ vs) = ap (λ ds. opened (data_of v) ++ ds) (flat_values-data_of vs)
+
+-- ---- a text with places
+
+abbrev result : List ℕ → List Data → Result (List ℕ) Refusal
+result t values =
+    if list_all (has_value values) (segments places.Numbers t) then within_bytes (flat_map (filled values) (segments places.Numbers t))
+    else Err refusal.Absent
+
 pub formatted_refused : (t : List ℕ) (vs : List Value) → list_all (λ v. is_printable (data_of v)) vs ≡ false
     → Err refusal.Arguments ≡ formatted_text t (map data_of vs)
 formatted_refused t vs e =
-    sym (unless (list_all is_printable (map data_of vs)) (printed_each (map data_of vs) >>= λ ts. formatted t ts) (Err refusal.Arguments)
-    (list_all-data_of vs ∙ e))
+    sym (unless (list_all is_printable (map data_of vs)) (result t (map data_of vs)) (Err refusal.Arguments) (list_all-data_of vs ∙ e))
 
-formatted_is : (t : List ℕ) (vs : List Value) → list_all (λ v. is_printable (data_of v)) vs ≡ true
-    → formatted_text t (map data_of vs) ≡ (printed_each (map data_of vs) >>= λ ts. formatted t ts)
-formatted_is t vs e =
-    when (list_all is_printable (map data_of vs)) (printed_each (map data_of vs) >>= λ ts. formatted t ts) (Err refusal.Arguments)
-    (list_all-data_of vs ∙ e)
+printable : (t : List ℕ) (vs : List Value) → list_all (λ v. is_printable (data_of v)) vs ≡ true
+    → formatted_text t (map data_of vs) ≡ result t (map data_of vs)
+printable t vs e = when (list_all is_printable (map data_of vs)) (result t (map data_of vs)) (Err refusal.Arguments) (list_all-data_of vs ∙ e)
 
-pub formatted_of : (t : List ℕ) (vs : List Value) (ts : List (List ℕ)) → list_all (λ v. is_printable (data_of v)) vs ≡ true
-    → printed_each (map data_of vs) ≡ Ok ts → formatted t ts ≡ formatted_text t (map data_of vs)
-formatted_of t vs ts e is = sym (formatted_is t vs e ∙ ap (λ r. r >>= λ us. formatted t us) is)
+pub formatted_absent : (t : List ℕ) (vs : List Value) → list_all (λ v. is_printable (data_of v)) vs ≡ true
+    → list_all (has_value (map data_of vs)) (segments places.Numbers t) ≡ false → Err refusal.Absent ≡ formatted_text t (map data_of vs)
+formatted_absent t vs e none =
+    sym (printable t vs e ∙ unless (list_all (has_value (map data_of vs)) (segments places.Numbers t))
+    (within_bytes (flat_map (filled (map data_of vs)) (segments places.Numbers t))) (Err refusal.Absent) none)
 
-pub printing_refused : (t : List ℕ) (vs : List Value) (r : Refusal) → list_all (λ v. is_printable (data_of v)) vs ≡ true
-    → printed_each (map data_of vs) ≡ Err r → Err r ≡ formatted_text t (map data_of vs)
-printing_refused t vs r e is = sym (formatted_is t vs e ∙ ap (λ p. p >>= λ us. formatted t us) is)
+filled_is : (t : List ℕ) (vs : List Value) → list_all (λ v. is_printable (data_of v)) vs ≡ true
+    → list_all (has_value (map data_of vs)) (segments places.Numbers t) ≡ true
+    → formatted_text t (map data_of vs) ≡ within_bytes (flat_map (filled (map data_of vs)) (segments places.Numbers t))
+filled_is t vs e all =
+    printable t vs e ∙ when (list_all (has_value (map data_of vs)) (segments places.Numbers t))
+    (within_bytes (flat_map (filled (map data_of vs)) (segments places.Numbers t))) (Err refusal.Absent) all
+
+short : (t made : List ℕ) → made ≡ t → length made ≤ 16777216 → Ok made ≡ within_bytes t
+short t made is fit =
+    let test : nat_le (length t) 16777216 ≡ true = let n = ap length is in grind (arith, nat_tests) in
+    ap (λ x. Ok x) is ∙ sym (when (nat_le (length t) 16777216) (Ok t) (Err refusal.Limit) test)
+
+long : (t : List ℕ) → 16777216 < length t → Err refusal.Limit ≡ within_bytes t
+long t h =
+    let test : nat_le (length t) 16777216 ≡ false = grind (arith, nat_tests) in
+    sym (unless (nat_le (length t) 16777216) (Ok t) (Err refusal.Limit) test)
+
+pub formatted_made : (t : List ℕ) (vs : List Value) (ss : List Segment) (before made : List ℕ)
+    → list_all (λ v. is_printable (data_of v)) vs ≡ true → ss ≡ segments places.Numbers t → list_all (has_value (map data_of vs)) ss ≡ true
+    → before ≡ [] → Writes before (flat_map (filled (map data_of vs)) ss) made (Ok tt) → Ok made ≡ formatted_text t (map data_of vs)
+formatted_made t vs ss before made e is all empty wrote =
+    let whole : made ≡ flat_map (filled (map data_of vs)) (segments places.Numbers t) =
+    wrote.0 ∙ ap (λ x. x ++ flat_map (filled (map data_of vs)) ss) empty ∙ ap (flat_map (filled (map data_of vs))) is in
+    let some : length before ≤ 16777216 = let n = ap length empty in omega arith in
+    short (flat_map (filled (map data_of vs)) (segments places.Numbers t)) made whole (wrote.1 some)
+    ∙ sym (filled_is t vs e (ap (list_all (has_value (map data_of vs))) (sym is) ∙ all))
+
+pub formatted_long : (t : List ℕ) (vs : List Value) (ss : List Segment) (before made : List ℕ) (r : Refusal)
+    → list_all (λ v. is_printable (data_of v)) vs ≡ true → ss ≡ segments places.Numbers t → list_all (has_value (map data_of vs)) ss ≡ true
+    → before ≡ [] → Writes before (flat_map (filled (map data_of vs)) ss) made (Err r) → Err r ≡ formatted_text t (map data_of vs)
+formatted_long t vs ss before made r e is all empty wrote =
+    let whole : before ++ flat_map (filled (map data_of vs)) ss ≡ flat_map (filled (map data_of vs)) (segments places.Numbers t) =
+    ap (λ x. x ++ flat_map (filled (map data_of vs)) ss) empty ∙ ap (flat_map (filled (map data_of vs))) is in
+    ap (λ x. Err x) wrote.0
+    ∙ long (flat_map (filled (map data_of vs)) (segments places.Numbers t)) (let n = ap length whole in omega (arith, wrote.1))
+    ∙ sym (filled_is t vs e (ap (list_all (has_value (map data_of vs))) (sym is) ∙ all))

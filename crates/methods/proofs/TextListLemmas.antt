@@ -43,11 +43,11 @@ both_true : (b c : Bool) → b ≡ true → c ≡ true → (b && c) ≡ true
 both_true true c e f = f
 both_true false c e f = absurd cc
 
-next_text : (ts : List (Bor (List ℕ))) (i : ℕ) (x : Bor (List ℕ)) → i < length ts
+pub next_text : (ts : List (Bor (List ℕ))) (i : ℕ) (x : Bor (List ℕ)) → i < length ts
     → map (λ t. t.now) (drop i ts) ≡ (get_or ts i x).now ∷ map (λ t. t.now) (drop (i + 1) ts)
 next_text ts i x h = ap (map (λ t. t.now)) (drop_more ts i x h)
 
-appended : (ds : Items) (t : List ℕ) (rest : List (List ℕ))
+pub appended : (ds : Items) (t : List ℕ) (rest : List (List ℕ))
     → items_append (items_append ds (item (text t) no_items)) (texts rest) ≡ items_append ds (texts (t ∷ rest))
 appended ds t rest = items_append_assoc ds (item (text t) no_items) (texts rest)
 

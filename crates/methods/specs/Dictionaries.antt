@@ -5,13 +5,14 @@ use Rattle.std.specs.Cmp.Lexicographic.{slice_cmp}
 use Rattle.std.specs.BTreeSet.{insert_key}
 use Rattle.data.specs.declared.refusal.Refusal.{Refusal}
 use Rattle.data.specs.declared.refusal.Refusal.TheVariants as refusal
-use Rattle.data.specs.Data.{Data, truth, Entries, find, keys_in}
+use Rattle.data.specs.Data.{Data, boolean, list, Entries, find, keys_in}
+use Rattle.data.specs.Limits.{within}
 use Rattle.methods.specs.declared.dictionaries.DictionaryMethod.{DictionaryMethod}
 use Rattle.methods.specs.declared.dictionaries.DictionaryMethod.TheVariants.{Get, HasKey, Keys}
 use Rattle.methods.specs.Steps.{◌>>=◌}
 use Rattle.methods.specs.Arguments.{no_arguments, one_argument, key_and_fallback, text_argument}
 use Rattle.methods.specs.Lists.{found_or}
-use Rattle.methods.specs.TextLists.{text_list}
+use Rattle.methods.specs.TextLists.{texts}
 
 -- the method of a name
 abbrev pub named : List ℕ → Option DictionaryMethod
@@ -32,7 +33,7 @@ abbrev pub has_key : Entries → List Data → Result Data Refusal
 has_key es arguments = do
   d ← one_argument arguments
   k ← text_argument d
-  Ok (truth (is_some (find k es)))
+  Ok (boolean (is_some (find k es)))
 
 -- ordered keys and further ones, each at its place in the order of bytes
 abbrev pub sorted_with : List (List ℕ) → List (List ℕ) → List (List ℕ)
@@ -43,7 +44,7 @@ sorted_with sorted (k ∷ ks) = sorted_with (insert_key (slice_cmp nat_cmp) sort
 abbrev pub keys : Entries → List Data → Result Data Refusal
 keys es arguments = do
   _ ← no_arguments arguments
-  text_list (sorted_with [] (keys_in es))
+  within (list (texts (sorted_with [] (keys_in es))))
 
 abbrev pub call : DictionaryMethod → Entries → List Data → Result Data Refusal
 call Get es arguments = get es arguments

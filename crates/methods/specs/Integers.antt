@@ -4,7 +4,7 @@ use Rattle.std.specs.Prelude.{if◌then◌else◌}
 use Rattle.std.specs.Fmt.{signed_decimal}
 use Rattle.data.specs.declared.refusal.Refusal.{Refusal}
 use Rattle.data.specs.declared.refusal.Refusal.TheVariants as refusal
-use Rattle.data.specs.Data.{Data, truth, text}
+use Rattle.data.specs.Data.{Data, boolean, text}
 use Rattle.data.specs.Limits.{within}
 use Rattle.methods.specs.declared.integers.IntegerMethod.{IntegerMethod}
 use Rattle.methods.specs.declared.integers.IntegerMethod.TheVariants.{IsEven, IsOdd, ToString}
@@ -23,12 +23,12 @@ named name =
 abbrev pub is_even : ℤ → List Data → Result Data Refusal
 is_even z arguments = do
   _ ← no_arguments arguments
-  Ok (truth (unsigned_abs z % 2 == 0))
+  Ok (boolean (unsigned_abs z % 2 == 0))
 
 abbrev pub is_odd : ℤ → List Data → Result Data Refusal
 is_odd z arguments = do
   _ ← no_arguments arguments
-  Ok (truth (not (unsigned_abs z % 2 == 0)))
+  Ok (boolean (not (unsigned_abs z % 2 == 0)))
 
 abbrev pub to_string : ℤ → List Data → Result Data Refusal
 to_string z arguments = do

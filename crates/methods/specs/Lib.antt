@@ -1,7 +1,7 @@
 pub mod Steps
 pub mod Arguments
 pub mod Integers
-pub mod Truths
+pub mod Booleans
 pub mod Lists
 pub mod TextLists
 pub mod Dictionaries

@@ -2,7 +2,7 @@
 use Rattle.std.specs.Prelude.{ℕ, pos, Bool, false, ◌||◌, List, Option, Some, None, ok_or, codes, bytes_eq, Result, Ok, Err, if◌then◌else◌}
 use Rattle.data.specs.declared.refusal.Refusal.{Refusal}
 use Rattle.data.specs.declared.refusal.Refusal.TheVariants as refusal
-use Rattle.data.specs.Data.{Data, truth, integer, text, list, dictionary, object, Items, no_items, item, count}
+use Rattle.data.specs.Data.{Data, boolean, integer, text, list, dictionary, object, Items, no_items, item, count}
 use Rattle.data.specs.Same.{same}
 use Rattle.operators.specs.Index.{indexed_item}
 use Rattle.methods.specs.declared.lists.ListMethod.{ListMethod}
@@ -26,7 +26,7 @@ abbrev mutual
 
   pub stands_inside : Data → Data → Bool
   stands_inside d (list es) = stands_in d es
-  stands_inside d (truth b) = false
+  stands_inside d (boolean b) = false
   stands_inside d (integer z) = false
   stands_inside d (text t) = false
   stands_inside d (dictionary es) = false
@@ -35,7 +35,7 @@ abbrev mutual
 abbrev pub contains : Items → List Data → Result Data Refusal
 contains ds arguments = do
   d ← one_argument arguments
-  Ok (truth (stands_in d ds))
+  Ok (boolean (stands_in d ds))
 
 -- what was found, or else a value in its place
 abbrev pub found_or : Option Data → Option Data → Result Data Refusal

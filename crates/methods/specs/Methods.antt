@@ -2,16 +2,16 @@
 use Rattle.std.specs.Prelude.{ℕ, Bool, false, List, is_some, Result, Err}
 use Rattle.data.specs.declared.refusal.Refusal.{Refusal}
 use Rattle.data.specs.declared.refusal.Refusal.TheVariants as refusal
-use Rattle.data.specs.Data.{Data, truth, integer, text, list, dictionary, object}
+use Rattle.data.specs.Data.{Data, boolean, integer, text, list, dictionary, object}
 use Rattle.methods.specs.Integers as integers
-use Rattle.methods.specs.Truths as truths
+use Rattle.methods.specs.Booleans as booleans
 use Rattle.methods.specs.TextMethods as texts
 use Rattle.methods.specs.Lists as lists
 use Rattle.methods.specs.Dictionaries as dictionaries
 
 -- what a method of a receiver gives, or why it gives nothing: first its name is looked at, then its arguments
 abbrev pub answer : Data → List ℕ → List Data → Result Data Refusal
-answer (truth b) name arguments = truths.answer b name arguments
+answer (boolean b) name arguments = booleans.answer b name arguments
 answer (integer z) name arguments = integers.answer z name arguments
 answer (text t) name arguments = texts.answer t name arguments
 answer (list ds) name arguments = lists.answer ds name arguments
@@ -20,7 +20,7 @@ answer (object o) name arguments = Err refusal.UnknownMethod
 
 -- whether the type of a receiver has a method of a name
 abbrev pub has_name : Data → List ℕ → Bool
-has_name (truth b) name = is_some (truths.named name)
+has_name (boolean b) name = is_some (booleans.named name)
 has_name (integer z) name = is_some (integers.named name)
 has_name (text t) name = is_some (texts.named name)
 has_name (list ds) name = is_some (lists.named name)

@@ -4,7 +4,7 @@ use Rattle.std.specs.Char.{to_ascii_lowercase, to_ascii_uppercase}
 use Rattle.std.specs.List as lists
 use Rattle.data.specs.declared.refusal.Refusal.{Refusal}
 use Rattle.data.specs.declared.refusal.Refusal.TheVariants as refusal
-use Rattle.data.specs.Data.{Data, truth, integer, text}
+use Rattle.data.specs.Data.{Data, boolean, integer, text}
 use Rattle.data.specs.Limits.{within}
 use Rattle.texts.specs.Search as search
 use Rattle.texts.specs.Joined.{joined, replaced}
@@ -46,19 +46,19 @@ named name =
 abbrev pub contains : List ℕ → List Data → Result Data Refusal
 contains t arguments = do
   s ← one_text arguments
-  Ok (truth (search.contains t s))
+  Ok (boolean (search.contains t s))
 
 -- `startswith`
 abbrev pub starts_with : List ℕ → List Data → Result Data Refusal
 starts_with t arguments = do
   s ← one_text arguments
-  Ok (truth (lists.starts_with nat_eq t s))
+  Ok (boolean (lists.starts_with nat_eq t s))
 
 -- `endswith`
 abbrev pub ends_with : List ℕ → List Data → Result Data Refusal
 ends_with t arguments = do
   s ← one_text arguments
-  Ok (truth (lists.ends_with nat_eq t s))
+  Ok (boolean (lists.ends_with nat_eq t s))
 
 -- `format`
 abbrev pub format : List ℕ → List Data → Result Data Refusal
@@ -138,7 +138,7 @@ underscorify t arguments = do
 abbrev pub version_compare : List ℕ → List Data → Result Data Refusal
 version_compare t arguments = do
   condition ← one_text arguments
-  Ok (truth (meets t condition))
+  Ok (boolean (meets t condition))
 
 abbrev pub call : TextMethod → List ℕ → List Data → Result Data Refusal
 call method.Contains t arguments = contains t arguments

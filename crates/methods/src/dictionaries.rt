@@ -2,15 +2,16 @@
 
 ghost use Rattle.std.specs.Prelude.{◌≡◌, [], map, IfOk};
 ghost use Rattle.data.specs.Data.{keys_in};
-ghost use Rattle.data.specs.View.{data_of};
+ghost use Rattle.data.specs.View.{data_of, items_of};
 ghost use Rattle.methods.specs.Steps.{Gives};
+ghost use Rattle.methods.specs.TextLists.{texts};
 ghost use Rattle.methods.specs.Dictionaries.{named, get, has_key, keys, sorted_with, answer};
 
-use crate::arguments::{key_and_fallback, none, one, text};
 use crate::lists::found_or;
+use crate::readers::{key_and_fallback, none, one, text};
 use crate::stop::Stop;
-use crate::text_lists::text_list;
-use data::{Dictionary, Refusal, Value};
+use data::{Dictionary, Refusal, Text, Value};
+use operators::list;
 use std::alloc::{AllocError, Global};
 use std::collections::BTreeSet;
 
@@ -65,30 +66,42 @@ fn has_key(dictionary: &Dictionary, arguments: &[Value]) -> Result<Value, Stop>
     ensures { Gives (has_key dictionary.now (map data_of arguments.now)) result }
 {
     let key = text(one(arguments)?)?;
-    Ok(Value::Truth(dictionary.get(key).is_some()))
+    Ok(Value::Boolean(dictionary.get(key).is_some()))
 }
 
 fn keys(alloc: Global, dictionary: &Dictionary, arguments: &[Value]) -> Result<Value, Stop>
     ensures { Gives (keys dictionary.now (map data_of arguments.now)) result }
 {
     none(arguments)?;
-    text_list(alloc, &sorted_keys(alloc, dictionary)?)
+    let keys = key_values(alloc, &sorted_keys(alloc, dictionary)?)?;
+    Ok(list(alloc, keys)??)
 }
 
 // The keys, in the order of their bytes.
-fn sorted_keys(alloc: Global, dictionary: &Dictionary) -> Result<Vec<&str>, AllocError>
+fn sorted_keys(alloc: Global, dictionary: &Dictionary) -> Result<Vec<&Text>, AllocError>
     ensures { IfOk result (λ ks. map (λ k. k.now) ks.items ≡ sorted_with [] (keys_in dictionary.now)) }
 {
-    let sorted = key_set(alloc, dictionary)?;
+    let sorted = key_set(alloc, dictionary.keys())?;
     sorted.into_iter().collect(alloc)
 }
 
-fn key_set(alloc: Global, dictionary: &Dictionary) -> Result<BTreeSet<&str>, AllocError>
-    ensures { IfOk result (λ s. map (λ k. k.now) s.keys ≡ sorted_with [] (keys_in dictionary.now)) }
+fn key_set<'d>(alloc: Global, keys: &'d [Text]) -> Result<BTreeSet<&'d Text>, AllocError>
+    ensures { IfOk result (λ s. map (λ k. k.now) s.keys ≡ sorted_with [] keys.entry.now) }
 {
     let mut sorted = BTreeSet::new(alloc);
-    for i in 0..dictionary.len() {
-        sorted.insert(dictionary.key(i))?;
+    for key in keys {
+        sorted.insert(key)?;
     }
     Ok(sorted)
+}
+
+// The keys as values. They are shared, and no byte is copied.
+fn key_values(alloc: Global, keys: &[&Text]) -> Result<Vec<Value>, AllocError>
+    ensures { IfOk result (λ vs. items_of vs.items ≡ texts (map (λ k. k.now) keys.now)) }
+{
+    let mut values = Vec::new(alloc);
+    for key in keys {
+        values.push(Value::Text((*key).clone()?))?;
+    }
+    Ok(values)
 }

@@ -1,37 +1,43 @@
 //! Texts with places for values.
 
-ghost use Rattle.std.specs.Prelude.{◌≡◌, map, IfOk, string_bytes};
-ghost use Rattle.std.specs.List.{list_all};
+ghost use Rattle.std.specs.Prelude.{◌≡◌, map, option_map, IfOk, string_bytes};
+ghost use Rattle.std.specs.List.{list_all, flat_map};
 ghost use Rattle.data.specs.View.{data_of};
+ghost use Rattle.data.specs.Tables.{string_in};
 ghost use Rattle.printing.specs.Printed.{is_printable};
-ghost use Rattle.texts.specs.Answers.{text_in};
-ghost use Rattle.methods.specs.Formatted.{formatted_text, printed_each, Prints};
+ghost use Rattle.printing.specs.Writes.{Writes};
+ghost use Rattle.texts.specs.Segments.{segment_data};
+ghost use Rattle.methods.specs.Formatted.{formatted_text, has_value, value_at, filled};
 
-use crate::stop::Stop;
-use data::{Refusal, Value};
-use printing::{is_printable, printed};
+use data::{Refusal, Value, append};
+use printing::{is_printable, write};
 use std::alloc::{AllocError, Global};
+use texts::{Places, Segment, number_of, segments};
 
 /// The text with the printed value of number N, counted from 0, at each place `@N@`: the method `format` of the type
 /// `str` of the page "Reference manual".
 ///
-/// All values are printed first. `Refusal::Arguments` where one of them is an object or holds one, then
-/// `Refusal::Limit` where one is printed longer than 16,777,216 bytes, then `Refusal::Absent` where there is no value
-/// for a place, and `Refusal::Limit` where the result is too long.
+/// `Refusal::Arguments` where one of the values is an object or holds one, also where no place names it; then
+/// `Refusal::Absent` where there is no value for a place; and then `Refusal::Limit` where the result is longer than
+/// 16,777,216 bytes. A value that no place names is not printed.
 pub fn format_text(
     alloc: Global,
     text: &str,
     values: &[Value],
 ) -> Result<Result<String, Refusal>, AllocError>
-    ensures { IfOk result (λ r. text_in r ≡ formatted_text text.now (map data_of values.now)) }
+    ensures { IfOk result (λ r. string_in r ≡ formatted_text text.now (map data_of values.now)) }
 {
     if !are_printable(values) {
         return Ok(Err(Refusal::Arguments));
     }
-    match printed_each(alloc, values) {
-        Ok(printed) => texts::format(alloc, text, &slices(alloc, &printed)?),
-        Err(Stop::Refused(refusal)) => Ok(Err(refusal)),
-        Err(Stop::Memory(error)) => Err(error),
+    let segments = segments(alloc, Places::Numbers, text)?;
+    if !have_values(&segments, values) {
+        return Ok(Err(Refusal::Absent));
+    }
+    let mut made = String::new(alloc);
+    match write_segments(alloc, &mut made, &segments, values)? {
+        Ok(()) => Ok(Ok(made)),
+        Err(refusal) => Ok(Err(refusal)),
     }
 }
 
@@ -41,23 +47,65 @@ fn are_printable(values: &[Value]) -> bool
     values.iter().all(|value| is_printable(value))
 }
 
-fn printed_each(alloc: Global, values: &[Value]) -> Result<Vec<String>, Stop>
-    ensures { Prints (printed_each (map data_of values.now)) result }
+fn have_values(segments: &[Segment<'_>], values: &[Value]) -> bool
+    ensures { result ≡ list_all (has_value (map data_of values.now)) (map segment_data segments.now) }
 {
-    let mut texts = Vec::new(alloc);
-    for value in values {
-        let text = printed(alloc, value)??;
-        texts.push(text)?;
+    for segment in segments {
+        if !has_value(*segment, values) {
+            return false;
+        }
     }
-    Ok(texts)
+    true
 }
 
-fn slices(alloc: Global, texts: &[String]) -> Result<Vec<&str>, AllocError>
-    ensures { IfOk result (λ s. map (λ t. t.now) s.items ≡ map string_bytes texts.now) }
+fn has_value(segment: Segment<'_>, values: &[Value]) -> bool
+    ensures { result ≡ has_value (map data_of values.now) (segment_data segment.entry) }
 {
-    let mut found = Vec::new(alloc);
-    for text in texts {
-        found.push(text.as_str())?;
+    match segment {
+        Segment::Text(_) => true,
+        Segment::Place(name) => value_at(name, values).is_some(),
     }
-    Ok(found)
+}
+
+fn value_at<'v>(name: &str, values: &'v [Value]) -> Option<&'v Value>
+    ensures { option_map (λ v. data_of v.now) result ≡ value_at (map data_of values.entry.now) name.now }
+{
+    let number = number_of(name)?;
+    values.get(number)
+}
+
+// Puts the segments behind a text, with values in their places.
+fn write_segments(
+    alloc: Global,
+    made: &mut String,
+    segments: &[Segment<'_>],
+    values: &[Value],
+) -> Result<Result<(), Refusal>, AllocError>
+    ensures { IfOk result (λ r. Writes (string_bytes made.old) (flat_map (filled (map data_of values.now)) (map segment_data segments.now))
+        (string_bytes made.new) r) }
+{
+    for segment in segments {
+        if let Err(refusal) = write_segment(alloc, made, *segment, values)? {
+            return Ok(Err(refusal));
+        }
+    }
+    Ok(Ok(()))
+}
+
+fn write_segment(
+    alloc: Global,
+    made: &mut String,
+    segment: Segment<'_>,
+    values: &[Value],
+) -> Result<Result<(), Refusal>, AllocError>
+    ensures { IfOk result (λ r. Writes (string_bytes made.old) (filled (map data_of values.now) (segment_data segment.entry))
+        (string_bytes made.new) r) }
+{
+    match segment {
+        Segment::Text(text) => append(made, text),
+        Segment::Place(name) => match value_at(name, values) {
+            Some(value) => write(alloc, made, value),
+            None => Ok(Ok(())),
+        },
+    }
 }

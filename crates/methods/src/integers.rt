@@ -5,7 +5,7 @@ ghost use Rattle.data.specs.View.{data_of};
 ghost use Rattle.methods.specs.Steps.{Gives};
 ghost use Rattle.methods.specs.Integers.{named, is_even, is_odd, to_string, answer};
 
-use crate::arguments::none;
+use crate::readers::none;
 use crate::stop::Stop;
 use data::{Refusal, Value};
 use printing::printed;
@@ -54,14 +54,14 @@ fn is_even(integer: i128, arguments: &[Value]) -> Result<Value, Stop>
     ensures { Gives (is_even integer (map data_of arguments.now)) result }
 {
     none(arguments)?;
-    Ok(Value::Truth(integer.unsigned_abs() % 2 == 0))
+    Ok(Value::Boolean(integer.unsigned_abs() % 2 == 0))
 }
 
 fn is_odd(integer: i128, arguments: &[Value]) -> Result<Value, Stop>
     ensures { Gives (is_odd integer (map data_of arguments.now)) result }
 {
     none(arguments)?;
-    Ok(Value::Truth(integer.unsigned_abs() % 2 != 0))
+    Ok(Value::Boolean(integer.unsigned_abs() % 2 != 0))
 }
 
 fn to_string(alloc: Global, integer: i128, arguments: &[Value]) -> Result<Value, Stop>

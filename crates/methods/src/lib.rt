@@ -1,19 +1,20 @@
-//! The methods of values that are no objects: truth values, integers, texts, lists and dictionaries.
+//! The methods of values that are no objects: booleans, integers, texts, lists and dictionaries.
 //!
 //! See "Elementary types" of the page "Reference manual".
 #![tactic(auto)]
 
-mod arguments;
+mod booleans;
 mod dictionaries;
 mod flat;
 mod formatted;
 mod integers;
 mod lists;
 mod methods;
+pub mod readers;
 mod stop;
 mod text_lists;
 mod text_methods;
-mod truths;
 
+pub use flat::{flat_texts, flat_values};
 pub use formatted::format_text;
 pub use methods::{has_method, method};

@@ -5,7 +5,7 @@ ghost use Rattle.data.specs.View.{data_of, items_of};
 ghost use Rattle.methods.specs.Steps.{Gives};
 ghost use Rattle.methods.specs.Lists.{named, stands_in, stands_inside, contains, get, found_or, len, answer};
 
-use crate::arguments::{integer, key_and_fallback, none, one};
+use crate::readers::{integer, key_and_fallback, none, one};
 use crate::stop::Stop;
 use data::{List, Refusal, Value, is_equal};
 use operators::indexed_item;
@@ -48,7 +48,7 @@ fn contains(list: &List, arguments: &[Value]) -> Result<Value, Stop>
     ensures { Gives (contains list.now (map data_of arguments.now)) result }
 {
     let value = one(arguments)?;
-    Ok(Value::Truth(stands_in(value, list.items())))
+    Ok(Value::Boolean(stands_in(value, list.items())))
 }
 
 // Whether a value is one of the items, or stands in one that is a list, at any depth.

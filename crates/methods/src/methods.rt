@@ -5,12 +5,12 @@ ghost use Rattle.data.specs.View.{data_of};
 ghost use Rattle.data.specs.Tables.{Answers};
 ghost use Rattle.methods.specs.Methods.{answer, has_name};
 
+use crate::booleans::{BooleanMethod, boolean_method};
 use crate::dictionaries::{DictionaryMethod, dictionary_method};
 use crate::integers::{IntegerMethod, integer_method};
 use crate::lists::{ListMethod, list_method};
 use crate::stop::Stop;
 use crate::text_methods::{TextMethod, text_method};
-use crate::truths::{TruthMethod, truth_method};
 use data::{Refusal, Value};
 use std::alloc::{AllocError, Global};
 
@@ -27,7 +27,7 @@ pub fn method(
     ensures { IfOk result (λ r. Answers (answer (data_of receiver.now) name.now (map data_of arguments.now)) r) }
 {
     let answer = match receiver {
-        Value::Truth(truth) => truth_method(alloc, *truth, name, arguments),
+        Value::Boolean(boolean) => boolean_method(alloc, *boolean, name, arguments),
         Value::Integer(integer) => integer_method(alloc, *integer, name, arguments),
         Value::List(list) => list_method(list, name, arguments),
         Value::Dictionary(dictionary) => dictionary_method(alloc, dictionary, name, arguments),
@@ -46,7 +46,7 @@ pub fn has_method(receiver: &Value, name: &str) -> bool
     ensures { result ≡ has_name (data_of receiver.now) name.now }
 {
     match receiver {
-        Value::Truth(_) => TruthMethod::named(name).is_some(),
+        Value::Boolean(_) => BooleanMethod::named(name).is_some(),
         Value::Integer(_) => IntegerMethod::named(name).is_some(),
         Value::List(_) => ListMethod::named(name).is_some(),
         Value::Dictionary(_) => DictionaryMethod::named(name).is_some(),

@@ -8,9 +8,9 @@ ghost use Rattle.methods.specs.Steps.{Gives};
 ghost use Rattle.methods.specs.TextMethods.{named, answer, contains, starts_with, ends_with, format, join, replace, split};
 ghost use Rattle.methods.specs.TextMethods.{split_lines, strip, substring, to_int, to_lower, to_upper, underscorify, version_compare};
 
-use crate::arguments::{bounds, none, one_text, two_texts};
 use crate::flat::flat_texts;
 use crate::formatted::format_text;
+use crate::readers::{bounds, none, one_text, two_texts};
 use crate::stop::Stop;
 use crate::text_lists::text_list;
 use data::{Refusal, Value};
@@ -95,21 +95,21 @@ fn contains(text: &str, arguments: &[Value]) -> Result<Value, Stop>
     ensures { Gives (contains text.now (map data_of arguments.now)) result }
 {
     let part = one_text(arguments)?;
-    Ok(Value::Truth(texts::contains(text, part)))
+    Ok(Value::Boolean(texts::contains(text, part.as_str())))
 }
 
 fn starts_with(text: &str, arguments: &[Value]) -> Result<Value, Stop>
     ensures { Gives (starts_with text.now (map data_of arguments.now)) result }
 {
     let part = one_text(arguments)?;
-    Ok(Value::Truth(texts::starts_with(text, part)))
+    Ok(Value::Boolean(texts::starts_with(text, part.as_str())))
 }
 
 fn ends_with(text: &str, arguments: &[Value]) -> Result<Value, Stop>
     ensures { Gives (ends_with text.now (map data_of arguments.now)) result }
 {
     let part = one_text(arguments)?;
-    Ok(Value::Truth(texts::ends_with(text, part)))
+    Ok(Value::Boolean(texts::ends_with(text, part.as_str())))
 }
 
 fn format(alloc: Global, text: &str, arguments: &[Value]) -> Result<Value, Stop>
@@ -122,7 +122,7 @@ fn format(alloc: Global, text: &str, arguments: &[Value]) -> Result<Value, Stop>
 fn join(alloc: Global, text: &str, arguments: &[Value]) -> Result<Value, Stop>
     ensures { Gives (join text.now (map data_of arguments.now)) result }
 {
-    let pieces = flat_texts(alloc, arguments)?;
+    let pieces = flat_texts(alloc, arguments)??;
     let joined = texts::join(alloc, text, &pieces)??;
     value_of(alloc, joined)
 }
@@ -131,7 +131,7 @@ fn replace(alloc: Global, text: &str, arguments: &[Value]) -> Result<Value, Stop
     ensures { Gives (replace text.now (map data_of arguments.now)) result }
 {
     let (old, new) = two_texts(arguments)?;
-    let replaced = texts::replace(alloc, text, old, new)??;
+    let replaced = texts::replace(alloc, text, old.as_str(), new.as_str())??;
     value_of(alloc, replaced)
 }
 
@@ -143,7 +143,7 @@ fn split(alloc: Global, text: &str, arguments: &[Value]) -> Result<Value, Stop>
         return text_list(alloc, &words);
     }
     let separator = one_text(arguments)?;
-    let parts = texts::split_at(alloc, text, separator)??;
+    let parts = texts::split_at(alloc, text, separator.as_str())??;
     text_list(alloc, &parts)
 }
 
@@ -162,7 +162,7 @@ fn strip(alloc: Global, text: &str, arguments: &[Value]) -> Result<Value, Stop>
         return value_of_slice(alloc, texts::strip(text));
     }
     let set = one_text(arguments)?;
-    value_of_slice(alloc, texts::strip_of(alloc, text, set)?)
+    value_of_slice(alloc, texts::strip_of(alloc, text, set.as_str())?)
 }
 
 fn substring(alloc: Global, text: &str, arguments: &[Value]) -> Result<Value, Stop>
@@ -205,7 +205,7 @@ fn version_compare(text: &str, arguments: &[Value]) -> Result<Value, Stop>
     ensures { Gives (version_compare text.now (map data_of arguments.now)) result }
 {
     let condition = one_text(arguments)?;
-    Ok(Value::Truth(versions::version_compare(text, condition)))
+    Ok(Value::Boolean(versions::version_compare(text, condition.as_str())))
 }
 
 fn value_of(alloc: Global, string: String) -> Result<Value, Stop>

@@ -4,18 +4,19 @@ use Rattle.std.proofs.lemmas.Bool.{and_parts, false≢true}
 use Rattle.ninja.specs.Pieces.{Piece, Plain, Outside, escapes, Scope}
 use Rattle.ninja.specs.Lines.{without_blanks, plain_name, Token, Path, Colon, Bar, Bars, Between, Within, tokens}
 use Rattle.ninja.specs.Reading.{◌>>=◌, Empty, Let, BuildHead, statement_of, paths_at, paths_behind_bar, paths_behind_bars, build_line, BuildLine, State, Manifest, BuildEdge, Block, NoBlock, EdgeBlock, file_scope, expansions, edge_of, reads_from}
-use Rattle.build.specs.declared.rule.Rule.{Rule as RuleName}
-use Rattle.build.specs.declared.rule.Rule.TheVariants.{CCompile, Ar, CLink, Symlink, Custom, CustomDep}
+use Rattle.edge.specs.declared.rule.Rule.{Rule as RuleName}
+use Rattle.edge.specs.declared.rule.Rule.TheVariants.{CCompile, Ar, CLink, Symlink, Custom, CustomDep}
 use Rattle.ninja.specs.Writing.{rule_text, paths_text, signed_paths_text, build_text, binding_text, depfile_line, edge_text}
 use Rattle.ninja.specs.Escapes.{path_text, value_text}
-use Rattle.ninja.specs.Meaning.{is_path, are_paths, some_paths, depfile_held, IsHeld}
-use Rattle.ninja.specs.Holding.{value_held}
+use Rattle.std.specs.List.{list_all}
+use Rattle.edge.specs.Holding.{is_path, is_some_list, is_writable, value_held, value_held_if}
 use Rattle.ninja.specs.Words.{words_text}
-use Rattle.build.specs.Data.{EdgeData}
+use Rattle.edge.specs.Data.{EdgeData}
 use Rattle.ninja.specs.Meaning.{with_edge, edge_read, depfile_bindings, edge_seen}
 use Rattle.ninja.proofs.Machines.{Passes, passes_none}
 use Rattle.ninja.proofs.Pieces.{path_pieces, path_passes, path_again, value_pieces, value_passes, value_again, value_no_blanks}
 use Rattle.ninja.proofs.Tokens.{Adds, adds_none, adds_both, adds_all, adds_colon, adds_bar, adds_bars, adds_part, adds_paths, paths_pieces, path_tokens, all_path_pieces}
+use Rattle.ninja.proofs.HeldWords.{held_of}
 use Rattle.ninja.proofs.ReadLines.{has_newline, IsLine, line_both, line_read, path_in_line, value_in_line}
 
 -- ---- a line `name = value`
@@ -63,10 +64,10 @@ pub record IsRule (rule : List ℕ) : Type 0 where
   pub part : Passes tokens Between (plain rule) [] (Within (plain rule))
   pub name : plain_name (plain rule) ≡ Some rule
 
-paths_line : (ps : List (List ℕ)) → are_paths ps ≡ true → IsLine (paths_text ps) (paths_pieces ps)
+paths_line : (ps : List (List ℕ)) → list_all is_path ps ≡ true → IsLine (paths_text ps) (paths_pieces ps)
 paths_line [] h = record { passes = passes_none escapes Outside; in_line = record { none = refl } }
 paths_line (p ∷ ps) h =
-    let k = and_parts (is_path p) (are_paths ps) h in
+    let k = and_parts (is_path p) (list_all is_path ps) h in
     let blank : IsLine (32 ∷ []) (Plain 32 ∷ []) = record { passes = record { state = refl; given = refl }; in_line = record { none = refl } } in
     let path : IsLine (path_text p) (path_pieces p) = record { passes = path_passes p; in_line = path_in_line p k.0 } in
     line_both (32 ∷ path_text p) (paths_text ps) (Plain 32 ∷ path_pieces p) (paths_pieces ps) (line_both (32 ∷ []) (path_text p) (Plain 32 ∷ []) (path_pieces p) blank path) (paths_line ps k.1)
@@ -75,7 +76,7 @@ abbrev pub signed_pieces : List ℕ → List (List ℕ) → List Piece
 signed_pieces sign [] = []
 signed_pieces sign (p ∷ ps) = plain sign ++ paths_pieces (p ∷ ps)
 
-signed_line : (sign : List ℕ) (ps : List (List ℕ)) → IsLine sign (plain sign) → are_paths ps ≡ true → IsLine (signed_paths_text sign ps) (signed_pieces sign ps)
+signed_line : (sign : List ℕ) (ps : List (List ℕ)) → IsLine sign (plain sign) → list_all is_path ps ≡ true → IsLine (signed_paths_text sign ps) (signed_pieces sign ps)
 signed_line sign [] s h = record { passes = passes_none escapes Outside; in_line = record { none = refl } }
 signed_line sign (p ∷ ps) s h = line_both sign (paths_text (p ∷ ps)) (plain sign) (paths_pieces (p ∷ ps)) s (paths_line (p ∷ ps) h)
 
@@ -99,11 +100,11 @@ literal_bars = record { passes = record { state = refl; given = refl }; in_line 
 -- what a build line needs
 pub record IsBuild (rule : List ℕ) (outputs inputs implicit order_only : List (List ℕ)) : Type 0 where
   pub rule_stands : IsRule rule
-  pub has_output : some_paths outputs ≡ true
-  pub outputs_held : are_paths outputs ≡ true
-  pub inputs_held : are_paths inputs ≡ true
-  pub implicit_held : are_paths implicit ≡ true
-  pub order_only_held : are_paths order_only ≡ true
+  pub has_output : is_some_list outputs ≡ true
+  pub outputs_held : list_all is_path outputs ≡ true
+  pub inputs_held : list_all is_path inputs ≡ true
+  pub implicit_held : list_all is_path implicit ≡ true
+  pub order_only_held : list_all is_path order_only ≡ true
 
 module _ (rule : List ℕ) (outputs inputs implicit order_only : List (List ℕ)) (b : IsBuild rule outputs inputs implicit order_only) where
   pub build_is_line : IsLine (build_text rule outputs inputs implicit order_only) (plain (codes "build") ++ behind_build rule outputs inputs implicit order_only)
@@ -119,11 +120,11 @@ abbrev signed_tokens : Token → List (List Piece) → List Token
 signed_tokens sign [] = []
 signed_tokens sign (p ∷ ps) = sign ∷ path_tokens (p ∷ ps)
 
-adds_signed_bar : (ps : List (List ℕ)) → are_paths ps ≡ true → Adds (signed_pieces (codes " |") ps) (signed_tokens Bar (all_path_pieces ps))
+adds_signed_bar : (ps : List (List ℕ)) → list_all is_path ps ≡ true → Adds (signed_pieces (codes " |") ps) (signed_tokens Bar (all_path_pieces ps))
 adds_signed_bar [] h = adds_none
 adds_signed_bar (p ∷ ps) h = adds_both (plain (codes " |")) (paths_pieces (p ∷ ps)) (Bar ∷ []) (path_tokens (all_path_pieces (p ∷ ps))) adds_bar (adds_paths (p ∷ ps) h)
 
-adds_signed_bars : (ps : List (List ℕ)) → are_paths ps ≡ true → Adds (signed_pieces (codes " ||") ps) (signed_tokens Bars (all_path_pieces ps))
+adds_signed_bars : (ps : List (List ℕ)) → list_all is_path ps ≡ true → Adds (signed_pieces (codes " ||") ps) (signed_tokens Bars (all_path_pieces ps))
 adds_signed_bars [] h = adds_none
 adds_signed_bars (p ∷ ps) h = adds_both (plain (codes " ||")) (paths_pieces (p ∷ ps)) (Bars ∷ []) (path_tokens (all_path_pieces (p ∷ ps))) adds_bars (adds_paths (p ∷ ps) h)
 
@@ -233,7 +234,7 @@ block_ends m edge rest =
     line_read (at_block m (EdgeBlock edge)) (at_block (with_edge m edge) NoBlock) [] [] Empty [] rest
     (record { passes = passes_none escapes Outside; in_line = record { none = refl } }) refl refl
 
-edge_ends : (m : Manifest) (edge : BuildEdge) (depfile : Option (List ℕ)) (rest : List ℕ) → depfile_held depfile ≡ true
+edge_ends : (m : Manifest) (edge : BuildEdge) (depfile : Option (List ℕ)) (rest : List ℕ) → value_held_if depfile ≡ true
     → reads_from (at_block m (EdgeBlock edge)) (depfile_line depfile (10 ∷ []) ++ rest) ≡ reads_from (at_block (with_edge m (record edge { bindings = edge.bindings ++ depfile_bindings depfile })) NoBlock) rest
 edge_ends m edge None rest h =
     block_ends m edge rest ∙ ap (λ bs. reads_from (at_block (with_edge m (record edge { bindings = bs })) NoBlock) rest) (sym (append-nil edge.bindings))
@@ -254,8 +255,9 @@ is_rule CustomDep = record { line = rule_line (codes "custom_dep") (record { sta
 pub is_phony : IsRule (codes "phony")
 is_phony = record { line = rule_line (codes "phony") (record { state = refl; given = refl }) refl; part = record { state = refl; given = refl }; name = refl }
 
-pub edge_text_read : (m : Manifest) (e : EdgeData) (rest : List ℕ) → IsHeld e → reads_from (at_block m NoBlock) (edge_text e ++ rest) ≡ reads_from (at_block (with_edge m (edge_seen e)) NoBlock) rest
-edge_text_read m e rest h =
+pub edge_text_read : (m : Manifest) (e : EdgeData) (rest : List ℕ) → is_writable e ≡ true → reads_from (at_block m NoBlock) (edge_text e ++ rest) ≡ reads_from (at_block (with_edge m (edge_seen e)) NoBlock) rest
+edge_text_read m e rest writable =
+    let h = held_of e writable in
     let head = edge_read (rule_text e.rule) e.outputs e.inputs e.implicit e.order_only in
     let command = words_text e.words e.redirect in
     let end = depfile_line e.depfile (10 ∷ []) in

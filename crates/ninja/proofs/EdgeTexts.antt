@@ -1,13 +1,10 @@
 -- The text of edges in the pieces in which it is put.
-use Rattle.std.proofs.Common.{◌≡◌, ℕ, true, false, eqb, List, [], ◌∷◌, ◌++◌, length, map, Option, Some, None, String, Global, string_bytes, codes, refl, ap, ◌∙◌, append-nil, suc, arith}
+use Rattle.std.proofs.Common.{◌≡◌, ℕ, true, false, eqb, List, [], ◌∷◌, ◌++◌, length, Option, Some, None, String, Global, string_bytes, codes, refl, ap, ◌∙◌, append-nil, suc, arith}
 use Rattle.std.proofs.lemmas.Bool.{eqb-true}
 use Rattle.std.specs.List.{flat_map}
 use Rattle.ports.specs.Outputs.{puts}
-use Rattle.build.specs.Texts.{texts}
-use Rattle.build.specs.Data.{EdgeData}
-use Rattle.build.specs.Paths.{out}
-use Rattle.build.specs.View.{target_view}
-use Rattle.build.specs.declared.target.Target.{Target}
+use Rattle.edge.specs.Texts.{texts}
+use Rattle.edge.specs.Data.{EdgeData}
 use Rattle.ninja.specs.Escapes.{path_text, value_text}
 use Rattle.ninja.specs.Words.{words_text}
 use Rattle.ninja.specs.Writing.{line, spaced_path_text, paths_text, signed_paths_text, rule_text, needs_text, build_line, binding_text, depfile_line, edge_text, tail_text}
@@ -68,18 +65,10 @@ edge_puts e =
     puts_then (build_line e) (10 ∷ line (binding_text (codes "COMMAND") (words_text e.words e.redirect)) (line (binding_text (codes "DESC") e.description) (depfile_line e.depfile (10 ∷ [])))) (bindings_puts e)
     ∙ ap (λ r. r ++ bindings_run e) (build_puts e)
 
-names_puts : (ts : List Target) → puts (paths_text (map out (map target_view ts))) ≡ flat_map (λ t. spaced_path_run (string_bytes t.name)) ts
-unfolding puts
-names_puts [] = refl
-names_puts (t ∷ ts) =
-    puts-append (spaced_path_text (string_bytes t.name)) (paths_text (map out (map target_view ts)))
-    ∙ ap (λ r. r ++ puts (paths_text (map out (map target_view ts)))) (spaced_path_puts (string_bytes t.name))
-    ∙ ap (λ r. spaced_path_run (string_bytes t.name) ++ r) (names_puts ts)
-
-pub tail_puts : (ts : List Target)
-    → puts (tail_text (map out (map target_view ts))) ≡ puts (codes "build all: phony") ++ (flat_map (λ t. spaced_path_run (string_bytes t.name)) ts ++ puts (codes "\n\ndefault all\n"))
-tail_puts ts =
-    let names = paths_text (map out (map target_view ts)) in
+pub tail_puts : (ss : List (String Global))
+    → puts (tail_text (texts ss)) ≡ puts (codes "build all: phony") ++ (flat_map (λ s. spaced_path_run (string_bytes s)) ss ++ puts (codes "\n\ndefault all\n"))
+tail_puts ss =
+    let names = paths_text (texts ss) in
     ap (λ ps. puts (codes "build all: phony" ++ (ps ++ codes "\n\ndefault all\n"))) (append-nil names)
     ∙ puts_then (codes "build all: phony") (names ++ codes "\n\ndefault all\n") (puts-append names (codes "\n\ndefault all\n"))
-    ∙ ap (λ r. puts (codes "build all: phony") ++ (r ++ puts (codes "\n\ndefault all\n"))) (names_puts ts)
+    ∙ ap (λ r. puts (codes "build all: phony") ++ (r ++ puts (codes "\n\ndefault all\n"))) (paths_puts ss)

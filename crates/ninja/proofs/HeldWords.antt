@@ -1,12 +1,10 @@
--- A command can be held exactly where its words can.
-use Rattle.std.proofs.Common.{◌≡◌, ℕ, Bool, true, false, eqb, ◌&&◌, not, List, [], ◌∷◌, ◌++◌, Option, Some, None, String, Global, string_bytes, map, refl, ap, ◌∙◌, inl, inr}
+-- A command can be held exactly where its words can, and what makes an edge writable, one by one.
+use Rattle.std.proofs.Common.{◌≡◌, ℕ, Bool, true, false, eqb, ◌&&◌, not, List, [], ◌∷◌, ◌++◌, Option, Some, None, refl, ap, ◌∙◌, inl, inr}
 use Rattle.std.specs.List.{list_all}
-use Rattle.std.proofs.lemmas.Bool.{cases_Bool, eqb-true}
+use Rattle.std.proofs.lemmas.Bool.{and_parts, cases_Bool, eqb-true}
 use Rattle.ninja.specs.Shell.{is_no_first_word}
-use Rattle.build.specs.Texts.{texts}
-use Rattle.build.specs.View.{edge_view}
-use Rattle.build.specs.declared.edge.Edge.{Edge}
-use Rattle.ninja.specs.Holding.{value_byte_held, value_held, value_held_if, path_held, paths_held, edge_held, edges_held}
+use Rattle.edge.specs.Data.{EdgeData}
+use Rattle.edge.specs.Holding.{value_byte_held, value_held, value_held_if, is_path, is_some_list, is_writable, paths_writable, values_writable}
 use Rattle.ninja.specs.Words.{is_bare, quoted_byte, quoted_bytes, quoted, word_text, first_word_text, later_word_text, later_words_text, redirect_text, words_text}
 
 and-true : (b : Bool) → (b && true) ≡ b
@@ -45,7 +43,7 @@ held-redirect_text : (redirect : Option (List ℕ)) → value_held (redirect_tex
 held-redirect_text None = refl
 held-redirect_text (Some name) = held-word_text name
 
-pub held-words_text : (ws : List (List ℕ)) (redirect : Option (List ℕ)) → value_held (words_text ws redirect) ≡ list_all value_held ws && value_held_if redirect
+held-words_text : (ws : List (List ℕ)) (redirect : Option (List ℕ)) → value_held (words_text ws redirect) ≡ list_all value_held ws && value_held_if redirect
 held-words_text [] None = refl
 held-words_text [] (Some name) = held-word_text name
 held-words_text (w ∷ ws) redirect =
@@ -56,20 +54,50 @@ held-words_text (w ∷ ws) redirect =
     ∙ ap (λ v. value_held w && (list_all value_held ws && v)) (held-redirect_text redirect)
     ∙ and-assoc (value_held w) (list_all value_held ws) (value_held_if redirect)
 
-list_all-texts : (p : List ℕ → Bool) (ss : List (String Global)) → list_all p (texts ss) ≡ list_all (λ s. p (string_bytes s)) ss
-list_all-texts p [] = refl
-list_all-texts p (s ∷ ss) = ap (λ b. p (string_bytes s) && b) (list_all-texts p ss)
+-- what makes an edge writable, one by one, where the command is held as a value
+pub record IsHeld (e : EdgeData) : Type 0 where
+  pub has_output : is_some_list e.outputs ≡ true
+  pub has_word : is_some_list e.words ≡ true
+  pub outputs : list_all is_path e.outputs ≡ true
+  pub inputs : list_all is_path e.inputs ≡ true
+  pub implicit : list_all is_path e.implicit ≡ true
+  pub order_only : list_all is_path e.order_only ≡ true
+  pub command : value_held (words_text e.words e.redirect) ≡ true
+  pub description : value_held e.description ≡ true
+  pub depfile : value_held_if e.depfile ≡ true
 
--- a command can be held where its words and the file of its output can
-pub held-command : (ss : List (String Global)) (redirect : Option (List ℕ)) → value_held (words_text (texts ss) redirect) ≡ list_all value_held (texts ss) && value_held_if redirect
-held-command ss redirect = held-words_text (texts ss) redirect
+both : (a b : Bool) → a ≡ true → b ≡ true → (a && b) ≡ true
+both a b h k = rw (h, k) refl
 
-pub held-values : (ss : List (String Global)) → list_all value_held (texts ss) ≡ list_all (λ s. value_held (string_bytes s)) ss
-held-values ss = list_all-texts value_held ss
-
-pub held-paths : (ss : List (String Global)) → paths_held (texts ss) ≡ list_all (λ s. path_held (string_bytes s)) ss
-held-paths ss = list_all-texts path_held ss
-
-pub held-edges : (es : List Edge) → edges_held (map edge_view es) ≡ list_all (λ e. edge_held (edge_view e)) es
-held-edges [] = refl
-held-edges (e ∷ es) = ap (λ b. edge_held (edge_view e) && b) (held-edges es)
+pub held_of : (e : EdgeData) → is_writable e ≡ true → IsHeld e
+held_of e h =
+    let some_outputs = is_some_list e.outputs in
+    let outputs = list_all is_path e.outputs in
+    let inputs = list_all is_path e.inputs in
+    let implicit = list_all is_path e.implicit in
+    let order_only = list_all is_path e.order_only in
+    let some_words = is_some_list e.words in
+    let words = list_all value_held e.words in
+    let redirect = value_held_if e.redirect in
+    let description = value_held e.description in
+    let depfile = value_held_if e.depfile in
+    let k = and_parts (paths_writable e) (values_writable e) h in
+    let p1 = and_parts some_outputs (outputs && (inputs && (implicit && order_only))) k.0 in
+    let p2 = and_parts outputs (inputs && (implicit && order_only)) p1.1 in
+    let p3 = and_parts inputs (implicit && order_only) p2.1 in
+    let p4 = and_parts implicit order_only p3.1 in
+    let v1 = and_parts some_words (words && (redirect && (description && depfile))) k.1 in
+    let v2 = and_parts words (redirect && (description && depfile)) v1.1 in
+    let v3 = and_parts redirect (description && depfile) v2.1 in
+    let v4 = and_parts description depfile v3.1 in
+    record {
+      has_output = p1.0;
+      has_word = v1.0;
+      outputs = p2.0;
+      inputs = p3.0;
+      implicit = p4.0;
+      order_only = p4.1;
+      command = held-words_text e.words e.redirect ∙ both words redirect v2.0 v3.0;
+      description = v4.0;
+      depfile = v4.1;
+    }

@@ -2,9 +2,9 @@
 use Rattle.std.proofs.Common.{◌≡◌, ℕ, List, [], ◌∷◌, ◌++◌, refl, sym, ap, ◌∙◌}
 use Rattle.std.specs.List.{flat_map}
 use Rattle.std.proofs.lemmas.List.{map-append}
-use Rattle.std.specs.Prelude.{Bool, true, false}
-use Rattle.ports.specs.Outputs.{OutputState, Step, Sends, Puts, puts}
-use Rattle.ports.proofs.Sending.{sends_nothing, sends_then, sends_stop}
+use Rattle.ports.specs.Outputs.{OutputState, Step, Writes, Puts, puts}
+use Rattle.ports.specs.Endings.{Ending, Whole, Failed}
+use Rattle.ports.proofs.Sending.{writes_nothing, writes_then, writes_stop}
 
 pub puts-append : (a b : List ℕ) → puts (a ++ b) ≡ puts a ++ puts b
 unfolding puts
@@ -21,14 +21,14 @@ puts-flat_map f [] = refl
 puts-flat_map f (x ∷ xs) = ap (λ r. puts (f x) ++ r) (puts-flat_map f xs) ∙ sym (puts-append (f x) (flat_map f xs))
 
 -- all of a text, and then another
-pub sends_text : {old mid new : OutputState} {whole : Bool} (a b : List ℕ) → Sends old mid (puts a) true → Sends mid new (puts b) whole → Sends old new (puts (a ++ b)) whole
-sends_text a b s t = rw (puts-append a b) (sends_then s t)
+pub writes_text : {old mid new : OutputState} {e : Ending} (a b : List ℕ) → Writes old (puts a) Whole mid → Writes mid (puts b) e new → Writes old (puts (a ++ b)) e new
+writes_text a b s t = rw (puts-append a b) (writes_then s t)
 
 -- where a text was not put whole, no more follows
-pub sends_no_more : {old new : OutputState} (a b : List ℕ) → Sends old new (puts a) false → Sends old new (puts (a ++ b)) false
-sends_no_more a b s = rw (puts-append a b) (sends_stop (puts b) s)
+pub writes_no_more : {old new : OutputState} (a b : List ℕ) → Writes old (puts a) Failed new → Writes old (puts (a ++ b)) Failed new
+writes_no_more a b s = rw (puts-append a b) (writes_stop (puts b) s)
 
 -- nothing is put
-pub sends_empty : (s : OutputState) → Sends s s (puts []) true
+pub writes_empty : (s : OutputState) → Writes s (puts []) Whole s
 unfolding puts
-sends_empty s = sends_nothing s
+writes_empty s = writes_nothing s

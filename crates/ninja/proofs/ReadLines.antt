@@ -6,8 +6,7 @@ use Rattle.ninja.specs.Pieces.{Piece, Plain, Outside, escapes, pieces_of}
 use Rattle.ninja.specs.Lines.{is_plain, put_in_line, lines_of}
 use Rattle.ninja.specs.Reading.{◌>>=◌, Statement, statement_of, State, after_statement, after_lines, reads_from}
 use Rattle.ninja.specs.Escapes.{wants_dollar}
-use Rattle.ninja.specs.Holding.{path_byte_held, path_held, value_byte_held, value_held}
-use Rattle.ninja.specs.Meaning.{is_path}
+use Rattle.edge.specs.Holding.{path_byte_held, path_held, is_path, value_byte_held, value_held}
 use Rattle.ninja.proofs.Machines.{Passes, passes_both, passes_on}
 use Rattle.ninja.proofs.ShellWords.{other_than}
 use Rattle.ninja.proofs.Pieces.{path_piece, path_pieces, value_piece, value_rest_pieces, first_value_piece, value_pieces}

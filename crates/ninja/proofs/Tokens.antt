@@ -5,8 +5,8 @@ use Rattle.ninja.specs.Machine.{before}
 use Rattle.ninja.specs.Pieces.{Piece, Plain}
 use Rattle.ninja.specs.Lines.{Token, Path, Colon, Bar, Bars, Place, Between, Within, Barred, IsPart, kind_of, tokens, tokens_of}
 use Rattle.ninja.specs.Escapes.{wants_dollar}
-use Rattle.ninja.specs.Holding.{path_byte_held, path_held}
-use Rattle.ninja.specs.Meaning.{is_path, are_paths}
+use Rattle.std.specs.List.{list_all}
+use Rattle.edge.specs.Holding.{path_byte_held, path_held, is_path}
 use Rattle.ninja.proofs.Machines.{Passes, passes_none, passes_both, passes_first, passes_to, passes_all}
 use Rattle.ninja.proofs.ShellWords.{other_than}
 use Rattle.ninja.proofs.Pieces.{path_piece, path_pieces}
@@ -134,8 +134,8 @@ abbrev pub all_path_pieces : List (List ℕ) → List (List Piece)
 all_path_pieces [] = []
 all_path_pieces (p ∷ ps) = path_pieces p ∷ all_path_pieces ps
 
-pub adds_paths : (ps : List (List ℕ)) → are_paths ps ≡ true → Adds (paths_pieces ps) (path_tokens (all_path_pieces ps))
+pub adds_paths : (ps : List (List ℕ)) → list_all is_path ps ≡ true → Adds (paths_pieces ps) (path_tokens (all_path_pieces ps))
 adds_paths [] h = adds_none
 adds_paths (p ∷ ps) h =
-    let k = and_parts (is_path p) (are_paths ps) h in
+    let k = and_parts (is_path p) (list_all is_path ps) h in
     adds_both (Plain 32 ∷ path_pieces p) (paths_pieces ps) (Path (path_pieces p) ∷ []) (path_tokens (all_path_pieces ps)) (adds_path p k.0) (adds_paths ps k.1)

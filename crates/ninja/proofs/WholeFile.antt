@@ -1,19 +1,21 @@
 -- The whole file is read as its rules, edges and default, and each command as its words.
 use Rattle.std.proofs.Common.{◌≡◌, ℕ, true, List, [], ◌∷◌, ◌++◌, length, suc, codes, Option, Some, None, refl, sym, ap, ◌∙◌, append_assoc, append-nil}
-use Rattle.std.proofs.lemmas.Bool.{false≢true}
+use Rattle.std.proofs.lemmas.Bool.{and_parts, false≢true}
 use Rattle.ninja.specs.Machine.{before}
 use Rattle.ninja.specs.Pieces.{Piece, Outside, escapes, pieces_of}
 use Rattle.ninja.specs.Lines.{lines_of}
 use Rattle.ninja.specs.Reading.{◌>>=◌, State, Manifest, BuildEdge, after_lines, reads_from, nothing_read, manifest_of, value_of, value_at, rule_named, closed}
 use Rattle.ninja.specs.Commands.{shell_command}
-use Rattle.build.specs.declared.rule.Rule.{Rule as RuleName}
-use Rattle.build.specs.declared.rule.Rule.TheVariants.{CCompile, Ar, CLink, Symlink, Custom, CustomDep}
+use Rattle.edge.specs.declared.rule.Rule.{Rule as RuleName}
+use Rattle.edge.specs.declared.rule.Rule.TheVariants.{CCompile, Ar, CLink, Symlink, Custom, CustomDep}
 use Rattle.ninja.specs.Writing.{rule_text, edge_text, head_text, edges_text, tail_text, file_text}
 use Rattle.ninja.specs.Words.{words_text}
-use Rattle.ninja.specs.Meaning.{are_paths, some_paths}
-use Rattle.build.specs.Data.{EdgeData}
-use Rattle.ninja.specs.Meaning.{after_reading, with_edge, edge_read, edge_seen, edges_seen, six_rules, head_seen, all_seen, file_seen, AreHeld, RunsWords, EachRunsWords, depfile_bindings}
+use Rattle.std.specs.List.{list_all}
+use Rattle.edge.specs.Holding.{is_path, is_some_list, is_writable, are_writable}
+use Rattle.edge.specs.Data.{EdgeData}
+use Rattle.ninja.specs.Meaning.{after_reading, with_edge, edge_read, edge_seen, edges_seen, six_rules, head_seen, all_seen, file_seen, RunsWords, EachRunsWords, depfile_bindings}
 use Rattle.ninja.proofs.Machines.{Passes, passes_on, given_over}
+use Rattle.ninja.proofs.HeldWords.{held_of}
 use Rattle.ninja.proofs.ShellWords.{words_again}
 use Rattle.ninja.proofs.EdgeBlocks.{is_phony, build_read, block_ends, edge_text_read}
 
@@ -38,12 +40,13 @@ head_read rest = lines_read (after_reading nothing_read) (after_reading head_see
 abbrev with_edges : Manifest → List BuildEdge → Manifest
 with_edges m es = record m { edges = m.edges ++ es }
 
-edges_read : (m : Manifest) (es : List EdgeData) (rest : List ℕ) → AreHeld es → reads_from (after_reading m) (edges_text es ++ rest) ≡ reads_from (after_reading (with_edges m (edges_seen es))) rest
+edges_read : (m : Manifest) (es : List EdgeData) (rest : List ℕ) → are_writable es ≡ true → reads_from (after_reading m) (edges_text es ++ rest) ≡ reads_from (after_reading (with_edges m (edges_seen es))) rest
 edges_read m [] rest h = ap (λ es. reads_from (after_reading (record m { edges = es })) rest) (sym (append-nil m.edges))
 edges_read m (e ∷ es) rest h =
+    let k = and_parts (is_writable e) (are_writable es) h in
     ap (reads_from (after_reading m)) (append_assoc (edge_text e) (edges_text es) rest)
-    ∙ edge_text_read m e (edges_text es ++ rest) h.0
-    ∙ edges_read (with_edge m (edge_seen e)) es rest h.1
+    ∙ edge_text_read m e (edges_text es ++ rest) k.0
+    ∙ edges_read (with_edge m (edge_seen e)) es rest k.1
     ∙ ap (λ all. reads_from (after_reading (record m { edges = all })) rest) (append_assoc m.edges (edge_seen e ∷ []) (edges_seen es))
 
 -- ---- the tail
@@ -54,7 +57,7 @@ with_default m = record m { defaults = m.defaults ++ codes "all" ∷ [] }
 default_read : (m : Manifest) → reads_from (after_reading m) (codes "default all" ++ 10 ∷ []) ≡ Some (after_reading (with_default m))
 default_read m = refl
 
-tail_read : (m : Manifest) (names : List (List ℕ)) → are_paths names ≡ true → reads_from (after_reading m) (tail_text names) ≡ Some (after_reading (with_default (with_edge m (all_seen names))))
+tail_read : (m : Manifest) (names : List (List ℕ)) → list_all is_path names ≡ true → reads_from (after_reading m) (tail_text names) ≡ Some (after_reading (with_default (with_edge m (all_seen names))))
 tail_read m names h =
     let last = 10 ∷ (codes "default all" ++ 10 ∷ []) in
     ap (reads_from (after_reading m)) (sym (append-nil (tail_text names)))
@@ -64,7 +67,7 @@ tail_read m names h =
 
 -- ---- the file
 
-pub file_read : (es : List EdgeData) (names : List (List ℕ)) → AreHeld es → are_paths names ≡ true → manifest_of (file_text es names) ≡ Some (file_seen es names)
+pub file_read : (es : List EdgeData) (names : List (List ℕ)) → are_writable es ≡ true → list_all is_path names ≡ true → manifest_of (file_text es names) ≡ Some (file_seen es names)
 file_read es names h k =
     ap (λ v. v >>= λ s. Some (closed s.read s.block))
     (head_read (edges_text es ++ tail_text names) ∙ edges_read head_seen es (tail_text names) h ∙ tail_read (with_edges head_seen (edges_seen es)) names k)
@@ -92,14 +95,16 @@ command_is m e r =
     ap (λ rules. rule_named rules (rule_text e.rule) >>= λ rule. value_at (suc (length rule.bindings)) m rule (edge_seen e) (codes "command")) r
     ∙ command_at m e.outputs e.inputs e.implicit e.order_only (words_text e.words e.redirect) e.description e.rule e.depfile
 
-words_of : (ws : List (List ℕ)) (redirect : Option (List ℕ)) → some_paths ws ≡ true → shell_command (words_text ws redirect) ≡ Some (record { words = ws; redirect = redirect })
+words_of : (ws : List (List ℕ)) (redirect : Option (List ℕ)) → is_some_list ws ≡ true → shell_command (words_text ws redirect) ≡ Some (record { words = ws; redirect = redirect })
 words_of [] redirect h = absurd (false≢true h)
 words_of (w ∷ ws) redirect h = words_again w ws redirect
 
 -- the command of an edge is its words
-pub runs_words : (m : Manifest) (e : EdgeData) → m.rules ≡ six_rules → some_paths e.words ≡ true → RunsWords m e
-runs_words m e r h = (words_text e.words e.redirect, command_is m e r, words_of e.words e.redirect h)
+pub runs_words : (m : Manifest) (e : EdgeData) → m.rules ≡ six_rules → is_writable e ≡ true → RunsWords m e
+runs_words m e r h = (words_text e.words e.redirect, command_is m e r, words_of e.words e.redirect (held_of e h).has_word)
 
-pub each_runs : (m : Manifest) (es : List EdgeData) → m.rules ≡ six_rules → AreHeld es → EachRunsWords m es
+pub each_runs : (m : Manifest) (es : List EdgeData) → m.rules ≡ six_rules → are_writable es ≡ true → EachRunsWords m es
 each_runs m [] r h = tt
-each_runs m (e ∷ es) r h = (runs_words m e r h.0.has_word, each_runs m es r h.1)
+each_runs m (e ∷ es) r h =
+    let k = and_parts (is_writable e) (are_writable es) h in
+    (runs_words m e r k.0, each_runs m es r k.1)

@@ -4,7 +4,7 @@ use Rattle.std.specs.List.{flat_map}
 use Rattle.std.proofs.lemmas.Bool.{and_parts, cases_Bool}
 use Rattle.std.proofs.lemmas.List.Concat.{flat_map-append}
 use Rattle.ports.specs.Outputs.{puts}
-use Rattle.build.specs.Texts.{texts}
+use Rattle.edge.specs.Texts.{texts}
 use Rattle.ninja.specs.Shell.{is_bare_byte, is_no_first_word}
 use Rattle.ninja.specs.Escapes.{value_byte_text, value_rest_text, value_text}
 use Rattle.ninja.specs.Words.{is_all_bare, is_bare, quoted_byte, quoted_bytes, quoted, word_text, first_word_text, later_word_text, later_words_text, redirect_text, words_text}

@@ -2,7 +2,6 @@ pub mod Shell
 pub mod Escapes
 pub mod Words
 pub mod Writing
-pub mod Holding
 pub mod Places
 pub mod Runs
 pub mod Machine

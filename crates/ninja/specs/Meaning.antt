@@ -1,13 +1,11 @@
 -- What a reader is to have of an edge, and of the file.
-use Rattle.std.specs.Prelude.{◌≡◌, ℕ, Bool, true, false, List, [], ◌∷◌, ◌++◌, Option, Some, None, codes}
+use Rattle.std.specs.Prelude.{◌≡◌, ℕ, List, [], ◌∷◌, ◌++◌, Option, Some, None, codes}
 use Rattle.ninja.specs.Pieces.{Piece, Variable, Plain}
-use Rattle.build.specs.Data.{EdgeData}
+use Rattle.edge.specs.Data.{EdgeData}
 use Rattle.ninja.specs.Commands.{shell_command}
 use Rattle.ninja.specs.Reading.{value_of, Manifest, BuildEdge, Rule, State, NoBlock}
 use Rattle.ninja.specs.Writing.{rule_text}
 use Rattle.ninja.specs.Words.{words_text}
-use Rattle.ninja.specs.Holding.{path_held, value_held}
-use Rattle.std.specs.List.{list_all}
 
 -- between two blocks, with so much read
 abbrev pub after_reading : Manifest → State
@@ -53,38 +51,6 @@ all_seen names = edge_read (codes "phony") (codes "all" ∷ []) names [] [] []
 -- the six rules, the edges, the edge `all` and the default `all`
 abbrev pub file_seen : List EdgeData → List (List ℕ) → Manifest
 file_seen es names = record { variables = (codes "ninja_required_version", codes "1.3") ∷ []; rules = six_rules; edges = edges_seen es ++ all_seen names ∷ []; defaults = codes "all" ∷ [] }
-
-abbrev pub is_path : List ℕ → Bool
-is_path [] = false
-is_path (b ∷ bs) = path_held (b ∷ bs)
-
-abbrev pub are_paths : List (List ℕ) → Bool
-are_paths paths = list_all is_path paths
-
-abbrev pub some_paths : List (List ℕ) → Bool
-some_paths [] = false
-some_paths (p ∷ ps) = true
-
-abbrev pub depfile_held : Option (List ℕ) → Bool
-depfile_held None = true
-depfile_held (Some path) = value_held path
-
--- an edge with an output and a word, none of whose paths is empty, and whose paths and values Ninja can hold
-pub record IsHeld (e : EdgeData) : Type 0 where
-  pub has_output : some_paths e.outputs ≡ true
-  pub has_word : some_paths e.words ≡ true
-  pub outputs : are_paths e.outputs ≡ true
-  pub inputs : are_paths e.inputs ≡ true
-  pub implicit : are_paths e.implicit ≡ true
-  pub order_only : are_paths e.order_only ≡ true
-  pub command : value_held (words_text e.words e.redirect) ≡ true
-  pub description : value_held e.description ≡ true
-  pub depfile : depfile_held e.depfile ≡ true
-
--- each of the edges is one that Ninja can hold
-abbrev pub AreHeld : List EdgeData → Type 0
-AreHeld [] = Unit {0}
-AreHeld (e ∷ es) = IsHeld e × AreHeld es
 
 -- the edge's command is these words
 abbrev pub RunsWords : Manifest → EdgeData → Type 0

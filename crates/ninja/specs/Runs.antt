@@ -2,7 +2,7 @@
 use Rattle.std.specs.Prelude.{ℕ, List, [], ◌++◌, Option, Some, None, codes}
 use Rattle.std.specs.List.{flat_map}
 use Rattle.ports.specs.Outputs.{Step, puts}
-use Rattle.build.specs.Data.{EdgeData}
+use Rattle.edge.specs.Data.{EdgeData}
 use Rattle.ninja.specs.Escapes.{path_text, value_text, value_rest_text}
 use Rattle.ninja.specs.Words.{word_text, words_text}
 use Rattle.ninja.specs.Writing.{paths_text, signed_paths_text, rule_text}

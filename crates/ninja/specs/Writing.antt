@@ -1,10 +1,9 @@
 -- The text of `build.ninja`: a head with the rules, a block for each edge, a tail with what is made by default.
 use Rattle.std.specs.Prelude.{ℕ, List, [], ◌∷◌, ◌++◌, Option, Some, None, codes}
 use Rattle.std.specs.List.{flat_map}
-use Rattle.build.specs.declared.rule.Rule.{Rule}
-use Rattle.build.specs.declared.rule.Rule.TheVariants.{CCompile, Ar, CLink, Symlink, Custom, CustomDep}
-use Rattle.build.specs.Data.{EdgeData, ProjectData}
-use Rattle.build.specs.Edges.{all_edges, default_outputs}
+use Rattle.edge.specs.declared.rule.Rule.{Rule}
+use Rattle.edge.specs.declared.rule.Rule.TheVariants.{CCompile, Ar, CLink, Symlink, Custom, CustomDep}
+use Rattle.edge.specs.Data.{EdgeData}
 use Rattle.ninja.specs.Escapes.{path_text, value_text}
 use Rattle.ninja.specs.Words.{words_text}
 
@@ -83,7 +82,3 @@ tail_text paths = line (build_text (codes "phony") (codes "all" ∷ []) paths []
 -- the file of these edges, which makes these paths by default
 abbrev pub file_text : List EdgeData → List (List ℕ) → List ℕ
 file_text edges paths = head_text ++ (edges_text edges ++ tail_text paths)
-
--- `build.ninja` of a project
-abbrev pub build_file : ProjectData → List ℕ
-build_file p = file_text (all_edges p) (default_outputs p)

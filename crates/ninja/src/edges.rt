@@ -1,18 +1,20 @@
 //! The blocks of edges.
-ghost use Rattle.std.specs.Prelude.{◌≡◌, ℕ, List, ◌+◌, ◌^◌, ◌<◌, ◌++◌, is_ok, IsSome, if◌then◌else◌, option_map, string_bytes};
-ghost use Rattle.ports.specs.Outputs.{OutputState, Sends, puts};
-ghost use Rattle.build.specs.Texts.{texts};
-ghost use Rattle.build.specs.View.{edge_view};
+ghost use Rattle.std.specs.Prelude.{◌≡◌, true, ℕ, List, ◌++◌, option_map, string_bytes};
+ghost use Rattle.ports.specs.Endings.{ended};
+ghost use Rattle.ports.specs.Outputs.{OutputState, IsOpen, Writes, puts};
+ghost use Rattle.edge.specs.Holding.{is_writable};
+ghost use Rattle.edge.specs.Texts.{texts};
+ghost use Rattle.edge.specs.View.{edge_view};
 ghost use Rattle.ninja.specs.Writing.{rule_text, paths_text, signed_paths_text, edge_text};
 ghost use Rattle.ninja.specs.Escapes.{value_text};
 ghost use Rattle.ninja.specs.Words.{words_text};
 ghost use Rattle.ninja.specs.Reading.{Manifest, reads_from};
-ghost use Rattle.ninja.specs.Meaning.{after_reading, with_edge, edge_seen, six_rules, IsHeld, RunsWords};
+ghost use Rattle.ninja.specs.Meaning.{after_reading, with_edge, edge_seen, six_rules, RunsWords};
 ghost use Rattle.ninja.specs.Runs.{needs_run, build_run, end_run, bindings_run};
 
 use crate::escapes::{write_path, write_value};
 use crate::words::write_words;
-use build::{Edge, Rule};
+use edge::{Edge, Rule};
 use ports::{DeviceFault, Outputs, put_all};
 
 fn rule_name(rule: Rule) -> &'static [u8]
@@ -39,11 +41,8 @@ fn text_of(text: &Option<String>) -> Option<&str>
 
 #[tactic(auto, using(ports::proofs::Sending::sending))]
 fn put_paths<O: Outputs>(paths: &[String], out: &mut O) -> Result<(), DeviceFault>
-    requires room { (O.seen out.old).failures + 1 < 2 ^ 64 }
-    requires is_open { IsSome (O.seen out.old).open_name }
-    ensures events { Sends (O.seen out.old) (O.seen out.new) (puts (paths_text (texts paths.now))) (is_ok result) }
-    ensures name { (O.seen out.new).open_name ≡ (O.seen out.old).open_name }
-    ensures failures { (O.seen out.new).failures ≡ (if is_ok result then (O.seen out.old).failures else (O.seen out.old).failures + 1) }
+    requires { IsOpen (O.seen out.old) }
+    ensures { Writes (O.seen out.old) (puts (paths_text (texts paths.now))) (ended result) (O.seen out.new) }
 {
     for path in paths {
         put_all(out, b" ")?;
@@ -58,11 +57,8 @@ fn put_signed_paths<O: Outputs>(
     paths: &[String],
     out: &mut O,
 ) -> Result<(), DeviceFault>
-    requires room { (O.seen out.old).failures + 1 < 2 ^ 64 }
-    requires is_open { IsSome (O.seen out.old).open_name }
-    ensures events { Sends (O.seen out.old) (O.seen out.new) (puts (signed_paths_text sign.now (texts paths.now))) (is_ok result) }
-    ensures name { (O.seen out.new).open_name ≡ (O.seen out.old).open_name }
-    ensures failures { (O.seen out.new).failures ≡ (if is_ok result then (O.seen out.old).failures else (O.seen out.old).failures + 1) }
+    requires { IsOpen (O.seen out.old) }
+    ensures { Writes (O.seen out.old) (puts (signed_paths_text sign.now (texts paths.now))) (ended result) (O.seen out.new) }
 {
     if paths.is_empty() {
         Ok(())
@@ -79,11 +75,9 @@ fn put_needs<O: Outputs>(
     order_only: &[String],
     out: &mut O,
 ) -> Result<(), DeviceFault>
-    requires room { (O.seen out.old).failures + 1 < 2 ^ 64 }
-    requires is_open { IsSome (O.seen out.old).open_name }
-    ensures events { Sends (O.seen out.old) (O.seen out.new) (needs_run (texts inputs.now) (texts implicit.now) (texts order_only.now)) (is_ok result) }
-    ensures name { (O.seen out.new).open_name ≡ (O.seen out.old).open_name }
-    ensures failures { (O.seen out.new).failures ≡ (if is_ok result then (O.seen out.old).failures else (O.seen out.old).failures + 1) }
+    requires { IsOpen (O.seen out.old) }
+    ensures { let run = needs_run (texts inputs.now) (texts implicit.now) (texts order_only.now) in
+        Writes (O.seen out.old) run (ended result) (O.seen out.new) }
 {
     put_paths(inputs, out)?;
     put_signed_paths(b" |", implicit, out)?;
@@ -93,11 +87,8 @@ fn put_needs<O: Outputs>(
 // The line that names outputs, rule and what is needed, without its end.
 #[tactic(auto, using(ports::proofs::Sending::sending))]
 fn put_build<O: Outputs>(edge: &Edge, out: &mut O) -> Result<(), DeviceFault>
-    requires room { (O.seen out.old).failures + 1 < 2 ^ 64 }
-    requires is_open { IsSome (O.seen out.old).open_name }
-    ensures events { Sends (O.seen out.old) (O.seen out.new) (build_run (edge_view edge.now)) (is_ok result) }
-    ensures name { (O.seen out.new).open_name ≡ (O.seen out.old).open_name }
-    ensures failures { (O.seen out.new).failures ≡ (if is_ok result then (O.seen out.old).failures else (O.seen out.old).failures + 1) }
+    requires { IsOpen (O.seen out.old) }
+    ensures { Writes (O.seen out.old) (build_run (edge_view edge.now)) (ended result) (O.seen out.new) }
 {
     put_all(out, b"build")?;
     put_paths(&edge.outputs, out)?;
@@ -108,11 +99,8 @@ fn put_build<O: Outputs>(edge: &Edge, out: &mut O) -> Result<(), DeviceFault>
 
 #[tactic(auto, using(ports::proofs::Sending::sending))]
 fn put_end<O: Outputs>(depfile: &Option<String>, out: &mut O) -> Result<(), DeviceFault>
-    requires room { (O.seen out.old).failures + 1 < 2 ^ 64 }
-    requires is_open { IsSome (O.seen out.old).open_name }
-    ensures events { Sends (O.seen out.old) (O.seen out.new) (end_run (option_map string_bytes depfile.now)) (is_ok result) }
-    ensures name { (O.seen out.new).open_name ≡ (O.seen out.old).open_name }
-    ensures failures { (O.seen out.new).failures ≡ (if is_ok result then (O.seen out.old).failures else (O.seen out.old).failures + 1) }
+    requires { IsOpen (O.seen out.old) }
+    ensures { Writes (O.seen out.old) (end_run (option_map string_bytes depfile.now)) (ended result) (O.seen out.new) }
 {
     match depfile {
         None => put_all(out, b"\n"),
@@ -125,11 +113,9 @@ fn put_end<O: Outputs>(depfile: &Option<String>, out: &mut O) -> Result<(), Devi
 }
 
 fn put_command<O: Outputs>(edge: &Edge, out: &mut O) -> Result<(), DeviceFault>
-    requires room { (O.seen out.old).failures + 1 < 2 ^ 64 }
-    requires is_open { IsSome (O.seen out.old).open_name }
-    ensures events { Sends (O.seen out.old) (O.seen out.new) (puts (value_text (words_text (edge_view edge.now).words (edge_view edge.now).redirect))) (is_ok result) }
-    ensures name { (O.seen out.new).open_name ≡ (O.seen out.old).open_name }
-    ensures failures { (O.seen out.new).failures ≡ (if is_ok result then (O.seen out.old).failures else (O.seen out.old).failures + 1) }
+    requires { IsOpen (O.seen out.old) }
+    ensures { let e = edge_view edge.now in
+        Writes (O.seen out.old) (puts (value_text (words_text e.words e.redirect))) (ended result) (O.seen out.new) }
 {
     write_words(&edge.words, text_of(&edge.redirect), out)
 }
@@ -137,11 +123,8 @@ fn put_command<O: Outputs>(edge: &Edge, out: &mut O) -> Result<(), DeviceFault>
 // The lines that belong to the edge, behind the end of its own.
 #[tactic(auto, using(ports::proofs::Sending::sending))]
 fn put_bindings<O: Outputs>(edge: &Edge, out: &mut O) -> Result<(), DeviceFault>
-    requires room { (O.seen out.old).failures + 1 < 2 ^ 64 }
-    requires is_open { IsSome (O.seen out.old).open_name }
-    ensures events { Sends (O.seen out.old) (O.seen out.new) (bindings_run (edge_view edge.now)) (is_ok result) }
-    ensures name { (O.seen out.new).open_name ≡ (O.seen out.old).open_name }
-    ensures failures { (O.seen out.new).failures ≡ (if is_ok result then (O.seen out.old).failures else (O.seen out.old).failures + 1) }
+    requires { IsOpen (O.seen out.old) }
+    ensures { Writes (O.seen out.old) (bindings_run (edge_view edge.now)) (ended result) (O.seen out.new) }
 {
     put_all(out, b"\n COMMAND = ")?;
     put_command(edge, out)?;
@@ -153,11 +136,9 @@ fn put_bindings<O: Outputs>(edge: &Edge, out: &mut O) -> Result<(), DeviceFault>
 
 #[tactic(auto, using(ports::proofs::Sending::sending))]
 fn put_edge<O: Outputs>(edge: &Edge, out: &mut O) -> Result<(), DeviceFault>
-    requires room { (O.seen out.old).failures + 1 < 2 ^ 64 }
-    requires is_open { IsSome (O.seen out.old).open_name }
-    ensures events { Sends (O.seen out.old) (O.seen out.new) (build_run (edge_view edge.now) ++ bindings_run (edge_view edge.now)) (is_ok result) }
-    ensures name { (O.seen out.new).open_name ≡ (O.seen out.old).open_name }
-    ensures failures { (O.seen out.new).failures ≡ (if is_ok result then (O.seen out.old).failures else (O.seen out.old).failures + 1) }
+    requires { IsOpen (O.seen out.old) }
+    ensures { let e = edge_view edge.now in
+        Writes (O.seen out.old) (build_run e ++ bindings_run e) (ended result) (O.seen out.new) }
 {
     put_build(edge, out)?;
     put_bindings(edge, out)
@@ -166,16 +147,14 @@ fn put_edge<O: Outputs>(edge: &Edge, out: &mut O) -> Result<(), DeviceFault>
 /// Writes the block of an edge: the line that names its outputs, its rule and what it needs, its command, its description, its
 /// depfile if it has one, and an empty line.
 pub fn write_edge<O: Outputs>(edge: &Edge, out: &mut O) -> Result<(), DeviceFault>
-    requires room { (O.seen out.old).failures + 1 < 2 ^ 64 }
-    requires is_open { IsSome (O.seen out.old).open_name }
-    ensures events { Sends (O.seen out.old) (O.seen out.new) (puts (edge_text (edge_view edge.now))) (is_ok result) }
-    ensures name { (O.seen out.new).open_name ≡ (O.seen out.old).open_name }
-    ensures failures { (O.seen out.new).failures ≡ (if is_ok result then (O.seen out.old).failures else (O.seen out.old).failures + 1) }
+    requires { IsOpen (O.seen out.old) }
+    ensures writes { Writes (O.seen out.old) (puts (edge_text (edge_view edge.now))) (ended result) (O.seen out.new) }
     // What is written is read as the edge, whatever was read before and follows.
-    ensures read { IsHeld (edge_view edge.now) → (m : Manifest) (rest : List ℕ)
-        → reads_from (after_reading m) (edge_text (edge_view edge.now) ++ rest) ≡ reads_from (after_reading (with_edge m (edge_seen (edge_view edge.now)))) rest }
+    ensures read { is_writable (edge_view edge.now) ≡ true → (m : Manifest) (rest : List ℕ)
+        → reads_from (after_reading m) (edge_text (edge_view edge.now) ++ rest)
+        ≡ reads_from (after_reading (with_edge m (edge_seen (edge_view edge.now)))) rest }
     // Under the six rules its command is its words.
-    ensures runs { IsHeld (edge_view edge.now) → (m : Manifest) → m.rules ≡ six_rules → RunsWords m (edge_view edge.now) }
+    ensures runs { is_writable (edge_view edge.now) ≡ true → (m : Manifest) → m.rules ≡ six_rules → RunsWords m (edge_view edge.now) }
 {
     put_edge(edge, out)
 }

@@ -1,7 +1,8 @@
 //! Paths and values, with a `$` before what Ninja would read otherwise.
-ghost use Rattle.std.specs.Prelude.{◌≡◌, ◌+◌, ◌^◌, ◌<◌, is_ok, IsSome, if◌then◌else◌, [], ◌∷◌, MatchOption};
+ghost use Rattle.std.specs.Prelude.{◌≡◌, [], ◌∷◌, MatchOption};
 ghost use Rattle.std.specs.List.{flat_map};
-ghost use Rattle.ports.specs.Outputs.{OutputState, Sends, puts};
+ghost use Rattle.ports.specs.Endings.{ended};
+ghost use Rattle.ports.specs.Outputs.{OutputState, IsOpen, Writes, puts};
 ghost use Rattle.ninja.specs.Escapes.{path_byte_text, value_byte_text, value_rest_text, starts_with_space, leading_dollar, path_text, value_text};
 ghost use Rattle.ninja.specs.Words.{quoted_byte};
 ghost use Rattle.ninja.specs.Places.{byte_text};
@@ -62,11 +63,8 @@ impl Place {
 
 /// Writes bytes that stand in this place. Those that stand for themselves go out in runs.
 pub fn put_escaped<O: Outputs>(place: Place, bytes: &[u8], out: &mut O) -> Result<(), DeviceFault>
-    requires room { (O.seen out.old).failures + 1 < 2 ^ 64 }
-    requires is_open { IsSome (O.seen out.old).open_name }
-    ensures events { Sends (O.seen out.old) (O.seen out.new) (puts (flat_map (byte_text place) bytes.now)) (is_ok result) }
-    ensures name { (O.seen out.new).open_name ≡ (O.seen out.old).open_name }
-    ensures failures { (O.seen out.new).failures ≡ (if is_ok result then (O.seen out.old).failures else (O.seen out.old).failures + 1) }
+    requires { IsOpen (O.seen out.old) }
+    ensures { Writes (O.seen out.old) (puts (flat_map (byte_text place) bytes.now)) (ended result) (O.seen out.new) }
 {
     let mut written = 0;
     for (at, byte) in bytes.iter().enumerate() {
@@ -82,11 +80,8 @@ pub fn put_escaped<O: Outputs>(place: Place, bytes: &[u8], out: &mut O) -> Resul
 
 /// Writes a path: with a `$` before each dollar sign, space and colon.
 pub fn write_path<O: Outputs>(path: &str, out: &mut O) -> Result<(), DeviceFault>
-    requires room { (O.seen out.old).failures + 1 < 2 ^ 64 }
-    requires is_open { IsSome (O.seen out.old).open_name }
-    ensures events { Sends (O.seen out.old) (O.seen out.new) (puts (path_text path.now)) (is_ok result) }
-    ensures name { (O.seen out.new).open_name ≡ (O.seen out.old).open_name }
-    ensures failures { (O.seen out.new).failures ≡ (if is_ok result then (O.seen out.old).failures else (O.seen out.old).failures + 1) }
+    requires { IsOpen (O.seen out.old) }
+    ensures { Writes (O.seen out.old) (puts (path_text path.now)) (ended result) (O.seen out.new) }
 {
     put_escaped(Place::InPath, path.as_bytes(), out)
 }
@@ -99,11 +94,8 @@ fn starts_with_space(bytes: &[u8]) -> bool
 
 // A space in front would be dropped.
 fn put_leading_dollar<O: Outputs>(text: &[u8], out: &mut O) -> Result<(), DeviceFault>
-    requires room { (O.seen out.old).failures + 1 < 2 ^ 64 }
-    requires is_open { IsSome (O.seen out.old).open_name }
-    ensures events { Sends (O.seen out.old) (O.seen out.new) (puts (leading_dollar text.now)) (is_ok result) }
-    ensures name { (O.seen out.new).open_name ≡ (O.seen out.old).open_name }
-    ensures failures { (O.seen out.new).failures ≡ (if is_ok result then (O.seen out.old).failures else (O.seen out.old).failures + 1) }
+    requires { IsOpen (O.seen out.old) }
+    ensures { Writes (O.seen out.old) (puts (leading_dollar text.now)) (ended result) (O.seen out.new) }
 {
     if starts_with_space(text) {
         put_all(out, b"$")
@@ -114,11 +106,8 @@ fn put_leading_dollar<O: Outputs>(text: &[u8], out: &mut O) -> Result<(), Device
 
 /// Writes a value: with a `$` before each dollar sign, and before a space in front.
 pub fn write_value<O: Outputs>(text: &str, out: &mut O) -> Result<(), DeviceFault>
-    requires room { (O.seen out.old).failures + 1 < 2 ^ 64 }
-    requires is_open { IsSome (O.seen out.old).open_name }
-    ensures events { Sends (O.seen out.old) (O.seen out.new) (puts (value_text text.now)) (is_ok result) }
-    ensures name { (O.seen out.new).open_name ≡ (O.seen out.old).open_name }
-    ensures failures { (O.seen out.new).failures ≡ (if is_ok result then (O.seen out.old).failures else (O.seen out.old).failures + 1) }
+    requires { IsOpen (O.seen out.old) }
+    ensures { Writes (O.seen out.old) (puts (value_text text.now)) (ended result) (O.seen out.new) }
 {
     put_leading_dollar(text.as_bytes(), out)?;
     put_escaped(Place::InValue, text.as_bytes(), out)

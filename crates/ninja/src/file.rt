@@ -1,13 +1,13 @@
 //! The head and the tail of the file.
-ghost use Rattle.std.specs.Prelude.{◌≡◌, ◌+◌, ◌^◌, ◌<◌, ◌++◌, is_ok, IsSome, if◌then◌else◌, string_bytes, codes};
+ghost use Rattle.std.specs.Prelude.{◌++◌, string_bytes, codes};
 ghost use Rattle.std.specs.List.{flat_map};
-ghost use Rattle.ports.specs.Outputs.{OutputState, Sends, puts};
-ghost use Rattle.build.specs.Edges.{default_outputs};
+ghost use Rattle.ports.specs.Endings.{ended};
+ghost use Rattle.ports.specs.Outputs.{OutputState, IsOpen, Writes, puts};
+ghost use Rattle.edge.specs.Texts.{texts};
 ghost use Rattle.ninja.specs.Writing.{head_text, tail_text};
 ghost use Rattle.ninja.specs.Runs.{spaced_path_run};
 
 use crate::escapes::write_path;
-use build::{Project, Target};
 use ports::{DeviceFault, Outputs, put_all};
 
 const HEAD: &[u8] = b"ninja_required_version = 1.3
@@ -43,51 +43,40 @@ rule custom_dep
 
 /// Writes what stands before the edges: the version of Ninja that the file needs, and the six rules.
 pub fn write_head<O: Outputs>(out: &mut O) -> Result<(), DeviceFault>
-    requires room { (O.seen out.old).failures + 1 < 2 ^ 64 }
-    requires is_open { IsSome (O.seen out.old).open_name }
-    ensures events { Sends (O.seen out.old) (O.seen out.new) (puts head_text) (is_ok result) }
-    ensures name { (O.seen out.new).open_name ≡ (O.seen out.old).open_name }
-    ensures failures { (O.seen out.new).failures ≡ (if is_ok result then (O.seen out.old).failures else (O.seen out.old).failures + 1) }
+    requires { IsOpen (O.seen out.old) }
+    ensures { Writes (O.seen out.old) (puts head_text) (ended result) (O.seen out.new) }
 {
     put_all(out, HEAD)
 }
 
 #[tactic(auto, using(ports::proofs::Sending::sending))]
-fn put_names<O: Outputs>(targets: &[Target], out: &mut O) -> Result<(), DeviceFault>
-    requires room { (O.seen out.old).failures + 1 < 2 ^ 64 }
-    requires is_open { IsSome (O.seen out.old).open_name }
-    ensures events { Sends (O.seen out.old) (O.seen out.new) (flat_map (λ t. spaced_path_run (string_bytes t.name)) targets.now) (is_ok result) }
-    ensures name { (O.seen out.new).open_name ≡ (O.seen out.old).open_name }
-    ensures failures { (O.seen out.new).failures ≡ (if is_ok result then (O.seen out.old).failures else (O.seen out.old).failures + 1) }
+fn put_spaced_paths<O: Outputs>(paths: &[String], out: &mut O) -> Result<(), DeviceFault>
+    requires { IsOpen (O.seen out.old) }
+    ensures { Writes (O.seen out.old) (flat_map (λ s. spaced_path_run (string_bytes s)) paths.now) (ended result) (O.seen out.new) }
 {
-    for target in targets {
+    for path in paths {
         put_all(out, b" ")?;
-        write_path(&target.name, out)?;
+        write_path(path, out)?;
     }
     Ok(())
 }
 
 #[tactic(auto, using(ports::proofs::Sending::sending))]
-fn put_tail<O: Outputs>(targets: &[Target], out: &mut O) -> Result<(), DeviceFault>
-    requires room { (O.seen out.old).failures + 1 < 2 ^ 64 }
-    requires is_open { IsSome (O.seen out.old).open_name }
-    ensures events { Sends (O.seen out.old) (O.seen out.new) (puts (codes "build all: phony") ++ (flat_map (λ t. spaced_path_run (string_bytes t.name)) targets.now ++ puts (codes "\n\ndefault all\n"))) (is_ok result) }
-    ensures name { (O.seen out.new).open_name ≡ (O.seen out.old).open_name }
-    ensures failures { (O.seen out.new).failures ≡ (if is_ok result then (O.seen out.old).failures else (O.seen out.old).failures + 1) }
+fn put_tail<O: Outputs>(paths: &[String], out: &mut O) -> Result<(), DeviceFault>
+    requires { IsOpen (O.seen out.old) }
+    ensures { let paths_run = flat_map (λ s. spaced_path_run (string_bytes s)) paths.now in
+        let run = puts (codes "build all: phony") ++ (paths_run ++ puts (codes "\n\ndefault all\n")) in
+        Writes (O.seen out.old) run (ended result) (O.seen out.new) }
 {
     put_all(out, b"build all: phony")?;
-    put_names(targets, out)?;
+    put_spaced_paths(paths, out)?;
     put_all(out, b"\n\ndefault all\n")
 }
 
-/// Writes what stands behind the edges: the edge `all`, which makes the files of the project's targets, and that it is made
-/// where Ninja is given no target.
-pub fn write_tail<O: Outputs>(project: &Project, out: &mut O) -> Result<(), DeviceFault>
-    requires room { (O.seen out.old).failures + 1 < 2 ^ 64 }
-    requires is_open { IsSome (O.seen out.old).open_name }
-    ensures events { Sends (O.seen out.old) (O.seen out.new) (puts (tail_text (default_outputs project.now))) (is_ok result) }
-    ensures name { (O.seen out.new).open_name ≡ (O.seen out.old).open_name }
-    ensures failures { (O.seen out.new).failures ≡ (if is_ok result then (O.seen out.old).failures else (O.seen out.old).failures + 1) }
+/// Writes what stands behind the edges: the edge `all`, which makes these paths, and that it is made where Ninja is given no target.
+pub fn write_tail<O: Outputs>(paths: &[String], out: &mut O) -> Result<(), DeviceFault>
+    requires { IsOpen (O.seen out.old) }
+    ensures { Writes (O.seen out.old) (puts (tail_text (texts paths.now))) (ended result) (O.seen out.new) }
 {
-    put_tail(project.targets(), out)
+    put_tail(paths, out)
 }

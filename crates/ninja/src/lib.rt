@@ -1,8 +1,8 @@
 //! The text of `build.ninja`, as the Ninja manual has it, and what it means.
 //!
 //! Each writer puts its text into the open output, byte for byte what `specs/Writing` says, and stops at the first failure of the
-//! device. The tests [`can_hold_path`], [`can_hold_value`], [`can_hold_edge`] and [`can_hold_edges`] say whether a text can stand
-//! there at all: for a control character in a path, say, Ninja has no escape.
+//! device. Whether a text can stand there at all is a test of the crate `edge`, [`edge::are_writable`]: for a control character in a
+//! path, say, Ninja has no escape.
 //!
 //! `specs/Reading` says what a Ninja file says, and `specs/Commands` which words a shell reads in a command. Neither knows of the
 //! writers. That what is written is read as what was meant is the contract of [`edge_law`], [`file_law`], [`value_law`] and
@@ -12,13 +12,12 @@
 mod edges;
 mod escapes;
 mod file;
-mod holding;
 mod laws;
 mod words;
 
+pub use edge::{Edge, can_hold_path, can_hold_value};
 pub use edges::write_edge;
 pub use escapes::{write_path, write_value};
 pub use file::{write_head, write_tail};
-pub use holding::{can_hold_edge, can_hold_edges, can_hold_path, can_hold_value};
 pub use laws::{edge_law, file_law, value_law, words_law};
 pub use words::write_words;

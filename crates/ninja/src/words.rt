@@ -1,8 +1,9 @@
 //! The words of a command, quoted for a POSIX shell.
-ghost use Rattle.std.specs.Prelude.{◌≡◌, ◌+◌, ◌^◌, ◌<◌, true, string_bytes, ◌++◌, is_ok, IsSome, if◌then◌else◌, ◌&&◌, not, option_map};
+ghost use Rattle.std.specs.Prelude.{◌≡◌, true, string_bytes, ◌++◌, ◌&&◌, not, option_map};
 ghost use Rattle.std.specs.List.{flat_map};
-ghost use Rattle.ports.specs.Outputs.{OutputState, Sends, puts};
-ghost use Rattle.build.specs.Texts.{texts};
+ghost use Rattle.ports.specs.Endings.{ended};
+ghost use Rattle.ports.specs.Outputs.{OutputState, IsOpen, Writes, puts};
+ghost use Rattle.edge.specs.Texts.{texts};
 ghost use Rattle.ninja.specs.Shell.{is_bare_byte, is_reserved, has_equals, is_no_first_word};
 ghost use Rattle.ninja.specs.Escapes.{value_rest_text, value_text};
 ghost use Rattle.ninja.specs.Words.{is_all_bare, is_bare, word_text, first_word_text, words_text};
@@ -64,11 +65,8 @@ fn is_bare_first_word(word: &str) -> bool
 
 #[tactic(auto, using(ports::proofs::Sending::sending))]
 fn put_quoted<O: Outputs>(word: &str, out: &mut O) -> Result<(), DeviceFault>
-    requires room { (O.seen out.old).failures + 1 < 2 ^ 64 }
-    requires is_open { IsSome (O.seen out.old).open_name }
-    ensures events { Sends (O.seen out.old) (O.seen out.new) (quoted_run word.now) (is_ok result) }
-    ensures name { (O.seen out.new).open_name ≡ (O.seen out.old).open_name }
-    ensures failures { (O.seen out.new).failures ≡ (if is_ok result then (O.seen out.old).failures else (O.seen out.old).failures + 1) }
+    requires { IsOpen (O.seen out.old) }
+    ensures { Writes (O.seen out.old) (quoted_run word.now) (ended result) (O.seen out.new) }
 {
     put_all(out, b"'")?;
     put_escaped(Place::InQuotes, word.as_bytes(), out)?;
@@ -77,21 +75,15 @@ fn put_quoted<O: Outputs>(word: &str, out: &mut O) -> Result<(), DeviceFault>
 
 fn put_bare<O: Outputs>(word: &str, out: &mut O) -> Result<(), DeviceFault>
     requires bare { is_bare word.now ≡ true }
-    requires room { (O.seen out.old).failures + 1 < 2 ^ 64 }
-    requires is_open { IsSome (O.seen out.old).open_name }
-    ensures events { Sends (O.seen out.old) (O.seen out.new) (puts (value_rest_text word.now)) (is_ok result) }
-    ensures name { (O.seen out.new).open_name ≡ (O.seen out.old).open_name }
-    ensures failures { (O.seen out.new).failures ≡ (if is_ok result then (O.seen out.old).failures else (O.seen out.old).failures + 1) }
+    requires out { IsOpen (O.seen out.old) }
+    ensures { Writes (O.seen out.old) (puts (value_rest_text word.now)) (ended result) (O.seen out.new) }
 {
     put_all(out, word.as_bytes())
 }
 
 fn put_word<O: Outputs>(word: &str, out: &mut O) -> Result<(), DeviceFault>
-    requires room { (O.seen out.old).failures + 1 < 2 ^ 64 }
-    requires is_open { IsSome (O.seen out.old).open_name }
-    ensures events { Sends (O.seen out.old) (O.seen out.new) (puts (value_rest_text (word_text word.now))) (is_ok result) }
-    ensures name { (O.seen out.new).open_name ≡ (O.seen out.old).open_name }
-    ensures failures { (O.seen out.new).failures ≡ (if is_ok result then (O.seen out.old).failures else (O.seen out.old).failures + 1) }
+    requires { IsOpen (O.seen out.old) }
+    ensures { Writes (O.seen out.old) (puts (value_rest_text (word_text word.now))) (ended result) (O.seen out.new) }
 {
     if is_bare_word(word) {
         put_bare(word, out)
@@ -101,11 +93,8 @@ fn put_word<O: Outputs>(word: &str, out: &mut O) -> Result<(), DeviceFault>
 }
 
 fn put_first_word<O: Outputs>(word: &str, out: &mut O) -> Result<(), DeviceFault>
-    requires room { (O.seen out.old).failures + 1 < 2 ^ 64 }
-    requires is_open { IsSome (O.seen out.old).open_name }
-    ensures events { Sends (O.seen out.old) (O.seen out.new) (puts (value_rest_text (first_word_text word.now))) (is_ok result) }
-    ensures name { (O.seen out.new).open_name ≡ (O.seen out.old).open_name }
-    ensures failures { (O.seen out.new).failures ≡ (if is_ok result then (O.seen out.old).failures else (O.seen out.old).failures + 1) }
+    requires { IsOpen (O.seen out.old) }
+    ensures { Writes (O.seen out.old) (puts (value_rest_text (first_word_text word.now))) (ended result) (O.seen out.new) }
 {
     if is_bare_first_word(word) {
         put_bare(word, out)
@@ -116,11 +105,8 @@ fn put_first_word<O: Outputs>(word: &str, out: &mut O) -> Result<(), DeviceFault
 
 #[tactic(auto, using(ports::proofs::Sending::sending))]
 fn put_later_words<O: Outputs>(words: &[String], out: &mut O) -> Result<(), DeviceFault>
-    requires room { (O.seen out.old).failures + 1 < 2 ^ 64 }
-    requires is_open { IsSome (O.seen out.old).open_name }
-    ensures events { Sends (O.seen out.old) (O.seen out.new) (flat_map (λ s. later_word_run (string_bytes s)) words.now) (is_ok result) }
-    ensures name { (O.seen out.new).open_name ≡ (O.seen out.old).open_name }
-    ensures failures { (O.seen out.new).failures ≡ (if is_ok result then (O.seen out.old).failures else (O.seen out.old).failures + 1) }
+    requires { IsOpen (O.seen out.old) }
+    ensures { Writes (O.seen out.old) (flat_map (λ s. later_word_run (string_bytes s)) words.now) (ended result) (O.seen out.new) }
 {
     for word in words {
         put_all(out, b" ")?;
@@ -131,11 +117,8 @@ fn put_later_words<O: Outputs>(words: &[String], out: &mut O) -> Result<(), Devi
 
 #[tactic(auto, using(ports::proofs::Sending::sending))]
 fn put_redirect<O: Outputs>(redirect: Option<&str>, out: &mut O) -> Result<(), DeviceFault>
-    requires room { (O.seen out.old).failures + 1 < 2 ^ 64 }
-    requires is_open { IsSome (O.seen out.old).open_name }
-    ensures events { Sends (O.seen out.old) (O.seen out.new) (redirect_run (option_map (λ s. s.now) redirect.entry)) (is_ok result) }
-    ensures name { (O.seen out.new).open_name ≡ (O.seen out.old).open_name }
-    ensures failures { (O.seen out.new).failures ≡ (if is_ok result then (O.seen out.old).failures else (O.seen out.old).failures + 1) }
+    requires { IsOpen (O.seen out.old) }
+    ensures { Writes (O.seen out.old) (redirect_run (option_map (λ s. s.now) redirect.entry)) (ended result) (O.seen out.new) }
 {
     match redirect {
         None => Ok(()),
@@ -148,11 +131,8 @@ fn put_redirect<O: Outputs>(redirect: Option<&str>, out: &mut O) -> Result<(), D
 
 #[tactic(auto, using(ports::proofs::Sending::sending))]
 fn put_lone_redirect<O: Outputs>(redirect: Option<&str>, out: &mut O) -> Result<(), DeviceFault>
-    requires room { (O.seen out.old).failures + 1 < 2 ^ 64 }
-    requires is_open { IsSome (O.seen out.old).open_name }
-    ensures events { Sends (O.seen out.old) (O.seen out.new) (lone_redirect_run (option_map (λ s. s.now) redirect.entry)) (is_ok result) }
-    ensures name { (O.seen out.new).open_name ≡ (O.seen out.old).open_name }
-    ensures failures { (O.seen out.new).failures ≡ (if is_ok result then (O.seen out.old).failures else (O.seen out.old).failures + 1) }
+    requires { IsOpen (O.seen out.old) }
+    ensures { Writes (O.seen out.old) (lone_redirect_run (option_map (λ s. s.now) redirect.entry)) (ended result) (O.seen out.new) }
 {
     match redirect {
         None => Ok(()),
@@ -170,11 +150,11 @@ fn put_words_from<O: Outputs>(
     redirect: Option<&str>,
     out: &mut O,
 ) -> Result<(), DeviceFault>
-    requires room { (O.seen out.old).failures + 1 < 2 ^ 64 }
-    requires is_open { IsSome (O.seen out.old).open_name }
-    ensures events { Sends (O.seen out.old) (O.seen out.new) (puts (value_rest_text (first_word_text first.now)) ++ (flat_map (λ s. later_word_run (string_bytes s)) later.now ++ redirect_run (option_map (λ s. s.now) redirect.entry))) (is_ok result) }
-    ensures name { (O.seen out.new).open_name ≡ (O.seen out.old).open_name }
-    ensures failures { (O.seen out.new).failures ≡ (if is_ok result then (O.seen out.old).failures else (O.seen out.old).failures + 1) }
+    requires { IsOpen (O.seen out.old) }
+    ensures { let file = option_map (λ s. s.now) redirect.entry in
+        let first_run = puts (value_rest_text (first_word_text first.now)) in
+        let later_run = flat_map (λ s. later_word_run (string_bytes s)) later.now in
+        Writes (O.seen out.old) (first_run ++ (later_run ++ redirect_run file)) (ended result) (O.seen out.new) }
 {
     put_first_word(first, out)?;
     put_later_words(later, out)?;
@@ -188,11 +168,9 @@ pub fn write_words<O: Outputs>(
     redirect: Option<&str>,
     out: &mut O,
 ) -> Result<(), DeviceFault>
-    requires room { (O.seen out.old).failures + 1 < 2 ^ 64 }
-    requires is_open { IsSome (O.seen out.old).open_name }
-    ensures events { Sends (O.seen out.old) (O.seen out.new) (puts (value_text (words_text (texts words.now) (option_map (λ s. s.now) redirect.entry)))) (is_ok result) }
-    ensures name { (O.seen out.new).open_name ≡ (O.seen out.old).open_name }
-    ensures failures { (O.seen out.new).failures ≡ (if is_ok result then (O.seen out.old).failures else (O.seen out.old).failures + 1) }
+    requires { IsOpen (O.seen out.old) }
+    ensures { let file = option_map (λ s. s.now) redirect.entry in
+        Writes (O.seen out.old) (puts (value_text (words_text (texts words.now) file))) (ended result) (O.seen out.new) }
 {
     match words {
         [] => put_lone_redirect(redirect, out),

@@ -2,7 +2,7 @@
 use Rattle.std.proofs.Common.{◌≡◌, pos, negsuc, true, false, [], ◌∷◌, codes, Ok, Err, refl}
 use Rattle.data.specs.declared.object.Object.TheVariants as TheObject
 use Rattle.data.specs.declared.refusal.Refusal.TheVariants as refusal
-use Rattle.data.specs.Data.{truth, integer, text, list, dictionary, object, no_items, item, no_entries, entry}
+use Rattle.data.specs.Data.{boolean, integer, text, list, dictionary, object, no_items, item, no_entries, entry}
 use Rattle.operators.specs.declared.operator.Binary.TheVariants.{Add, Divide, Remainder, Equal, Less, In}
 use Rattle.operators.specs.declared.operator.Unary.TheVariants.{Negate}
 use Rattle.operators.specs.Operations.{unary_answer, binary_answer, disabler}
@@ -66,34 +66,34 @@ list_and_dictionary : binary_answer Add (list (item (integer (pos 1)) no_items))
 list_and_dictionary = refl
 
 -- items of two types are unequal, values of two types are refused
-unequal_items : binary_answer Equal (list (item (integer (pos 1)) no_items)) (list (item (text (codes "1")) no_items)) ≡ Ok (truth false)
+unequal_items : binary_answer Equal (list (item (integer (pos 1)) no_items)) (list (item (text (codes "1")) no_items)) ≡ Ok (boolean false)
 unequal_items = refl
 
 two_types : binary_answer Equal (integer (pos 1)) (text (codes "1")) ≡ Err refusal.Type
 two_types = refl
 
-two_kinds_of_target : binary_answer Equal (object (TheObject.BuildTarget 1)) (object (TheObject.CustomTarget 1 2)) ≡ Ok (truth false)
+two_kinds_of_target : binary_answer Equal (object (TheObject.BuildTarget 1)) (object (TheObject.CustomTarget 1 2)) ≡ Ok (boolean false)
 two_kinds_of_target = refl
 
 -- texts are ordered by bytes
-upper_case_first : binary_answer Less (text (codes "B")) (text (codes "a")) ≡ Ok (truth true)
+upper_case_first : binary_answer Less (text (codes "B")) (text (codes "a")) ≡ Ok (boolean true)
 upper_case_first = refl
 
 -- `in`
-text_in_text : binary_answer In (text (codes "bc")) (text (codes "abcd")) ≡ Ok (truth true)
+text_in_text : binary_answer In (text (codes "bc")) (text (codes "abcd")) ≡ Ok (boolean true)
 text_in_text = refl
 
 integer_in_text : binary_answer In (integer (pos 1)) (text (codes "1")) ≡ Err refusal.Type
 integer_in_text = refl
 
-integer_in_texts : binary_answer In (integer (pos 1)) (list (item (text (codes "1")) no_items)) ≡ Ok (truth false)
+integer_in_texts : binary_answer In (integer (pos 1)) (list (item (text (codes "1")) no_items)) ≡ Ok (boolean false)
 integer_in_texts = refl
 
 -- disablers
 disabler_in_list : binary_answer In disabler (list (item (integer (pos 1)) no_items)) ≡ Ok disabler
 disabler_in_list = refl
 
-lists_of_disablers : binary_answer Equal (list (item disabler no_items)) (list (item disabler no_items)) ≡ Ok (truth true)
+lists_of_disablers : binary_answer Equal (list (item disabler no_items)) (list (item disabler no_items)) ≡ Ok (boolean true)
 lists_of_disablers = refl
 
 -- indexes

@@ -9,7 +9,8 @@ use Rattle.std.proofs.lemmas.Int.{ints}
 use Rattle.std.specs.Option.{SomeIff}
 use Rattle.std.specs.Prelude.{if◌then◌else◌}
 use Rattle.std.specs.Int.RustNames.{FitsSigned}
-use Rattle.operators.specs.Integers.{IsRest, is_in_range, in_range, is_zero, floor, quotient, remainder}
+use Rattle.texts.specs.Number.{is_in_range}
+use Rattle.operators.specs.Integers.{IsRest, in_range, is_zero, floor, quotient, remainder}
 
 -- one more than a, divided by n
 pub div-suc-within : (a m : ℕ) → suc (a % suc m) < suc m → suc a / suc m ≡ a / suc m

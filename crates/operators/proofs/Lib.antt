@@ -1,4 +1,4 @@
 pub mod IntegerLemmas
-pub mod TextLemmas
 pub mod PartLemmas
 mod Examples
+pub mod LimitLemmas

@@ -3,7 +3,7 @@ use Rattle.std.specs.Prelude.{◌≡◌, true, false, Option, Some, None, Result
 use Rattle.data.specs.declared.object.Object.TheVariants as TheObject
 use Rattle.data.specs.declared.refusal.Refusal.{Refusal}
 use Rattle.data.specs.declared.refusal.Refusal.TheVariants as refusal
-use Rattle.data.specs.Data.{Data, truth, object}
+use Rattle.data.specs.Data.{Data, boolean, object}
 use Rattle.data.specs.View.{data_of}
 use Rattle.operators.specs.declared.operator.Connective.{Connective}
 use Rattle.operators.specs.declared.operator.Connective.TheVariants.{And, Or}
@@ -13,16 +13,16 @@ use Rattle.operators.specs.Operations.{disabler}
 
 -- What the left side of `and` or `or` says: a value, where the right side is left alone; `None`, where the right side decides.
 abbrev pub left_answer : Connective → Data → Result (Option Data) Refusal
-left_answer And (truth false) = Ok (Some (truth false))
-left_answer And (truth true) = Ok None
-left_answer Or (truth true) = Ok (Some (truth true))
-left_answer Or (truth false) = Ok None
+left_answer And (boolean false) = Ok (Some (boolean false))
+left_answer And (boolean true) = Ok None
+left_answer Or (boolean true) = Ok (Some (boolean true))
+left_answer Or (boolean false) = Ok None
 left_answer connective (object TheObject.Disabler) = Ok (Some disabler)
 left_answer connective d = Err refusal.Type
 
 -- what the right side of `and` or `or` gives, where it decides
 abbrev pub right_answer : Data → Result Data Refusal
-right_answer (truth b) = Ok (truth b)
+right_answer (boolean b) = Ok (boolean b)
 right_answer (object TheObject.Disabler) = Ok disabler
 right_answer d = Err refusal.Type
 

@@ -4,7 +4,7 @@ use Rattle.std.specs.Ordering.{is_lt, is_le, is_gt, is_ge}
 use Rattle.data.specs.declared.object.Object.TheVariants as TheObject
 use Rattle.data.specs.declared.refusal.Refusal.{Refusal}
 use Rattle.data.specs.declared.refusal.Refusal.TheVariants as refusal
-use Rattle.data.specs.Data.{Data, truth, integer, object, is_disabler}
+use Rattle.data.specs.Data.{Data, boolean, integer, object, is_disabler}
 use Rattle.data.specs.Limits.{within}
 use Rattle.operators.specs.declared.operator.Unary.{Unary}
 use Rattle.operators.specs.declared.operator.Unary.TheVariants.{Not, Negate}
@@ -22,14 +22,14 @@ binary_value Subtract d e = rows.difference d e
 binary_value Multiply d e = rows.product d e
 binary_value Divide d e = rows.quotient d e
 binary_value Remainder d e = rows.remainder d e
-binary_value Equal d e = option_map truth (rows.equality d e)
-binary_value NotEqual d e = option_map truth (option_map not (rows.equality d e))
-binary_value Less d e = option_map truth (option_map is_lt (rows.order d e))
-binary_value LessOrEqual d e = option_map truth (option_map is_le (rows.order d e))
-binary_value Greater d e = option_map truth (option_map is_gt (rows.order d e))
-binary_value GreaterOrEqual d e = option_map truth (option_map is_ge (rows.order d e))
-binary_value In d e = option_map truth (rows.membership d e)
-binary_value NotIn d e = option_map truth (option_map not (rows.membership d e))
+binary_value Equal d e = option_map boolean (rows.equality d e)
+binary_value NotEqual d e = option_map boolean (option_map not (rows.equality d e))
+binary_value Less d e = option_map boolean (option_map is_lt (rows.order d e))
+binary_value LessOrEqual d e = option_map boolean (option_map is_le (rows.order d e))
+binary_value Greater d e = option_map boolean (option_map is_gt (rows.order d e))
+binary_value GreaterOrEqual d e = option_map boolean (option_map is_ge (rows.order d e))
+binary_value In d e = option_map boolean (rows.membership d e)
+binary_value NotIn d e = option_map boolean (option_map not (rows.membership d e))
 
 -- an integer whose opposite is out of range, or else a wrong type
 abbrev pub unary_refusal : Unary → Data → Refusal

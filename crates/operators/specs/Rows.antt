@@ -3,10 +3,11 @@ use Rattle.std.specs.Prelude.{Bool, false, not, ◌||◌, ◌++◌, Option, Some
 use Rattle.std.specs.Ordering.{int_cmp, nat_cmp}
 use Rattle.std.specs.Cmp.Lexicographic.{slice_cmp}
 use Rattle.std.specs.declared.cmp.Ordering.{Ordering}
-use Rattle.data.specs.Data.{Data, truth, integer, text, list, dictionary, Items, no_items, item, items_append, find, merged}
+use Rattle.data.specs.Data.{Data, boolean, integer, text, list, dictionary, Items, no_items, item, items_append, find, merged}
 use Rattle.data.specs.Same.{same}
 use Rattle.operators.specs.Integers as integers
-use Rattle.operators.specs.Texts.{path_below, stands_in}
+use Rattle.texts.specs.Search.{contains}
+use Rattle.operators.specs.Texts.{path_below}
 use Rattle.operators.specs.Types.{is_one_type}
 
 -- `+`: a dictionary's keys keep their places, values of the right win, new keys go last
@@ -58,12 +59,12 @@ is_item d (item e es) = same d e || is_item d es
 abbrev pub membership : Data → Data → Option Bool
 membership d (list es) = Some (is_item d es)
 membership (text k) (dictionary es) = Some (is_some (find k es))
-membership (text s) (text t) = Some (stands_in s t)
+membership (text s) (text t) = Some (contains t s)
 membership _ _ = None
 
 -- `not`
 abbrev pub negation : Data → Option Data
-negation (truth b) = Some (truth (not b))
+negation (boolean b) = Some (boolean (not b))
 negation _ = None
 
 -- `-` in front of a value

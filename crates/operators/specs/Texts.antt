@@ -1,5 +1,5 @@
 -- Texts as lists of bytes.
-use Rattle.std.specs.Prelude.{ℕ, ◌-◌, Bool, true, false, ◌||◌, ◌&&◌, ◌==◌, List, [], ◌∷◌, ◌++◌, length, slice_index, if◌then◌else◌}
+use Rattle.std.specs.Prelude.{ℕ, ◌-◌, Bool, ◌||◌, ◌==◌, List, ◌∷◌, ◌++◌, length, slice_index, if◌then◌else◌}
 
 -- whether the first byte is `/`
 abbrev pub begins_with_slash : List ℕ → Bool
@@ -12,14 +12,3 @@ ends_with_slash s = slice_index s (length s - 1) == 47
 -- a path and one below it, with a `/` between them; the second alone where it is absolute or the first is empty
 abbrev pub path_below : List ℕ → List ℕ → List ℕ
 path_below s t = if length s == 0 || begins_with_slash t then t else (if ends_with_slash s then s ++ t else s ++ (47 ∷ t))
-
--- whether a text begins with another
-abbrev pub begins_with : List ℕ → List ℕ → Bool
-begins_with t [] = true
-begins_with [] (b ∷ s) = false
-begins_with (c ∷ t) (b ∷ s) = (c == b) && begins_with t s
-
--- whether a text stands in another
-abbrev pub stands_in : List ℕ → List ℕ → Bool
-stands_in s [] = begins_with [] s
-stands_in s (c ∷ t) = begins_with (c ∷ t) s || stands_in s t

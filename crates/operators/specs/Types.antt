@@ -2,7 +2,7 @@
 use Rattle.std.specs.Prelude.{Bool, true, false}
 use Rattle.data.specs.declared.object.Object.{Object}
 use Rattle.data.specs.declared.object.Object.TheVariants as TheObject
-use Rattle.data.specs.Data.{Data, truth, integer, text, list, dictionary, object}
+use Rattle.data.specs.Data.{Data, boolean, integer, text, list, dictionary, object}
 
 -- Objects are of one kind where they are of one type of the manual. All targets are of one kind, outputs of custom targets of another.
 abbrev pub is_one_kind : Object → Object → Bool
@@ -24,7 +24,7 @@ is_one_kind TheObject.Disabler TheObject.Disabler = true
 is_one_kind _ _ = false
 
 abbrev pub is_one_type : Data → Data → Bool
-is_one_type (truth b) (truth c) = true
+is_one_type (boolean b) (boolean c) = true
 is_one_type (integer y) (integer z) = true
 is_one_type (text s) (text t) = true
 is_one_type (list ds) (list es) = true

@@ -10,10 +10,11 @@ mod operations;
 mod operator;
 mod parts;
 mod relations;
-mod texts;
+mod text_sums;
 
-pub use literal::dictionary;
+pub use literal::{dictionary, list};
 pub use logic::{Left, left_side, right_side};
 pub use operations::{binary, unary};
 pub use operator::{Binary, Connective, Unary};
 pub use parts::{index, indexed_item};
+pub use text_sums::path_below;

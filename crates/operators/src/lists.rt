@@ -54,7 +54,7 @@ pub fn merge(
         Ok(dictionary) => DictionaryBuilder::of_dictionary(dictionary),
         Err(shared) => DictionaryBuilder::copy_of(alloc, &shared)?,
     };
-    builder.put_all(alloc, others)?;
+    builder.put_all(others)?;
     match builder.finish() {
         Ok(dictionary) => Ok(Ok(Value::of_dictionary(alloc, dictionary)?)),
         Err(refusal) => Ok(Err(refusal)),

@@ -1,14 +1,25 @@
-//! Dictionary literals.
+//! Literals of lists and dictionaries.
 
 ghost use Rattle.std.specs.Prelude.{◌≡◌, ◌+◌, ◌<◌, ◌≤◌, ◌^◌, IfOk, MatchResult, Ok, Err};
-ghost use Rattle.data.specs.Data.{no_entries};
+ghost use Rattle.data.specs.Data.{no_entries, list as list_data};
+ghost use Rattle.data.specs.Limits.{within};
 ghost use Rattle.data.specs.Weight.{entries_weight};
-ghost use Rattle.data.specs.View.{data_of};
+ghost use Rattle.data.specs.View.{data_of, items_of};
 ghost use Rattle.data.specs.Tables.{Answers};
 ghost use Rattle.operators.specs.Literal.{with_entry, with_entries, literal_answer, pairs_of};
 
-use data::{DictionaryBuilder, Refusal, Value};
+use data::{DictionaryBuilder, List, Refusal, Value};
 use std::alloc::{AllocError, Global};
+
+/// The list of a literal's items, or E22 where it is past a limit.
+pub fn list(alloc: Global, items: Vec<Value>) -> Result<Result<Value, Refusal>, AllocError>
+    ensures { IfOk result (λ r. Answers (within (list_data (items_of items.items))) r) }
+{
+    match List::from_items(items) {
+        Ok(list) => Ok(Ok(Value::of_list(alloc, list)?)),
+        Err(refusal) => Ok(Err(refusal)),
+    }
+}
 
 /// The dictionary of a literal's keys and values, in order.
 ///
@@ -37,7 +48,7 @@ fn with_entries(
 {
     let mut builder = DictionaryBuilder::new(alloc);
     for (key, value) in entries {
-        if let Err(refusal) = put_entry(alloc, &mut builder, &key, value)? {
+        if let Err(refusal) = put_entry(&mut builder, key, value)? {
             return Ok(Err(refusal));
         }
     }
@@ -46,25 +57,25 @@ fn with_entries(
 
 // Puts one more entry, unless its key is refused.
 fn put_entry(
-    alloc: Global,
     builder: &mut DictionaryBuilder,
-    key: &Value,
+    key: Value,
     value: Value,
 ) -> Result<Result<(), Refusal>, AllocError>
     requires { entries_weight builder.old < 2 ^ 100 }
     ensures put { IfOk result (λ r. MatchResult r
-        (λ _. with_entry builder.old (data_of key.now) (data_of value) ≡ Ok builder.new)
-        (λ e. with_entry builder.old (data_of key.now) (data_of value) ≡ Err e)) }
+        (λ _. with_entry builder.old (data_of key) (data_of value) ≡ Ok builder.new)
+        (λ e. with_entry builder.old (data_of key) (data_of value) ≡ Err e)) }
     ensures light { IfOk result (λ _. entries_weight builder.new ≤ entries_weight builder.old + 2 ^ 26) }
 {
-    let Some(text) = key.as_text() else {
+    let Value::Text(key) = key else {
         return Ok(Err(Refusal::Type));
     };
-    if builder.contains_key(text) {
+    if builder.contains_key(&key) {
         return Ok(Err(Refusal::Duplicate));
     }
-    // no value weighs so much that the sum could overflow
+    // neither weighs so much that the sum could overflow
+    let _key = key.as_str();
     let _weight = value.weight();
-    builder.put(String::from_str(alloc, text)?, value)?;
+    builder.put(key, value)?;
     Ok(Ok(()))
 }

@@ -24,20 +24,20 @@ pub fn negation(operand: &Value) -> Result<Value, Refusal>
     ensures { Answers (unary_outcome Not (data_of operand.now)) result }
 {
     match operand {
-        Value::Truth(truth) => Ok(Value::Truth(!*truth)),
+        Value::Boolean(boolean) => Ok(Value::Boolean(!*boolean)),
         _ => Err(Refusal::Type),
     }
 }
 
 /// Whether the left side of `and` or `or` decides: `false and`, `true or` and a disabler do. E6 for any other
-/// value that is no truth value.
+/// value that is no boolean.
 pub fn left_side(connective: Connective, left: Value) -> Result<Left, Refusal>
     ensures { LeftAnswers connective (data_of left) result }
 {
     match (connective, &left) {
-        (Connective::And, Value::Truth(true)) => Ok(Left::Open),
-        (Connective::Or, Value::Truth(false)) => Ok(Left::Open),
-        (_, Value::Truth(_)) => Ok(Left::Decides(left)),
+        (Connective::And, Value::Boolean(true)) => Ok(Left::Open),
+        (Connective::Or, Value::Boolean(false)) => Ok(Left::Open),
+        (_, Value::Boolean(_)) => Ok(Left::Decides(left)),
         _ => {
             if left.is_disabler() {
                 Ok(Left::Decides(left))
@@ -48,12 +48,12 @@ pub fn left_side(connective: Connective, left: Value) -> Result<Left, Refusal>
     }
 }
 
-/// The value of `and` or `or` where the right side decides: a truth value or a disabler, else E6.
+/// The value of `and` or `or` where the right side decides: a boolean or a disabler, else E6.
 pub fn right_side(right: Value) -> Result<Value, Refusal>
     ensures { Answers (right_answer (data_of right)) result }
 {
     match right {
-        Value::Truth(truth) => Ok(Value::Truth(truth)),
+        Value::Boolean(boolean) => Ok(Value::Boolean(boolean)),
         _ => {
             if right.is_disabler() {
                 Ok(right)

@@ -4,8 +4,8 @@ ghost use Rattle.std.specs.Prelude.{◌≡◌, not, option_map};
 ghost use Rattle.data.specs.View.{data_of};
 ghost use Rattle.operators.specs.Rows.{is_item, membership as membership_row};
 
-use crate::texts::stands_in;
 use data::{List, Value, is_equal};
+use texts::contains;
 
 /// Whether a value is an item of a list, a text a key of a dictionary, a text in another.
 pub fn membership(value: &Value, whole: &Value) -> Option<bool>
@@ -13,10 +13,8 @@ pub fn membership(value: &Value, whole: &Value) -> Option<bool>
 {
     match (value, whole) {
         (_, Value::List(list)) => Some(is_item(value, list)),
-        (Value::Text(key), Value::Dictionary(dictionary)) => Some(
-            dictionary.get(key.as_str()).is_some(),
-        ),
-        (Value::Text(text), Value::Text(whole)) => Some(stands_in(text.as_str(), whole.as_str())),
+        (Value::Text(key), Value::Dictionary(dictionary)) => Some(dictionary.get(key).is_some()),
+        (Value::Text(text), Value::Text(whole)) => Some(contains(whole.as_str(), text.as_str())),
         _ => None,
     }
 }

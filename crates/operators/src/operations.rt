@@ -1,7 +1,7 @@
 //! The operators, by the types of their operands.
 
 ghost use Rattle.std.specs.Prelude.{◌≡◌, IfOk, option_map};
-ghost use Rattle.data.specs.Data.{truth as truth_data};
+ghost use Rattle.data.specs.Data.{boolean as boolean_data};
 ghost use Rattle.data.specs.declared.refusal.Refusal.TheVariants as refusal;
 ghost use Rattle.data.specs.View.{data_of};
 ghost use Rattle.data.specs.Tables.{Answers};
@@ -16,7 +16,7 @@ use crate::operator::{Binary, Unary};
 use crate::relations::{
     equality, inequality, is_greater, is_greater_or_equal, is_less, is_less_or_equal,
 };
-use crate::texts::{concatenate, path_below};
+use crate::text_sums::{concatenate, path_below};
 use data::{Refusal, Value};
 use std::alloc::{AllocError, Global};
 
@@ -57,23 +57,23 @@ pub fn binary(
         Binary::Multiply => Ok(product(&left, &right)),
         Binary::Divide => quotient(alloc, &left, &right),
         Binary::Remainder => Ok(remainder(&left, &right)),
-        Binary::Equal => Ok(truth(equality(&left, &right))),
-        Binary::NotEqual => Ok(truth(inequality(&left, &right))),
-        Binary::Less => Ok(truth(is_less(&left, &right))),
-        Binary::LessOrEqual => Ok(truth(is_less_or_equal(&left, &right))),
-        Binary::Greater => Ok(truth(is_greater(&left, &right))),
-        Binary::GreaterOrEqual => Ok(truth(is_greater_or_equal(&left, &right))),
-        Binary::In => Ok(truth(membership(&left, &right))),
-        Binary::NotIn => Ok(truth(absence(&left, &right))),
+        Binary::Equal => Ok(boolean(equality(&left, &right))),
+        Binary::NotEqual => Ok(boolean(inequality(&left, &right))),
+        Binary::Less => Ok(boolean(is_less(&left, &right))),
+        Binary::LessOrEqual => Ok(boolean(is_less_or_equal(&left, &right))),
+        Binary::Greater => Ok(boolean(is_greater(&left, &right))),
+        Binary::GreaterOrEqual => Ok(boolean(is_greater_or_equal(&left, &right))),
+        Binary::In => Ok(boolean(membership(&left, &right))),
+        Binary::NotIn => Ok(boolean(absence(&left, &right))),
     }
 }
 
 // The value of a test that the operands have.
-fn truth(test: Option<bool>) -> Result<Value, Refusal>
-    ensures { Answers (answer (option_map truth_data test) refusal.Type) result }
+fn boolean(test: Option<bool>) -> Result<Value, Refusal>
+    ensures { Answers (answer (option_map boolean_data test) refusal.Type) result }
 {
     match test {
-        Some(truth) => Ok(Value::Truth(truth)),
+        Some(boolean) => Ok(Value::Boolean(boolean)),
         None => Err(Refusal::Type),
     }
 }
@@ -84,7 +84,7 @@ fn sum(alloc: Global, left: Value, right: Value) -> Result<Result<Value, Refusal
 {
     match (left, right) {
         (Value::Integer(x), Value::Integer(y)) => Ok(integer(x.checked_add(y))),
-        (Value::Text(s), Value::Text(t)) => concatenate(alloc, s.as_str(), t.as_str()),
+        (Value::Text(s), Value::Text(t)) => concatenate(alloc, s, t.as_str()),
         (Value::List(list), Value::List(others)) => append_all(alloc, list, &others),
         (Value::List(list), value) => append(alloc, list, value),
         (Value::Dictionary(dictionary), Value::Dictionary(others)) => merge(
@@ -104,7 +104,10 @@ fn quotient(
 {
     match (left, right) {
         (Value::Integer(x), Value::Integer(y)) => Ok(integer(integer_quotient(*x, *y))),
-        (Value::Text(s), Value::Text(t)) => path_below(alloc, s.as_str(), t.as_str()),
+        (Value::Text(s), Value::Text(t)) => {
+            let path = path_below(alloc, s.as_str(), t.as_str())?;
+            Value::of_string(alloc, path)
+        }
         _ => Ok(Err(Refusal::Type)),
     }
 }

@@ -36,7 +36,7 @@ pub fn index(
             alloc,
             indexed_char(text.as_str(), *index),
         ),
-        (Value::Dictionary(dictionary), Value::Text(key)) => found(dictionary.get(key.as_str())),
+        (Value::Dictionary(dictionary), Value::Text(key)) => found(dictionary.get(key)),
         (Value::Object(object), Value::Integer(index)) => match indexed_output(object, *index) {
             Ok(output) => Ok(Ok(Value::of_object(alloc, output)?)),
             Err(refusal) => Ok(Err(refusal)),
@@ -90,10 +90,10 @@ fn indexed_output(object: &Object, index: i128) -> Result<Object, Refusal>
 {
     match object {
         Object::CustomTarget { number, outputs } => {
-            let output = place(index, *outputs as usize).ok_or(Refusal::Absent)?;
+            let output = place(index, *outputs).ok_or(Refusal::Absent)?;
             Ok(Object::CustomOutput {
                 target: *number,
-                output: output as u32,
+                output,
             })
         }
         _ => Err(Refusal::Type),

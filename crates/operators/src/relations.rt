@@ -70,7 +70,7 @@ fn is_one_type(left: &Value, right: &Value) -> bool
     ensures { result ≡ is_one_type (data_of left.now) (data_of right.now) }
 {
     match (left, right) {
-        (Value::Truth(_), Value::Truth(_)) => true,
+        (Value::Boolean(_), Value::Boolean(_)) => true,
         (Value::Integer(_), Value::Integer(_)) => true,
         (Value::Text(_), Value::Text(_)) => true,
         (Value::List(_), Value::List(_)) => true,

@@ -1,5 +1,6 @@
 -- The arguments of a call, one by one.
-use Rattle.std.proofs.Common.{◌≡◌, ℕ, ◌+◌, ◌<◌, ◌≤◌, Bool, true, false, List, [], ◌∷◌, length, drop, get_or, Option, Some, None, Err, String, string_bytes, refl, sym, ap, ◌∙◌}
+use Rattle.std.proofs.Common.{◌≡◌, ℕ, ◌+◌, ◌<◌, ◌≤◌, Bool, true, false, List, [], ◌∷◌, length, drop, get_or, Option, Some, None, Err}
+use Rattle.std.proofs.Common.{String, string_bytes, refl, sym, ap, ◌∙◌}
 use Rattle.std.specs.Prelude.{◌||◌, bytes_eq, if◌then◌else◌}
 use Rattle.std.specs.List.{list_any}
 use Rattle.std.specs.Option.{option_and_then}
@@ -7,11 +8,12 @@ use Rattle.std.specs.declared.alloc.Global.{Global}
 use Rattle.grammar.specs.declared.tree.Argument.{Argument}
 use Rattle.grammar.specs.ExpressionTree.{NoArgument, MoreArguments, arguments, argument_of, argument_trees}
 use Rattle.option_values.specs.View.{strings_in}
-use Rattle.option_file.specs.declared.fault.FaultKind.TheVariants as faults
-use Rattle.option_file.specs.Calls.{stands_key, with_key, gives_twice, is_left_out_key, gives_left_out, with_argument, keywords_from, option_of, or_fault, call_declares}
+use Rattle.faults.specs.declared.refusal.Refusal.TheVariants as refusals
+use Rattle.option_file.specs.Calls.{stands_key, with_key, gives_twice, is_left_out_key, gives_left_out, with_argument, keywords_from}
+use Rattle.option_file.specs.Calls.{option_of, or_fault, call_declares}
 use Rattle.option_file.specs.Declarations.{Declaration}
 use Rattle.option_file.specs.Keywords.{Keywords, nothing_given}
-use Rattle.option_file.specs.Names.{is_among}
+use Rattle.machine_file.specs.Texts.{is_among}
 use Rattle.option_file.proofs.Walks.{next_is, none_is}
 
 trees_at : (xs : List Argument) (i : ℕ) (x : Argument) → i < length xs → x ≡ get_or xs i x
@@ -23,11 +25,13 @@ trees_end xs i le = ap arguments (none_is argument_of xs i le)
 
 -- ---- keywords that come twice
 
-pub among_strings : (key : List ℕ) (ks : List (String Global)) → list_any (λ k. bytes_eq key (string_bytes k)) ks ≡ is_among (strings_in ks) key
+pub among_strings : (key : List ℕ) (ks : List (String Global))
+    → list_any (λ k. bytes_eq key (string_bytes k)) ks ≡ is_among (strings_in ks) key
 among_strings key [] = refl
 among_strings key (k ∷ ks) = ap (λ (b : Bool). bytes_eq key (string_bytes k) || b) (among_strings key ks)
 
-pub twice_first : (xs : List Argument) (ks : List (String Global)) → ks ≡ [] → gives_twice [] (argument_trees xs) ≡ gives_twice (strings_in ks) (argument_trees xs)
+pub twice_first : (xs : List Argument) (ks : List (String Global)) → ks ≡ []
+    → gives_twice [] (argument_trees xs) ≡ gives_twice (strings_in ks) (argument_trees xs)
 twice_first xs ks e = ap (λ (l : List (String Global)). gives_twice (strings_in l) (argument_trees xs)) (sym e)
 
 pub twice_found : (xs : List Argument) (ks : List (List ℕ)) (i : ℕ) (x : Argument) (again : Bool)
@@ -46,7 +50,8 @@ twice_more xs ks more i x again h lt is a f m =
     ∙ ap (λ (b : Bool). b || gives_twice (with_key ks (argument_of x).0) (argument_trees (drop (i + 1) xs))) (sym a ∙ f)
     ∙ ap (λ (l : List (List ℕ)). gives_twice l (argument_trees (drop (i + 1) xs))) (sym m)
 
-pub twice_none : (xs : List Argument) (ks : List (List ℕ)) (i : ℕ) → gives_twice [] (argument_trees xs) ≡ gives_twice ks (argument_trees (drop i xs))
+pub twice_none : (xs : List Argument) (ks : List (List ℕ)) (i : ℕ)
+    → gives_twice [] (argument_trees xs) ≡ gives_twice ks (argument_trees (drop i xs))
     → length xs ≤ i → false ≡ gives_twice [] (argument_trees xs)
 twice_none xs ks i h le = sym (h ∙ ap (gives_twice ks) (trees_end xs i le))
 
@@ -58,7 +63,8 @@ left_out_any (x ∷ xs) = ap (λ (b : Bool). is_left_out_key (argument_of x).0 |
 
 -- ---- what keywords give
 
-pub keywords_first : (xs : List Argument) (k : Keywords) → k ≡ nothing_given → keywords_from nothing_given (argument_trees xs) ≡ keywords_from k (argument_trees xs)
+pub keywords_first : (xs : List Argument) (k : Keywords) → k ≡ nothing_given
+    → keywords_from nothing_given (argument_trees xs) ≡ keywords_from k (argument_trees xs)
 keywords_first xs k e = ap (λ (l : Keywords). keywords_from l (argument_trees xs)) (sym e)
 
 keywords_next : (xs : List Argument) (k : Keywords) (i : ℕ) (x : Argument) (o : Option Keywords)
@@ -80,28 +86,30 @@ pub keywords_more : (xs : List Argument) (k next : Keywords) (i : ℕ) (x : Argu
     → keywords_from nothing_given (argument_trees xs) ≡ keywords_from next (argument_trees (drop (i + 1) xs))
 keywords_more xs k next i x h lt is e = keywords_next xs k i x (Some next) h lt is e
 
-pub keywords_end : (xs : List Argument) (k : Keywords) (i : ℕ) → keywords_from nothing_given (argument_trees xs) ≡ keywords_from k (argument_trees (drop i xs))
+pub keywords_end : (xs : List Argument) (k : Keywords) (i : ℕ)
+    → keywords_from nothing_given (argument_trees xs) ≡ keywords_from k (argument_trees (drop i xs))
     → length xs ≤ i → Some k ≡ keywords_from nothing_given (argument_trees xs)
 keywords_end xs k i h le = sym (h ∙ ap (keywords_from k) (trees_end xs i le))
 
 -- ---- a call as a whole
 
 pub call_twice : (line : ℕ) (xs : List Argument) (b : Bool) → b ≡ gives_twice [] (argument_trees xs) → b ≡ true
-    → Err faults.Option ≡ call_declares line (argument_trees xs)
+    → Err refusals.OptionValue ≡ call_declares line (argument_trees xs)
 call_twice line xs b e t =
-    ap (λ (v : Bool). if v then Err faults.Option else (if gives_left_out (argument_trees xs) then Err faults.NotYet
+    ap (λ (v : Bool). if v then Err refusals.OptionValue else (if gives_left_out (argument_trees xs) then Err refusals.LeftOut
     else or_fault (option_of line (argument_trees xs)))) (sym t ∙ e)
 
 once : (line : ℕ) (xs : List Argument) (b : Bool) → b ≡ gives_twice [] (argument_trees xs) → b ≡ false
-    → (if gives_left_out (argument_trees xs) then Err faults.NotYet else or_fault (option_of line (argument_trees xs))) ≡ call_declares line (argument_trees xs)
+    → (if gives_left_out (argument_trees xs) then Err refusals.LeftOut else or_fault (option_of line (argument_trees xs)))
+    ≡ call_declares line (argument_trees xs)
 once line xs b e f =
-    ap (λ (v : Bool). if v then Err faults.Option else (if gives_left_out (argument_trees xs) then Err faults.NotYet
+    ap (λ (v : Bool). if v then Err refusals.OptionValue else (if gives_left_out (argument_trees xs) then Err refusals.LeftOut
     else or_fault (option_of line (argument_trees xs)))) (sym f ∙ e)
 
 pub call_left_out : (line : ℕ) (xs : List Argument) (b l : Bool) → b ≡ gives_twice [] (argument_trees xs) → b ≡ false
-    → l ≡ list_any (λ a. is_left_out_key (argument_of a).0) xs → l ≡ true → Err faults.NotYet ≡ call_declares line (argument_trees xs)
+    → l ≡ list_any (λ a. is_left_out_key (argument_of a).0) xs → l ≡ true → Err refusals.LeftOut ≡ call_declares line (argument_trees xs)
 call_left_out line xs b l e f g t =
-    ap (λ (v : Bool). if v then Err faults.NotYet else or_fault (option_of line (argument_trees xs))) (sym t ∙ g ∙ left_out_any xs)
+    ap (λ (v : Bool). if v then Err refusals.LeftOut else or_fault (option_of line (argument_trees xs))) (sym t ∙ g ∙ left_out_any xs)
     ∙ once line xs b e f
 
 pub call_else : (line : ℕ) (xs : List Argument) (b l : Bool) (o : Option Declaration) → b ≡ gives_twice [] (argument_trees xs) → b ≡ false
@@ -109,5 +117,5 @@ pub call_else : (line : ℕ) (xs : List Argument) (b l : Bool) (o : Option Decla
     → or_fault o ≡ call_declares line (argument_trees xs)
 call_else line xs b l o e f g n is =
     ap or_fault is
-    ∙ ap (λ (v : Bool). if v then Err faults.NotYet else or_fault (option_of line (argument_trees xs))) (sym n ∙ g ∙ left_out_any xs)
+    ∙ ap (λ (v : Bool). if v then Err refusals.LeftOut else or_fault (option_of line (argument_trees xs))) (sym n ∙ g ∙ left_out_any xs)
     ∙ once line xs b e f

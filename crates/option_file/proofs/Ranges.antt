@@ -4,7 +4,7 @@ use Rattle.std.specs.Prelude.{nat_lt, if◌then◌else◌}
 use Rattle.std.specs.Option.{option_map}
 use Rattle.std.proofs.lemmas.Bool.Decides.{nat_tests}
 use Rattle.lexer.specs.Numerals.{magnitude}
-use Rattle.machine.specs.Numbers.{integer_of}
+use Rattle.machine_file.specs.Numbers.{integer_of}
 use Rattle.option_file.specs.Given.{integer, numeral}
 use Rattle.option_file.specs.Numbers.{past_integers, number_of}
 
@@ -14,7 +14,8 @@ past_128 negative digits h =
     let no : nat_lt (magnitude digits) (2 ^ 127) ≡ false = grind (arith, nat_tests) in
     ap (λ (b : Bool). option_map integer (if b then Some (integer_of negative (magnitude digits)) else None)) no
 
-pub in_128 : (negative : Bool) (digits : List ℕ) → magnitude digits < 2 ^ 127 → numeral negative digits ≡ Some (integer (integer_of negative (magnitude digits)))
+pub in_128 : (negative : Bool) (digits : List ℕ) → magnitude digits < 2 ^ 127
+    → numeral negative digits ≡ Some (integer (integer_of negative (magnitude digits)))
 unfolding past_integers number_of
 in_128 negative digits h =
     let yes : nat_lt (magnitude digits) (2 ^ 127) ≡ true = grind (arith, nat_tests) in

@@ -2,13 +2,15 @@
 use Rattle.std.specs.Prelude.{ℕ, Bool, false, not, ◌||◌, ◌&&◌, List, [], ◌∷◌, ◌++◌, Option, Some, None, Result, Ok, Err, if◌then◌else◌}
 use Rattle.std.specs.Option.{option_map, option_and_then}
 use Rattle.grammar.specs.ExpressionTree.{ArgumentTree, ArgumentTrees, NoArgument, MoreArguments}
-use Rattle.option_file.specs.declared.fault.FaultKind.{FaultKind}
-use Rattle.option_file.specs.declared.fault.FaultKind.TheVariants as faults
+use Rattle.faults.specs.declared.refusal.Refusal.{Refusal}
+use Rattle.faults.specs.declared.refusal.Refusal.TheVariants as refusals
+use Rattle.machine_file.specs.Texts.{is_among}
+use Rattle.option_values.specs.BuiltIns.{is_built_in}
 use Rattle.option_file.specs.declared.keyword.Keyword.{Keyword}
 use Rattle.option_file.specs.Declarations.{Declaration}
 use Rattle.option_file.specs.Given.{Given, Text, given}
 use Rattle.option_file.specs.Keywords.{Keywords, nothing_given, keyword_named, is_left_out, noted, asked_by}
-use Rattle.option_file.specs.Names.{is_among, is_built_in, is_name}
+use Rattle.option_file.specs.Names.{is_name}
 
 -- whether an argument's keyword, if it has one, stands among these
 abbrev pub stands_key : List (List ℕ) → Option (List ℕ) → Bool
@@ -68,14 +70,14 @@ option_of line (MoreArguments None e more) =
 option_of line (MoreArguments (Some key) e more) = None
 option_of line NoArgument = None
 
-abbrev pub or_fault : Option Declaration → Result Declaration FaultKind
+abbrev pub or_fault : Option Declaration → Result Declaration Refusal
 or_fault (Some d) = Ok d
-or_fault None = Err faults.Option
+or_fault None = Err refusals.OptionValue
 
 -- The option that a call on this line declares, or what is wrong with it: a keyword that comes twice is found first, then one
 -- that is left out, and then all else.
-abbrev pub call_declares : ℕ → ArgumentTrees → Result Declaration FaultKind
+abbrev pub call_declares : ℕ → ArgumentTrees → Result Declaration Refusal
 call_declares line arguments =
-    if gives_twice [] arguments then Err faults.Option
-    else (if gives_left_out arguments then Err faults.NotYet
+    if gives_twice [] arguments then Err refusals.OptionValue
+    else (if gives_left_out arguments then Err refusals.LeftOut
     else or_fault (option_of line arguments))

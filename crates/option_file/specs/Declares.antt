@@ -2,8 +2,8 @@
 use Rattle.std.specs.Prelude.{ℕ, List, [], ◌∷◌, ◌++◌, Result, Ok, Err, codes, bytes_eq, if◌then◌else◌}
 use Rattle.grammar.specs.ExpressionTree.{ExpressionTree, FunctionTree, ArgumentTrees}
 use Rattle.grammar.specs.Tree.{StatementTree, AssignTree, AppendTree, ValueTree, BreakTree, ContinueTree, IfTree, ForeachTree, FileTree}
-use Rattle.option_file.specs.declared.fault.FaultKind.{FaultKind}
-use Rattle.option_file.specs.declared.fault.FaultKind.TheVariants as faults
+use Rattle.faults.specs.declared.refusal.Refusal.{Refusal}
+use Rattle.faults.specs.declared.refusal.Refusal.TheVariants as refusals
 use Rattle.option_file.specs.declared.fault.DeclareFault.{DeclareFault}
 use Rattle.option_file.specs.Calls.{call_declares}
 use Rattle.option_file.specs.Declarations.{Declaration}
@@ -20,31 +20,31 @@ line_of (IfTree line branches otherwise) = line
 line_of (ForeachTree line first second list list_line body) = line
 
 -- the option that a call of this function declares
-abbrev pub function_declares : ℕ → List ℕ → ArgumentTrees → Result Declaration FaultKind
-function_declares line name arguments = if bytes_eq name (codes "option") then call_declares line arguments else Err faults.Option
+abbrev pub function_declares : ℕ → List ℕ → ArgumentTrees → Result Declaration Refusal
+function_declares line name arguments = if bytes_eq name (codes "option") then call_declares line arguments else Err refusals.OptionValue
 
-abbrev pub expression_declares : ℕ → ExpressionTree → Result Declaration FaultKind
+abbrev pub expression_declares : ℕ → ExpressionTree → Result Declaration Refusal
 expression_declares line (FunctionTree name arguments own) = function_declares line name arguments
-expression_declares line _ = Err faults.Option
+expression_declares line _ = Err refusals.OptionValue
 
 -- the option that a statement declares; it is a call of `option`
-abbrev pub statement_declares : StatementTree → Result Declaration FaultKind
+abbrev pub statement_declares : StatementTree → Result Declaration Refusal
 statement_declares (ValueTree e line) = expression_declares line e
-statement_declares _ = Err faults.Option
+statement_declares _ = Err refusals.OptionValue
 
 -- the options so far and one more, whose name is new
-abbrev pub with_option : List Declaration → Result Declaration FaultKind → Result (List Declaration) FaultKind
-with_option options (Err kind) = Err kind
-with_option options (Ok d) = if is_used d.name options then Err faults.Option else Ok (options ++ d ∷ [])
+abbrev pub with_option : List Declaration → Result Declaration Refusal → Result (List Declaration) Refusal
+with_option options (Err refusal) = Err refusal
+with_option options (Ok d) = if is_used d.name options then Err refusals.OptionValue else Ok (options ++ d ∷ [])
 
 -- the options after one more statement
-unfoldable pub after : List Declaration → StatementTree → Result (List Declaration) FaultKind
+unfoldable pub after : List Declaration → StatementTree → Result (List Declaration) Refusal
 after options s = with_option options (statement_declares s)
 
-abbrev pub go_on : (List Declaration → Result (List Declaration) DeclareFault) → ℕ → Result (List Declaration) FaultKind
+abbrev pub go_on : (List Declaration → Result (List Declaration) DeclareFault) → ℕ → Result (List Declaration) Refusal
     → Result (List Declaration) DeclareFault
 go_on rest line (Ok options) = rest options
-go_on rest line (Err kind) = Err (record { kind = kind; line = line })
+go_on rest line (Err refusal) = Err (record { refusal = refusal; line = line })
 
 -- the options after these statements too, or the first fault, at the line of its statement
 unfoldable pub declares_from : List StatementTree → List Declaration → Result (List Declaration) DeclareFault

@@ -1,8 +1,7 @@
--- The numbers of the faults.
-use Rattle.std.specs.Prelude.{ℕ}
-use Rattle.option_file.specs.declared.fault.FaultKind.{FaultKind}
-use Rattle.option_file.specs.declared.fault.FaultKind.TheVariants as faults
+-- A fault of an option file, as a run tells it.
+use Rattle.std.specs.Prelude.{ℕ, List}
+use Rattle.faults.specs.Faults.{FaultData, plain_fault}
+use Rattle.option_file.specs.declared.fault.DeclareFault.{DeclareFault}
 
-abbrev pub number_of : FaultKind → ℕ
-number_of faults.Option = 15
-number_of faults.NotYet = 23
+abbrev pub told_in : List ℕ → DeclareFault → FaultData
+told_in path f = plain_fault path f.line f.refusal

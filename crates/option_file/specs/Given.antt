@@ -13,7 +13,7 @@ use Rattle.option_file.specs.Numbers.{number_of}
 -- Texts are bytes. `Other` is what no option takes: a number that 64 bits do not hold, or a list of other things than texts.
 pub data Given : Type 0 where
   Text : (text : List ℕ) → Given
-  Boolean : (truth : Bool) → Given
+  Boolean : (boolean : Bool) → Given
   Integer : (number : ℤ) → Given
   Texts : (items : List (List ℕ)) → Given
   Other : Given
@@ -50,7 +50,7 @@ abbrev pub prefix_given : Prefix → ExpressionTree → Option Given
 prefix_given prefixes.Negative e = negative_given e
 prefix_given prefixes.Not e = None
 
--- a string, a truth value, or a number with a minus or without
+-- a string, a boolean, or a number with a minus or without
 abbrev pub item_given : ExpressionTree → Option Given
 item_given (LiteralTree literal slice line) = literal_given literal slice
 item_given (PrefixTree prefix e line) = prefix_given prefix e
@@ -77,7 +77,7 @@ texts_or_other None = Other
 abbrev pub list_given : List Given → Given
 list_given gs = texts_or_other (texts_in gs)
 
--- a string, a truth value, a number, or a list of these
+-- a string, a boolean, a number, or a list of these
 abbrev pub given : ExpressionTree → Option Given
 given (ListTree items line) = option_map list_given (items_given items)
 given e = item_given e

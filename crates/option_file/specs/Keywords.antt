@@ -5,10 +5,11 @@ use Rattle.option_values.specs.Kinds as kinds
 use Rattle.option_values.specs.Kinds.{Kind}
 use Rattle.option_file.specs.declared.keyword.Keyword.{Keyword}
 use Rattle.option_file.specs.declared.keyword.Keyword.TheVariants as words
-use Rattle.option_file.specs.declared.keyword.OptionType.{OptionType}
-use Rattle.option_file.specs.declared.keyword.OptionType.TheVariants as types
+use Rattle.option_values.specs.declared.kind.OptionType.{OptionType}
+use Rattle.option_values.specs.declared.kind.OptionType.TheVariants as types
+use Rattle.option_values.specs.Types.{type_named}
 use Rattle.option_file.specs.Given.{Given, Text, Integer, Texts}
-use Rattle.option_file.specs.Names.{is_among}
+use Rattle.machine_file.specs.Texts.{is_among}
 
 -- what the keywords up to some place give; a type, choices and bounds are what they have to be
 pub record Keywords : Type 0 where
@@ -35,17 +36,6 @@ keyword_named name =
 -- the keywords of functions that are left out
 abbrev pub is_left_out : List ℕ → Bool
 is_left_out = is_among (codes "kwargs" ∷ codes "fallback" ∷ codes "deprecated" ∷ [])
-
--- the types that there are
-unfoldable pub type_named : List ℕ → Option OptionType
-type_named name =
-    if bytes_eq name (codes "string") then Some types.Text
-    else (if bytes_eq name (codes "boolean") then Some types.Boolean
-    else (if bytes_eq name (codes "combo") then Some types.Combo
-    else (if bytes_eq name (codes "integer") then Some types.Integer
-    else (if bytes_eq name (codes "array") then Some types.Array
-    else (if bytes_eq name (codes "feature") then Some types.Feature
-    else None)))))
 
 -- a type is the name of one, as a text
 abbrev pub type_in : Given → Option OptionType

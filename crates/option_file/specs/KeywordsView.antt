@@ -3,7 +3,7 @@ use Rattle.std.specs.Prelude.{Option}
 use Rattle.std.specs.Option.{option_map}
 use Rattle.option_values.specs.declared.kind.OptionKind.{OptionKind}
 use Rattle.option_values.specs.Kinds.{Kind}
-use Rattle.option_values.specs.View.{strings_in, kind_in}
+use Rattle.option_values.specs.View.{choices_in, kind_in}
 use Rattle.option_file.specs.declared.declaration.Given.{Given}
 use Rattle.option_file.specs.declared.keyword.Keywords.{Keywords}
 use Rattle.option_file.specs.Given as given
@@ -14,7 +14,7 @@ abbrev pub keywords_in : Keywords → plain.Keywords
 keywords_in k = record {
   kind = k.kind;
   value = option_map given_in k.value;
-  choices = option_map (λ c. strings_in c.items) k.choices;
+  choices = choices_in k.choices;
   least = k.min;
   greatest = k.max;
 }

@@ -8,4 +8,5 @@ pub mod KeywordsView
 pub mod Lookups
 pub mod Names
 pub mod Numbers
+pub mod Entries
 pub mod View

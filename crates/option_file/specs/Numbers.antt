@@ -1,7 +1,7 @@
 -- Which numbers an option file may hold.
 use Rattle.std.specs.Prelude.{ℕ, ℤ, ◌^◌, Bool, List, Option, Some, None, nat_lt, if◌then◌else◌}
 use Rattle.lexer.specs.Numerals.{magnitude}
-use Rattle.machine.specs.Numbers.{integer_of}
+use Rattle.machine_file.specs.Numbers.{integer_of}
 
 -- the least number that is out of the range of the language's integers
 unfoldable pub past_integers : ℕ

@@ -1,52 +1,26 @@
 -- What the code's own types stand for.
-use Rattle.std.specs.Prelude.{ℕ, List, map, Result, Ok, Err, string_bytes, String}
-use Rattle.std.specs.Option.{option_map}
+pub use Rattle.option_file.specs.Entries.{given_in, option_in, entry_in, shown_in, entries_in}
+use Rattle.std.specs.Prelude.{List, Result, Ok, Err, String}
 use Rattle.std.specs.declared.alloc.Global.{Global}
-use denote.Ref.{Bor}
-use Rattle.option_values.specs.View.{strings_in, kind_in}
-use Rattle.option_file.specs.declared.declaration.Given.{Given}
-use Rattle.option_file.specs.declared.declaration.Given.TheVariants as written
+use Rattle.faults.specs.declared.refusal.Refusal.{Refusal}
 use Rattle.option_file.specs.declared.declaration.Declaration.{Declaration}
 use Rattle.option_file.specs.declared.declaration.Declared.{Declared}
-use Rattle.option_file.specs.declared.fault.FaultKind.{FaultKind}
 use Rattle.option_file.specs.declared.fault.DeclareFault.{DeclareFault}
 use Rattle.option_file.specs.Declarations as plain
-use Rattle.option_file.specs.Given as given
-
-abbrev pub given_in : Given → given.Given
-given_in (written.Text text) = given.Text (string_bytes text)
-given_in (written.Boolean truth) = given.Boolean truth
-given_in (written.Integer number) = given.Integer number
-given_in (written.Texts items) = given.Texts (strings_in items.items)
-given_in written.Other = given.Other
-
--- an option that a call declares, with its name
-abbrev pub option_in : List ℕ → Declaration → plain.Declaration
-option_in name d = record { name = name; kind = kind_in d.kind; value = option_map given_in d.value; line = d.line }
-
-abbrev pub entry_in : String Global × Declaration → plain.Declaration
-entry_in e = option_in (string_bytes e.0) e.1
-
--- an option that is shown with its name
-abbrev pub shown_in : Bor (List ℕ) × Bor Declaration → plain.Declaration
-shown_in e = option_in e.0.now e.1.now
-
-abbrev pub entries_in : List (String Global × Declaration) → List plain.Declaration
-entries_in entries = map entry_in entries
 
 -- the option that a call declares, or what is wrong with it
-abbrev pub call_in : Result (String Global × Declaration) FaultKind → Result plain.Declaration FaultKind
+abbrev pub call_in : Result (String Global × Declaration) Refusal → Result plain.Declaration Refusal
 call_in (Ok e) = Ok (entry_in e)
-call_in (Err kind) = Err kind
+call_in (Err refusal) = Err refusal
 
 -- the options, in the order of their calls
 abbrev pub options_in : Declared → List plain.Declaration
 options_in declared = entries_in declared.options.entries
 
 -- the options after a statement, or what is wrong with it
-abbrev pub after_in : Result Declared FaultKind → Result (List plain.Declaration) FaultKind
+abbrev pub after_in : Result Declared Refusal → Result (List plain.Declaration) Refusal
 after_in (Ok declared) = Ok (options_in declared)
-after_in (Err kind) = Err kind
+after_in (Err refusal) = Err refusal
 
 -- what is declared, or the fault
 abbrev pub declared_in : Result Declared DeclareFault → Result (List plain.Declaration) DeclareFault

@@ -4,24 +4,26 @@ ghost use Rattle.std.specs.Prelude.{◌≡◌, ◌++◌, [], ◌∷◌, IfOk, Is
 ghost use Rattle.std.specs.List.{list_any};
 ghost use Rattle.std.specs.Option.{option_map};
 ghost use Rattle.grammar.specs.ExpressionTree.{argument_of, argument_trees};
+ghost use Rattle.machine_file.specs.Texts.{is_among};
 ghost use Rattle.option_values.specs.View.{strings_in};
-ghost use Rattle.option_file.specs.Calls.{stands_key, with_key, gives_twice, is_left_out_key, is_free_name, name_in, with_argument, keywords_from, option_of, call_declares};
+ghost use Rattle.option_file.specs.Calls.{stands_key, with_key, gives_twice, is_left_out_key, is_free_name, name_in, with_argument};
+ghost use Rattle.option_file.specs.Calls.{keywords_from, option_of, call_declares};
 ghost use Rattle.option_file.specs.Keywords.{nothing_given};
 ghost use Rattle.option_file.specs.KeywordsView.{keywords_in};
-ghost use Rattle.option_file.specs.Names.{is_among};
 ghost use Rattle.option_file.specs.View.{given_in, entry_in, call_in};
 
 use crate::declaration::{Declaration, Given};
-use crate::fault::FaultKind;
 use crate::given::given;
 use crate::keyword::{Keyword, Keywords, is_left_out};
-use crate::names::{is_built_in, is_name};
+use crate::names::is_name;
+use faults::Refusal;
 use grammar::tree::Argument;
-use indexmap::IndexSet;
+use option_values::is_built_in;
 use std::alloc::{AllocError, Global};
+use tables::{SipSet, new_set};
 
 // Puts a key behind the others; false where it stands among them.
-fn put_new(keys: &mut IndexSet<String>, key: String) -> Result<bool, AllocError>
+fn put_new(keys: &mut SipSet<String>, key: String) -> Result<bool, AllocError>
     ensures tested { IfOk result (λ new. new ≡ not (is_among (strings_in keys.old.keys) (string_bytes key))) }
     ensures added { IfOk result (λ new. IsTrue new → strings_in keys.new.keys ≡ strings_in keys.old.keys ++ string_bytes key ∷ []) }
 {
@@ -32,7 +34,7 @@ fn put_new(keys: &mut IndexSet<String>, key: String) -> Result<bool, AllocError>
 // Whether an argument's key stands among these; else it is put behind them.
 fn comes_again(
     alloc: Global,
-    keys: &mut IndexSet<String>,
+    keys: &mut SipSet<String>,
     argument: &Argument<'_>,
 ) -> Result<bool, AllocError>
     ensures tested { IfOk result (λ again. again ≡ stands_key (strings_in keys.old.keys) (argument_of argument.now).0) }
@@ -51,7 +53,7 @@ fn comes_again(
 fn gives_twice(alloc: Global, arguments: &[Argument<'_>]) -> Result<bool, AllocError>
     ensures { IfOk result (λ twice. twice ≡ gives_twice [] (argument_trees arguments.now)) }
 {
-    let mut keys = IndexSet::new(alloc);
+    let mut keys = new_set(alloc);
     for argument in arguments {
         if comes_again(alloc, &mut keys, argument)? {
             return Ok(true);
@@ -114,7 +116,7 @@ fn with_argument(
     let Some(given) = given(alloc, &argument.value)? else {
         return Ok(None);
     };
-    Ok(keywords.noted(keyword, given))
+    keywords.noted(alloc, keyword, given)
 }
 
 // What these arguments give, where keywords give them all.
@@ -163,17 +165,17 @@ pub fn call_declares(
     alloc: Global,
     line: usize,
     arguments: &[Argument<'_>],
-) -> Result<Result<(String, Declaration), FaultKind>, AllocError>
+) -> Result<Result<(String, Declaration), Refusal>, AllocError>
     ensures { IfOk result (λ option. call_in option ≡ call_declares line (argument_trees arguments.now)) }
 {
     if gives_twice(alloc, arguments)? {
-        return Ok(Err(FaultKind::Option));
+        return Ok(Err(Refusal::OptionValue));
     }
     if gives_left_out(arguments) {
-        return Ok(Err(FaultKind::NotYet));
+        return Ok(Err(Refusal::LeftOut));
     }
     match option_of(alloc, line, arguments)? {
         Some(option) => Ok(Ok(option)),
-        None => Ok(Err(FaultKind::Option)),
+        None => Ok(Err(Refusal::OptionValue)),
     }
 }

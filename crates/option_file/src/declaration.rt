@@ -1,15 +1,17 @@
 //! Options as an option file declares them.
 
-ghost use Rattle.std.specs.Prelude.{◌≡◌, ◌==◌, ◌++◌, [], ◌∷◌, false, length, slice_get, string_bytes, OnOk};
+ghost use Rattle.std.specs.Prelude.{◌≡◌, ◌==◌, ◌++◌, [], ◌∷◌, true, length, slice_get, string_bytes, IfOk};
 ghost use Rattle.std.specs.Option.{option_map};
+ghost use Rattle.option_file.specs.Entries.{entries_in};
+ghost use Rattle.option_file.specs.Lookups.{are_new};
 
-use indexmap::IndexMap;
 use option_values::OptionKind;
 use std::alloc::{AllocError, Global};
+use tables::{SipMap, new_map};
 
 /// What an argument gives, as it is written. Of `value:` only its form is known: whether it is a value of the option is found
 /// when the options are resolved.
-#[derive(Debug, Drop)]
+#[derive(Drop)]
 pub enum Given {
     /// A plain or a raw string, after its escapes.
     Text(String),
@@ -23,7 +25,7 @@ pub enum Given {
 }
 
 /// An option as its call declares it.
-#[derive(Debug, Drop)]
+#[derive(Drop)]
 pub struct Declaration {
     pub kind: OptionKind,
     /// The default that the call gives.
@@ -32,14 +34,16 @@ pub struct Declaration {
     pub line: usize,
 }
 
-/// The options of an option file, in the order of their calls.
+/// The options of an option file, in the order of their calls. Their names differ, and none is that of an option that every
+/// project has.
 #[derive(Drop)]
 pub struct Declared {
-    pub(crate) options: IndexMap<String, Declaration>,
+    pub(crate) options: SipMap<String, Declaration>,
+    ghost differ: { are_new (entries_in options.entries) ≡ true },
 }
 
 impl Declared {
-    ghost use Rattle.option_file.specs.Lookups.{is_used, option_named};
+    ghost use Rattle.option_file.specs.Lookups.{is_new, is_used, option_named};
     ghost use Rattle.option_file.specs.View.{option_in, options_in, shown_in};
 
     /// What a project without an option file declares: nothing.
@@ -47,7 +51,7 @@ impl Declared {
         ensures { options_in result ≡ [] }
     {
         Declared {
-            options: IndexMap::new(alloc),
+            options: new_map(alloc),
         }
     }
 
@@ -58,13 +62,14 @@ impl Declared {
         self.options.contains_key(name)
     }
 
-    // Puts an option behind the others; its name is new.
-    pub(crate) fn put(&mut self, name: String, declaration: Declaration) -> Result<(), AllocError>
-        requires { is_used (string_bytes name) (options_in self.old) ≡ false }
-        ensures { OnOk result (options_in self.new ≡ options_in self.old ++ option_in (string_bytes name) declaration ∷ []) }
+    // With one more option behind the others; its name is new.
+    pub(crate) fn with(self, name: String, declaration: Declaration) -> Result<Declared, AllocError>
+        requires { is_new (string_bytes name) (options_in self) ≡ true }
+        ensures { IfOk result (λ more. options_in more ≡ options_in self ++ option_in (string_bytes name) declaration ∷ []) }
     {
-        self.options.insert(name, declaration)?;
-        Ok(())
+        let Declared { mut options } = self;
+        options.insert(name, declaration)?;
+        Ok(Declared { options })
     }
 
     /// How many options there are.

@@ -1,37 +1,25 @@
 //! Why a file is no option file.
 
-ghost use Rattle.std.specs.Prelude.{◌≡◌};
-ghost use Rattle.option_file.specs.Fault.{number_of};
+ghost use Rattle.std.specs.Prelude.{◌≡◌, IfOk};
+ghost use Rattle.faults.specs.View.{fault_view};
+ghost use Rattle.option_file.specs.Fault.{told_in};
 
-use thiserror::Error;
+use faults::{Fault, Refusal};
+use std::alloc::{AllocError, Global};
 
-/// What is wrong with a statement of an option file, or with a value that is given to an option.
-#[derive(Clone, Copy, PartialEq, Eq, Debug, Error)]
-pub enum FaultKind {
-    /// E15: it declares no option; or it is no value of its option, there is no such option, or it is no name with a value.
-    #[error("option")]
-    Option,
-    /// E23: it has a keyword that is left out, or is a value that is left out.
-    #[error("left out by name")]
-    NotYet,
-}
-
-impl FaultKind {
-    /// The number of the fault: E15 or E23.
-    pub fn number(self) -> u8
-        ensures { result ≡ number_of self }
-    {
-        match self {
-            FaultKind::Option => 15,
-            FaultKind::NotYet => 23,
-        }
-    }
-}
-
-/// A fault, and the line, from 1, of its statement.
-#[derive(Clone, Copy, PartialEq, Eq, Debug, Error)]
-#[error("{kind}")]
+/// What is wrong with an option file, and the line, from 1, of the statement: E15, where it declares no option, or E23, where it
+/// has a keyword that is left out.
+#[derive(Clone, Copy)]
 pub struct DeclareFault {
-    pub kind: FaultKind,
+    pub refusal: Refusal,
     pub line: usize,
+}
+
+impl DeclareFault {
+    /// The fault as a run tells it, in the option file with this path.
+    pub fn told_in(self, alloc: Global, path: &str) -> Result<Fault, AllocError>
+        ensures { IfOk result (λ fault. fault_view fault ≡ told_in path.now self) }
+    {
+        Fault::plain(alloc, path, self.line, self.refusal)
+    }
 }

@@ -8,7 +8,8 @@ ghost use Rattle.option_file.specs.View.{call_in, after_in, options_in, declared
 
 use crate::call::call_declares;
 use crate::declaration::{Declaration, Declared};
-use crate::fault::{DeclareFault, FaultKind};
+use crate::fault::DeclareFault;
+use faults::Refusal;
 use grammar::tree::{Argument, Expression, File, Statement};
 use std::alloc::{AllocError, Global};
 
@@ -32,13 +33,13 @@ fn function_declares(
     line: usize,
     name: &str,
     arguments: &[Argument<'_>],
-) -> Result<Result<(String, Declaration), FaultKind>, AllocError>
+) -> Result<Result<(String, Declaration), Refusal>, AllocError>
     ensures { IfOk result (λ option. call_in option ≡ function_declares line name.now (argument_trees arguments.now)) }
 {
     if name == "option" {
         call_declares(alloc, line, arguments)
     } else {
-        Ok(Err(FaultKind::Option))
+        Ok(Err(Refusal::OptionValue))
     }
 }
 
@@ -46,7 +47,7 @@ fn expression_declares(
     alloc: Global,
     line: usize,
     expression: &Expression<'_>,
-) -> Result<Result<(String, Declaration), FaultKind>, AllocError>
+) -> Result<Result<(String, Declaration), Refusal>, AllocError>
     ensures { IfOk result (λ option. call_in option ≡ expression_declares line (expression_of expression.now)) }
 {
     match expression {
@@ -55,14 +56,14 @@ fn expression_declares(
             arguments,
             ..
         } => function_declares(alloc, line, name, arguments),
-        Expression::Name { .. } => Ok(Err(FaultKind::Option)),
-        Expression::Literal { .. } => Ok(Err(FaultKind::Option)),
-        Expression::List { .. } => Ok(Err(FaultKind::Option)),
-        Expression::Dictionary { .. } => Ok(Err(FaultKind::Option)),
-        Expression::Postfix { .. } => Ok(Err(FaultKind::Option)),
-        Expression::Prefix { .. } => Ok(Err(FaultKind::Option)),
-        Expression::Chain { .. } => Ok(Err(FaultKind::Option)),
-        Expression::Choice { .. } => Ok(Err(FaultKind::Option)),
+        Expression::Name { .. } => Ok(Err(Refusal::OptionValue)),
+        Expression::Literal { .. } => Ok(Err(Refusal::OptionValue)),
+        Expression::List { .. } => Ok(Err(Refusal::OptionValue)),
+        Expression::Dictionary { .. } => Ok(Err(Refusal::OptionValue)),
+        Expression::Postfix { .. } => Ok(Err(Refusal::OptionValue)),
+        Expression::Prefix { .. } => Ok(Err(Refusal::OptionValue)),
+        Expression::Chain { .. } => Ok(Err(Refusal::OptionValue)),
+        Expression::Ternary { .. } => Ok(Err(Refusal::OptionValue)),
     }
 }
 
@@ -70,17 +71,17 @@ fn expression_declares(
 fn statement_declares(
     alloc: Global,
     statement: &Statement<'_>,
-) -> Result<Result<(String, Declaration), FaultKind>, AllocError>
+) -> Result<Result<(String, Declaration), Refusal>, AllocError>
     ensures { IfOk result (λ option. call_in option ≡ statement_declares (statement_of statement.now)) }
 {
     match statement {
         Statement::Expression { value, line } => expression_declares(alloc, *line, value),
-        Statement::Assign { .. } => Ok(Err(FaultKind::Option)),
-        Statement::Append { .. } => Ok(Err(FaultKind::Option)),
-        Statement::Break { .. } => Ok(Err(FaultKind::Option)),
-        Statement::Continue { .. } => Ok(Err(FaultKind::Option)),
-        Statement::If { .. } => Ok(Err(FaultKind::Option)),
-        Statement::Foreach { .. } => Ok(Err(FaultKind::Option)),
+        Statement::Assign { .. } => Ok(Err(Refusal::OptionValue)),
+        Statement::Append { .. } => Ok(Err(Refusal::OptionValue)),
+        Statement::Break { .. } => Ok(Err(Refusal::OptionValue)),
+        Statement::Continue { .. } => Ok(Err(Refusal::OptionValue)),
+        Statement::If { .. } => Ok(Err(Refusal::OptionValue)),
+        Statement::Foreach { .. } => Ok(Err(Refusal::OptionValue)),
     }
 }
 
@@ -88,20 +89,20 @@ fn statement_declares(
 #[tactic(auto, unfolding(crate::specs::Declares::after))]
 fn after(
     alloc: Global,
-    mut declared: Declared,
+    declared: Declared,
     statement: &Statement<'_>,
-) -> Result<Result<Declared, FaultKind>, AllocError>
+) -> Result<Result<Declared, Refusal>, AllocError>
     ensures { IfOk result (λ more. after_in more ≡ after (options_in declared) (statement_of statement.now)) }
 {
     let (name, declaration) = match statement_declares(alloc, statement)? {
         Ok(option) => option,
-        Err(kind) => return Ok(Err(kind)),
+        Err(refusal) => return Ok(Err(refusal)),
     };
     if declared.has(name.as_str()) {
-        return Ok(Err(FaultKind::Option));
+        return Ok(Err(Refusal::OptionValue));
     }
-    declared.put(name, declaration)?;
-    Ok(Ok(declared))
+    let more = declared.with(name, declaration)?;
+    Ok(Ok(more))
 }
 
 /// What an option file declares, in the order of its statements, or its first fault, at the line of its statement. Each
@@ -113,9 +114,9 @@ pub fn declare(alloc: Global, file: &File<'_>) -> Result<Result<Declared, Declar
     for statement in &file.statements {
         match after(alloc, declared, statement)? {
             Ok(more) => declared = more,
-            Err(kind) => {
+            Err(refusal) => {
                 let line = line_of(statement);
-                return Ok(Err(DeclareFault { kind, line }));
+                return Ok(Err(DeclareFault { refusal, line }));
             }
         }
     }

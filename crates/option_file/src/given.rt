@@ -4,39 +4,30 @@ ghost use Rattle.std.specs.Prelude.{◌≡◌, IfOk, map};
 ghost use Rattle.std.specs.Option.{option_map};
 ghost use Rattle.grammar.specs.ExpressionTree.{expression_of, expressions};
 ghost use Rattle.lexer.specs.Texts.{text_of};
-ghost use Rattle.option_file.specs.Given.{Text as TextSaid, literal_given, negative_literal, negative_given, prefix_given, item_given, items_given, list_given, given};
+ghost use Rattle.option_file.specs.Given.{Text as TextSaid, literal_given, negative_literal, negative_given, prefix_given, item_given};
+ghost use Rattle.option_file.specs.Given.{items_given, list_given, given};
 ghost use Rattle.option_file.specs.View.{given_in};
 
 use crate::declaration::Given;
 use crate::number::numeral;
 use grammar::tree::{Expression, Literal, Prefix};
-use lexer::text_of;
-use lexer::token::{Kind, Token};
+use lexer::text_of_slice;
+use lexer::token::Kind;
 use std::alloc::{AllocError, Global};
 
 // The text of a string of this kind.
-fn text(alloc: Global, kind: Kind, slice: &str, line: usize) -> Result<Option<Given>, AllocError>
+fn text(alloc: Global, kind: Kind, slice: &str) -> Result<Option<Given>, AllocError>
     ensures { IfOk result (λ g. option_map given_in g ≡ Some (TextSaid (text_of kind slice.now))) }
 {
-    let token = Token {
-        kind,
-        text: slice,
-        line,
-    };
-    Ok(Some(Given::Text(text_of(alloc, &token)?)))
+    Ok(Some(Given::Text(text_of_slice(alloc, kind, slice)?)))
 }
 
-fn literal_given(
-    alloc: Global,
-    literal: Literal,
-    slice: &str,
-    line: usize,
-) -> Result<Option<Given>, AllocError>
+fn literal_given(alloc: Global, literal: Literal, slice: &str) -> Result<Option<Given>, AllocError>
     ensures { IfOk result (λ g. option_map given_in g ≡ literal_given literal slice.now) }
 {
     match literal {
-        Literal::String => text(alloc, Kind::String, slice, line),
-        Literal::RawString => text(alloc, Kind::RawString, slice, line),
+        Literal::String => text(alloc, Kind::String, slice),
+        Literal::RawString => text(alloc, Kind::RawString, slice),
         Literal::True => Ok(Some(Given::Boolean(true))),
         Literal::False => Ok(Some(Given::Boolean(false))),
         Literal::Number => Ok(numeral(false, slice)),
@@ -69,7 +60,7 @@ fn negative_given(value: &Expression<'_>) -> Option<Given>
         Expression::Postfix { .. } => None,
         Expression::Prefix { .. } => None,
         Expression::Chain { .. } => None,
-        Expression::Choice { .. } => None,
+        Expression::Ternary { .. } => None,
     }
 }
 
@@ -82,7 +73,7 @@ fn prefix_given(prefix: Prefix, value: &Expression<'_>) -> Option<Given>
     }
 }
 
-// A string, a truth value, or a number with a minus or without.
+// A string, a boolean, or a number with a minus or without.
 fn item_given(alloc: Global, value: &Expression<'_>) -> Result<Option<Given>, AllocError>
     ensures { IfOk result (λ g. option_map given_in g ≡ item_given (expression_of value.now)) }
 {
@@ -91,7 +82,7 @@ fn item_given(alloc: Global, value: &Expression<'_>) -> Result<Option<Given>, Al
             literal,
             text,
             line,
-        } => literal_given(alloc, *literal, text, *line),
+        } => literal_given(alloc, *literal, text),
         Expression::Prefix { prefix, value, .. } => Ok(prefix_given(*prefix, value)),
         Expression::Name { .. } => Ok(None),
         Expression::List { .. } => Ok(None),
@@ -99,7 +90,7 @@ fn item_given(alloc: Global, value: &Expression<'_>) -> Result<Option<Given>, Al
         Expression::Call { .. } => Ok(None),
         Expression::Postfix { .. } => Ok(None),
         Expression::Chain { .. } => Ok(None),
-        Expression::Choice { .. } => Ok(None),
+        Expression::Ternary { .. } => Ok(None),
     }
 }
 
@@ -131,7 +122,7 @@ fn list_given(alloc: Global, items: Vec<Given>) -> Result<Given, AllocError>
     Ok(Given::Texts(texts))
 }
 
-// A list of strings, truth values and numbers.
+// A list of strings, booleans and numbers.
 fn list(alloc: Global, items: &[Expression<'_>]) -> Result<Option<Given>, AllocError>
     ensures { IfOk result (λ g. option_map given_in g ≡ option_map list_given (items_given (expressions (map expression_of items.now)))) }
 {
@@ -141,7 +132,7 @@ fn list(alloc: Global, items: &[Expression<'_>]) -> Result<Option<Given>, AllocE
     Ok(Some(list_given(alloc, items)?))
 }
 
-/// What an argument gives: a string, a truth value, a number, or a list of these. Nothing where it is written as anything else.
+/// What an argument gives: a string, a boolean, a number, or a list of these. Nothing where it is written as anything else.
 pub fn given(alloc: Global, value: &Expression<'_>) -> Result<Option<Given>, AllocError>
     ensures { IfOk result (λ g. option_map given_in g ≡ given (expression_of value.now)) }
 {
@@ -154,6 +145,6 @@ pub fn given(alloc: Global, value: &Expression<'_>) -> Result<Option<Given>, All
         Expression::Call { .. } => Ok(None),
         Expression::Postfix { .. } => Ok(None),
         Expression::Chain { .. } => Ok(None),
-        Expression::Choice { .. } => Ok(None),
+        Expression::Ternary { .. } => Ok(None),
     }
 }

@@ -1,18 +1,20 @@
 //! The keywords of a call of `option`.
 
-ghost use Rattle.std.specs.Prelude.{◌≡◌};
+ghost use Rattle.std.specs.Prelude.{◌≡◌, IfOk, Some};
 ghost use Rattle.std.specs.Option.{option_map};
-ghost use Rattle.option_file.specs.Keywords.{nothing_given, keyword_named, is_left_out, type_named, type_in, choices_in, bound_in, noted, combo_of, asked_by};
+ghost use Rattle.option_file.specs.Keywords.{nothing_given, keyword_named, is_left_out, type_in, choices_in, bound_in, noted, combo_of};
+ghost use Rattle.option_file.specs.Keywords.{asked_by};
 ghost use Rattle.option_file.specs.KeywordsView.{asked_in, keywords_in};
 ghost use Rattle.option_file.specs.View.{given_in};
-ghost use Rattle.option_values.specs.View.{strings_in, kind_in};
+ghost use Rattle.option_values.specs.View.{kind_in, texts_of};
 
 use crate::declaration::Given;
-use crate::names::is_among;
-use option_values::OptionKind;
+use machine_file::is_among;
+use option_values::{Choices, OptionKind, OptionType};
+use std::alloc::{AllocError, Global};
 
 /// A keyword of `option`, by what it gives.
-#[derive(Clone, Copy, PartialEq, Eq, Debug)]
+#[derive(Clone, Copy, PartialEq, Eq)]
 pub enum Keyword {
     /// `type:`
     Kind,
@@ -24,23 +26,12 @@ pub enum Keyword {
     NoEffect,
 }
 
-/// What `type:` names.
-#[derive(Clone, Copy, PartialEq, Eq, Debug)]
-pub enum OptionType {
-    Text,
-    Boolean,
-    Combo,
-    Integer,
-    Array,
-    Feature,
-}
-
 /// What the keywords of a call give so far.
 #[derive(Drop)]
 pub struct Keywords {
     pub kind: Option<OptionType>,
     pub value: Option<Given>,
-    pub choices: Option<Vec<String>>,
+    pub choices: Option<Choices>,
     pub min: Option<i64>,
     pub max: Option<i64>,
 }
@@ -76,53 +67,29 @@ pub fn is_left_out(name: &str) -> bool
     is_among(&["kwargs", "fallback", "deprecated"], name)
 }
 
-impl OptionType {
-    /// The type of this name, if there is one.
-    #[tactic(auto, unfolding(crate::specs::Keywords::type_named))]
-    pub fn named(name: &str) -> Option<OptionType>
-        ensures { result ≡ type_named name.now }
-    {
-        if name == "string" {
-            Some(OptionType::Text)
-        } else if name == "boolean" {
-            Some(OptionType::Boolean)
-        } else if name == "combo" {
-            Some(OptionType::Combo)
-        } else if name == "integer" {
-            Some(OptionType::Integer)
-        } else if name == "array" {
-            Some(OptionType::Array)
-        } else if name == "feature" {
-            Some(OptionType::Feature)
-        } else {
-            None
-        }
-    }
-
-    // The type that is given by its name.
-    fn of(given: &Given) -> Option<OptionType>
-        ensures { result ≡ type_in (given_in given.now) }
-    {
-        match given {
-            Given::Text(name) => OptionType::named(name.as_str()),
-            Given::Boolean(_) => None,
-            Given::Integer(_) => None,
-            Given::Texts(_) => None,
-            Given::Other => None,
-        }
+// The type that is given by its name.
+fn type_in(given: &Given) -> Option<OptionType>
+    ensures { result ≡ type_in (given_in given.now) }
+{
+    match given {
+        Given::Text(name) => OptionType::named(name.as_str()),
+        Given::Boolean(_) => None,
+        Given::Integer(_) => None,
+        Given::Texts(_) => None,
+        Given::Other => None,
     }
 }
 
 // Choices are a list of texts.
-fn choices_in(given: Given) -> Option<Vec<String>>
-    ensures { option_map (λ c. strings_in c.items) result ≡ choices_in (given_in given) }
+fn choices_in(alloc: Global, given: Given) -> Result<Option<Choices>, AllocError>
+    ensures { IfOk result (λ choices. option_map texts_of choices ≡ choices_in (given_in given)) }
 {
     match given {
-        Given::Texts(items) => Some(items),
-        Given::Text(_) => None,
-        Given::Boolean(_) => None,
-        Given::Integer(_) => None,
-        Given::Other => None,
+        Given::Texts(items) => Ok(Some(Choices::new(alloc, items)?)),
+        Given::Text(_) => Ok(None),
+        Given::Boolean(_) => Ok(None),
+        Given::Integer(_) => Ok(None),
+        Given::Other => Ok(None),
     }
 }
 
@@ -140,11 +107,11 @@ fn bound_in(given: &Given) -> Option<i64>
 }
 
 // A combo has at least one choice.
-fn combo_of(choices: Option<Vec<String>>) -> Option<OptionKind>
-    ensures { option_map kind_in result ≡ combo_of (option_map (λ c. strings_in c.items) choices) }
+fn combo_of(choices: Option<Choices>) -> Option<OptionKind>
+    ensures { option_map kind_in result ≡ combo_of (option_map texts_of choices) }
 {
     let choices = choices?;
-    if choices.is_empty() {
+    if choices.texts().is_empty() {
         None
     } else {
         Some(OptionKind::Combo(choices))
@@ -165,19 +132,66 @@ impl Keywords {
         }
     }
 
+    // A type is given, by its name.
+    fn with_kind(mut self, given: &Given) -> Option<Keywords>
+        ensures { option_map keywords_in result ≡ noted (keywords_in self) Keyword.Kind (given_in given.now) }
+    {
+        self.kind = Some(type_in(given)?);
+        Some(self)
+    }
+
+    // A default is given, whatever it is.
+    fn with_value(mut self, given: Given) -> Keywords
+        ensures { Some (keywords_in result) ≡ noted (keywords_in self) Keyword.Value (given_in given) }
+    {
+        self.value = Some(given);
+        self
+    }
+
+    // Choices are given.
+    fn with_choices(mut self, alloc: Global, given: Given) -> Result<Option<Keywords>, AllocError>
+        ensures { IfOk result (λ k. option_map keywords_in k ≡ noted (keywords_in self) Keyword.Choices (given_in given)) }
+    {
+        let Some(choices) = choices_in(alloc, given)? else {
+            return Ok(None);
+        };
+        self.choices = Some(choices);
+        Ok(Some(self))
+    }
+
+    // A lower bound is given.
+    fn with_min(mut self, given: &Given) -> Option<Keywords>
+        ensures { option_map keywords_in result ≡ noted (keywords_in self) Keyword.Min (given_in given.now) }
+    {
+        self.min = Some(bound_in(given)?);
+        Some(self)
+    }
+
+    // An upper bound is given.
+    fn with_max(mut self, given: &Given) -> Option<Keywords>
+        ensures { option_map keywords_in result ≡ noted (keywords_in self) Keyword.Max (given_in given.now) }
+    {
+        self.max = Some(bound_in(given)?);
+        Some(self)
+    }
+
     /// One more keyword, and what it gives; nothing where it may not give this.
-    pub fn noted(mut self, keyword: Keyword, given: Given) -> Option<Keywords>
-        ensures { option_map keywords_in result ≡ noted (keywords_in self) keyword (given_in given) }
+    pub fn noted(
+        self,
+        alloc: Global,
+        keyword: Keyword,
+        given: Given,
+    ) -> Result<Option<Keywords>, AllocError>
+        ensures { IfOk result (λ k. option_map keywords_in k ≡ noted (keywords_in self) keyword (given_in given)) }
     {
         match keyword {
-            Keyword::Kind => self.kind = Some(OptionType::of(&given)?),
-            Keyword::Value => self.value = Some(given),
-            Keyword::Choices => self.choices = Some(choices_in(given)?),
-            Keyword::Min => self.min = Some(bound_in(&given)?),
-            Keyword::Max => self.max = Some(bound_in(&given)?),
-            Keyword::NoEffect => {}
+            Keyword::Kind => Ok(self.with_kind(&given)),
+            Keyword::Value => Ok(Some(self.with_value(given))),
+            Keyword::Choices => self.with_choices(alloc, given),
+            Keyword::Min => Ok(self.with_min(&given)),
+            Keyword::Max => Ok(self.with_max(&given)),
+            Keyword::NoEffect => Ok(Some(self)),
         }
-        Some(self)
     }
 
     /// What an option with these keywords takes, and the default that it is given; nothing where a keyword is missing that it

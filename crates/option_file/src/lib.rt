@@ -15,4 +15,3 @@ mod number;
 
 pub use declaration::{Declaration, Declared, Given};
 pub use file::declare;
-pub use names::is_built_in;

@@ -2,13 +2,13 @@
 
 ghost use Rattle.std.specs.Prelude.{◌≡◌};
 ghost use Rattle.std.specs.Option.{option_map};
-ghost use Rattle.machine.specs.Numbers.{integer_of};
+ghost use Rattle.machine_file.specs.Numbers.{integer_of};
 ghost use Rattle.option_file.specs.Given.{integer, numeral};
 ghost use Rattle.option_file.specs.View.{given_in};
 
 use crate::declaration::Given;
 use lexer::magnitude;
-use machine::integer_of;
+use machine_file::integer_of;
 
 /// The least number that is out of the range of the language's integers.
 const PAST_INTEGERS: u128 = 1 << 127;

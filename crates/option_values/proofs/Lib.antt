@@ -1,5 +1,6 @@
-pub mod Trimming
 pub mod Cutting
 pub mod Items
 pub mod Parsing
 pub mod Shell
+pub mod Known
+pub mod BuiltInRows

@@ -1,5 +1,6 @@
 -- The words that a text is read as, and the machine that cuts it.
-use Rattle.std.proofs.Common.{◌≡◌, ℕ, Bool, true, false, List, [], ◌∷◌, ◌++◌, Option, Some, None, Result, Ok, Err, refl, sym, ap, ◌∙◌, subst, arith, append_assoc, if◌then◌else◌}
+use Rattle.std.proofs.Common.{◌≡◌, ℕ, Bool, true, false, List, [], ◌∷◌, ◌++◌, Option, Some, None, Result, Ok, Err, refl, sym, ap, ◌∙◌}
+use Rattle.std.proofs.Common.{subst, arith, append_assoc, if◌then◌else◌}
 use Rattle.std.specs.Prelude.{◌==◌, ◌&&◌, ◌||◌, ◌↔◌, not, IfOk}
 use Rattle.std.specs.Option.{option_map}
 use Rattle.std.specs.Char.{encode_utf8}
@@ -51,7 +52,8 @@ bare_parts c h =
     let third = neither (c == quote) (c == double_quote) second.1 in
     record { apart = first.0; escape = second.0; one = third.0; two = third.1 }
 
-bare_cut : (p : Place) (word : List ℕ) (words : List (List ℕ)) (c : ℕ) → Bare c → bare (at p word words) c ≡ at place.Bare (word ++ encode_utf8 c) words
+bare_cut : (p : Place) (word : List ℕ) (words : List (List ℕ)) (c : ℕ) → Bare c
+    → bare (at p word words) c ≡ at place.Bare (word ++ encode_utf8 c) words
 bare_cut p word words c b = if_false _ _ _ b.escape ∙ if_false _ _ _ b.one ∙ if_false _ _ _ b.two
 
 single_cut : (cs rest word : List ℕ) (words : List (List ℕ)) → list_all is_no_quote cs ≡ true
@@ -59,7 +61,8 @@ single_cut : (cs rest word : List ℕ) (words : List (List ℕ)) → list_all is
 single_cut [] rest word words h = ap (λ w. cut_from (at place.Bare w words) rest) (sym (append-nil word))
 single_cut (c ∷ cs) rest word words h =
     let parts = both (is_no_quote c) (list_all is_no_quote cs) h in
-    ap (λ s. cut_from s ((cs ++ quote ∷ []) ++ rest)) (if_false (c == quote) (at place.Bare word words) (at place.Single (word ++ encode_utf8 c) words) (negated _ parts.0))
+    ap (λ s. cut_from s ((cs ++ quote ∷ []) ++ rest)) (if_false (c == quote) (at place.Bare word words)
+    (at place.Single (word ++ encode_utf8 c) words) (negated _ parts.0))
     ∙ single_cut cs rest (word ++ encode_utf8 c) words parts.1
     ∙ ap (λ w. cut_from (at place.Bare w words) rest) (append_assoc word (encode_utf8 c) (encode_utf8_all cs))
 
@@ -101,10 +104,13 @@ abbrev state : Option (List ℕ) → List (List ℕ) → Cut
 state None words = at place.Between [] words
 state (Some word) words = at place.Bare word words
 
-cut_words : (o : Option (List ℕ)) (cs : List ℕ) (more words : List (List ℕ)) → Reads o cs more → ended (cut_from (state o words) cs) ≡ Some (words ++ more)
+cut_words : (o : Option (List ℕ)) (cs : List ℕ) (more words : List (List ℕ)) → Reads o cs more
+    → ended (cut_from (state o words) cs) ≡ Some (words ++ more)
 cut_words _ _ _ words shell.end = ap (λ (ws : List (List ℕ)). Some ws) (sym (append-nil words))
-cut_words _ _ _ words (shell.blank c cs more b reads) = ap (λ s. ended (cut_from s cs)) (if_true _ _ _ b) ∙ cut_words None cs more words reads
-cut_words _ _ _ words (shell.begin cs text rest more piece reads) = ap ended (between_cut cs text rest [] words piece) ∙ cut_words (Some text) rest more words reads
+cut_words _ _ _ words (shell.blank c cs more b reads) = ap (λ s. ended (cut_from s cs)) (if_true _ _ _ b)
+    ∙ cut_words None cs more words reads
+cut_words _ _ _ words (shell.begin cs text rest more piece reads) = ap ended (between_cut cs text rest [] words piece)
+    ∙ cut_words (Some text) rest more words reads
 cut_words _ _ _ words (shell.further word cs text rest more piece reads) =
     ap ended (within_cut cs text rest word words piece) ∙ cut_words (Some (word ++ text)) rest more words reads
 cut_words _ _ _ words (shell.part word c cs more b reads) =
@@ -164,7 +170,8 @@ Begun place.Between word = word ≡ []
 Begun _ word = Unit {0}
 
 abbrev Rest : List ℕ → Type 0
-Rest cs = (p : Place) (word : List ℕ) (words given : List (List ℕ)) → Begun p word → ended (cut_from (at p word words) cs) ≡ Some given → Found p word words cs given
+Rest cs = (p : Place) (word : List ℕ) (words given : List (List ℕ)) → Begun p word → ended (cut_from (at p word words) cs) ≡ Some given
+    → Found p word words cs given
 
 same_some : (a b : List (List ℕ)) → Some a ≡ Some b → a ≡ b
 same_some a b e = cc
@@ -187,7 +194,8 @@ not_true : (a : Bool) → a ≡ false → not a ≡ true
 not_true false p = refl
 not_true true p = absurd (false≢true (sym p))
 
-longer : (P Q : List ℕ → List ℕ → Type 0) (word cs extra : List ℕ) (c mark : ℕ) (more : List (List ℕ)) → ((xs text : List ℕ) → P xs text → Q (c ∷ xs) (extra ++ text))
+longer : (P Q : List ℕ → List ℕ → Type 0) (word cs extra : List ℕ) (c mark : ℕ) (more : List (List ℕ))
+    → ((xs text : List ℕ) → P xs text → Q (c ∷ xs) (extra ++ text))
     → Closed (word ++ extra) cs more mark P → Closed word (c ∷ cs) more mark Q
 longer P Q word cs extra c mark more step k = record {
   inside = c ∷ k.inside;
@@ -198,7 +206,8 @@ longer P Q word cs extra c mark more step k = record {
   reads = subst (λ (w : List ℕ). Reads (Some w) k.rest more) (append_assoc word extra k.text) k.reads;
 }
 
-closed_here : (P : List ℕ → List ℕ → Type 0) (word cs : List ℕ) (c mark : ℕ) (more : List (List ℕ)) → P [] [] → c ≡ mark → Reads (Some word) cs more → Closed word (c ∷ cs) more mark P
+closed_here : (P : List ℕ → List ℕ → Type 0) (word cs : List ℕ) (c mark : ℕ) (more : List (List ℕ)) → P [] [] → c ≡ mark
+    → Reads (Some word) cs more → Closed word (c ∷ cs) more mark P
 closed_here P word cs c mark more p e r = record {
   inside = [];
   text = [];
@@ -209,7 +218,8 @@ closed_here P word cs c mark more p e r = record {
 }
 
 single_step : (cs word : List ℕ) (words given : List (List ℕ)) (c : ℕ) (b : Bool) → Rest cs → (c == quote) ≡ b
-    → ended (cut_from (if b then at place.Bare word words else at place.Single (word ++ encode_utf8 c) words) cs) ≡ Some given → Found place.Single word words (c ∷ cs) given
+    → ended (cut_from (if b then at place.Bare word words else at place.Single (word ++ encode_utf8 c) words) cs) ≡ Some given
+    → Found place.Single word words (c ∷ cs) given
 single_step cs word words given c true later e h =
     let found = later place.Bare word words given tt h in
     (found.0, found.1, closed_here GivesSingle word cs c quote found.0 (refl, refl) (eq_from_test c quote e) found.2)
@@ -221,8 +231,10 @@ single_step cs word words given c false later e h =
           (λ xs text g. (and_true (is_no_quote c) (list_all is_no_quote xs) (not_true _ e) g.0, ap (λ t. encode_utf8 c ++ t) g.1)) found.2,
     )
 
-double_step : (cs word : List ℕ) (words given : List (List ℕ)) (c : ℕ) (a b : Bool) → Rest cs → (c == double_quote) ≡ a → (c == backslash) ≡ b
-    → ended (cut_from (if a then at place.Bare word words else (if b then at place.DoubleEscaped word words else at place.Double (word ++ encode_utf8 c) words)) cs) ≡ Some given
+double_step : (cs word : List ℕ) (words given : List (List ℕ)) (c : ℕ) (a b : Bool) → Rest cs → (c == double_quote) ≡ a
+    → (c == backslash) ≡ b
+    → ended (cut_from (if a then at place.Bare word words else (if b then at place.DoubleEscaped word words else at place.Double
+    (word ++ encode_utf8 c) words)) cs) ≡ Some given
     → Found place.Double word words (c ∷ cs) given
 double_step cs word words given c true b later d e h =
     let found = later place.Bare word words given tt h in
@@ -242,31 +254,44 @@ double_step cs word words given c false true later d e h =
       },
     )
 double_step cs word words given c false false later d e h =
-    let found = later place.Double (word ++ encode_utf8 c) words given tt h in
-    (found.0, found.1, longer Inside Inside word cs (encode_utf8 c) c double_quote found.0 (λ xs text g. shell.plain c xs text (or_false _ _ d e) g) found.2)
+    let found = later place.Double (word ++ encode_utf8 c) words given tt h in (
+      found.0,
+      found.1,
+      longer Inside Inside word cs (encode_utf8 c) c double_quote found.0
+          (λ xs text g. shell.plain c xs text (or_false _ _ d e) g) found.2,
+    )
 
 escaped_step : (cs word : List ℕ) (words given : List (List ℕ)) (c : ℕ) (b : Bool) → Rest cs → is_escapable c ≡ b
-    → ended (cut_from (if b then at place.Double (word ++ encode_utf8 c) words else at place.Double ((word ++ encode_utf8 backslash) ++ encode_utf8 c) words) cs) ≡ Some given
+    → ended (cut_from (if b then at place.Double (word ++ encode_utf8 c) words else at place.Double
+    ((word ++ encode_utf8 backslash) ++ encode_utf8 c) words) cs) ≡ Some given
     → Found place.DoubleEscaped word words (c ∷ cs) given
 escaped_step cs word words given c true later e h =
-    let found = later place.Double (word ++ encode_utf8 c) words given tt h in
-    (found.0, found.1, longer Inside GivesEscaped word cs (encode_utf8 c) c double_quote found.0 (λ xs text g. shell.escaped c xs text e g) found.2)
+    let found = later place.Double (word ++ encode_utf8 c) words given tt h in (
+      found.0,
+      found.1,
+      longer Inside GivesEscaped word cs (encode_utf8 c) c double_quote found.0 (λ xs text g. shell.escaped c xs text e g)
+          found.2,
+    )
 escaped_step cs word words given c false later e h =
     let found = later place.Double ((word ++ encode_utf8 backslash) ++ encode_utf8 c) words given tt h in
     let both_of = encode_utf8 backslash ++ encode_utf8 c in
     let kept : (xs text : List ℕ) → Inside xs text → GivesEscaped (c ∷ xs) (both_of ++ text) =
-    λ xs text g. subst (λ (t : List ℕ). GivesEscaped (c ∷ xs) t) (sym (append_assoc (encode_utf8 backslash) (encode_utf8 c) text)) (shell.kept c xs text e g) in (
+    λ xs text g. subst (λ (t : List ℕ). GivesEscaped (c ∷ xs) t) (sym (append_assoc (encode_utf8 backslash) (encode_utf8 c) text))
+    (shell.kept c xs text e g) in (
       found.0,
       found.1,
       longer Inside GivesEscaped word cs both_of c double_quote found.0 kept
-          (subst (λ (w : List ℕ). Closed w cs found.0 double_quote Inside) (append_assoc word (encode_utf8 backslash) (encode_utf8 c)) found.2),
+          (subst (λ (w : List ℕ). Closed w cs found.0 double_quote Inside) (append_assoc word (encode_utf8 backslash) (encode_utf8 c))
+          found.2),
     )
 
 abbrev FoundNext : List ℕ → List (List ℕ) → List ℕ → List (List ℕ) → Type 0
 FoundNext word words cs given = (more : List (List ℕ)) × (given ≡ words ++ more) × Next word cs more
 
-bare_step : (cs word : List ℕ) (words given : List (List ℕ)) (c : ℕ) (a b d : Bool) → Rest cs → parts_words c ≡ false → (c == backslash) ≡ a → (c == quote) ≡ b → (c == double_quote) ≡ d
-    → ended (cut_from (if a then at place.Escaped word words else (if b then at place.Single word words else (if d then at place.Double word words else at place.Bare (word ++ encode_utf8 c) words))) cs) ≡ Some given
+bare_step : (cs word : List ℕ) (words given : List (List ℕ)) (c : ℕ) (a b d : Bool) → Rest cs → parts_words c ≡ false → (c == backslash) ≡ a
+    → (c == quote) ≡ b → (c == double_quote) ≡ d
+    → ended (cut_from (if a then at place.Escaped word words else (if b then at place.Single word
+    words else (if d then at place.Double word words else at place.Bare (word ++ encode_utf8 c) words))) cs) ≡ Some given
     → FoundNext word words (c ∷ cs) given
 bare_step cs word words given c true b d later apart e q r h =
     let found = later place.Escaped word words given tt h in
@@ -328,10 +353,12 @@ begun_next : (cs : List ℕ) (more : List (List ℕ)) → Next [] cs more → Re
 begun_next cs more n = subst (λ (xs : List ℕ). Reads None xs more) (sym n.parts) (shell.begin n.piece n.text n.rest more n.is_piece n.reads)
 
 further_next : (word cs : List ℕ) (more : List (List ℕ)) → Next word cs more → Reads (Some word) cs more
-further_next word cs more n = subst (λ (xs : List ℕ). Reads (Some word) xs more) (sym n.parts) (shell.further word n.piece n.text n.rest more n.is_piece n.reads)
+further_next word cs more n = subst (λ (xs : List ℕ). Reads (Some word) xs more) (sym n.parts)
+    (shell.further word n.piece n.text n.rest more n.is_piece n.reads)
 
 between_step : (cs word : List ℕ) (words given : List (List ℕ)) (c : ℕ) (b : Bool) → Rest cs → word ≡ [] → parts_words c ≡ b
-    → ended (cut_from (if b then at place.Between word words else bare (at place.Between word words) c) cs) ≡ Some given → Found place.Between word words (c ∷ cs) given
+    → ended (cut_from (if b then at place.Between word words else bare (at place.Between word words) c) cs) ≡ Some given
+    → Found place.Between word words (c ∷ cs) given
 between_step cs word words given c true later none e h =
     let found = later place.Between word words given none h in
     (found.0, found.1, shell.blank c cs found.0 e found.2)
@@ -340,7 +367,8 @@ between_step cs word words given c false later none e h =
     (found.0, found.1, begun_next (c ∷ cs) found.0 (subst (λ (w : List ℕ). Next w (c ∷ cs) found.0) none found.2))
 
 within_step : (cs word : List ℕ) (words given : List (List ℕ)) (c : ℕ) (b : Bool) → Rest cs → parts_words c ≡ b
-    → ended (cut_from (if b then at place.Between [] (words ++ word ∷ []) else bare (at place.Bare word words) c) cs) ≡ Some given → Found place.Bare word words (c ∷ cs) given
+    → ended (cut_from (if b then at place.Between [] (words ++ word ∷ []) else bare (at place.Bare word words) c) cs) ≡ Some given
+    → Found place.Bare word words (c ∷ cs) given
 within_step cs word words given c true later e h =
     let found = later place.Between [] (words ++ word ∷ []) given refl h in
     (word ∷ found.0, found.1 ∙ append_assoc words (word ∷ []) found.0, shell.part word c cs found.0 e found.2)
@@ -361,7 +389,8 @@ cut_reads (c ∷ cs) place.Escaped word words given b h =
     let found = cut_reads cs place.Bare (word ++ encode_utf8 c) words given tt h in
     (found.0, found.1, record { char = c; rest = cs; parts = refl; reads = found.2 })
 cut_reads (c ∷ cs) place.Single word words given b h = single_step cs word words given c (c == quote) (cut_reads cs) refl h
-cut_reads (c ∷ cs) place.Double word words given b h = double_step cs word words given c (c == double_quote) (c == backslash) (cut_reads cs) refl refl h
+cut_reads (c ∷ cs) place.Double word words given b h = double_step cs word words given c (c == double_quote) (c == backslash) (cut_reads cs)
+    refl refl h
 cut_reads (c ∷ cs) place.DoubleEscaped word words given b h = escaped_step cs word words given c (is_escapable c) (cut_reads cs) refl h
 
 pub cut_written : (cs : List ℕ) (words : List (List ℕ)) → ended (cut_from (at place.Between [] []) cs) ≡ Some words → Reads None cs words
@@ -369,7 +398,9 @@ cut_written cs words h =
     let found = cut_reads cs place.Between [] [] words refl h in
     subst (λ (ws : List (List ℕ)). Reads None cs ws) (sym found.1) found.2
 
-pub both_ways : {V E : Type 0} (f : V → List (List ℕ)) (r : Result (Option V) E) (o : Option (List (List ℕ))) (words : List (List ℕ)) (A : Type 0)
-    → IfOk r (λ given. option_map f given ≡ o) → (o ≡ Some words → A) → (A → o ≡ Some words) → IfOk r (λ given. (option_map f given ≡ Some words) ↔ A)
+pub both_ways : {V E : Type 0} (f : V
+    → List (List ℕ)) (r : Result (Option V) E) (o : Option (List (List ℕ))) (words : List (List ℕ)) (A : Type 0)
+    → IfOk r (λ given. option_map f given ≡ o) → (o ≡ Some words → A) → (A → o ≡ Some words)
+    → IfOk r (λ given. (option_map f given ≡ Some words) ↔ A)
 both_ways f (Ok given) o words A h to from = (λ e. to (sym h ∙ e), λ a. h ∙ from a)
 both_ways f (Err e) o words A h to from = tt

@@ -1,7 +1,7 @@
 -- Which value of an option a list is, and a value of a machine file.
 use Rattle.std.specs.Prelude.{ℕ, Bool, true, false, codes, List, [], ◌∷◌, ◌++◌, Option, Some}
 use Rattle.std.specs.Fmt.{signed_decimal}
-use Rattle.machine.specs.Values as machine
+use Rattle.machine_file.specs.Values as machine
 use Rattle.option_values.specs.Kinds as kind
 use Rattle.option_values.specs.Values as value
 use Rattle.option_values.specs.Texts.{array_of, value_of}
@@ -22,13 +22,13 @@ value_of_items (kind.Array choices) items = array_of choices items
 value_of_items kind.Words items = Some (value.Array items)
 value_of_items k items = value_of k (printed items)
 
-abbrev pub truth_text : Bool → List ℕ
-truth_text true = codes "true"
-truth_text false = codes "false"
+abbrev pub boolean_text : Bool → List ℕ
+boolean_text true = codes "true"
+boolean_text false = codes "false"
 
 -- the value of an option of this kind that a value of a machine file is: what it is printed as, but for lists
 abbrev pub value_of_given : kind.Kind → machine.Value → Option value.Value
 value_of_given k (machine.Text text) = value_of k text
 value_of_given k (machine.Integer number) = value_of k (signed_decimal number)
-value_of_given k (machine.Truth truth) = value_of k (truth_text truth)
+value_of_given k (machine.Boolean boolean) = value_of k (boolean_text boolean)
 value_of_given k (machine.Texts items) = value_of_items k items

@@ -4,7 +4,7 @@ use Rattle.std.specs.Option.{option_and_then}
 use Rattle.std.specs.Str.{all_ascii_digits}
 use Rattle.std.specs.Str.Parse.{digits_value}
 use Rattle.lexer.specs.Bytes.{minus}
-use Rattle.machine.specs.Numbers as machine
+use Rattle.machine_file.specs.Numbers as machine
 
 abbrev pub is_negative : List ℕ → Bool
 is_negative [] = false

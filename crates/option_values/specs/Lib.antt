@@ -1,5 +1,7 @@
 pub mod Kinds
 pub mod Values
+pub mod Types
+pub mod BuiltIns
 pub mod View
 pub mod Integers
 pub mod Words

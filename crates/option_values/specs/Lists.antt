@@ -1,46 +1,25 @@
 -- Texts that give the items of a list.
-use Rattle.std.specs.Prelude.{ℕ, Bool, true, false, ◌==◌, bytes_eq, List, [], ◌∷◌, map, Option, Some, None, if◌then◌else◌}
-use Rattle.std.specs.List.{list_any, list_all, slice_split}
-use Rattle.lexer.specs.Bytes.{space, comma, open_bracket}
-use Rattle.machine.specs.Values as machine
+use Rattle.std.specs.Prelude.{ℕ, Bool, true, false, ◌==◌, List, [], ◌∷◌, map, Option, Some, None, if◌then◌else◌}
+use Rattle.std.specs.List.{list_all, slice_split}
+use Rattle.lexer.specs.Bytes.{comma, open_bracket}
+use Rattle.machine_file.specs.declared.text.Blanks.TheVariants as blanks
+use Rattle.machine_file.specs.Texts.{is_among, trimmed}
+use Rattle.machine_file.specs.Values as machine
 use Rattle.option_values.specs.Words.{words_of}
-
--- the text is one of these
-abbrev pub is_among : List (List ℕ) → List ℕ → Bool
-is_among choices text = list_any (λ choice. bytes_eq text choice) choices
 
 -- each item is one of the choices, where there are choices
 abbrev pub are_among : Option (List (List ℕ)) → List (List ℕ) → Bool
 are_among None items = true
 are_among (Some choices) items = list_all (is_among choices) items
 
--- what is dropped at the ends of a part: a space alone
-abbrev pub is_padding : ℕ → Bool
-is_padding b = b == space
-
--- a text from its first byte on that is no space
-abbrev pub from_word : List ℕ → List ℕ
-from_word [] = []
-from_word (b ∷ bs) = if is_padding b then from_word bs else b ∷ bs
-
--- a byte in front of a text without spaces at its end: a space is dropped where nothing follows it
-abbrev pub kept : ℕ → List ℕ → List ℕ
-kept b [] = if is_padding b then [] else b ∷ []
-kept b (c ∷ cs) = b ∷ c ∷ cs
-
--- a text up to its last byte that is no space
-abbrev pub to_word : List ℕ → List ℕ
-to_word [] = []
-to_word (b ∷ bs) = kept b (to_word bs)
-
--- a text without spaces at its ends
-abbrev pub trimmed : List ℕ → List ℕ
-trimmed text = to_word (from_word text)
+-- a text without spaces at its ends; other blanks stay
+abbrev pub without_spaces : List ℕ → List ℕ
+without_spaces text = trimmed blanks.Spaces text
 
 -- the parts between commas, without spaces at their ends; none of an empty text
 abbrev pub parts_of : List ℕ → List (List ℕ)
 parts_of [] = []
-parts_of (b ∷ bs) = map trimmed (slice_split (λ c. c == comma) (b ∷ bs))
+parts_of (b ∷ bs) = map without_spaces (slice_split (λ c. c == comma) (b ∷ bs))
 
 abbrev pub begins_list : List ℕ → Bool
 begins_list [] = false

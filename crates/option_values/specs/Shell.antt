@@ -18,7 +18,8 @@ pub data Inside : List ℕ → List ℕ → Type 0 where
   nothing : Inside [] []
   plain : (c : ℕ) (cs text : List ℕ) → is_escapable c ≡ false → Inside cs text → Inside (c ∷ cs) (encode_utf8 c ++ text)
   escaped : (c : ℕ) (cs text : List ℕ) → is_escapable c ≡ true → Inside cs text → Inside (backslash ∷ c ∷ cs) (encode_utf8 c ++ text)
-  kept : (c : ℕ) (cs text : List ℕ) → is_escapable c ≡ false → Inside cs text → Inside (backslash ∷ c ∷ cs) (encode_utf8 backslash ++ (encode_utf8 c ++ text))
+  kept : (c : ℕ) (cs text : List ℕ) → is_escapable c ≡ false → Inside cs text
+      → Inside (backslash ∷ c ∷ cs) (encode_utf8 backslash ++ (encode_utf8 c ++ text))
 
 -- a piece of a word, and the text that it gives
 pub data Piece : List ℕ → List ℕ → Type 0 where
@@ -33,8 +34,10 @@ pub data Reads : Option (List ℕ) → List ℕ → List (List ℕ) → Type 0 w
   end : Reads None [] []
   blank : (c : ℕ) (cs : List ℕ) (words : List (List ℕ)) → parts_words c ≡ true → Reads None cs words → Reads None (c ∷ cs) words
   begin : (cs text rest : List ℕ) (words : List (List ℕ)) → Piece cs text → Reads (Some text) rest words → Reads None (cs ++ rest) words
-  further : (word cs text rest : List ℕ) (words : List (List ℕ)) → Piece cs text → Reads (Some (word ++ text)) rest words → Reads (Some word) (cs ++ rest) words
-  part : (word : List ℕ) (c : ℕ) (cs : List ℕ) (words : List (List ℕ)) → parts_words c ≡ true → Reads None cs words → Reads (Some word) (c ∷ cs) (word ∷ words)
+  further : (word cs text rest : List ℕ) (words : List (List ℕ)) → Piece cs text → Reads (Some (word ++ text)) rest words
+      → Reads (Some word) (cs ++ rest) words
+  part : (word : List ℕ) (c : ℕ) (cs : List ℕ) (words : List (List ℕ)) → parts_words c ≡ true → Reads None cs words
+      → Reads (Some word) (c ∷ cs) (word ∷ words)
   last : (word : List ℕ) → Reads (Some word) [] (word ∷ [])
 
 -- the characters are these words

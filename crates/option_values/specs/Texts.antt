@@ -6,10 +6,11 @@ use Rattle.option_values.specs.declared.kind.FeatureState.TheVariants as feature
 use Rattle.option_values.specs.Kinds as kind
 use Rattle.option_values.specs.Values as value
 use Rattle.option_values.specs.Integers.{integer_within}
-use Rattle.option_values.specs.Lists.{is_among, are_among, items_of, word_items_of}
+use Rattle.machine_file.specs.Texts.{is_among}
+use Rattle.option_values.specs.Lists.{are_among, items_of, word_items_of}
 
-abbrev pub truth_of : List ℕ → Option Bool
-truth_of text =
+abbrev pub boolean_of : List ℕ → Option Bool
+boolean_of text =
     if bytes_eq text (codes "true") then Some true
     else (if bytes_eq text (codes "false") then Some false
     else None)
@@ -23,7 +24,7 @@ state_of text =
 
 -- one of these texts
 abbrev pub choice_of : List (List ℕ) → List ℕ → Option value.Value
-choice_of choices text = if is_among choices text then Some (value.Text text) else None
+choice_of choices text = if is_among choices text then Some (value.Combo text) else None
 
 -- a list of these items, if the choices allow them
 abbrev pub array_of : Option (List (List ℕ)) → List (List ℕ) → Option value.Value
@@ -32,7 +33,7 @@ array_of choices items = if are_among choices items then Some (value.Array items
 -- the value of an option of this kind that a text is, if it is one
 abbrev pub value_of : kind.Kind → List ℕ → Option value.Value
 value_of kind.Text text = Some (value.Text text)
-value_of kind.Boolean text = option_map value.Boolean (truth_of text)
+value_of kind.Boolean text = option_map value.Boolean (boolean_of text)
 value_of (kind.Combo choices) text = choice_of choices text
 value_of (kind.Integer least greatest) text = option_map value.Integer (integer_within least greatest text)
 value_of (kind.Array choices) text = option_and_then (array_of choices) (items_of text)

@@ -2,15 +2,16 @@
 
 ghost use Rattle.std.specs.Prelude.{◌≡◌, IfOk, string_bytes};
 ghost use Rattle.std.specs.Option.{option_map};
-ghost use Rattle.machine.specs.View.{value_in as machine_value_in};
-ghost use Rattle.option_values.specs.Given.{printed, truth_text, value_of_given, value_of_items};
+ghost use Rattle.machine_file.specs.View.{value_in as machine_value_in};
+ghost use Rattle.option_values.specs.Given.{printed, boolean_text, value_of_given, value_of_items};
 ghost use Rattle.option_values.specs.Texts.{value_of};
 ghost use Rattle.option_values.specs.View.{kind_in, strings_in, value_in};
 
 use crate::kind::{OptionKind, OptionValue};
+use crate::list::copied;
 use crate::text::{array_of, value_of_text};
 use itoa::Buffer;
-use machine::MachineValue;
+use machine_file::MachineValue;
 use std::alloc::{AllocError, Global};
 
 // A list as it is printed: texts in single quotes, in which nothing is escaped, with a comma and a space between each two.
@@ -28,16 +29,6 @@ fn printed(alloc: Global, items: &[String]) -> Result<String, AllocError>
     }
     text.push_str("]")?;
     Ok(text)
-}
-
-fn copied(alloc: Global, items: &[String]) -> Result<Vec<String>, AllocError>
-    ensures { IfOk result (λ copies. strings_in copies.items ≡ strings_in items.now) }
-{
-    let mut copies = Vec::new(alloc);
-    for item in items {
-        copies.push(String::from_str(alloc, item.as_str())?)?;
-    }
-    Ok(copies)
 }
 
 // The value that the printed list is.
@@ -70,10 +61,10 @@ pub fn value_of_items(
     }
 }
 
-fn truth_text(truth: bool) -> &'static str
-    ensures { result.now ≡ truth_text truth }
+fn boolean_text(boolean: bool) -> &'static str
+    ensures { result.now ≡ boolean_text boolean }
 {
-    if truth { "true" } else { "false" }
+    if boolean { "true" } else { "false" }
 }
 
 /// The value of an option of this kind that a value of a machine file is, if it is one: the one that its printed text is, and
@@ -91,7 +82,7 @@ pub fn value_of_given(
             let mut buffer = Buffer::new();
             value_of_text(alloc, kind, buffer.format(*number))
         }
-        MachineValue::Truth(truth) => value_of_text(alloc, kind, truth_text(*truth)),
+        MachineValue::Boolean(boolean) => value_of_text(alloc, kind, boolean_text(*boolean)),
         MachineValue::Texts(items) => value_of_items(alloc, kind, items),
     }
 }

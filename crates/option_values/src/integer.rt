@@ -31,8 +31,8 @@ fn is_no_greater(greatest: Option<i64>, number: i64) -> bool
     }
 }
 
-// Whether a number lies between bounds, of which each may be absent.
-fn is_within(least: Option<i64>, greatest: Option<i64>, number: i64) -> bool
+/// Whether a number lies between bounds, of which each may be absent.
+pub fn is_within(least: Option<i64>, greatest: Option<i64>, number: i64) -> bool
     ensures { result ≡ is_within least greatest number }
 {
     is_no_less(least, number) && is_no_greater(greatest, number)

@@ -1,38 +1,122 @@
-//! Kinds of options, and their values.
+//! Kinds of options, their types, and their values.
+
+ghost use Rattle.std.specs.Prelude.{◌≡◌};
+ghost use Rattle.option_values.specs.Types.{name_of_type, type_named, type_of, type_of_value};
+ghost use Rattle.option_values.specs.View.{kind_in, value_in};
+
+use crate::choices::Choices;
 
 /// What an option takes.
-#[derive(Debug, Drop)]
+#[derive(Drop)]
 pub enum OptionKind {
     /// Any text.
     Text,
     Boolean,
     /// One of these texts.
-    Combo(Vec<String>),
+    Combo(Choices),
     /// An integer that is no less than `min` and no greater than `max`.
     Integer { min: Option<i64>, max: Option<i64> },
     /// A list of texts, each one of these where there are such choices.
-    Array(Option<Vec<String>>),
+    Array(Option<Choices>),
     /// A list of texts that a text gives as a shell's words: `c_args` and `c_link_args`.
     Words,
     /// Enabled, disabled, or as other options say.
     Feature,
 }
 
-/// A value that an option has. A combo's value is its text.
-#[derive(Clone, PartialEq, Eq, Debug, Drop)]
+/// A value that an option has. Options of each type have values of a form of their own, so the value tells the type.
+#[derive(Drop)]
 pub enum OptionValue {
     Text(String),
     Boolean(bool),
+    /// The choice.
+    Combo(String),
     Integer(i64),
     Array(Vec<String>),
     Feature(FeatureState),
 }
 
 /// What a feature option says of its feature.
-#[derive(Clone, Copy, PartialEq, Eq, Debug)]
+#[derive(Clone, Copy, PartialEq, Eq)]
 pub enum FeatureState {
     Enabled,
     Disabled,
     /// As `auto_features` says; else where it can be had.
     Auto,
+}
+
+/// The type of an option, as the Meson manual's page "Build options" has them.
+#[derive(Clone, Copy, PartialEq, Eq)]
+pub enum OptionType {
+    Text,
+    Boolean,
+    Combo,
+    Integer,
+    Array,
+    Feature,
+}
+
+impl OptionType {
+    /// The type of this name, if there is one: `string`, `boolean`, `combo`, `integer`, `array` or `feature`.
+    #[tactic(auto, unfolding(crate::specs::Types::type_named))]
+    pub fn named(name: &str) -> Option<OptionType>
+        ensures { result ≡ type_named name.now }
+    {
+        match name {
+            "string" => Some(OptionType::Text),
+            "boolean" => Some(OptionType::Boolean),
+            "combo" => Some(OptionType::Combo),
+            "integer" => Some(OptionType::Integer),
+            "array" => Some(OptionType::Array),
+            "feature" => Some(OptionType::Feature),
+            _ => None,
+        }
+    }
+
+    /// The name of the type.
+    pub fn name(self) -> &'static str
+        ensures { result.now ≡ name_of_type self }
+    {
+        match self {
+            OptionType::Text => "string",
+            OptionType::Boolean => "boolean",
+            OptionType::Combo => "combo",
+            OptionType::Integer => "integer",
+            OptionType::Array => "array",
+            OptionType::Feature => "feature",
+        }
+    }
+}
+
+impl OptionKind {
+    /// The type of the options that take this. Words are an array.
+    pub fn option_type(&self) -> OptionType
+        ensures { result ≡ type_of (kind_in self.now) }
+    {
+        match self {
+            OptionKind::Text => OptionType::Text,
+            OptionKind::Boolean => OptionType::Boolean,
+            OptionKind::Combo(_) => OptionType::Combo,
+            OptionKind::Integer { .. } => OptionType::Integer,
+            OptionKind::Array(_) => OptionType::Array,
+            OptionKind::Words => OptionType::Array,
+            OptionKind::Feature => OptionType::Feature,
+        }
+    }
+}
+
+impl OptionValue {
+    /// The type of the options that have such a value.
+    pub fn option_type(&self) -> OptionType
+        ensures { result ≡ type_of_value (value_in self.now) }
+    {
+        match self {
+            OptionValue::Text(_) => OptionType::Text,
+            OptionValue::Boolean(_) => OptionType::Boolean,
+            OptionValue::Combo(_) => OptionType::Combo,
+            OptionValue::Integer(_) => OptionType::Integer,
+            OptionValue::Array(_) => OptionType::Array,
+            OptionValue::Feature(_) => OptionType::Feature,
+        }
+    }
 }

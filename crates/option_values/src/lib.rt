@@ -5,6 +5,8 @@
 //! second.
 #![tactic(auto)]
 
+mod built_in;
+mod choices;
 mod given;
 mod integer;
 mod kind;
@@ -12,7 +14,11 @@ mod list;
 mod text;
 mod words;
 
+pub use built_in::{BuiltIn, Form, built_in_kinds, built_in_value, built_ins, is_built_in};
+pub use choices::Choices;
 pub use given::{value_of_given, value_of_items};
-pub use kind::{FeatureState, OptionKind, OptionValue};
+pub use integer::is_within;
+pub use kind::{FeatureState, OptionKind, OptionType, OptionValue};
+pub use list::copied;
 pub use text::value_of_text;
 pub use words::words_of;

@@ -2,75 +2,40 @@
 
 ghost use Rattle.std.specs.Prelude.{◌≡◌, IfOk, string_bytes};
 ghost use Rattle.std.specs.Option.{option_map};
-ghost use Rattle.option_values.specs.Lists.{are_among, begins_list, from_word, is_among, is_padding, items_of, listed, parts_of, to_word, trimmed, word_items_of};
-ghost use Rattle.option_values.specs.View.{choices_in, strings_in};
+ghost use Rattle.option_values.specs.Lists.{are_among, begins_list, items_of, listed, parts_of, word_items_of};
+ghost use Rattle.option_values.specs.View.{choices_in, strings_in, texts_of};
 
+use crate::choices::Choices;
 use crate::words::words_of;
-use machine::{MachineValue, read_value};
+use machine_file::{Blanks, MachineValue, read_value, trimmed};
 use std::alloc::{AllocError, Global};
 
-/// Whether the text is one of these.
-pub fn is_among(choices: &[String], text: &str) -> bool
-    ensures { result ≡ is_among (strings_in choices.now) text.now }
+/// These texts, copied.
+pub fn copied(alloc: Global, texts: &[String]) -> Result<Vec<String>, AllocError>
+    ensures { IfOk result (λ copies. strings_in copies.items ≡ strings_in texts.now) }
 {
-    choices.iter().any(|choice| text == choice.as_str())
+    let mut copies = Vec::new(alloc);
+    for text in texts {
+        copies.push(String::from_str(alloc, text.as_str())?)?;
+    }
+    Ok(copies)
 }
 
 // Whether each item is one of the choices.
-fn all_among(choices: &[String], items: &[String]) -> bool
-    ensures { result ≡ are_among (Some (strings_in choices.now)) (strings_in items.now) }
+fn all_among(choices: &Choices, items: &[String]) -> bool
+    ensures { result ≡ are_among (Some (texts_of choices.now)) (strings_in items.now) }
 {
-    items.iter().all(|item| is_among(choices, item.as_str()))
+    items.iter().all(|item| choices.has(item.as_str()))
 }
 
 /// Whether each item is one of the choices, where there are choices.
-pub fn are_among(choices: &Option<Vec<String>>, items: &[String]) -> bool
+pub fn are_among(choices: &Option<Choices>, items: &[String]) -> bool
     ensures { result ≡ are_among (choices_in choices.now) (strings_in items.now) }
 {
     match choices {
         Some(choices) => all_among(choices, items),
         None => true,
     }
-}
-
-// What is dropped at the ends of a part: a space alone.
-fn is_padding(byte: u8) -> bool
-    ensures { result ≡ is_padding byte }
-{
-    byte == b' '
-}
-
-// A text from its first byte on that is no space.
-fn from_word(text: &str) -> &str
-    ensures { result.now ≡ from_word text.now }
-{
-    let bytes = text.as_bytes();
-    let mut start = 0;
-    while start < bytes.len() && is_padding(bytes[start]) {
-        start += 1;
-    }
-    let (_, word) = text.split_at(start);
-    word
-}
-
-// A text up to its last byte that is no space.
-fn to_word(text: &str) -> &str
-    ensures { result.now ≡ to_word text.now }
-{
-    let bytes = text.as_bytes();
-    let mut end = bytes.len();
-    while end > 0 && is_padding(bytes[end - 1]) {
-        end -= 1;
-    }
-    let (word, _) = text.split_at(end);
-    word
-}
-
-// A text without spaces at its ends.
-fn trimmed(text: &str) -> &str
-    ensures { result.now ≡ trimmed text.now }
-{
-    to_word(from_word(text))
 }
 
 // The parts between commas, without spaces at their ends; none of an empty text.
@@ -82,7 +47,7 @@ fn parts_of(alloc: Global, text: &str) -> Result<Vec<String>, AllocError>
         return Ok(parts);
     }
     for part in text.split(',') {
-        parts.push(String::from_str(alloc, trimmed(part))?)?;
+        parts.push(String::from_str(alloc, trimmed(Blanks::Spaces, part))?)?;
     }
     Ok(parts)
 }

@@ -4,17 +4,18 @@ ghost use Rattle.std.specs.Prelude.{◌≡◌, IfOk, Some};
 ghost use Rattle.std.specs.Option.{option_and_then, option_map};
 ghost use Rattle.option_values.specs.Integers.{integer_within};
 ghost use Rattle.option_values.specs.Lists.{items_of, word_items_of};
-ghost use Rattle.option_values.specs.Texts.{array_of, choice_of, state_of, truth_of, value_of};
+ghost use Rattle.option_values.specs.Texts.{array_of, choice_of, state_of, boolean_of, value_of};
 ghost use Rattle.option_values.specs.Values as value;
-ghost use Rattle.option_values.specs.View.{choices_in, kind_in, strings_in, value_in};
+ghost use Rattle.option_values.specs.View.{choices_in, kind_in, strings_in, texts_of, value_in};
 
+use crate::choices::Choices;
 use crate::integer::integer_within;
 use crate::kind::{FeatureState, OptionKind, OptionValue};
-use crate::list::{are_among, is_among, items_of, word_items_of};
+use crate::list::{are_among, items_of, word_items_of};
 use std::alloc::{AllocError, Global};
 
-fn truth_of(text: &str) -> Option<bool>
-    ensures { result ≡ truth_of text.now }
+fn boolean_of(text: &str) -> Option<bool>
+    ensures { result ≡ boolean_of text.now }
 {
     match text {
         "true" => Some(true),
@@ -43,19 +44,20 @@ fn text_of(alloc: Global, text: &str) -> Result<OptionValue, AllocError>
 // One of these texts.
 fn choice_of(
     alloc: Global,
-    choices: &[String],
+    choices: &Choices,
     text: &str,
 ) -> Result<Option<OptionValue>, AllocError>
-    ensures { IfOk result (λ v. option_map value_in v ≡ choice_of (strings_in choices.now) text.now) }
+    ensures { IfOk result (λ v. option_map value_in v ≡ choice_of (texts_of choices.now) text.now) }
 {
-    if !is_among(choices, text) {
+    if !choices.has(text) {
         return Ok(None);
     }
-    Ok(Some(text_of(alloc, text)?))
+    let choice = String::from_str(alloc, text)?;
+    Ok(Some(OptionValue::Combo(choice)))
 }
 
 /// A list of these items, if the choices allow them.
-pub fn array_of(choices: &Option<Vec<String>>, items: Vec<String>) -> Option<OptionValue>
+pub fn array_of(choices: &Option<Choices>, items: Vec<String>) -> Option<OptionValue>
     ensures { option_map value_in result ≡ array_of (choices_in choices.now) (strings_in items.items) }
 {
     if are_among(choices, &items) {
@@ -68,7 +70,7 @@ pub fn array_of(choices: &Option<Vec<String>>, items: Vec<String>) -> Option<Opt
 // A list that a text gives, if the choices allow its items.
 fn array_of_text(
     alloc: Global,
-    choices: &Option<Vec<String>>,
+    choices: &Option<Choices>,
     text: &str,
 ) -> Result<Option<OptionValue>, AllocError>
     ensures { IfOk result (λ v. option_map value_in v ≡ option_and_then (array_of (choices_in choices.now)) (items_of text.now)) }
@@ -88,11 +90,11 @@ fn words_of_text(alloc: Global, text: &str) -> Result<Option<OptionValue>, Alloc
     }
 }
 
-fn truth_of_text(text: &str) -> Option<OptionValue>
-    ensures { option_map value_in result ≡ option_map value.Boolean (truth_of text.now) }
+fn boolean_of_text(text: &str) -> Option<OptionValue>
+    ensures { option_map value_in result ≡ option_map value.Boolean (boolean_of text.now) }
 {
-    let truth = truth_of(text)?;
-    Some(OptionValue::Boolean(truth))
+    let boolean = boolean_of(text)?;
+    Some(OptionValue::Boolean(boolean))
 }
 
 fn integer_of_text(least: Option<i64>, greatest: Option<i64>, text: &str) -> Option<OptionValue>
@@ -124,7 +126,7 @@ pub fn value_of_text(
 {
     match kind {
         OptionKind::Text => Ok(Some(text_of(alloc, text)?)),
-        OptionKind::Boolean => Ok(truth_of_text(text)),
+        OptionKind::Boolean => Ok(boolean_of_text(text)),
         OptionKind::Combo(choices) => choice_of(alloc, choices, text),
         OptionKind::Integer { min, max } => Ok(integer_of_text(*min, *max, text)),
         OptionKind::Array(choices) => array_of_text(alloc, choices, text),

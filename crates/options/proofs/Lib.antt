@@ -1,4 +1,10 @@
+pub mod Bools
+pub mod Fills
+pub mod Fitting
 pub mod Folds
 pub mod Lookups
 pub mod Puts
-pub mod Fills
+pub mod KnownKinds
+pub mod VerdictFits
+pub mod FinalValues
+pub mod LastPlaces

@@ -2,40 +2,30 @@
 use Rattle.std.proofs.Common.{◌≡◌, Bool, true, false, List, [], ◌∷◌, String, string_bytes, refl, sym, ap, ◌∙◌, map, length, if◌then◌else◌}
 use Rattle.std.specs.List.{fold}
 use Rattle.std.proofs.lemmas.List.{length-map}
-use Rattle.options.specs.declared.built_in.BuiltIn.{BuiltIn}
+use Rattle.option_values.specs.declared.built_in.BuiltIn.{BuiltIn}
 use Rattle.std.specs.declared.alloc.Global.{Global}
 use Rattle.std.specs.String.{string_eq}
 use Rattle.indexmap.specs.IndexMap.{insert_entry}
-use Rattle.option_values.specs.declared.kind.OptionKind.{OptionKind}
 use Rattle.options.specs.declared.settings.Setting.{Setting}
-use Rattle.options.specs.BuiltIns.{NamedKind, put_kind, add_kind, add_setting, built_ins, built_in_kinds, built_in_settings}
+use Rattle.option_values.specs.BuiltIns.{built_ins}
+use Rattle.option_values.specs.View.{row_in}
 use Rattle.options.specs.Settings as plain
-use Rattle.options.specs.Settings.{put}
-use Rattle.options.specs.View.{setting_in, entry_in, settings_in, named_kind_in, kinds_in, row_in}
+use Rattle.options.specs.Settings.{put, add_setting, built_in_settings}
+use Rattle.options.specs.View.{setting_in, entry_in, settings_in}
 
-put_step : (b : Bool) (e : String Global × Setting) (s : Setting) (es more : List (String Global × Setting)) (rest : List plain.Setting) → settings_in more ≡ rest
-    → settings_in (if b then (e.0, s) ∷ es else e ∷ more) ≡ (if b then setting_in (string_bytes e.0) s ∷ settings_in es else entry_in e ∷ rest)
+put_step : (b : Bool) (e : String Global × Setting) (s : Setting) (es more : List (String Global × Setting)) (rest : List plain.Setting)
+    → settings_in more ≡ rest
+    → settings_in (if b then (e.0, s) ∷ es else e ∷ more)
+    ≡ (if b then setting_in (string_bytes e.0) s ∷ settings_in es else entry_in e ∷ rest)
 put_step true e s es more rest h = refl
 put_step false e s es more rest h = ap (λ (l : List plain.Setting). entry_in e ∷ l) h
 
-pub put_seen : (k : String Global) (s : Setting) (es : List (String Global × Setting)) → settings_in (insert_entry string_eq es k s) ≡ put (setting_in (string_bytes k) s) (settings_in es)
+pub put_seen : (k : String Global) (s : Setting) (es : List (String Global × Setting))
+    → settings_in (insert_entry string_eq es k s) ≡ put (setting_in (string_bytes k) s) (settings_in es)
 put_seen k s [] = refl
 put_seen k s (e ∷ es) = put_step (string_eq k e.0) e s es _ _ (put_seen k s es)
 
-kind_step : (b : Bool) (e : String Global × OptionKind) (k : OptionKind) (es more : List (String Global × OptionKind)) (rest : List NamedKind) → kinds_in more ≡ rest
-    → kinds_in (if b then (e.0, k) ∷ es else e ∷ more) ≡ (if b then named_kind_in (e.0, k) ∷ kinds_in es else named_kind_in e ∷ rest)
-kind_step true e k es more rest h = refl
-kind_step false e k es more rest h = ap (λ (l : List NamedKind). named_kind_in e ∷ l) h
-
-pub put_kind_seen : (name : String Global) (k : OptionKind) (es : List (String Global × OptionKind)) → kinds_in (insert_entry string_eq es name k) ≡ put_kind (named_kind_in (name, k)) (kinds_in es)
-put_kind_seen name k [] = refl
-put_kind_seen name k (e ∷ es) = kind_step (string_eq name e.0) e k es _ _ (put_kind_seen name k es)
-
 -- ---- the options that every project has, put into an empty map one after another
-
-pub all_kinds : fold add_kind [] built_ins ≡ built_in_kinds
-unfolding built_ins built_in_kinds
-all_kinds = refl
 
 pub all_settings : fold add_setting [] built_ins ≡ built_in_settings
 unfolding built_ins built_in_settings

@@ -12,7 +12,7 @@ use Rattle.option_file.specs.Given as given
 -- a combo's first choice
 abbrev pub first_of : List (List ℕ) → Option value.Value
 first_of [] = None
-first_of (choice ∷ choices) = Some (value.Text choice)
+first_of (choice ∷ choices) = Some (value.Combo choice)
 
 -- the value of an option that is declared without one; of an integer there is none
 abbrev pub value_of_kind : kind.Kind → Option value.Value
@@ -24,9 +24,9 @@ value_of_kind (kind.Array choices) = Some (value.Array (unwrap_or choices []))
 value_of_kind kind.Words = Some (value.Array [])
 value_of_kind kind.Feature = Some (value.Feature feature.Auto)
 
-abbrev pub truth_of : kind.Kind → Bool → Option value.Value
-truth_of kind.Boolean truth = Some (value.Boolean truth)
-truth_of _ truth = None
+abbrev pub boolean_of : kind.Kind → Bool → Option value.Value
+boolean_of kind.Boolean boolean = Some (value.Boolean boolean)
+boolean_of _ boolean = None
 
 abbrev pub integer_of : kind.Kind → ℤ → Option value.Value
 integer_of (kind.Integer least greatest) number = if is_within least greatest number then Some (value.Integer number) else None
@@ -40,7 +40,7 @@ items_of _ items = None
 -- option takes just that
 abbrev pub declared_value : kind.Kind → given.Given → Option value.Value
 declared_value k (given.Text text) = value_of k text
-declared_value k (given.Boolean truth) = truth_of k truth
+declared_value k (given.Boolean boolean) = boolean_of k boolean
 declared_value k (given.Integer number) = integer_of k number
 declared_value k (given.Texts items) = items_of k items
 declared_value k given.Other = None

@@ -3,7 +3,7 @@ use Rattle.std.specs.Prelude.{ℕ, Bool, true, false, List, [], ◌∷◌, map, 
 use Rattle.std.specs.Option.{option_and_then}
 use Rattle.option_values.specs.declared.kind.FeatureState.{FeatureState}
 use Rattle.option_values.specs.declared.kind.FeatureState.TheVariants.{Auto}
-use Rattle.option_values.specs.Values.{Value, Text, Boolean, Feature}
+use Rattle.option_values.specs.Values.{Value, Text, Boolean, Combo, Feature}
 use Rattle.options.specs.Settings.{Setting, setting_named, fill}
 
 -- what a type of build says of the options `debug` and `optimization`
@@ -25,8 +25,10 @@ abbrev pub type_among : List BuildType → List ℕ → Option BuildType
 type_among [] name = None
 type_among (t ∷ ts) name = if bytes_eq name t.name then Some t else type_among ts name
 
+-- the text that a value is, be it any or a choice
 abbrev pub text_in : Value → Option (List ℕ)
 text_in (Text text) = Some text
+text_in (Combo choice) = Some choice
 text_in _ = None
 
 abbrev pub state_in : Value → Option FeatureState
@@ -45,7 +47,7 @@ state_at name ss = option_and_then (λ s. state_in s.value) (setting_named ss na
 
 abbrev pub with_type : Option BuildType → List Setting → List Setting
 with_type None ss = ss
-with_type (Some t) ss = fill (codes "optimization") (Text t.optimization) (fill (codes "debug") (Boolean t.debug) ss)
+with_type (Some t) ss = fill (codes "optimization") (Combo t.optimization) (fill (codes "debug") (Boolean t.debug) ss)
 
 unfoldable pub by_buildtype : List Setting → List Setting
 by_buildtype ss = with_type (option_and_then (type_among build_types) (text_at (codes "buildtype") ss)) ss

@@ -1,7 +1,8 @@
 pub mod Settings
-pub mod BuiltIns
 pub mod Defaults
 pub mod Verdicts
 pub mod FillIns
 pub mod Resolves
+pub mod Laws
+pub mod Faults
 pub mod View

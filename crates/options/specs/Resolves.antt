@@ -2,14 +2,12 @@
 use Rattle.std.specs.Prelude.{ℕ, List, [], ◌∷◌, ◌++◌, map, fold, Option, Some, None, Result, Ok, Err}
 use Rattle.std.specs.List.{flat_map}
 use Rattle.std.specs.Option.{option_map}
-use Rattle.machine.specs.Files as machine
+use Rattle.machine_file.specs.Files as machine
 use Rattle.option_values.specs.Values.{Value}
 use Rattle.option_file.specs.Declarations.{Declaration}
 use Rattle.options.specs.declared.fault.OptionFault.{OptionFault}
-use Rattle.options.specs.Settings.{Setting, put, setting_named}
-use Rattle.options.specs.BuiltIns.{built_in_settings}
-use Rattle.options.specs.declared.fault.Place.TheVariants.{Project}
-use Rattle.options.specs.Verdicts.{Verdict, Sets, Warns, Refuses, of_declaration, of_assignment, of_section, of_words}
+use Rattle.options.specs.Settings.{Setting, put, setting_named, built_in_settings}
+use Rattle.options.specs.Verdicts.{Verdict, Sets, Warns, Refuses, Default, of_declaration, of_project_default, of_section, of_words}
 use Rattle.options.specs.FillIns.{filled_in}
 
 -- what is known after some values: the names of no option so far, the options, and the first fault
@@ -33,10 +31,10 @@ next s v = unless_fault s.fault s v
 
 -- all values in the order in which they are checked, of which the last one of an option holds: the declared defaults,
 -- `default_options`, the machine file in the order of its lines, the words
-abbrev pub verdicts : List Declaration → List (List ℕ) → List machine.Section → List (List ℕ) → List Verdict
+abbrev pub verdicts : List Declaration → List Default → List machine.Section → List (List ℕ) → List Verdict
 verdicts ds defaults sections words =
     map of_declaration ds
-    ++ (map (of_assignment ds Project) defaults ++ (flat_map (of_section ds) sections ++ of_words ds 1 words))
+    ++ (map (of_project_default ds) defaults ++ (flat_map (of_section ds) sections ++ of_words ds 1 words))
 
 -- every option that a project has anyway, and no value
 unfoldable pub at_first : State
@@ -54,8 +52,8 @@ pub record Resolution : Type 0 where
 abbrev pub resolution_of : State → Resolution
 resolution_of s = record { unknown = s.unknown; outcome = outcome_of s.fault s.settings }
 
--- the options of a project with these declarations, texts of `default_options`, sections of a machine file and words
-unfoldable pub resolved : List Declaration → List (List ℕ) → List machine.Section → List (List ℕ) → Resolution
+-- the options of a project with these declarations, this `default_options`, sections of a machine file and words
+unfoldable pub resolved : List Declaration → List Default → List machine.Section → List (List ℕ) → Resolution
 resolved ds defaults sections words = resolution_of (fold next at_first (verdicts ds defaults sections words))
 
 -- the value of the option of this name

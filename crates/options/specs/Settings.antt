@@ -1,5 +1,6 @@
 -- Options, each with a value.
-use Rattle.std.specs.Prelude.{ℕ, zero, suc, Bool, List, [], ◌∷◌, Option, Some, None, if◌then◌else◌, bytes_eq}
+use Rattle.std.specs.Prelude.{ℕ, zero, suc, Bool, false, List, [], ◌∷◌, map, Option, Some, None, if◌then◌else◌, bytes_eq}
+use Rattle.option_values.specs.BuiltIns.{BuiltIn, built_ins}
 use Rattle.option_values.specs.Values.{Value}
 
 -- an option with the value that it has, and whether a place gave it: a place is `default_options`, the machine file or a word
@@ -32,3 +33,17 @@ abbrev pub change_at : (Setting → Setting) → ℕ → List Setting → List S
 change_at f i [] = []
 change_at f zero (s ∷ ss) = f s ∷ ss
 change_at f (suc i) (s ∷ ss) = s ∷ change_at f i ss
+
+-- ---- the options of every project
+
+-- an option that every project has, where no value is given
+abbrev pub first_setting : BuiltIn → Setting
+first_setting b = record { name = b.name; value = b.value; given = false }
+
+-- all of them
+unfoldable pub built_in_settings : List Setting
+built_in_settings = map first_setting built_ins
+
+-- one more row of their table
+abbrev pub add_setting : List Setting → BuiltIn → List Setting
+add_setting ss b = put (first_setting b) ss

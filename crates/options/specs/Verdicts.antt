@@ -2,9 +2,10 @@
 use Rattle.std.specs.Prelude.{ℕ, ◌+◌, Bool, true, false, ◌&&◌, List, [], ◌∷◌, map, Option, Some, None, codes, if◌then◌else◌, bytes_eq}
 use Rattle.std.specs.Option.{option_map}
 use Rattle.lexer.specs.Bytes.{equals}
-use Rattle.machine.specs.Files as machine
-use Rattle.machine.specs.Texts.{Parts, cut_first}
-use Rattle.machine.specs.Values as written
+use Rattle.machine_file.specs.Files as machine
+use Rattle.machine_file.specs.Texts.{Parts, cut_first}
+use Rattle.machine_file.specs.Values as written
+use Rattle.option_values.specs.BuiltIns.{built_in_kind}
 use Rattle.option_values.specs.Kinds.{Kind}
 use Rattle.option_values.specs.Values.{Value}
 use Rattle.option_values.specs.Given.{value_of_given}
@@ -12,13 +13,12 @@ use Rattle.option_file.specs.Declarations.{Declaration}
 use Rattle.option_file.specs.Lookups.{option_named}
 use Rattle.options.specs.declared.fault.Place.{Place}
 use Rattle.options.specs.declared.fault.Place.TheVariants.{Declared, Project, MachineFile, CommandLine}
-use Rattle.option_file.specs.declared.fault.FaultKind.TheVariants as faults
-use Rattle.option_file.specs.declared.fault.FaultKind.{FaultKind}
+use Rattle.faults.specs.declared.refusal.Refusal.{Refusal}
+use Rattle.faults.specs.declared.refusal.Refusal.TheVariants as refusals
 use Rattle.options.specs.declared.fault.OptionFault.{OptionFault}
 use Rattle.options.specs.declared.known.Scope.{Scope}
 use Rattle.options.specs.declared.known.Scope.TheVariants.{BuiltIn, OfProject}
 use Rattle.options.specs.Settings.{Setting}
-use Rattle.options.specs.BuiltIns.{built_in_kind}
 use Rattle.options.specs.Defaults.{default_of}
 
 -- An option takes a value; or there is no option of this name, of which the user is warned; or the value is refused.
@@ -27,13 +27,13 @@ pub data Verdict : Type 0 where
   Warns : (name : List ℕ) → Verdict
   Refuses : (fault : OptionFault) → Verdict
 
-abbrev pub refused : Place → FaultKind → Verdict
-refused place kind = Refuses (record { place = place; kind = kind })
+abbrev pub refused : Place → Refusal → Verdict
+refused place refusal = Refuses (record { place = place; refusal = refusal })
 
 -- ---- the declarations
 
 abbrev pub of_default : Declaration → Option Value → Verdict
-of_default d None = refused (Declared d.line) faults.Option
+of_default d None = refused (Declared d.line) refusals.OptionValue
 of_default d (Some v) = Sets (record { name = d.name; value = v; given = false })
 
 -- a declaration sets its option to its default
@@ -61,24 +61,24 @@ abbrev pub is_both : List ℕ → written.Value → Bool
 is_both name (written.Text text) = bytes_eq name (codes "default_library") && bytes_eq text (codes "both")
 is_both name _ = false
 
-abbrev pub refusal : List ℕ → written.Value → FaultKind
-refusal name what = if is_both name what then faults.NotYet else faults.Option
+abbrev pub refusal_of : List ℕ → written.Value → Refusal
+refusal_of name what = if is_both name what then refusals.LeftOut else refusals.OptionValue
 
 -- a place gives an option a value, or something that is none
-abbrev pub of_value : Place → List ℕ → FaultKind → Option Value → Verdict
+abbrev pub of_value : Place → List ℕ → Refusal → Option Value → Verdict
 of_value place name otherwise None = refused place otherwise
 of_value place name otherwise (Some v) = Sets (record { name = name; value = v; given = true })
 
 -- a place gives an option of this kind what is written there
 unfoldable pub of_kind : Place → List ℕ → written.Value → Kind → Verdict
-of_kind place name what kind = of_value place name (refusal name what) (value_of_given kind what)
+of_kind place name what kind = of_value place name (refusal_of name what) (value_of_given kind what)
 
 -- a place gives a value to a name that no option has: `default_options` alone may do so
 abbrev pub unknown_at : Place → List ℕ → Verdict
-unknown_at (Declared line) name = refused (Declared line) faults.Option
+unknown_at (Declared line) name = refused (Declared line) refusals.OptionValue
 unknown_at Project name = Warns name
-unknown_at (MachineFile line) name = refused (MachineFile line) faults.Option
-unknown_at (CommandLine number) name = refused (CommandLine number) faults.Option
+unknown_at (MachineFile line) name = refused (MachineFile line) refusals.OptionValue
+unknown_at (CommandLine number) name = refused (CommandLine number) refusals.OptionValue
 
 -- a place gives the option of a name a value, if there is such an option
 abbrev pub of_named : Place → List ℕ → written.Value → Option Kind → Verdict
@@ -86,12 +86,21 @@ of_named place name what None = unknown_at place name
 of_named place name what (Some kind) = of_kind place name what kind
 
 abbrev pub of_parts : List Declaration → Place → Option Parts → Verdict
-of_parts ds place None = refused place faults.Option
+of_parts ds place None = refused place refusals.OptionValue
 of_parts ds place (Some parts) = of_named place parts.0 (written.Text parts.1) (kind_named ds parts.0)
 
 -- a text of `default_options` and a word of the command line are a name and a value behind the first `=`
 unfoldable pub of_assignment : List Declaration → Place → List ℕ → Verdict
 of_assignment ds place text = of_parts ds place (cut_first equals text)
+
+-- What the keyword `default_options` holds: a text of its list, or an entry of its dictionary, whose name may have an `=` in it.
+pub data Default : Type 0 where
+  Assignment : (text : List ℕ) → Default
+  Entry : (name value : List ℕ) → Default
+
+unfoldable pub of_project_default : List Declaration → Default → Verdict
+of_project_default ds (Assignment text) = of_assignment ds Project text
+of_project_default ds (Entry name value) = of_named Project name (written.Text value) (kind_named ds name)
 
 -- words of the command line, of which the first has this number
 unfoldable pub of_words : List Declaration → ℕ → List (List ℕ) → List Verdict

@@ -2,21 +2,12 @@
 use Rattle.std.specs.Prelude.{◌≡◌, ℕ, List, [], map, Result, Ok, Err, string_bytes, String}
 use Rattle.std.specs.declared.alloc.Global.{Global}
 use denote.Ref.{Bor}
-use Rattle.option_values.specs.View.{kind_in, value_in, strings_in}
-use Rattle.option_values.specs.Kinds as kind
-use Rattle.option_values.specs.Values as value
+use Rattle.option_values.specs.View.{value_in, strings_in}
 use Rattle.option_values.specs.Values.{Value}
-use Rattle.option_values.specs.declared.kind.FeatureState.TheVariants as feature
-use Rattle.options.specs.declared.built_in.Choices.{Choices}
-use Rattle.options.specs.declared.built_in.Choices.TheVariants as choice
-use Rattle.options.specs.declared.built_in.Form.{Form}
-use Rattle.options.specs.declared.built_in.Form.TheVariants as form
-use Rattle.options.specs.declared.built_in.BuiltIn.{BuiltIn}
-use Rattle.option_values.specs.declared.kind.OptionKind.{OptionKind}
 use Rattle.option_values.specs.declared.kind.OptionValue.{OptionValue}
-use Rattle.machine.specs.Files as machine
-use Rattle.machine.specs.View.{value_in as machine_value_in}
-use Rattle.machine.specs.declared.machine.Entry.{Entry}
+use Rattle.machine_file.specs.Files as machine
+use Rattle.machine_file.specs.View.{value_in as machine_value_in}
+use Rattle.machine_file.specs.declared.machine.Entry.{Entry}
 use Rattle.options.specs.declared.fault.OptionFault.{OptionFault}
 use Rattle.options.specs.declared.settings.Setting.{Setting}
 use Rattle.options.specs.declared.settings.Options.{Options}
@@ -25,11 +16,18 @@ use Rattle.options.specs.declared.verdict.Verdict.{Verdict}
 use Rattle.options.specs.declared.verdict.Verdict.TheVariants as verdict
 use Rattle.options.specs.declared.resolution.Resolved.{Resolved}
 use Rattle.options.specs.declared.fill_in.BuildType.{BuildType}
+use Rattle.option_file.specs.Declarations.{Declaration}
+use Rattle.option_file.specs.View.{options_in as declared_in}
+use Rattle.options.specs.declared.known.Known.{Known}
+use Rattle.options.specs.declared.place.ProjectDefault.{ProjectDefault}
+use Rattle.options.specs.declared.place.ProjectDefault.TheVariants as given
+use Rattle.options.specs.declared.verdict.Written.{Written}
+use Rattle.options.specs.declared.verdict.Written.TheVariants as written
+use Rattle.machine_file.specs.Values as machine_values
 use Rattle.options.specs.FillIns as filling
 use Rattle.options.specs.Settings as plain
 use Rattle.options.specs.Resolves as resolving
 use Rattle.options.specs.Verdicts as judged
-use Rattle.options.specs.BuiltIns as built
 
 -- an option with its name
 abbrev pub setting_in : List ℕ → Setting → plain.Setting
@@ -72,42 +70,22 @@ resolved_in r = record { unknown = strings_in r.unknown.items; outcome = outcome
 abbrev pub key_in : List ℕ → Entry → machine.Entry
 key_in key e = record { key = key; value = machine_value_in e.value; line = e.line }
 
--- ---- what options take
+-- the options that are declared, among those that are known
+abbrev pub declared_of : Known → List Declaration
+declared_of known = declared_in known.declared.now
 
-abbrev pub named_kind_in : String Global × OptionKind → built.NamedKind
-named_kind_in e = record { name = string_bytes e.0; kind = kind_in e.1 }
+-- ---- what is given
 
-abbrev pub kinds_in : List (String Global × OptionKind) → List built.NamedKind
-kinds_in entries = map named_kind_in entries
+abbrev pub default_in : ProjectDefault → judged.Default
+default_in (given.Assignment text) = judged.Assignment text.now
+default_in (given.Entry name value) = judged.Entry name.now value.now
 
--- these are the options that every project has, with what each takes
-abbrev pub AreBuiltIns : List (String Global × OptionKind) → Type 0
-AreBuiltIns entries = kinds_in entries ≡ built.built_in_kinds
+abbrev pub defaults_in : List ProjectDefault → List judged.Default
+defaults_in defaults = map default_in defaults
 
-abbrev pub choices_in : Choices → List (List ℕ)
-choices_in choice.Types = built.types
-choices_in choice.Levels = built.levels
-choices_in choice.Warnings = built.warnings
-choices_in choice.Standards = built.standards
-choices_in choice.Libraries = built.libraries
-
-abbrev pub form_kind : Form → kind.Kind
-form_kind (form.Text text) = kind.Text
-form_kind (form.Boolean truth) = kind.Boolean
-form_kind (form.Combo choices text) = kind.Combo (choices_in choices)
-form_kind form.Words = kind.Words
-form_kind form.Feature = kind.Feature
-
-abbrev pub form_value : Form → Value
-form_value (form.Text text) = value.Text text.now
-form_value (form.Boolean truth) = value.Boolean truth
-form_value (form.Combo choices text) = value.Text text.now
-form_value form.Words = value.Array []
-form_value form.Feature = value.Feature feature.Auto
-
--- a row of the table of options that every project has
-abbrev pub row_in : BuiltIn → built.BuiltIn
-row_in b = record { name = b.name.now; kind = form_kind b.form; value = form_value b.form }
+abbrev pub written_in : Written → machine_values.Value
+written_in (written.Text text) = machine_values.Text text.now
+written_in (written.Value value) = machine_value_in value.now
 
 -- what a type of build of this name says
 abbrev pub type_in : List ℕ → BuildType → filling.BuildType

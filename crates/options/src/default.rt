@@ -3,47 +3,36 @@
 ghost use Rattle.std.specs.Prelude.{◌≡◌, ℕ, List, IfOk};
 ghost use Rattle.std.specs.Option.{option_map};
 ghost use Rattle.option_file.specs.View.{given_in, option_in};
-ghost use Rattle.option_values.specs.Integers.{is_no_less, is_no_greater, is_within};
-ghost use Rattle.option_values.specs.View.{kind_in, value_in, strings_in};
-ghost use Rattle.options.specs.Defaults.{first_of, value_of_kind, truth_of, integer_of, items_of, declared_value, value_or_kind, default_of};
+ghost use Rattle.option_values.specs.View.{kind_in, strings_in, texts_of, value_in};
+ghost use Rattle.options.specs.Defaults.{first_of, value_of_kind, boolean_of, integer_of, items_of};
+ghost use Rattle.options.specs.Defaults.{declared_value, value_or_kind, default_of};
 
 use option_file::{Declaration, Given};
-use option_values::{FeatureState, OptionKind, OptionValue, value_of_items, value_of_text};
+use option_values::{
+    Choices, FeatureState, OptionKind, OptionValue, copied, is_within, value_of_items,
+    value_of_text,
+};
 use std::alloc::{AllocError, Global};
 
-// These texts, copied.
-fn copied(alloc: Global, texts: &[String]) -> Result<Vec<String>, AllocError>
-    ensures { IfOk result (λ copies. strings_in copies.items ≡ strings_in texts.now) }
-{
-    let mut copies = Vec::new(alloc);
-    for text in texts {
-        copies.push(String::from_str(alloc, text.as_str())?)?;
-    }
-    Ok(copies)
-}
-
 // A combo's first choice.
-fn first_of(alloc: Global, choices: &[String]) -> Result<Option<OptionValue>, AllocError>
-    ensures { IfOk result (λ v. option_map value_in v ≡ first_of (strings_in choices.now)) }
+fn first_of(alloc: Global, choices: &Choices) -> Result<Option<OptionValue>, AllocError>
+    ensures { IfOk result (λ v. option_map value_in v ≡ first_of (texts_of choices.now)) }
 {
-    match choices {
+    match choices.texts() {
         [] => Ok(None),
         [first, ..] => {
             let text = String::from_str(alloc, first.as_str())?;
-            Ok(Some(OptionValue::Text(text)))
+            Ok(Some(OptionValue::Combo(text)))
         }
     }
 }
 
 // The items of an array that has no default: its choices, if it has any.
-fn all_choices(
-    alloc: Global,
-    choices: &Option<Vec<String>>,
-) -> Result<Option<OptionValue>, AllocError>
+fn all_choices(alloc: Global, choices: &Option<Choices>) -> Result<Option<OptionValue>, AllocError>
     ensures { IfOk result (λ v. option_map value_in v ≡ value_of_kind (kind_in (OptionKind.Array choices.now))) }
 {
     match choices {
-        Some(choices) => Ok(Some(OptionValue::Array(copied(alloc, choices)?))),
+        Some(choices) => Ok(Some(OptionValue::Array(copied(alloc, choices.texts())?))),
         None => Ok(Some(OptionValue::Array(Vec::new(alloc)))),
     }
 }
@@ -63,11 +52,11 @@ fn value_of_kind(alloc: Global, kind: &OptionKind) -> Result<Option<OptionValue>
     }
 }
 
-fn truth_of(kind: &OptionKind, truth: bool) -> Option<OptionValue>
-    ensures { option_map value_in result ≡ truth_of (kind_in kind.now) truth }
+fn boolean_of(kind: &OptionKind, boolean: bool) -> Option<OptionValue>
+    ensures { option_map value_in result ≡ boolean_of (kind_in kind.now) boolean }
 {
     match kind {
-        OptionKind::Boolean => Some(OptionValue::Boolean(truth)),
+        OptionKind::Boolean => Some(OptionValue::Boolean(boolean)),
         OptionKind::Text => None,
         OptionKind::Combo(_) => None,
         OptionKind::Integer { .. } => None,
@@ -75,30 +64,6 @@ fn truth_of(kind: &OptionKind, truth: bool) -> Option<OptionValue>
         OptionKind::Words => None,
         OptionKind::Feature => None,
     }
-}
-
-fn is_no_less(min: Option<i64>, number: i64) -> bool
-    ensures { result ≡ is_no_less min number }
-{
-    match min {
-        Some(min) => min <= number,
-        None => true,
-    }
-}
-
-fn is_no_greater(max: Option<i64>, number: i64) -> bool
-    ensures { result ≡ is_no_greater max number }
-{
-    match max {
-        Some(max) => number <= max,
-        None => true,
-    }
-}
-
-fn is_within(min: Option<i64>, max: Option<i64>, number: i64) -> bool
-    ensures { result ≡ is_within min max number }
-{
-    is_no_less(min, number) && is_no_greater(max, number)
 }
 
 fn integer_of(kind: &OptionKind, number: i64) -> Option<OptionValue>
@@ -144,7 +109,7 @@ fn declared_value(
 {
     match given {
         Given::Text(text) => value_of_text(alloc, kind, text.as_str()),
-        Given::Boolean(truth) => Ok(truth_of(kind, *truth)),
+        Given::Boolean(boolean) => Ok(boolean_of(kind, *boolean)),
         Given::Integer(number) => Ok(integer_of(kind, *number)),
         Given::Texts(items) => items_of(alloc, kind, items),
         Given::Other => Ok(None),

@@ -1,10 +1,14 @@
 //! Why options have no values.
 
-pub use option_file::fault::FaultKind;
-use thiserror::Error;
+ghost use Rattle.std.specs.Prelude.{◌≡◌, IfOk};
+ghost use Rattle.faults.specs.View.{fault_view};
+ghost use Rattle.options.specs.Faults.{told_in};
+
+use faults::{Fault, Refusal};
+use std::alloc::{AllocError, Global};
 
 /// Where a value stands.
-#[derive(Clone, Copy, PartialEq, Eq, Debug)]
+#[derive(Clone, Copy, PartialEq, Eq)]
 pub enum Place {
     /// The statement on this line, from 1, of the option file.
     Declared(usize),
@@ -16,10 +20,30 @@ pub enum Place {
     CommandLine(usize),
 }
 
-/// A fault, and its place.
-#[derive(Clone, Copy, PartialEq, Eq, Debug, Error)]
-#[error("{kind}")]
+/// What is wrong with a value, and its place: E15, where it is no value of its option, there is no such option, or it is no name
+/// with a value; or E23, where it is a value that is left out.
+#[derive(Clone, Copy)]
 pub struct OptionFault {
     pub place: Place,
-    pub kind: FaultKind,
+    pub refusal: Refusal,
+}
+
+impl OptionFault {
+    /// The fault as a run tells it: the option file has this path, and the call of `project` is on this line of `meson.build`.
+    pub fn told_in(
+        self,
+        alloc: Global,
+        option_file: &str,
+        project_line: usize,
+    ) -> Result<Fault, AllocError>
+        ensures { IfOk result (λ fault. fault_view fault ≡ told_in option_file.now project_line self) }
+    {
+        let (file, line) = match self.place {
+            Place::Declared(line) => (option_file, line),
+            Place::Project => ("meson.build", project_line),
+            Place::MachineFile(line) => ("<machine file>", line),
+            Place::CommandLine(number) => ("<command line>", number),
+        };
+        Fault::plain(alloc, file, line, self.refusal)
+    }
 }

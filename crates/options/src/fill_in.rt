@@ -3,14 +3,15 @@
 ghost use Rattle.std.specs.Prelude.{◌≡◌, codes, map, OnOk};
 ghost use Rattle.std.specs.Option.{option_map};
 ghost use Rattle.option_values.specs.View.{value_in};
-ghost use Rattle.options.specs.FillIns.{build_types, type_among, text_in, state_in, text_at, state_at, is_usr, by_buildtype, by_prefix, by_auto_features, decided, filled_in};
+ghost use Rattle.options.specs.FillIns.{build_types, type_among, text_in, state_in, text_at, state_at, is_usr, decided};
+ghost use Rattle.options.specs.FillIns.{by_buildtype, by_prefix, by_auto_features, filled_in};
 ghost use Rattle.options.specs.Settings.{or_given, fill, change_at};
 ghost use Rattle.options.specs.View.{Becomes, settings_in, type_in};
 
 use crate::settings::Setting;
-use indexmap::IndexMap;
 use option_values::{FeatureState, OptionValue};
 use std::alloc::{AllocError, Global};
+use tables::SipMap;
 
 /// What a type of build says of the options `debug` and `optimization`.
 #[derive(Clone, Copy)]
@@ -53,7 +54,7 @@ fn fill_one(setting: &mut Setting, value: OptionValue)
 }
 
 // The option of this name has this value, if no place gave it one.
-fn fill(settings: &mut IndexMap<String, Setting>, name: &str, value: OptionValue)
+fn fill(settings: &mut SipMap<String, Setting>, name: &str, value: OptionValue)
     ensures { settings_in settings.new.entries ≡ fill name.now (value_in value) (settings_in settings.old.entries) }
 {
     match settings.get_mut(name) {
@@ -68,6 +69,7 @@ fn text_in(value: &OptionValue) -> Option<&str>
 {
     match value {
         OptionValue::Text(text) => Some(text.as_str()),
+        OptionValue::Combo(choice) => Some(choice.as_str()),
         OptionValue::Boolean(_) => None,
         OptionValue::Integer(_) => None,
         OptionValue::Array(_) => None,
@@ -83,13 +85,14 @@ fn state_in(value: &OptionValue) -> Option<FeatureState>
         OptionValue::Feature(state) => Some(*state),
         OptionValue::Text(_) => None,
         OptionValue::Boolean(_) => None,
+        OptionValue::Combo(_) => None,
         OptionValue::Integer(_) => None,
         OptionValue::Array(_) => None,
     }
 }
 
 // The text that the option of this name has.
-fn text_at<'a>(settings: &'a IndexMap<String, Setting>, name: &str) -> Option<&'a str>
+fn text_at<'a>(settings: &'a SipMap<String, Setting>, name: &str) -> Option<&'a str>
     ensures { option_map (λ t. t.now) result ≡ text_at name.now (settings_in settings.now.entries) }
 {
     match settings.get(name) {
@@ -99,7 +102,7 @@ fn text_at<'a>(settings: &'a IndexMap<String, Setting>, name: &str) -> Option<&'
 }
 
 // The state that the feature option of this name has.
-fn state_at(settings: &IndexMap<String, Setting>, name: &str) -> Option<FeatureState>
+fn state_at(settings: &SipMap<String, Setting>, name: &str) -> Option<FeatureState>
     ensures { result ≡ state_at name.now (settings_in settings.now.entries) }
 {
     match settings.get(name) {
@@ -110,7 +113,7 @@ fn state_at(settings: &IndexMap<String, Setting>, name: &str) -> Option<FeatureS
 
 // `buildtype` says how `debug` and `optimization` are set where no place sets them.
 #[tactic(auto, unfolding(crate::specs::FillIns::by_buildtype))]
-fn by_buildtype(alloc: Global, settings: &mut IndexMap<String, Setting>) -> Result<(), AllocError>
+fn by_buildtype(alloc: Global, settings: &mut SipMap<String, Setting>) -> Result<(), AllocError>
     ensures { OnOk result (settings_in settings.new.entries ≡ by_buildtype (settings_in settings.old.entries)) }
 {
     let Some(name) = text_at(settings, "buildtype") else {
@@ -121,12 +124,12 @@ fn by_buildtype(alloc: Global, settings: &mut IndexMap<String, Setting>) -> Resu
     };
     let optimization = String::from_str(alloc, build_type.optimization)?;
     fill(settings, "debug", OptionValue::Boolean(build_type.debug));
-    fill(settings, "optimization", OptionValue::Text(optimization));
+    fill(settings, "optimization", OptionValue::Combo(optimization));
     Ok(())
 }
 
 // Whether the prefix is that of a system.
-fn is_usr(settings: &IndexMap<String, Setting>) -> bool
+fn is_usr(settings: &SipMap<String, Setting>) -> bool
     ensures { result ≡ is_usr (text_at (codes "prefix") (settings_in settings.now.entries)) }
 {
     match text_at(settings, "prefix") {
@@ -137,7 +140,7 @@ fn is_usr(settings: &IndexMap<String, Setting>) -> bool
 
 // Below the prefix `/usr` the settings of a system are in `/etc`, where no place says where they are.
 #[tactic(auto, unfolding(crate::specs::FillIns::by_prefix))]
-fn by_prefix(alloc: Global, settings: &mut IndexMap<String, Setting>) -> Result<(), AllocError>
+fn by_prefix(alloc: Global, settings: &mut SipMap<String, Setting>) -> Result<(), AllocError>
     ensures { OnOk result (settings_in settings.new.entries ≡ by_prefix (settings_in settings.old.entries)) }
 {
     if !is_usr(settings) {
@@ -158,7 +161,7 @@ fn decide(setting: &mut Setting, state: FeatureState)
 }
 
 // The i-th option, if it is a feature that is `auto`, takes this state.
-fn decide_at(settings: &mut IndexMap<String, Setting>, i: usize, state: FeatureState)
+fn decide_at(settings: &mut SipMap<String, Setting>, i: usize, state: FeatureState)
     ensures { settings_in settings.new.entries ≡ change_at (decided state) i (settings_in settings.old.entries) }
 {
     match settings.get_index_mut(i) {
@@ -168,7 +171,7 @@ fn decide_at(settings: &mut IndexMap<String, Setting>, i: usize, state: FeatureS
 }
 
 // Every feature option that is `auto` takes this state.
-fn decide_all(settings: &mut IndexMap<String, Setting>, state: FeatureState)
+fn decide_all(settings: &mut SipMap<String, Setting>, state: FeatureState)
     ensures { settings_in settings.new.entries ≡ map (decided state) (settings_in settings.old.entries) }
 {
     for i in 0..settings.len() {
@@ -178,7 +181,7 @@ fn decide_all(settings: &mut IndexMap<String, Setting>, state: FeatureState)
 
 // `auto_features` decides for every feature that is left to it.
 #[tactic(auto, unfolding(crate::specs::FillIns::by_auto_features))]
-fn by_auto_features(settings: &mut IndexMap<String, Setting>)
+fn by_auto_features(settings: &mut SipMap<String, Setting>)
     ensures { settings_in settings.new.entries ≡ by_auto_features (settings_in settings.old.entries) }
 {
     match state_at(settings, "auto_features") {
@@ -188,7 +191,7 @@ fn by_auto_features(settings: &mut IndexMap<String, Setting>)
 }
 
 /// What some options say of others is filled in.
-pub fn fill_in(alloc: Global, settings: &mut IndexMap<String, Setting>) -> Result<(), AllocError>
+pub fn fill_in(alloc: Global, settings: &mut SipMap<String, Setting>) -> Result<(), AllocError>
     ensures { OnOk result (settings_in settings.new.entries ≡ filled_in (settings_in settings.old.entries)) }
 {
     by_buildtype(alloc, settings)?;

@@ -1,19 +1,19 @@
 //! Which options a place knows.
 
-ghost use Rattle.std.specs.Prelude.{◌≡◌};
+ghost use Rattle.std.specs.Prelude.{◌≡◌, IfOk};
 ghost use Rattle.std.specs.Option.{option_map};
 ghost use Rattle.option_file.specs.View.{options_in as declared_in};
-ghost use Rattle.option_values.specs.View.{kind_in};
-ghost use Rattle.options.specs.BuiltIns.{built_in_kind};
+ghost use Rattle.option_values.specs.BuiltIns.{built_in_kind};
+ghost use Rattle.option_values.specs.View.{AreBuiltIns, kind_in};
 ghost use Rattle.options.specs.Verdicts.{scope_of, declared_kind, kind_named, kind_in_scope};
-ghost use Rattle.options.specs.View.{AreBuiltIns};
 
 use indexmap::IndexMap;
 use option_file::Declared;
-use option_values::OptionKind;
+use option_values::{OptionKind, built_in_kinds};
+use std::alloc::{AllocError, Global};
 
 /// Which options a section of the machine file knows.
-#[derive(Clone, Copy, PartialEq, Eq, Debug)]
+#[derive(Clone, Copy)]
 pub enum Scope {
     /// `[built-in options]`: those that every project has.
     BuiltIn,
@@ -34,56 +34,62 @@ pub fn scope_of(section: &str) -> Option<Scope>
     }
 }
 
-/// What the option of this name takes, where it is built in.
-pub fn built_in_kind<'a>(
-    built_ins: &'a IndexMap<String, OptionKind>,
-    name: &str,
-) -> Option<&'a OptionKind>
-    requires { AreBuiltIns built_ins.now.entries }
-    ensures { option_map (λ k. kind_in k.now) result ≡ built_in_kind name.now }
-{
-    built_ins.get(name)
-}
-
-/// What the option of this name takes, where it is declared.
-#[tactic(auto, unfolding(crate::specs::Verdicts::declared_kind))]
-pub fn declared_kind<'a>(declared: &'a Declared, name: &str) -> Option<&'a OptionKind>
-    ensures { option_map (λ k. kind_in k.now) result ≡ declared_kind (declared_in declared.now) name.now }
-{
-    match declared.get(name) {
-        Some(declaration) => Some(&declaration.kind),
-        None => None,
-    }
-}
-
-/// What the option of this name takes, built in or declared.
-#[tactic(auto, unfolding(crate::specs::Verdicts::kind_named))]
-pub fn kind_named<'a>(
-    built_ins: &'a IndexMap<String, OptionKind>,
+/// The options that there are, with what each takes.
+#[derive(Drop)]
+pub struct Known<'a> {
+    built_ins: IndexMap<String, OptionKind>,
     declared: &'a Declared,
-    name: &str,
-) -> Option<&'a OptionKind>
-    requires { AreBuiltIns built_ins.now.entries }
-    ensures { option_map (λ k. kind_in k.now) result ≡ kind_named (declared_in declared.now) name.now }
-{
-    match built_in_kind(built_ins, name) {
-        Some(kind) => Some(kind),
-        None => declared_kind(declared, name),
-    }
+    ghost are: { AreBuiltIns built_ins.entries },
 }
 
-/// What the option of this name takes, where a section with this scope knows it.
-pub fn kind_in_scope<'a>(
-    scope: Scope,
-    built_ins: &'a IndexMap<String, OptionKind>,
-    declared: &'a Declared,
-    name: &str,
-) -> Option<&'a OptionKind>
-    requires { AreBuiltIns built_ins.now.entries }
-    ensures { option_map (λ k. kind_in k.now) result ≡ kind_in_scope scope (declared_in declared.now) name.now }
-{
-    match scope {
-        Scope::BuiltIn => built_in_kind(built_ins, name),
-        Scope::OfProject => declared_kind(declared, name),
+impl<'a> Known<'a> {
+    /// Those that every project has, and these.
+    pub fn new(alloc: Global, declared: &'a Declared) -> Result<Known<'a>, AllocError>
+        ensures { IfOk result (λ known. known.declared.now ≡ declared.now) }
+    {
+        let built_ins = built_in_kinds(alloc)?;
+        Ok(Known {
+            built_ins,
+            declared,
+        })
+    }
+
+    // What the option of this name takes, where it is built in.
+    fn built_in_kind(&self, name: &str) -> Option<&OptionKind>
+        ensures { option_map (λ k. kind_in k.now) result ≡ built_in_kind name.now }
+    {
+        self.built_ins.get(name)
+    }
+
+    // What the option of this name takes, where it is declared.
+    #[tactic(auto, unfolding(crate::specs::Verdicts::declared_kind))]
+    fn declared_kind(&self, name: &str) -> Option<&OptionKind>
+        ensures { option_map (λ k. kind_in k.now) result ≡ declared_kind (declared_in self.now.declared.now) name.now }
+    {
+        match self.declared.get(name) {
+            Some(declaration) => Some(&declaration.kind),
+            None => None,
+        }
+    }
+
+    /// What the option of this name takes, built in or declared.
+    #[tactic(auto, unfolding(crate::specs::Verdicts::kind_named))]
+    pub fn kind_named(&self, name: &str) -> Option<&OptionKind>
+        ensures { option_map (λ k. kind_in k.now) result ≡ kind_named (declared_in self.now.declared.now) name.now }
+    {
+        match self.built_in_kind(name) {
+            Some(kind) => Some(kind),
+            None => self.declared_kind(name),
+        }
+    }
+
+    /// What the option of this name takes, where a section with this scope knows it.
+    pub fn kind_in_scope(&self, scope: Scope, name: &str) -> Option<&OptionKind>
+        ensures { option_map (λ k. kind_in k.now) result ≡ kind_in_scope scope (declared_in self.now.declared.now) name.now }
+    {
+        match scope {
+            Scope::BuiltIn => self.built_in_kind(name),
+            Scope::OfProject => self.declared_kind(name),
+        }
     }
 }

@@ -2,24 +2,32 @@
 
 ghost use Rattle.std.specs.Prelude.{◌≡◌, IfOk, OnOk, fold, map, string_bytes};
 ghost use Rattle.std.specs.List.{flat_map};
-ghost use Rattle.machine.specs.View.{machine_in, entries_of};
+ghost use Rattle.machine_file.specs.View.{machine_in, entries_of};
 ghost use Rattle.option_file.specs.View.{options_in as declared_in, option_in};
 ghost use Rattle.option_values.specs.View.{strings_in};
 ghost use Rattle.options.specs.Resolves.{next};
-ghost use Rattle.options.specs.Verdicts.{of_declaration, of_assignment, of_words, of_entry, of_section};
-ghost use Rattle.options.specs.View.{AreBuiltIns, verdict_in, state_in, key_in};
+ghost use Rattle.options.specs.Verdicts.{of_declaration, of_assignment, of_project_default, of_words, of_entry, of_section};
+ghost use Rattle.options.specs.View.{declared_of, default_in, defaults_in, verdict_in, state_in, key_in};
 
 use crate::default::default_of;
-use crate::fault::{FaultKind, Place};
-use crate::known::{Scope, kind_in_scope, kind_named, scope_of};
+use crate::fault::Place;
+use crate::known::{Known, Scope, scope_of};
 use crate::settings::Setting;
 use crate::state::State;
-use crate::verdict::{Verdict, of_key, of_text, refused, unknown};
-use indexmap::IndexMap;
-use machine::{Entry, Machine, Section, cut_first};
+use crate::verdict::{Verdict, Written, of_named, refused};
+use faults::Refusal;
+use machine_file::{Entry, Machine, Section, cut_first};
 use option_file::{Declaration, Declared};
-use option_values::OptionKind;
 use std::alloc::{AllocError, Global};
+
+/// A value that the keyword `default_options` of `project` gives, with the name of its option.
+#[derive(Clone, Copy)]
+pub enum ProjectDefault<'a> {
+    /// A text of a list: `NAME=VALUE`, cut at its first `=`.
+    Assignment(&'a str),
+    /// The key of a dictionary, and its printed value. An `=` in the key belongs to the name.
+    Entry(&'a str, &'a str),
+}
 
 // A declaration sets its option to its default.
 #[tactic(auto, unfolding(crate::specs::Verdicts::of_declaration))]
@@ -38,7 +46,7 @@ fn of_declaration<'a>(
                 given: false,
             },
         )),
-        None => Ok(refused(Place::Declared(declaration.line), FaultKind::Option)),
+        None => Ok(refused(Place::Declared(declaration.line), Refusal::OptionValue)),
     }
 }
 
@@ -51,6 +59,9 @@ pub fn take_declarations(
     ensures { OnOk result (state_in state.new ≡ fold next (state_in state.old) (map of_declaration (declared_in declared.now))) }
 {
     for i in 0..declared.len() {
+        if state.is_refused() {
+            return Ok(());
+        }
         let Some((name, declaration)) = declared.at(i) else {
             return Ok(());
         };
@@ -64,39 +75,53 @@ pub fn take_declarations(
 #[tactic(auto, unfolding(crate::specs::Verdicts::of_assignment))]
 fn of_assignment<'a>(
     alloc: Global,
-    built_ins: &IndexMap<String, OptionKind>,
-    declared: &Declared,
+    known: &Known<'_>,
     place: Place,
     text: &'a str,
 ) -> Result<Verdict<'a>, AllocError>
-    requires { AreBuiltIns built_ins.now.entries }
-    ensures { IfOk result (λ v. verdict_in v ≡ of_assignment (declared_in declared.now) place text.now) }
+    ensures { IfOk result (λ v. verdict_in v ≡ of_assignment (declared_of known.now) place text.now) }
 {
     let Some((name, value)) = cut_first(text, '=') else {
-        return Ok(refused(place, FaultKind::Option));
+        return Ok(refused(place, Refusal::OptionValue));
     };
-    match kind_named(built_ins, declared, name) {
-        Some(kind) => {
-            let verdict = of_text(alloc, place, kind, name, value)?;
-            Ok(verdict)
+    let kind = known.kind_named(name);
+    let verdict = of_named(alloc, place, name, kind, Written::Text(value))?;
+    Ok(verdict)
+}
+
+// A text of `default_options`, or an entry.
+#[tactic(auto, unfolding(crate::specs::Verdicts::of_project_default))]
+fn of_project_default<'a>(
+    alloc: Global,
+    known: &Known<'_>,
+    default: &ProjectDefault<'a>,
+) -> Result<Verdict<'a>, AllocError>
+    ensures { IfOk result (λ v. verdict_in v ≡ of_project_default (declared_of known.now) (default_in default.now)) }
+{
+    match default {
+        ProjectDefault::Assignment(text) => of_assignment(alloc, known, Place::Project, text),
+        ProjectDefault::Entry(name, value) => {
+            let kind = known.kind_named(name);
+            of_named(alloc, Place::Project, name, kind, Written::Text(value))
         }
-        None => Ok(unknown(place, name)),
     }
 }
 
-/// All texts of `default_options`.
+/// All that `default_options` holds.
 pub fn take_defaults(
     alloc: Global,
     state: &mut State,
-    built_ins: &IndexMap<String, OptionKind>,
-    declared: &Declared,
-    defaults: &[String],
+    known: &Known<'_>,
+    defaults: &[ProjectDefault<'_>],
 ) -> Result<(), AllocError>
-    requires { AreBuiltIns built_ins.now.entries }
-    ensures { OnOk result (state_in state.new ≡ fold next (state_in state.old) (map (of_assignment (declared_in declared.now) Place.Project) (strings_in defaults.now))) }
+    ensures { OnOk result (state_in state.new ≡ fold next (state_in state.old)
+        (map (of_project_default (declared_of known.now)) (defaults_in defaults.now))) }
 {
-    for text in defaults {
-        let verdict = of_assignment(alloc, built_ins, declared, Place::Project, text.as_str())?;
+    for default in defaults {
+        if state.is_refused() {
+            return Ok(());
+        }
+        let verdict = of_project_default(alloc, known, default)?;
         state.next(alloc, verdict)?;
     }
     Ok(())
@@ -106,42 +131,38 @@ pub fn take_defaults(
 #[tactic(auto, unfolding(crate::specs::Verdicts::of_entry))]
 fn of_entry<'a>(
     alloc: Global,
-    built_ins: &IndexMap<String, OptionKind>,
-    declared: &Declared,
+    known: &Known<'_>,
     scope: Scope,
     key: &'a str,
     entry: &Entry,
 ) -> Result<Verdict<'a>, AllocError>
-    requires { AreBuiltIns built_ins.now.entries }
-    ensures { IfOk result (λ v. verdict_in v ≡ of_entry (declared_in declared.now) scope (key_in key.now entry.now)) }
+    ensures { IfOk result (λ v. verdict_in v ≡ of_entry (declared_of known.now) scope (key_in key.now entry.now)) }
 {
     let place = Place::MachineFile(entry.line);
-    match kind_in_scope(scope, built_ins, declared, key) {
-        Some(kind) => {
-            let verdict = of_key(alloc, place, kind, key, &entry.value)?;
-            Ok(verdict)
-        }
-        None => Ok(unknown(place, key)),
-    }
+    let kind = known.kind_in_scope(scope, key);
+    let verdict = of_named(alloc, place, key, kind, Written::Value(&entry.value))?;
+    Ok(verdict)
 }
 
 // All keys of a section that knows these options.
 fn take_entries(
     alloc: Global,
     state: &mut State,
-    built_ins: &IndexMap<String, OptionKind>,
-    declared: &Declared,
+    known: &Known<'_>,
     scope: Scope,
     section: &Section,
 ) -> Result<(), AllocError>
-    requires { AreBuiltIns built_ins.now.entries }
-    ensures { OnOk result (state_in state.new ≡ fold next (state_in state.old) (map (of_entry (declared_in declared.now) scope) (entries_of section.now))) }
+    ensures { OnOk result (state_in state.new ≡ fold next (state_in state.old)
+        (map (of_entry (declared_of known.now) scope) (entries_of section.now))) }
 {
     for i in 0..section.len() {
+        if state.is_refused() {
+            return Ok(());
+        }
         let Some((key, entry)) = section.at(i) else {
             return Ok(());
         };
-        let verdict = of_entry(alloc, built_ins, declared, scope, key, entry)?;
+        let verdict = of_entry(alloc, known, scope, key, entry)?;
         state.next(alloc, verdict)?;
     }
     Ok(())
@@ -152,17 +173,16 @@ fn take_entries(
 fn take_section(
     alloc: Global,
     state: &mut State,
-    built_ins: &IndexMap<String, OptionKind>,
-    declared: &Declared,
+    known: &Known<'_>,
     name: &str,
     section: &Section,
 ) -> Result<(), AllocError>
-    requires { AreBuiltIns built_ins.now.entries }
-    ensures { OnOk result (state_in state.new ≡ fold next (state_in state.old) (of_section (declared_in declared.now) (record { name = name.now; entries = entries_of section.now }))) }
+    ensures { OnOk result (state_in state.new ≡ fold next (state_in state.old)
+        (of_section (declared_of known.now) (record { name = name.now; entries = entries_of section.now }))) }
 {
     match scope_of(name) {
         Some(scope) => {
-            take_entries(alloc, state, built_ins, declared, scope, section)?;
+            take_entries(alloc, state, known, scope, section)?;
             Ok(())
         }
         None => Ok(()),
@@ -173,18 +193,17 @@ fn take_section(
 pub fn take_machine(
     alloc: Global,
     state: &mut State,
-    built_ins: &IndexMap<String, OptionKind>,
-    declared: &Declared,
+    known: &Known<'_>,
     machine: &Machine,
 ) -> Result<(), AllocError>
-    requires { AreBuiltIns built_ins.now.entries }
-    ensures { OnOk result (state_in state.new ≡ fold next (state_in state.old) (flat_map (of_section (declared_in declared.now)) (machine_in machine.now))) }
+    ensures { OnOk result (state_in state.new ≡ fold next (state_in state.old)
+        (flat_map (of_section (declared_of known.now)) (machine_in machine.now))) }
 {
     for i in 0..machine.len() {
         let Some((name, section)) = machine.at(i) else {
             return Ok(());
         };
-        take_section(alloc, state, built_ins, declared, name, section)?;
+        take_section(alloc, state, known, name, section)?;
     }
     Ok(())
 }
@@ -194,16 +213,18 @@ pub fn take_machine(
 pub fn take_words(
     alloc: Global,
     state: &mut State,
-    built_ins: &IndexMap<String, OptionKind>,
-    declared: &Declared,
+    known: &Known<'_>,
     words: &[String],
 ) -> Result<(), AllocError>
-    requires { AreBuiltIns built_ins.now.entries }
-    ensures { OnOk result (state_in state.new ≡ fold next (state_in state.old) (of_words (declared_in declared.now) 1 (strings_in words.now))) }
+    ensures { OnOk result (state_in state.new ≡ fold next (state_in state.old)
+        (of_words (declared_of known.now) 1 (strings_in words.now))) }
 {
     for (i, word) in words.iter().enumerate() {
+        if state.is_refused() {
+            return Ok(());
+        }
         let place = Place::CommandLine(i + 1);
-        let verdict = of_assignment(alloc, built_ins, declared, place, word.as_str())?;
+        let verdict = of_assignment(alloc, known, place, word.as_str())?;
         state.next(alloc, verdict)?;
     }
     Ok(())

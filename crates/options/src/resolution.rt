@@ -1,19 +1,20 @@
 //! The values that options have in the end.
 
 ghost use Rattle.std.specs.Prelude.{◌≡◌, IfOk};
-ghost use Rattle.machine.specs.View.{machine_in};
+ghost use Rattle.machine_file.specs.View.{machine_in};
 ghost use Rattle.option_file.specs.View.{options_in as declared_in};
 ghost use Rattle.option_values.specs.View.{strings_in};
 ghost use Rattle.options.specs.Resolves.{at_first, resolution_of, resolved};
-ghost use Rattle.options.specs.View.{state_in, resolved_in};
+ghost use Rattle.options.specs.View.{defaults_in, state_in, resolved_in};
 
-use crate::built_in::{built_in_kinds, built_in_settings};
+use crate::built_in::built_in_settings;
 use crate::fault::OptionFault;
 use crate::fill_in::fill_in;
-use crate::place::{take_declarations, take_defaults, take_machine, take_words};
+use crate::known::Known;
+use crate::place::{ProjectDefault, take_declarations, take_defaults, take_machine, take_words};
 use crate::settings::Options;
 use crate::state::State;
-use machine::Machine;
+use machine_file::Machine;
 use option_file::Declared;
 use std::alloc::{AllocError, Global};
 
@@ -60,8 +61,8 @@ fn ended(alloc: Global, state: State) -> Result<Resolved, AllocError>
     }
 }
 
-/// The options of a project with their values, from what its option file declares, the texts `NAME=VALUE` of the keyword
-/// `default_options` of its call of `project`, a machine file, and the words `NAME=VALUE` of a command line.
+/// The options of a project with their values, from what its option file declares, the keyword `default_options` of its call of
+/// `project`, a machine file, and the words `NAME=VALUE` of a command line.
 ///
 /// Of several values that an option is given the last one holds, in this order; each has to be a value of its option, and the
 /// first that is none is the fault. A name in `default_options` that no option has is handed back, for a warning, and any other
@@ -70,18 +71,19 @@ fn ended(alloc: Global, state: State) -> Result<Resolved, AllocError>
 pub fn resolve(
     alloc: Global,
     declared: &Declared,
-    defaults: &[String],
+    defaults: &[ProjectDefault<'_>],
     machine: &Machine,
     words: &[String],
 ) -> Result<Resolved, AllocError>
-    ensures { IfOk result (λ r. resolved_in r ≡ resolved (declared_in declared.now) (strings_in defaults.now) (machine_in machine.now) (strings_in words.now)) }
+    ensures { IfOk result (λ r. resolved_in r
+        ≡ resolved (declared_in declared.now) (defaults_in defaults.now) (machine_in machine.now) (strings_in words.now)) }
 {
-    let built_ins = built_in_kinds(alloc)?;
+    let known = Known::new(alloc, declared)?;
     let mut state = at_first(alloc)?;
     take_declarations(alloc, &mut state, declared)?;
-    take_defaults(alloc, &mut state, &built_ins, declared, defaults)?;
-    take_machine(alloc, &mut state, &built_ins, declared, machine)?;
-    take_words(alloc, &mut state, &built_ins, declared, words)?;
+    take_defaults(alloc, &mut state, &known, defaults)?;
+    take_machine(alloc, &mut state, &known, machine)?;
+    take_words(alloc, &mut state, &known, words)?;
     let resolved = ended(alloc, state)?;
     Ok(resolved)
 }

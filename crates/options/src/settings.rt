@@ -3,11 +3,11 @@
 ghost use Rattle.std.specs.Prelude.{◌≡◌, ◌==◌, length, slice_get};
 ghost use Rattle.std.specs.Option.{option_map};
 
-use indexmap::IndexMap;
 use option_values::OptionValue;
+use tables::SipMap;
 
 /// The value of an option.
-#[derive(Debug, Drop)]
+#[derive(Drop)]
 pub struct Setting {
     pub value: OptionValue,
     /// Whether `default_options`, the machine file or a word gives it.
@@ -18,7 +18,7 @@ pub struct Setting {
 /// "Built-in options" as far as they are built in here, and then the declared ones in the order of their declarations.
 #[derive(Drop)]
 pub struct Options {
-    pub(crate) settings: IndexMap<String, Setting>,
+    pub(crate) settings: SipMap<String, Setting>,
 }
 
 impl Options {
@@ -40,7 +40,7 @@ impl Options {
         self.settings.is_empty()
     }
 
-    /// The value of the option of this name. It takes no memory and never fails.
+    /// The value of the option of this name; it tells the option's type too. It takes no memory and never fails.
     pub fn get(&self, name: &str) -> Option<&OptionValue>
         ensures { option_map (λ v. value_in v.now) result ≡ value_named (options_in self.now) name.now }
     {
@@ -50,7 +50,7 @@ impl Options {
         }
     }
 
-    /// The i-th option: its name and its value. It takes no memory and never fails.
+    /// The i-th option: its name and its value, which tells its type too. It takes no memory and never fails.
     pub fn at(&self, i: usize) -> Option<(&str, &OptionValue)>
         ensures { option_map shown_in result ≡ option_map named_value (slice_get (options_in self.now) i) }
     {

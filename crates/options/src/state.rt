@@ -1,6 +1,6 @@
 //! What is known after some values.
 
-ghost use Rattle.std.specs.Prelude.{◌≡◌, OnOk};
+ghost use Rattle.std.specs.Prelude.{◌≡◌, is_some, OnOk};
 ghost use Rattle.options.specs.Resolves.{after_verdict, next};
 ghost use Rattle.options.specs.Verdicts.{Warns};
 ghost use Rattle.options.specs.Settings.{put};
@@ -9,21 +9,21 @@ ghost use Rattle.options.specs.View.{setting_in, settings_in, verdict_in, state_
 use crate::fault::OptionFault;
 use crate::settings::Setting;
 use crate::verdict::Verdict;
-use indexmap::IndexMap;
 use std::alloc::{AllocError, Global};
+use tables::SipMap;
 
 /// The names of no option so far, the options with their values, and the first fault.
 #[derive(Drop)]
 pub struct State {
     pub unknown: Vec<String>,
-    pub settings: IndexMap<String, Setting>,
+    pub settings: SipMap<String, Setting>,
     pub fault: Option<OptionFault>,
 }
 
 /// An option takes a value: it keeps its place, and a new one stands last.
 pub fn put(
     alloc: Global,
-    settings: &mut IndexMap<String, Setting>,
+    settings: &mut SipMap<String, Setting>,
     name: &str,
     setting: Setting,
 ) -> Result<(), AllocError>
@@ -54,6 +54,13 @@ impl State {
             Verdict::Refuses(fault) => self.fault = Some(fault),
         }
         Ok(())
+    }
+
+    /// Whether there was a fault.
+    pub fn is_refused(&self) -> bool
+        ensures { result ≡ is_some (state_in self.now).fault }
+    {
+        self.fault.is_some()
     }
 
     /// One more value. Nothing comes after a fault.

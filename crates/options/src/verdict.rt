@@ -1,17 +1,17 @@
 //! What it means that a place gives an option a value.
 
 ghost use Rattle.std.specs.Prelude.{◌≡◌, IfOk};
-ghost use Rattle.machine.specs.View.{value_in as machine_value_in};
-ghost use Rattle.machine.specs.Values.{Text as TextThere};
+ghost use Rattle.machine_file.specs.Readers.{text_said};
 ghost use Rattle.option_values.specs.View.{kind_in, value_in};
-ghost use Rattle.option_values.specs.Values.{Value};
+ghost use Rattle.option_values.specs.Given.{value_of_given};
 ghost use Rattle.std.specs.Option.{option_map};
-ghost use Rattle.options.specs.Verdicts.{refused, unknown_at, is_both, refusal, of_value, of_kind};
-ghost use Rattle.options.specs.View.{verdict_in};
+ghost use Rattle.options.specs.Verdicts.{refused, unknown_at, is_both, refusal_of, of_value, of_named};
+ghost use Rattle.options.specs.View.{verdict_in, written_in};
 
-use crate::fault::{FaultKind, OptionFault, Place};
+use crate::fault::{OptionFault, Place};
 use crate::settings::Setting;
-use machine::MachineValue;
+use faults::Refusal;
+use machine_file::MachineValue;
 use option_values::{OptionKind, OptionValue, value_of_given, value_of_text};
 use std::alloc::{AllocError, Global};
 
@@ -26,52 +26,73 @@ pub enum Verdict<'a> {
     Refuses(OptionFault),
 }
 
+/// What is written at a place.
+#[derive(Clone, Copy)]
+pub enum Written<'a> {
+    Text(&'a str),
+    /// A value of the machine file.
+    Value(&'a MachineValue),
+}
+
 /// The value at this place is refused.
-pub fn refused<'a>(place: Place, kind: FaultKind) -> Verdict<'a>
-    ensures { verdict_in result ≡ refused place kind }
+pub fn refused<'a>(place: Place, refusal: Refusal) -> Verdict<'a>
+    ensures { verdict_in result ≡ refused place refusal }
 {
-    Verdict::Refuses(OptionFault { place, kind })
+    Verdict::Refuses(OptionFault { place, refusal })
 }
 
 /// A place gives a value to a name that no option has: `default_options` alone may do so.
-pub fn unknown<'a>(place: Place, name: &'a str) -> Verdict<'a>
+fn unknown<'a>(place: Place, name: &'a str) -> Verdict<'a>
     ensures { verdict_in result ≡ unknown_at place name.now }
 {
     match place {
         Place::Project => Verdict::Warns(name),
         Place::Declared(_) | Place::MachineFile(_) | Place::CommandLine(_) => {
-            refused(place, FaultKind::Option)
+            refused(place, Refusal::OptionValue)
         }
     }
 }
 
-// Whether this is the value of `default_library` that is left out.
-fn is_both(name: &str, text: &str) -> bool
-    ensures { result ≡ is_both name.now (TextThere text.now) }
-{
-    name == "default_library" && text == "both"
-}
-
-// Why a text is refused that is no value of the option of this name.
-fn refusal_of_text(name: &str, text: &str) -> FaultKind
-    ensures { result ≡ refusal name.now (TextThere text.now) }
-{
-    if is_both(name, text) {
-        FaultKind::NotYet
-    } else {
-        FaultKind::Option
+impl Written<'_> {
+    // The text that is written, if it is one.
+    fn text(&self) -> Option<&str>
+        ensures { option_map (λ t. t.now) result ≡ text_said (written_in self.now) }
+    {
+        match self {
+            Written::Text(text) => Some(*text),
+            Written::Value(value) => value.text(),
+        }
     }
-}
 
-// Why a value of a machine file is refused that is no value of the option of this name.
-fn refusal(name: &str, given: &MachineValue) -> FaultKind
-    ensures { result ≡ refusal name.now (machine_value_in given.now) }
-{
-    match given {
-        MachineValue::Text(text) => refusal_of_text(name, text.as_str()),
-        MachineValue::Integer(_) => FaultKind::Option,
-        MachineValue::Truth(_) => FaultKind::Option,
-        MachineValue::Texts(_) => FaultKind::Option,
+    // Whether this is the value of `default_library` that is left out.
+    fn is_both(&self, name: &str) -> bool
+        ensures { result ≡ is_both name.now (written_in self.now) }
+    {
+        match self.text() {
+            Some(text) => name == "default_library" && text == "both",
+            None => false,
+        }
+    }
+
+    // The value of an option of this kind that is written, if it is one.
+    fn value(&self, alloc: Global, kind: &OptionKind) -> Result<Option<OptionValue>, AllocError>
+        ensures { IfOk result (λ v. option_map value_in v ≡ value_of_given (kind_in kind.now) (written_in self.now)) }
+    {
+        match self {
+            Written::Text(text) => value_of_text(alloc, kind, text),
+            Written::Value(value) => value_of_given(alloc, kind, value),
+        }
+    }
+
+    // Why it is refused, where it is no value of the option of this name.
+    fn refusal(&self, name: &str) -> Refusal
+        ensures { result ≡ refusal_of name.now (written_in self.now) }
+    {
+        if self.is_both(name) {
+            Refusal::LeftOut
+        } else {
+            Refusal::OptionValue
+        }
     }
 }
 
@@ -79,7 +100,7 @@ fn refusal(name: &str, given: &MachineValue) -> FaultKind
 fn of_value<'a>(
     place: Place,
     name: &'a str,
-    otherwise: FaultKind,
+    otherwise: Refusal,
     value: Option<OptionValue>,
 ) -> Verdict<'a>
     ensures { verdict_in result ≡ of_value place name.now otherwise (option_map value_in value) }
@@ -90,32 +111,21 @@ fn of_value<'a>(
     }
 }
 
-/// A place gives an option of this kind a text.
+/// A place gives the option of this name what is written there; without a kind there is no such option.
 #[tactic(auto, unfolding(crate::specs::Verdicts::of_kind))]
-pub fn of_text<'a>(
+pub fn of_named<'a>(
     alloc: Global,
     place: Place,
-    kind: &OptionKind,
     name: &'a str,
-    text: &str,
+    kind: Option<&OptionKind>,
+    written: Written<'_>,
 ) -> Result<Verdict<'a>, AllocError>
-    ensures { IfOk result (λ v. verdict_in v ≡ of_kind place name.now (TextThere text.now) (kind_in kind.now)) }
+    ensures { IfOk result (λ v. verdict_in v
+        ≡ of_named place name.now (written_in written.entry) (option_map (λ k. kind_in k.now) kind.entry)) }
 {
-    let value = value_of_text(alloc, kind, text)?;
-    Ok(of_value(place, name, refusal_of_text(name, text), value))
-}
-
-/// A place gives an option of this kind a value of a machine file.
-#[tactic(auto, unfolding(crate::specs::Verdicts::of_kind))]
-pub fn of_key<'a>(
-    alloc: Global,
-    place: Place,
-    kind: &OptionKind,
-    name: &'a str,
-    given: &MachineValue,
-) -> Result<Verdict<'a>, AllocError>
-    ensures { IfOk result (λ v. verdict_in v ≡ of_kind place name.now (machine_value_in given.now) (kind_in kind.now)) }
-{
-    let value = value_of_given(alloc, kind, given)?;
-    Ok(of_value(place, name, refusal(name, given), value))
+    let Some(kind) = kind else {
+        return Ok(unknown(place, name));
+    };
+    let value = written.value(alloc, kind)?;
+    Ok(of_value(place, name, written.refusal(name), value))
 }

@@ -26,14 +26,14 @@ fn shown_kind(alloc: Global, kind: &OptionKind) -> Result<String, AllocError> {
     match kind {
         OptionKind::Text => String::from_str(alloc, "string"),
         OptionKind::Boolean => String::from_str(alloc, "boolean"),
-        OptionKind::Combo(choices) => shown_texts(alloc, "combo", choices),
+        OptionKind::Combo(choices) => shown_texts(alloc, "combo", choices.texts()),
         OptionKind::Integer { min, max } => {
             let min = shown_bound(alloc, *min)?;
             let max = shown_bound(alloc, *max)?;
             format!(in alloc; "integer {min} to {max}")
         }
         OptionKind::Array(None) => String::from_str(alloc, "array"),
-        OptionKind::Array(Some(choices)) => shown_texts(alloc, "array of", choices),
+        OptionKind::Array(Some(choices)) => shown_texts(alloc, "array of", choices.texts()),
         OptionKind::Words => String::from_str(alloc, "words"),
         OptionKind::Feature => String::from_str(alloc, "feature"),
     }
@@ -43,7 +43,7 @@ fn shown_given(alloc: Global, given: Option<&Given>) -> Result<String, AllocErro
     match given {
         None => String::from_str(alloc, "nothing"),
         Some(Given::Text(text)) => format!(in alloc; "text {text}"),
-        Some(Given::Boolean(truth)) => format!(in alloc; "{truth}"),
+        Some(Given::Boolean(boolean)) => format!(in alloc; "{boolean}"),
         Some(Given::Integer(number)) => format!(in alloc; "{number}"),
         Some(Given::Texts(texts)) => shown_texts(alloc, "texts", texts),
         Some(Given::Other) => String::from_str(alloc, "other"),
@@ -70,7 +70,7 @@ fn shown_all(alloc: Global, declared: &Declared) -> Result<String, AllocError> {
 
 // A fault: its number and its line.
 fn shown_fault(alloc: Global, fault: DeclareFault) -> Result<String, AllocError> {
-    let number = fault.kind.number();
+    let number = fault.refusal.number();
     let line = fault.line;
     format!(in alloc; "E{number} at {line}")
 }
@@ -118,21 +118,6 @@ fn check(
     for (text, said) in rows {
         let source = format!(in alloc; "{before}{text}{behind}")?;
         check_source(rt, alloc, source.as_str(), said)?;
-    }
-    Ok(())
-}
-
-// The same where each row is a text that is refused as no option, in the first line.
-fn check_refused(
-    rt: &impl Abort,
-    alloc: Global,
-    before: &str,
-    behind: &str,
-    rows: &[&str],
-) -> Result<(), AllocError> {
-    for text in rows {
-        let source = format!(in alloc; "{before}{text}{behind}")?;
-        check_source(rt, alloc, source.as_str(), "E15 at 1")?;
     }
     Ok(())
 }

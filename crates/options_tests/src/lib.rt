@@ -1,11 +1,11 @@
-//! Tests of the crates `machine`, `option_values`, `option_file` and `options`: from a machine file, an option file and words
+//! Tests of the crates `machine_file`, `option_values`, `option_file` and `options`: from a machine file, an option file and words
 //! to the final values.
 #![tactic(auto)]
 
 #[cfg(test)]
 mod declarations;
 #[cfg(test)]
-mod machine_file;
+mod machines;
 #[cfg(test)]
 mod memory;
 #[cfg(test)]

@@ -2,22 +2,22 @@
 
 mod built_ins;
 mod defaults;
-mod faults;
 mod fill_ins;
 mod machine_files;
 mod places;
+mod refused;
 
 use crate::declarations::declared_by;
 use crate::support::{shown_value, strings};
-use machine::Machine;
-use options::fault::{OptionFault, Place};
-use options::{Options, Resolved, resolve};
+use machine_file::Machine;
+use options::ProjectDefault::Assignment;
+use options::{OptionFault, Options, Place, ProjectDefault, Resolved, resolve};
 use std::alloc::{AllocError, Global};
 use std::process::Abort;
 
 // A fault: its place and its number.
 fn shown_fault(alloc: Global, fault: &OptionFault) -> Result<String, AllocError> {
-    let number = fault.kind.number();
+    let number = fault.refusal.number();
     match fault.place {
         Place::Declared(line) => format!(in alloc; "declared:{line} E{number}"),
         Place::Project => format!(in alloc; "project E{number}"),
@@ -31,7 +31,7 @@ fn shown_fault(alloc: Global, fault: &OptionFault) -> Result<String, AllocError>
 enum Source {
     // Behind the name of the option `o`, in the call that declares it.
     Keywords,
-    // In `default_options`.
+    // In the list `default_options`.
     Defaults,
     // As the line of a machine file under the head of this section.
     Section(&'static str),
@@ -42,21 +42,21 @@ enum Source {
 // A text, the name of an option, and what is shown of the option.
 type Row = (&'static str, &'static str, &'static str);
 
-// Texts of `default_options`, the lines of a machine file, words, the name of an option, and what is shown of the option.
+// What `default_options` holds, the lines of a machine file, words, the name of an option, and what is shown of the option.
 type PlacesRow = (
-    &'static [&'static str],
+    &'static [ProjectDefault<'static>],
     &'static str,
     &'static [&'static str],
     &'static str,
     &'static str,
 );
 
-/// What these come to: the lines of an option file, texts of `default_options`, the lines of a machine file, and words.
+/// What these come to: the lines of an option file, what `default_options` holds, the lines of a machine file, and words.
 /// Nothing where one of the files is at fault.
 pub fn resolved(
     alloc: Global,
     file: &str,
-    defaults: &[&str],
+    defaults: &[ProjectDefault<'_>],
     machine: &str,
     words: &[&str],
 ) -> Result<Option<Resolved>, AllocError> {
@@ -66,9 +66,8 @@ pub fn resolved(
     let Ok(machine) = Machine::read(alloc, machine.as_bytes())? else {
         return Ok(None);
     };
-    let defaults = strings(alloc, defaults)?;
     let words = strings(alloc, words)?;
-    let resolved = resolve(alloc, &declared, &defaults, &machine, &words)?;
+    let resolved = resolve(alloc, &declared, defaults, &machine, &words)?;
     Ok(Some(resolved))
 }
 
@@ -107,7 +106,7 @@ fn resolved_with(
             let call = format!(in alloc; "{file}option('o', {text})")?;
             resolved(alloc, call.as_str(), &[], "", &[])
         }
-        Source::Defaults => resolved(alloc, file, &[text], "", &[]),
+        Source::Defaults => resolved(alloc, file, &[Assignment(text)], "", &[]),
         Source::Section(section) => {
             let machine = format!(in alloc; "[{section}]\n{text}")?;
             resolved(alloc, file, &[], machine.as_str(), &[])

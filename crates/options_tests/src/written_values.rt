@@ -5,8 +5,10 @@ mod texts;
 mod words;
 
 use crate::support::{shown_value, strings};
-use machine::MachineValue;
-use option_values::{OptionKind, OptionValue, value_of_given, value_of_items, value_of_text};
+use machine_file::MachineValue;
+use option_values::{
+    Choices, OptionKind, OptionValue, value_of_given, value_of_items, value_of_text,
+};
 use std::alloc::{AllocError, Global};
 use std::process::Abort;
 
@@ -34,8 +36,8 @@ pub enum Input {
     FileText(&'static str),
     /// An integer of a machine file.
     FileInteger(i64),
-    /// A truth value of a machine file.
-    FileTruth(bool),
+    /// A boolean of a machine file.
+    FileBoolean(bool),
     /// A list of a machine file.
     FileTexts(&'static [&'static str]),
 }
@@ -43,14 +45,18 @@ pub enum Input {
 /// What an option takes, what it is given, and what is shown of its value.
 pub type Row = (Kind, Input, &'static str);
 
+fn choices_of(alloc: Global, choices: &[&str]) -> Result<Choices, AllocError> {
+    Choices::new(alloc, strings(alloc, choices)?)
+}
+
 fn kind_of(alloc: Global, kind: Kind) -> Result<OptionKind, AllocError> {
     Ok(match kind {
         Kind::Text => OptionKind::Text,
         Kind::Boolean => OptionKind::Boolean,
-        Kind::Combo(choices) => OptionKind::Combo(strings(alloc, choices)?),
+        Kind::Combo(choices) => OptionKind::Combo(choices_of(alloc, choices)?),
         Kind::Integer(min, max) => OptionKind::Integer { min, max },
         Kind::Array => OptionKind::Array(None),
-        Kind::ArrayOf(choices) => OptionKind::Array(Some(strings(alloc, choices)?)),
+        Kind::ArrayOf(choices) => OptionKind::Array(Some(choices_of(alloc, choices)?)),
         Kind::Words => OptionKind::Words,
         Kind::Feature => OptionKind::Feature,
     })
@@ -66,7 +72,7 @@ fn value_of(
         Input::Items(items) => return value_of_items(alloc, kind, &strings(alloc, items)?),
         Input::FileText(text) => MachineValue::Text(String::from_str(alloc, text)?),
         Input::FileInteger(integer) => MachineValue::Integer(integer),
-        Input::FileTruth(truth) => MachineValue::Truth(truth),
+        Input::FileBoolean(boolean) => MachineValue::Boolean(boolean),
         Input::FileTexts(items) => MachineValue::Texts(strings(alloc, items)?),
     };
     value_of_given(alloc, kind, &value)

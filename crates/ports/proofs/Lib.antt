@@ -2,3 +2,4 @@ pub mod Files
 pub mod Going
 pub mod Recorded
 pub mod Sending
+pub mod Untold

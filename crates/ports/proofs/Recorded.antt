@@ -13,12 +13,12 @@ use Rattle.ports.specs.declared.event.Event.{Event}
 use Rattle.ports.specs.declared.event.Event.TheVariants.{Open, Byte, Close, Log, Fault}
 use Rattle.ports.specs.declared.memory_outputs.Span.{Span}
 use Rattle.ports.specs.declared.memory_outputs.Stream.TheVariants.{ToOutput, ToLog, ToFault}
-use Rattle.ports.specs.Outputs.{OutputState, Step, name_or_empty, told, name_after, opening, closing, puts, logs, faults, Sends}
+use Rattle.ports.specs.Outputs.{OutputState, Step, name_or_empty, told, name_after, opening, closing, puts, logs, faults, Takes}
 use Rattle.ports.specs.Slots.{name_at, event_at, open_at, events_at, is_span_within, is_within, is_open_within, are_within, slot_of, state_at}
 
 -- the run is added as it stands
-sends_as_told : (old new : OutputState) (run : List Step) → new.tells ≡ true → new.open_name ≡ name_after old.open_name run → new.events ≡ old.events ++ told old.open_name run → Sends old new run true
-sends_as_told old new run t n e = record { tells = λ _. t; name = λ _ _. n; events = λ _. e }
+takes_as_told : (old new : OutputState) (run : List Step) → new.tells ≡ true → new.open_name ≡ name_after old.open_name run → new.events ≡ old.events ++ told old.open_name run → Takes old new run
+takes_as_told old new run t n e = record { tells = λ _. t; name = n; events = λ _. e }
 
 events_at-append : (names : List ℕ) (a b : List (Event Span)) → events_at names (a ++ b) ≡ events_at names a ++ events_at names b
 unfolding events_at
@@ -39,51 +39,51 @@ unfolding events_at event_at told puts
 told-puts names span [] = refl
 told-puts names span (b ∷ bytes) = ap (λ r. Byte (name_at names span) b ∷ r) (told-puts names span bytes)
 
-name_after-puts : (name : Option (List ℕ)) (bytes : List ℕ) → name_after name (puts bytes) ≡ name
+pub name_after-puts : (name : Option (List ℕ)) (bytes : List ℕ) → name_after name (puts bytes) ≡ name
 unfolding name_after puts
 name_after-puts name [] = refl
 name_after-puts name (b ∷ bytes) = name_after-puts name bytes
 
-name_after-logs : (name : Option (List ℕ)) (bytes : List ℕ) → name_after name (logs bytes) ≡ name
+pub name_after-logs : (name : Option (List ℕ)) (bytes : List ℕ) → name_after name (logs bytes) ≡ name
 unfolding name_after logs
 name_after-logs name [] = refl
 name_after-logs name (b ∷ bytes) = name_after-logs name bytes
 
-name_after-faults : (name : Option (List ℕ)) (bytes : List ℕ) → name_after name (faults bytes) ≡ name
+pub name_after-faults : (name : Option (List ℕ)) (bytes : List ℕ) → name_after name (faults bytes) ≡ name
 unfolding name_after faults
 name_after-faults name [] = refl
 name_after-faults name (b ∷ bytes) = name_after-faults name bytes
 
 pub puts_recorded : (names : List ℕ) (slots new : List (Event Span)) (current : Option Span) (span : Span) (f g : ℕ) (bytes : List ℕ) → current ≡ Some span
-    → new ≡ slots ++ map (slot_of (ToOutput span)) bytes → Sends (state_at names slots current f) (state_at names new current g) (puts bytes) true
+    → new ≡ slots ++ map (slot_of (ToOutput span)) bytes → Takes (state_at names slots current f) (state_at names new current g) (puts bytes)
 unfolding open_at
 puts_recorded names slots new current span f g bytes c e =
-    sends_as_told _ _ _ refl (sym (name_after-puts _ bytes))
+    takes_as_told _ _ _ refl (sym (name_after-puts _ bytes))
     (ap (events_at names) e ∙ events_at-append names slots _ ∙ ap (λ r. events_at names slots ++ r) (told-puts names span bytes ∙ ap (λ n. told (open_at names n) (puts bytes)) (sym c)))
 
 pub logs_recorded : (names : List ℕ) (slots new : List (Event Span)) (current : Option Span) (f g : ℕ) (bytes : List ℕ)
-    → new ≡ slots ++ map (slot_of ToLog) bytes → Sends (state_at names slots current f) (state_at names new current g) (logs bytes) true
+    → new ≡ slots ++ map (slot_of ToLog) bytes → Takes (state_at names slots current f) (state_at names new current g) (logs bytes)
 logs_recorded names slots new current f g bytes e =
-    sends_as_told _ _ _ refl (sym (name_after-logs _ bytes))
+    takes_as_told _ _ _ refl (sym (name_after-logs _ bytes))
     (ap (events_at names) e ∙ events_at-append names slots _ ∙ ap (λ r. events_at names slots ++ r) (told-logs names _ bytes))
 
 pub faults_recorded : (names : List ℕ) (slots new : List (Event Span)) (current : Option Span) (f g : ℕ) (bytes : List ℕ)
-    → new ≡ slots ++ map (slot_of ToFault) bytes → Sends (state_at names slots current f) (state_at names new current g) (faults bytes) true
+    → new ≡ slots ++ map (slot_of ToFault) bytes → Takes (state_at names slots current f) (state_at names new current g) (faults bytes)
 faults_recorded names slots new current f g bytes e =
-    sends_as_told _ _ _ refl (sym (name_after-faults _ bytes))
+    takes_as_told _ _ _ refl (sym (name_after-faults _ bytes))
     (ap (events_at names) e ∙ events_at-append names slots _ ∙ ap (λ r. events_at names slots ++ r) (told-faults names _ bytes))
 
 pub nothing_recorded : (names more : List ℕ) (slots new : List (Event Span)) (current : Option Span) (f g : ℕ) → more ≡ names → new ≡ slots
-    → Sends (state_at names slots current f) (state_at more new current g) [] true
+    → Takes (state_at names slots current f) (state_at more new current g) []
 unfolding told name_after
 nothing_recorded names more slots new current f g n e =
-    sends_as_told _ _ _ refl (ap (λ m. open_at m current) n) (ap (λ m. events_at m new) n ∙ ap (events_at names) e ∙ sym (append-nil _))
+    takes_as_told _ _ _ refl (ap (λ m. open_at m current) n) (ap (λ m. events_at m new) n ∙ ap (events_at names) e ∙ sym (append-nil _))
 
 pub close_recorded : (names : List ℕ) (slots new : List (Event Span)) (current : Option Span) (span : Span) (f g : ℕ) → current ≡ Some span
-    → new ≡ slots ++ Close span ∷ [] → Sends (state_at names slots current f) (state_at names new None g) closing true
+    → new ≡ slots ++ Close span ∷ [] → Takes (state_at names slots current f) (state_at names new None g) closing
 unfolding open_at events_at event_at told name_after closing
 close_recorded names slots new current span f g c e =
-    sends_as_told _ _ _ refl refl
+    takes_as_told _ _ _ refl refl
     (ap (events_at names) e ∙ events_at-append names slots _ ∙ ap (λ n. events_at names slots ++ (Close (name_or_empty (open_at names n)) ∷ [])) (sym c))
 
 span_bounds : (n : ℕ) (span : Span) → is_span_within n span ≡ true → (span.start ≤ span.end) × (span.end ≤ n)
@@ -128,11 +128,11 @@ name_recorded names more name span m s e = ap (λ r. Some r) (ap (λ r. name_at 
 
 pub open_recorded : (names more name : List ℕ) (slots new : List (Event Span)) (current : Option Span) (span : Span) (f g : ℕ) → are_within (length names) slots ≡ true
     → more ≡ names ++ name → span.start ≡ length names → span.end ≡ length more
-    → new ≡ slots ++ Open span ∷ [] → Sends (state_at names slots current f) (state_at more new (Some span) g) (opening name) true
+    → new ≡ slots ++ Open span ∷ [] → Takes (state_at names slots current f) (state_at more new (Some span) g) (opening name)
 unfolding open_at events_at event_at told name_after opening
 open_recorded names more name slots new current span f g w m s e n =
     let at : name_at more span ≡ name = ap (λ r. name_at r span) m ∙ name_at-new names name span s (e ∙ ap length m) in
-    sends_as_told _ _ _ refl (ap (λ r. Some r) at)
+    takes_as_told _ _ _ refl (ap (λ r. Some r) at)
     (ap (events_at more) n ∙ events_at-append more slots _ ∙ ap (λ r. events_at more slots ++ (Open r ∷ [])) at
     ∙ ap (λ r. r ++ (Open name ∷ [])) (ap (λ r. events_at r slots) m ∙ events_at-more names name slots w))
 

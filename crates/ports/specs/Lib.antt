@@ -1,3 +1,5 @@
+pub mod DiskOutputs
+pub mod Endings
 pub mod MemOutputs
 pub mod MemTree
 pub mod Outputs

@@ -1,6 +1,7 @@
 -- What a tree of files is seen as, and what a call tells of it.
 use Rattle.std.specs.Prelude.{◌≡◌, ℕ, ◌-◌, ◌<◌, ◌≤◌, Bool, IsTrue, List, [], ◌∷◌, take, drop, length, Option, Some, None, unwrap_or, if◌then◌else◌}
 use Rattle.std.specs.Str.{bytes_eq}
+use Rattle.ports.specs.Endings.{Ending, failures_after}
 
 -- the files by their paths, how often the device has failed, and whether the files stay as they are
 pub record TreeState : Type 0 where
@@ -25,6 +26,11 @@ SameFiles files others = (path : List ℕ) → file_at others path ≡ file_at f
 pub record Stays (old new : TreeState) : Type 0 where
   pub steady : IsTrue old.steady → IsTrue new.steady
   pub files : IsTrue old.steady → new.files ≡ old.files
+
+-- What a call did to a tree: a steady one stays as it is.
+pub record Asks (old : TreeState) (ending : Ending) (new : TreeState) : Type 0 where
+  pub stays : Stays old new
+  pub failures : new.failures ≡ failures_after old.failures ending
 
 -- the first n bytes of a buffer of this length are those of the file at this place, and some if any are left
 pub record Reads (file : List ℕ) (at room n : ℕ) (buffer : List ℕ) : Type 0 where

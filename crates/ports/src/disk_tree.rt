@@ -22,7 +22,7 @@ pub struct DiskTree<'a, R: Files> {
 }
 
 // A path below a folder.
-fn joined(alloc: Global, folder: &str, path: &str) -> Result<String, AllocError> {
+pub(crate) fn joined(alloc: Global, folder: &str, path: &str) -> Result<String, AllocError> {
     let mut whole = String::with_capacity(alloc, folder.len())?;
     whole.push_str(folder)?;
     whole.push_str("/")?;

@@ -16,12 +16,18 @@
 //! the name that is open before them.
 //!
 //! ```text
-//! Sends old new run whole   outputs that told tell still, and behind the events of `old` stand those of `run`:
-//!                           all of them where `whole` is true, else a beginning of them
+//! Sends old new run whole       of the run the steps `sent` were taken: all of it where `whole` is true, else a beginning
+//! Took old steps ending new     one call of a device: exactly these steps were taken, and a failure counted where `ending` says so
+//! Writes old run ending new     a call that writes: it sends the run, counts its failure, and what was open is open still
+//! Makes old run ending new      a call that also opens and closes outputs: it sends the run, and counts its failure
+//! Asks old ending new           a call of a tree: a steady one stays as it is, and a failure is counted
 //! ```
 //!
-//! [`put_all`], [`log_all`] and [`fault_all`] are the calls to write with. Their `run` is one step a byte, and `whole` is whether they
-//! answer `Ok`.
+//! An ending is `Whole`, `Failed` (the device counted one failure more) or `Short` (another reason ended the call, as want of memory);
+//! `ended result` is that of a result whose one error is a device's. What a call asks is `HasRoom`, that one failure more can be
+//! counted, and `IsOpen` where it writes into an output.
+//!
+//! [`put_all`], [`log_all`] and [`fault_all`] are the calls to write with. Their run is one step a byte.
 #![tactic(auto)]
 
 mod disk_outputs;

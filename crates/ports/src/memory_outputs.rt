@@ -81,7 +81,8 @@ fn record_open(
 ) -> Result<Span, DeviceFault>
     ensures names { names.new.items ≡ (if is_ok result then names.old.items ++ name.now else names.old.items) }
     ensures span { IfOk result (λ span. (span.start ≡ length names.old.items) × (span.end ≡ length names.new.items)) }
-    ensures slots { MatchResult result (λ span. slots.new.items ≡ slots.old.items ++ Event.Open span ∷ []) (λ _. slots.new.items ≡ slots.old.items) }
+    ensures slots { MatchResult result (λ span. slots.new.items ≡ slots.old.items ++ Event.Open span ∷ [])
+        (λ _. slots.new.items ≡ slots.old.items) }
     ensures fails { is_err result ≡ (is_due (is_output_call plan.old.kind OutputCall.Open) plan.old.number
         || is_full slots.old || nat_lt (room_of names.old) (length name.now)) }
     ensures capacity { vec_capacity slots.new ≡ vec_capacity slots.old }

@@ -2,6 +2,7 @@ ghost use Rattle.std.specs.Prelude.{◌≡◌, ℕ, ◌^◌, ◌-◌, ◌≤◌,
 ghost use Rattle.std.specs.List.{list_any};
 ghost use Rattle.std.specs.Option.{option_map};
 ghost use Rattle.std.specs.Str.{bytes_eq};
+ghost use Rattle.indexmap.specs.IndexSet.{contains_text};
 ghost use Rattle.ports.specs.Tree.{TreeState, Reads, SameFiles, file_at, bytes_at};
 ghost use Rattle.ports.specs.MemTree.{contents, mem_tree_knows, mem_tree_plan, mem_tree_seen};
 ghost use Rattle.ports.specs.Plan.{is_due, is_tree_call, number_after, planned};
@@ -9,20 +10,20 @@ ghost use Rattle.ports.specs.declared.plan.TreeCall.TheVariants.{Any};
 
 use crate::plan::{Plan, TreeCall, tree_call_fails};
 use crate::{DeviceFault, Tree};
-use indexmap::{IndexMap, IndexSet};
 use std::alloc::{AllocError, Global};
+use tables::{SipMap, SipSet, map_with_capacity, set_with_capacity};
 
 /// A tree of files in memory.
 #[derive(Drop)]
 pub struct MemTree {
-    files: IndexMap<String, Vec<u8>>,
-    known: Option<IndexSet<String>>,
+    files: SipMap<String, Vec<u8>>,
+    known: Option<SipSet<String>>,
     plan: Plan<TreeCall>,
     failures: u64,
 }
 
 // The bytes of the file with this path.
-fn find<'a>(files: &'a IndexMap<String, Vec<u8>>, path: &str) -> Option<&'a [u8]>
+fn find<'a>(files: &'a SipMap<String, Vec<u8>>, path: &str) -> Option<&'a [u8]>
     ensures { option_map (λ bytes. bytes.now) result ≡ file_at (contents files.now.entries) path.now }
 {
     match files.get(path) {
@@ -46,6 +47,18 @@ fn read_part(bytes: &[u8], at: usize, piece: usize, buf: &mut [u8]) -> usize
     count
 }
 
+// These paths, to be looked up.
+fn known_paths(alloc: Global, paths: Vec<String>) -> Result<SipSet<String>, AllocError>
+    ensures { IfOk result (λ known. (path : List ℕ)
+        → contains_text known path ≡ list_any (λ p. bytes_eq path (string_bytes p)) paths.items) }
+{
+    let mut known = set_with_capacity(alloc, paths.len())?;
+    for path in paths {
+        known.insert(path)?;
+    }
+    Ok(known)
+}
+
 impl MemTree {
     /// A tree of these pairs of a path and its bytes. Of two pairs with one path the first holds.
     pub fn new(alloc: Global, mut files: Vec<(String, Vec<u8>)>) -> Result<Self, AllocError>
@@ -54,7 +67,7 @@ impl MemTree {
         ensures plan { IfOk result (λ tree. mem_tree_plan tree ≡ record { piece = 2 ^ 64 - 1; kind = Any; number = 0 }) }
         ensures known { IfOk result (λ tree. (path : List ℕ) → mem_tree_knows tree path ≡ true) }
     {
-        let mut found = IndexMap::with_capacity(alloc, files.len())?;
+        let mut found = map_with_capacity(alloc, files.len())?;
         while let Some((path, bytes)) = files.pop() {
             found.insert(path, bytes)?;
         }
@@ -85,12 +98,10 @@ impl MemTree {
     pub fn only(self, alloc: Global, paths: Vec<String>) -> Result<Self, AllocError>
         ensures seen { IfOk result (λ tree. mem_tree_seen tree ≡ mem_tree_seen self) }
         ensures plan { IfOk result (λ tree. mem_tree_plan tree ≡ mem_tree_plan self) }
-        ensures known { IfOk result (λ tree. (path : List ℕ) → mem_tree_knows tree path ≡ list_any (λ p. bytes_eq path (string_bytes p)) paths.items) }
+        ensures known { IfOk result (λ tree. (path : List ℕ)
+            → mem_tree_knows tree path ≡ list_any (λ p. bytes_eq path (string_bytes p)) paths.items) }
     {
-        let mut known = IndexSet::with_capacity(alloc, paths.len())?;
-        for path in paths {
-            known.insert(path)?;
-        }
+        let known = known_paths(alloc, paths)?;
         Ok(MemTree {
             known: Some(known),
             ..self
@@ -99,7 +110,8 @@ impl MemTree {
 
     // Counts this call, and says whether it is to fail.
     fn fails(&mut self, call: TreeCall, path: &str) -> bool
-        ensures fails { result ≡ (is_due (is_tree_call self.old.plan.kind call) self.old.plan.number || not (mem_tree_knows self.old path.now)) }
+        ensures fails { result
+            ≡ (is_due (is_tree_call self.old.plan.kind call) self.old.plan.number || not (mem_tree_knows self.old path.now)) }
         ensures number { self.new.plan.number ≡ number_after (is_tree_call self.old.plan.kind call) self.old.plan.number }
         ensures kind { self.new.plan.kind ≡ self.old.plan.kind }
         ensures piece { self.new.plan.piece ≡ self.old.plan.piece }

@@ -1,5 +1,6 @@
-ghost use Rattle.std.specs.Prelude.{◌≡◌, ◌+◌, ◌^◌, ◌<◌, ◌≤◌, [], length, is_ok, true, IsSome, IfOk, OnErr, if◌then◌else◌};
-ghost use Rattle.ports.specs.Outputs.{OutputState, Sends, puts, logs, faults, taken, opening, closing};
+ghost use Rattle.std.specs.Prelude.{◌≡◌, ◌<◌, ◌≤◌, [], length, is_ok, IfOk, OnOk, if◌then◌else◌};
+ghost use Rattle.ports.specs.Endings.{HasRoom, ended};
+ghost use Rattle.ports.specs.Outputs.{OutputState, IsOpen, Took, puts, logs, faults, taken, opening, closing};
 
 use crate::DeviceFault;
 
@@ -19,46 +20,33 @@ pub trait Outputs {
 
     /// Begins the output of this name, which is open from then on, in place of one that was open before.
     fn open(&mut self, name: &str) -> Result<(), DeviceFault>
-        requires { (seen self.old).failures + 1 < 2 ^ 64 }
-        ensures events { Sends (seen self.old) (seen self.new) (opening name.now) (is_ok result) }
-        ensures err { OnErr result (Sends (seen self.old) (seen self.new) [] true) }
-        ensures name { (seen self.new).open_name ≡ (if is_ok result then Some name.now else (seen self.old).open_name) }
-        ensures failures { (seen self.new).failures ≡ (if is_ok result then (seen self.old).failures else (seen self.old).failures + 1) };
+        requires { HasRoom (seen self.old).failures }
+        ensures took { Took (seen self.old) (if is_ok result then opening name.now else []) (ended result) (seen self.new) }
+        ensures is_open { OnOk result (IsOpen (seen self.new)) };
 
     /// Ends the open output. After a device fault it is still open.
     fn close(&mut self) -> Result<(), DeviceFault>
-        requires room { (seen self.old).failures + 1 < 2 ^ 64 }
-        requires is_open { IsSome (seen self.old).open_name }
-        ensures events { Sends (seen self.old) (seen self.new) closing (is_ok result) }
-        ensures err { OnErr result (Sends (seen self.old) (seen self.new) [] true) }
-        ensures name { (seen self.new).open_name ≡ (if is_ok result then None else (seen self.old).open_name) }
-        ensures failures { (seen self.new).failures ≡ (if is_ok result then (seen self.old).failures else (seen self.old).failures + 1) };
+        requires { IsOpen (seen self.old) }
+        ensures { Took (seen self.old) (if is_ok result then closing else []) (ended result) (seen self.new) };
 
     /// Takes the first of these bytes into the open output, at least one if there are any, and says how many.
     fn put(&mut self, bytes: &[u8]) -> Result<usize, DeviceFault>
-        requires room { (seen self.old).failures + 1 < 2 ^ 64 }
-        requires is_open { IsSome (seen self.old).open_name }
+        requires { IsOpen (seen self.old) }
         ensures within { IfOk result (λ n. n ≤ length bytes.now) }
         ensures some { IfOk result (λ n. 0 < length bytes.now → 0 < n) }
-        ensures events { Sends (seen self.old) (seen self.new) (puts (taken bytes.now result)) true }
-        ensures name { (seen self.new).open_name ≡ (seen self.old).open_name }
-        ensures failures { (seen self.new).failures ≡ (if is_ok result then (seen self.old).failures else (seen self.old).failures + 1) };
+        ensures took { Took (seen self.old) (puts (taken bytes.now result)) (ended result) (seen self.new) };
 
     /// Takes the first of these bytes into the log, at least one if there are any, and says how many.
     fn log(&mut self, bytes: &[u8]) -> Result<usize, DeviceFault>
-        requires { (seen self.old).failures + 1 < 2 ^ 64 }
+        requires { HasRoom (seen self.old).failures }
         ensures within { IfOk result (λ n. n ≤ length bytes.now) }
         ensures some { IfOk result (λ n. 0 < length bytes.now → 0 < n) }
-        ensures events { Sends (seen self.old) (seen self.new) (logs (taken bytes.now result)) true }
-        ensures name { (seen self.new).open_name ≡ (seen self.old).open_name }
-        ensures failures { (seen self.new).failures ≡ (if is_ok result then (seen self.old).failures else (seen self.old).failures + 1) };
+        ensures took { Took (seen self.old) (logs (taken bytes.now result)) (ended result) (seen self.new) };
 
     /// Takes the first of these bytes of a fault's line, at least one if there are any, and says how many.
     fn fault(&mut self, bytes: &[u8]) -> Result<usize, DeviceFault>
-        requires { (seen self.old).failures + 1 < 2 ^ 64 }
+        requires { HasRoom (seen self.old).failures }
         ensures within { IfOk result (λ n. n ≤ length bytes.now) }
         ensures some { IfOk result (λ n. 0 < length bytes.now → 0 < n) }
-        ensures events { Sends (seen self.old) (seen self.new) (faults (taken bytes.now result)) true }
-        ensures name { (seen self.new).open_name ≡ (seen self.old).open_name }
-        ensures failures { (seen self.new).failures ≡ (if is_ok result then (seen self.old).failures else (seen self.old).failures + 1) };
+        ensures took { Took (seen self.old) (faults (taken bytes.now result)) (ended result) (seen self.new) };
 }

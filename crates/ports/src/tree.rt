@@ -1,6 +1,7 @@
-ghost use Rattle.std.specs.Prelude.{◌≡◌, ◌+◌, ◌^◌, ◌<◌, ◌≤◌, length, is_ok, IsTrue, IfOk, if◌then◌else◌};
+ghost use Rattle.std.specs.Prelude.{◌≡◌, ◌≤◌, length, IsTrue, IfOk};
 ghost use Rattle.std.specs.Option.{option_map};
-ghost use Rattle.ports.specs.Tree.{TreeState, file_at, bytes_at, Stays, Reads};
+ghost use Rattle.ports.specs.Endings.{HasRoom, ended};
+ghost use Rattle.ports.specs.Tree.{TreeState, file_at, bytes_at, Asks, Reads};
 
 use crate::DeviceFault;
 
@@ -19,17 +20,17 @@ pub trait Tree {
 
     /// How many bytes the file at this path has, or none where there is no file.
     fn size(&mut self, path: &str) -> Result<Option<u64>, DeviceFault>
-        requires { (seen self.old).failures + 1 < 2 ^ 64 }
-        ensures size { IsTrue (seen self.old).steady → IfOk result (λ size. size ≡ option_map length (file_at (seen self.old).files path.now)) }
-        ensures stays { Stays (seen self.old) (seen self.new) }
-        ensures failures { (seen self.new).failures ≡ (if is_ok result then (seen self.old).failures else (seen self.old).failures + 1) };
+        requires { HasRoom (seen self.old).failures }
+        ensures size { IsTrue (seen self.old).steady
+            → IfOk result (λ size. size ≡ option_map length (file_at (seen self.old).files path.now)) }
+        ensures asks { Asks (seen self.old) (ended result) (seen self.new) };
 
     /// Reads bytes of the file at this path, from the place `at` on, into the front of the buffer, and says how many: at least one
     /// where some are left and the buffer is not empty. A file that is absent has no bytes.
     fn read_at(&mut self, path: &str, at: u64, buf: &mut [u8]) -> Result<usize, DeviceFault>
-        requires { (seen self.old).failures + 1 < 2 ^ 64 }
+        requires { HasRoom (seen self.old).failures }
         ensures within { IfOk result (λ n. n ≤ length buf.old) }
-        ensures bytes { IsTrue (seen self.old).steady → IfOk result (λ n. Reads (bytes_at (seen self.old).files path.now) at (length buf.old) n buf.new) }
-        ensures stays { Stays (seen self.old) (seen self.new) }
-        ensures failures { (seen self.new).failures ≡ (if is_ok result then (seen self.old).failures else (seen self.old).failures + 1) };
+        ensures bytes { IsTrue (seen self.old).steady
+            → IfOk result (λ n. Reads (bytes_at (seen self.old).files path.now) at (length buf.old) n buf.new) }
+        ensures asks { Asks (seen self.old) (ended result) (seen self.new) };
 }

@@ -2,13 +2,13 @@
 use Rattle.std.proofs.Common.{◌≡◌, true, false, codes, Ok, Err, refl}
 use Rattle.data.specs.declared.object.Object.TheVariants as TheObject
 use Rattle.data.specs.declared.refusal.Refusal.TheVariants as refusal
-use Rattle.data.specs.Data.{truth, text, list, dictionary, object, no_items, item, no_entries, entry}
+use Rattle.data.specs.Data.{boolean, text, list, dictionary, object, no_items, item, no_entries, entry}
 use Rattle.printing.specs.Printed.{printed}
 
-list_in : printed (list (item (truth false) (item (text (codes "a")) (item (truth true) no_items)))) ≡ Ok (codes "[false, 'a', true]")
+list_in : printed (list (item (boolean false) (item (text (codes "a")) (item (boolean true) no_items)))) ≡ Ok (codes "[false, 'a', true]")
 list_in = refl
 
-dictionary_in : printed (dictionary (entry (codes "k") (list (item (truth true) no_items))
+dictionary_in : printed (dictionary (entry (codes "k") (list (item (boolean true) no_items))
     (entry (codes "") (text (codes "it's")) no_entries))) ≡ Ok (codes "{'k' : [true], '' : 'it's'}")
 dictionary_in = refl
 

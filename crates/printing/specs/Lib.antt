@@ -1,3 +1,4 @@
 pub mod Printed
+pub mod Pieces
+pub mod Parts
 pub mod Writes
-pub mod Answers

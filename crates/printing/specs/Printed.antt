@@ -1,15 +1,16 @@
 -- The text that a value is printed as.
-use Rattle.std.specs.Prelude.{ℕ, Bool, true, false, ◌&&◌, List, [], ◌∷◌, ◌++◌, length, codes, nat_le, Result, Ok, Err, if◌then◌else◌}
+use Rattle.std.specs.Prelude.{ℕ, Bool, true, false, ◌&&◌, List, [], ◌∷◌, ◌++◌, codes, Result, Err, if◌then◌else◌}
 use Rattle.std.specs.List.{flat_map}
 use Rattle.std.specs.Fmt.{signed_decimal}
 use Rattle.data.specs.declared.refusal.Refusal.{Refusal}
 use Rattle.data.specs.declared.refusal.Refusal.TheVariants as refusal
-use Rattle.data.specs.Data.{Data, truth, integer, text, list, dictionary, object, Items, no_items, item, Entries, no_entries, entry}
+use Rattle.data.specs.Limits.{within_bytes}
+use Rattle.data.specs.Data.{Data, boolean, integer, text, list, dictionary, object, Items, no_items, item, Entries, no_entries, entry}
 
 -- no object, and nothing that holds one
 abbrev mutual
   pub is_printable : Data → Bool
-  is_printable (truth b) = true
+  is_printable (boolean b) = true
   is_printable (integer z) = true
   is_printable (text t) = true
   is_printable (list ds) = are_printable ds
@@ -24,9 +25,9 @@ abbrev mutual
   are_entries_printable no_entries = true
   are_entries_printable (entry k d es) = is_printable d && are_entries_printable es
 
-abbrev pub truth_text : Bool → List ℕ
-truth_text true = codes "true"
-truth_text false = codes "false"
+abbrev pub boolean_text : Bool → List ℕ
+boolean_text true = codes "true"
+boolean_text false = codes "false"
 
 -- a text in single quotes; nothing in it is escaped
 abbrev pub quoted : List ℕ → List ℕ
@@ -40,7 +41,7 @@ listed (t ∷ ts) = t ++ flat_map (λ next. codes ", " ++ next) ts
 -- what stands for a value inside a list or a dictionary
 abbrev mutual
   pub inside : Data → List ℕ
-  inside (truth b) = truth_text b
+  inside (boolean b) = boolean_text b
   inside (integer z) = signed_decimal z
   inside (text t) = quoted t
   inside (list ds) = codes "[" ++ (listed (item_texts ds) ++ codes "]")
@@ -59,10 +60,6 @@ abbrev mutual
 abbrev pub shown : Data → List ℕ
 shown (text t) = t
 shown d = inside d
-
--- a text that a value can be, or the refusal
-abbrev pub within_bytes : List ℕ → Result (List ℕ) Refusal
-within_bytes t = if nat_le (length t) 16777216 then Ok t else Err refusal.Limit
 
 -- the text that a value is printed as, or why there is none
 abbrev pub printed : Data → Result (List ℕ) Refusal

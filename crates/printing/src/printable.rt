@@ -12,7 +12,7 @@ pub fn is_printable(value: &Value) -> bool
     ensures { result ≡ is_printable (data_of value.now) }
 {
     match value {
-        Value::Truth(_) | Value::Integer(_) | Value::Text(_) => true,
+        Value::Boolean(_) | Value::Integer(_) | Value::Text(_) => true,
         Value::List(list) => are_printable(list.items()),
         Value::Dictionary(dictionary) => are_printable(dictionary.values()),
         Value::Object(_) => false,

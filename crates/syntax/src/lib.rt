@@ -8,4 +8,4 @@
 
 pub use code::{Code, Names, flatten, names_may_grow, node};
 pub use grammar::{LEVELS, parse, tree};
-pub use lexer::{fault, newlines, text_of, token, tokens};
+pub use lexer::{fault, newlines, text_of, text_of_slice, token, tokens};

@@ -19,12 +19,6 @@ const FILES: &[Row] = &[
         "x = a.b()[c] - (\nd) + 'e' / f",
         "1 x = ((a@1.b()[c@1])@1 - d@2 + ('e'@2 / f@2)@2)@1;",
     ),
-    ("x = (\ny z)", "E3 at 2"),
-    ("f(\n'a'\n", "E3 at 3"),
-    // No comparison stands behind another, no choice in a choice, no value without a name behind one that has it.
-    ("x = (a ==\nb\n== c)", "E3 at 3"),
-    ("x = (a ? b : [(c\n? d : e)])", "E3 at 2"),
-    ("f(g(n : a,\n'b'))", "E3 at 2"),
     ("f(a, k : 'b')", "1 f(a@1,k:'b'@1,)@1;"),
 ];
 

@@ -1,5 +1,5 @@
-//! Tests of the crate `syntax`: sources with their tokens, with their trees or with their faults, what tokens stand for, and files made
-//! flat.
+//! Tests of the crate `syntax`: sources with their tokens, with their trees, what tokens stand for, and files made flat. Sources with
+//! faults are cases of the program.
 #![tactic(auto)]
 
 #[cfg(test)]
@@ -7,13 +7,7 @@ mod calls;
 #[cfg(test)]
 mod expressions;
 #[cfg(test)]
-mod faults;
-#[cfg(test)]
 mod flattening;
-#[cfg(test)]
-mod fronts;
-#[cfg(test)]
-mod levels;
 #[cfg(test)]
 mod statements;
 #[cfg(test)]

@@ -178,7 +178,7 @@ fn put_expression(out: &mut Writer, value: &Expression<'_>) {
             put_operands(out, others);
             put_text(out, ")", *line);
         }
-        Expression::Choice {
+        Expression::Ternary {
             test,
             yes,
             no,

@@ -1,11 +1,12 @@
 -- What a line writes by how it is read.
-use Rattle.std.proofs.Common.{◌≡◌, ℕ, ◌-◌, ◌<◌, ◌≤◌, Bool, true, false, ◌++◌, List, [], length, take, drop, Some, None, refl, sym, ap, ◌∙◌, arith}
+use Rattle.std.proofs.Common.{◌≡◌, ℕ, ◌-◌, ◌<◌, ◌≤◌, true, false, ◌++◌, List, [], length, take, drop, Some, None, refl, sym, ap, ◌∙◌, arith}
 use Rattle.std.specs.Prelude.{nat_lt, codes, nat_eq}
 use Rattle.std.proofs.lemmas.Bool.Decides.{nat_tests}
 use Rattle.std.proofs.lemmas.List.{take_rest}
 use Rattle.std.specs.List.{starts_with}
-use Rattle.ports.specs.Outputs.{OutputState, puts, Sends}
-use Rattle.ports.proofs.Sending.{sends_nothing, sends_then, sends_stop}
+use Rattle.ports.specs.Endings.{Ending, Whole, Failed}
+use Rattle.ports.specs.Outputs.{OutputState, puts, Writes}
+use Rattle.ports.proofs.Sending.{writes_nothing, writes_then, writes_stop}
 use Rattle.template.specs.Config.{Entries, value_of}
 use Rattle.template.specs.Template.{first_fault}
 use Rattle.template.specs.Line.{Refusal, BadDefine, LongLine, Reading, Plain, Defines, Malformed, TooLong, is_name_byte, body_length, defined_in, definition_or_comment, line_fault, line_steps, reading, reading_of, refusal, replaced, steps_of, words}
@@ -90,8 +91,8 @@ unfolding first_fault
 fault_not number line e = rw e
 
 -- a line that is refused
-pub bad_sends : (s : OutputState) (entries : Entries) (path : List ℕ) (number : ℕ) (line : List ℕ) → reading line ≡ Malformed → Sends s s (line_steps entries path number line) true
-bad_sends s entries path number line r = rw (steps_read entries path number line Malformed r ∙ steps-Malformed entries path number line) (sends_nothing s)
+pub bad_writes : (s : OutputState) (entries : Entries) (path : List ℕ) (number : ℕ) (line : List ℕ) → reading line ≡ Malformed → Writes s (line_steps entries path number line) Whole s
+bad_writes s entries path number line r = rw (steps_read entries path number line Malformed r ∙ steps-Malformed entries path number line) (writes_nothing s)
 
 pub bad_fault : (number : ℕ) (line : List ℕ) → reading line ≡ Malformed → first_fault number (line_fault line) None ≡ Some (number, BadDefine)
 bad_fault number line r = fault_is number line BadDefine (fault_read line Malformed r ∙ refusal-Malformed)
@@ -104,21 +105,21 @@ define_run entries path number line name len r l =
     ∙ ap (λ k. definition_or_comment name (value_of entries name) ++ puts (drop k line)) (sym l)
     ∙ ap (λ b. definition_or_comment name (value_of entries name) ++ puts b) (sym (take_rest line len))
 
-pub define_sends : {old mid new : OutputState} {whole : Bool} (entries : Entries) (path : List ℕ) (number : ℕ) (line name : List ℕ) (len : ℕ) → reading line ≡ Defines name → len ≡ body_length line
-    → Sends old mid (definition_or_comment name (value_of entries name)) true → Sends mid new (puts (take (length line - len) (drop len line))) whole → Sends old new (line_steps entries path number line) whole
-define_sends entries path number line name len r l s t = rw (define_run entries path number line name len r l) (sends_then s t)
+pub define_writes : {old mid new : OutputState} {e : Ending} (entries : Entries) (path : List ℕ) (number : ℕ) (line name : List ℕ) (len : ℕ) → reading line ≡ Defines name → len ≡ body_length line
+    → Writes old (definition_or_comment name (value_of entries name)) Whole mid → Writes mid (puts (take (length line - len) (drop len line))) e new → Writes old (line_steps entries path number line) e new
+define_writes entries path number line name len r l s t = rw (define_run entries path number line name len r l) (writes_then s t)
 
 pub define_stop : {old new : OutputState} (entries : Entries) (path : List ℕ) (number : ℕ) (line name : List ℕ) (len : ℕ) → reading line ≡ Defines name → len ≡ body_length line
-    → Sends old new (definition_or_comment name (value_of entries name)) false → Sends old new (line_steps entries path number line) false
-define_stop entries path number line name len r l s = rw (define_run entries path number line name len r l) (sends_stop _ s)
+    → Writes old (definition_or_comment name (value_of entries name)) Failed new → Writes old (line_steps entries path number line) Failed new
+define_stop entries path number line name len r l s = rw (define_run entries path number line name len r l) (writes_stop _ s)
 
 pub define_fault : (number : ℕ) (line name : List ℕ) → reading line ≡ Defines name → first_fault number (line_fault line) None ≡ None
 define_fault number line name r = fault_not number line (fault_read line (Defines name) r ∙ refusal-Defines name)
 
 -- a line of text
-pub plain_sends : {old new : OutputState} {whole : Bool} (entries : Entries) (path : List ℕ) (number : ℕ) (line : List ℕ) → reading line ≡ Plain
-    → Sends old new (replaced entries path number 0 0 line) whole → Sends old new (line_steps entries path number line) whole
-plain_sends entries path number line r s = rw (steps_read entries path number line Plain r ∙ steps-Plain entries path number line) s
+pub plain_writes : {old new : OutputState} {e : Ending} (entries : Entries) (path : List ℕ) (number : ℕ) (line : List ℕ) → reading line ≡ Plain
+    → Writes old (replaced entries path number 0 0 line) e new → Writes old (line_steps entries path number line) e new
+plain_writes entries path number line r s = rw (steps_read entries path number line Plain r ∙ steps-Plain entries path number line) s
 
 pub plain_fault : (number : ℕ) (line : List ℕ) → reading line ≡ Plain → first_fault number (line_fault line) None ≡ None
 plain_fault number line r = fault_not number line (fault_read line Plain r ∙ refusal-Plain)

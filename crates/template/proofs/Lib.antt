@@ -3,3 +3,4 @@ pub mod Define
 pub mod Passing
 pub mod Scan
 pub mod Words
+pub mod Undoing

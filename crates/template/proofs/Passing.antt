@@ -4,21 +4,23 @@ use Rattle.std.specs.Prelude.{nat_lt}
 use Rattle.std.proofs.lemmas.Bool.{false≢true, cases_Bool, cases_lt, lt-ltb}
 use Rattle.std.proofs.lemmas.List.{append-nil, length-drop, length-take-le, get_or-take, take_more, drop-drop, take-take, take-append-drop, take-append-le, drop_all}
 use Rattle.std.specs.Result.{IsErrAnd}
-use Rattle.std.proofs.Math.Seq.{take-append-add, take-add}
+use Rattle.std.proofs.Math.Seq.{take-append-add, take-add, take-length}
+use Rattle.std.proofs.lemmas.Bool.Decides.{nat_tests}
 use Rattle.std.specs.Option.{option_map}
 use Rattle.memchr.specs.Find.{IsFirstByte, is_byte}
 use Rattle.template.proofs.Scan.{lacks-take}
 use Rattle.ports.specs.declared.fault.DeviceFault.{DeviceFault}
 use borrow.Rule.Slice.PartMut.{put_mid, post_of}
 use Rattle.ports.specs.Tree.{TreeState, Stays, Reads}
-use Rattle.ports.specs.Outputs.{OutputState, Step, Sends}
-use Rattle.ports.proofs.Sending.{sends_nothing, sends_part, sends_stop}
+use Rattle.ports.specs.Endings.{Ending, Whole, Failed, is_whole}
+use Rattle.ports.specs.Outputs.{OutputState, Step, Sends, Writes}
+use Rattle.ports.proofs.Sending.{writes_nothing, sends_part, sends_stop}
 use Rattle.template.specs.Config.{Entries}
 use Rattle.template.specs.declared.stop.PassStop.{PassStop}
 use Rattle.template.specs.declared.stop.PassStop.TheVariants.{Template, Limit, Device}
 use Rattle.template.specs.Line.{Refusal, LongLine, TooLong, line_fault, line_steps, reading}
 use Rattle.template.proofs.Define.{fault_read, refusal-TooLong, steps_read, steps-TooLong}
-use Rattle.template.specs.Template.{Agrees, Lacks, fault_from, first_fault, is_whole, lines_of, onto, steps_from}
+use Rattle.template.specs.Template.{Agrees, Lacks, ending_of, fault_from, first_fault, lines_of, onto, steps_from}
 use Rattle.ports.proofs.Going.{Going, going_start, going_on, going_stop, going_last, going_end, going_as}
 
 -- cutting
@@ -122,7 +124,7 @@ no_fault number (Some f) e = cc
 -- a line without fault
 pub passing_line : {old mid new : OutputState} {entries : Entries} {path file : List ℕ} {number : ℕ} (line rest : List ℕ)
     → IsPassing old mid entries path file number (line ++ 10 ∷ rest) → Lacks 10 line
-    → Sends mid new (line_steps entries path number (line ++ 10 ∷ [])) true → first_fault number (line_fault (line ++ 10 ∷ [])) None ≡ None
+    → Writes mid (line_steps entries path number (line ++ 10 ∷ [])) Whole new → first_fault number (line_fault (line ++ 10 ∷ [])) None ≡ None
     → IsPassing old new entries path file (number + 1) rest
 passing_line {old} {mid} {new} {entries} {path} {file} {number} line rest h lacks s f =
     let none = no_fault number (line_fault (line ++ 10 ∷ [])) f in
@@ -133,32 +135,32 @@ passing_line {old} {mid} {new} {entries} {path} {file} {number} line rest h lack
 
 -- the call ended as the definition says
 pub record Passes (old new : OutputState) (entries : Entries) (path file : List ℕ) (r : Result (Unit {0}) PassStop) : Type 0 where
-  pub events : Sends old new (steps_from entries path 1 (lines_of file)) (is_whole r)
+  pub events : Sends old new (steps_from entries path 1 (lines_of file)) (is_whole (ending_of r))
   pub fault : Agrees r (fault_from 1 (lines_of file))
 
 -- at a line's refusal, or where a device failed in it
 stopped_at : {old mid new : OutputState} (entries : Entries) (path file : List ℕ) (number : ℕ) (line : List ℕ) (lines : List (List ℕ)) (r : Result (Unit {0}) PassStop) (f : Option Refusal)
     → line_fault line ≡ f → IsErr r
     → Going old mid (steps_from entries path 1 (lines_of file)) (steps_from entries path number (line ∷ lines)) → fault_from 1 (lines_of file) ≡ fault_from number (line ∷ lines)
-    → Sends mid new (line_steps entries path number line) (is_whole r) → Agrees r (first_fault number f None) → Passes old new entries path file r
+    → Writes mid (line_steps entries path number line) (ending_of r) new → Agrees r (first_fault number f None) → Passes old new entries path file r
 unfolding first_fault
 stopped_at entries path file number line lines (Ok x) f e err h same s a = absurd (false≢true err)
-stopped_at entries path file number line lines (Err Device) None e err h same s a = record { events = going_stop _ (going_as h (steps_from-none entries path number line lines e)) s; fault = tt }
-stopped_at entries path file number line lines (Err Device) (Some f) e err h same s a = record { events = going_last (going_as h (steps_from-some entries path number line lines f e)) s; fault = tt }
+stopped_at entries path file number line lines (Err Device) None e err h same s a = record { events = (going_stop _ (going_as h (steps_from-none entries path number line lines e)) s).sends; fault = tt }
+stopped_at entries path file number line lines (Err Device) (Some f) e err h same s a = record { events = (going_last (going_as h (steps_from-some entries path number line lines f e)) s).sends; fault = tt }
 stopped_at entries path file number line lines (Err (Template n)) None e err h same s a = absurd cc
 stopped_at entries path file number line lines (Err (Template n)) (Some f) e err h same s a = record {
-  events = going_last (going_as h (steps_from-some entries path number line lines f e)) s;
+  events = (going_last (going_as h (steps_from-some entries path number line lines f e)) s).sends;
   fault = same ∙ fault_from-some number line lines f e ∙ a;
 }
 stopped_at entries path file number line lines (Err (Limit n)) None e err h same s a = absurd cc
 stopped_at entries path file number line lines (Err (Limit n)) (Some f) e err h same s a = record {
-  events = going_last (going_as h (steps_from-some entries path number line lines f e)) s;
+  events = (going_last (going_as h (steps_from-some entries path number line lines f e)) s).sends;
   fault = same ∙ fault_from-some number line lines f e ∙ a;
 }
 
 pub passing_stop : {old mid new : OutputState} {entries : Entries} {path file : List ℕ} {number : ℕ} (line rest : List ℕ) (r : Result (Unit {0}) PassStop)
     → IsErr r → IsPassing old mid entries path file number (line ++ 10 ∷ rest) → Lacks 10 line
-    → Sends mid new (line_steps entries path number (line ++ 10 ∷ [])) (is_whole r) → Agrees r (first_fault number (line_fault (line ++ 10 ∷ [])) None)
+    → Writes mid (line_steps entries path number (line ++ 10 ∷ [])) (ending_of r) new → Agrees r (first_fault number (line_fault (line ++ 10 ∷ [])) None)
     → Passes old new entries path file r
 passing_stop {old} {mid} {new} {entries} {path} {file} {number} line rest r err h lacks s a =
     stopped_at entries path file number (line ++ 10 ∷ []) (lines_of rest) r (line_fault (line ++ 10 ∷ [])) refl err
@@ -167,17 +169,17 @@ passing_stop {old} {mid} {new} {entries} {path} {file} {number} line rest r err 
 
 -- the last bytes, as `put_last` puts them
 pub passing_last : {old mid new : OutputState} {entries : Entries} {path file : List ℕ} {number : ℕ} {rest : List ℕ} (r : Result (Unit {0}) PassStop)
-    → IsPassing old mid entries path file number rest → Sends mid new (steps_from entries path number (lines_of rest)) (is_whole r) → Agrees r (fault_from number (lines_of rest))
+    → IsPassing old mid entries path file number rest → Writes mid (steps_from entries path number (lines_of rest)) (ending_of r) new → Agrees r (fault_from number (lines_of rest))
     → Passes old new entries path file r
 passing_last {old} {mid} {new} {entries} {path} {file} {number} {rest} r h s a = record {
-  events = going_last h.going s;
+  events = (going_last h.going s).sends;
   fault = subst (λ f. Agrees r f) (sym h.fault) a;
 }
 
 -- a device failed between two lines
 pub passing_fault : {old mid : OutputState} {entries : Entries} {path file : List ℕ} {number : ℕ} {rest : List ℕ}
     → IsPassing old mid entries path file number rest → Sends old mid (steps_from entries path 1 (lines_of file)) false
-passing_fault {old} {mid} {entries} {path} {file} {number} {rest} h = subst (λ r. Sends old mid r false) (sym h.going.of_run) (sends_stop _ (sends_part h.going.sent))
+passing_fault {old} {mid} {entries} {path} {file} {number} {rest} h = subst (λ r. Sends old mid r false) (sym h.going.of_run) (sends_stop _ (sends_part h.going.writes.sends))
 
 long_reading : (line : List ℕ) → 65536 < length line → reading line ≡ TooLong
 unfolding reading
@@ -198,7 +200,7 @@ passing_long {old} {mid} {entries} {path} {file} {number} line more h lacks some
     let long : 65536 < length l.line = let e = l.long in omega arith in
     let f = long_fault l.line long in
     record {
-      events = going_end (going_as h.going (ap (steps_from entries path number) l.is ∙ steps_from-some entries path number l.line l.later LongLine f ∙ long_steps entries path number l.line long));
+      events = (going_end (going_as h.going (ap (steps_from entries path number) l.is ∙ steps_from-some entries path number l.line l.later LongLine f ∙ long_steps entries path number l.line long))).sends;
       fault = h.fault ∙ ap (fault_from number) l.is ∙ fault_from-some number l.line l.later LongLine f;
     }
 
@@ -238,11 +240,18 @@ size_is None = refl
 size_is (Some bytes) = refl
 
 -- at the exit of a `?` on a device
-pub exit_device : {old new : OutputState} {run : List Step} (r : Result (Unit {0}) PassStop) → IsErrAnd r (λ e. e ≡ Device) → Sends old new run false → Sends old new run (is_whole r)
+pub exit_device : {old new : OutputState} {run : List Step} (r : Result (Unit {0}) PassStop) → IsErrAnd r (λ e. e ≡ Device) → Writes old run Failed new → Writes old run (ending_of r) new
 exit_device (Ok x) e s = absurd e
 exit_device (Err Device) e s = s
 exit_device (Err (Template n)) e s = absurd cc
 exit_device (Err (Limit n)) e s = absurd cc
+
+-- the same of what was sent
+pub exit_sends : {old new : OutputState} {run : List Step} (r : Result (Unit {0}) PassStop) → IsErrAnd r (λ e. e ≡ Device) → Sends old new run false → Sends old new run (is_whole (ending_of r))
+exit_sends (Ok x) e s = absurd e
+exit_sends (Err Device) e s = s
+exit_sends (Err (Template n)) e s = absurd cc
+exit_sends (Err (Limit n)) e s = absurd cc
 
 -- at the exit of a `?` that hands its error on
 pub exit_same : (r : Result (Unit {0}) PassStop) (x : PassStop) → IsErrAnd r (λ e. e ≡ x) → r ≡ Err x
@@ -273,11 +282,29 @@ filled_last line moved now file start end to at n count kept read none past =
     let all : take (end - start) (drop start line) ++ drop at file ≡ take to now = filled_on line moved now file start end to at n count kept read ∙ ap (λ l. take (to + n) now ++ l) (drop_all (at + n) file (omega arith)) ∙ append-nil (take (to + n) now) ∙ ap (λ k. take k now) (omega arith) in
     (all, sym (append-nil (take (end - start) (drop start line))) ∙ ap (λ l. take (end - start) (drop start line) ++ l) (sym gone) ∙ all)
 
-pub buffer_len : (line : List ℕ) (start end : ℕ) → start ≤ end → end ≤ length line → length (take (end - start) (drop start line)) ≡ end - start
-buffer_len line start end ends in_line = let n : length (drop start line) ≡ length line - start = length-drop start line in length-take-le (end - start) (drop start line) (omega arith)
-
 pub left_some : (file : List ℕ) (at size : ℕ) → size ≡ length file → at < size → 0 < length (drop at file)
 left_some file at size e lt = let n : length (drop at file) ≡ length file - at = length-drop at file in omega arith
+
+-- the whole buffer is full
+pub whole_kept : (line moved : List ℕ) (start end to : ℕ) → to ≡ end - start → take (end - start) moved ≡ take (end - start) (drop start line) → to ≡ length moved
+    → take (end - start) (drop start line) ≡ moved
+whole_kept line moved start end to count kept full = sym kept ∙ ap (λ k. take k moved) (sym count ∙ full) ∙ take-length moved
+
+-- nothing is left of the file
+pub file_over : (file : List ℕ) (at size : ℕ) (more : Bool) → (size ≡ length file → more ≡ nat_lt at size) → more ≡ false → size ≡ length file → drop at file ≡ []
+file_over file at size more is none same =
+    let h : nat_lt at size ≡ false = sym (is same) ∙ none in
+    let le : size ≤ at = grind (arith, nat_tests) in
+    drop_all at file (omega arith)
+
+pub file_goes_on : (file : List ℕ) (at size : ℕ) (more : Bool) → (size ≡ length file → more ≡ nat_lt at size) → more ≡ true → size ≡ length file → 0 < length (drop at file)
+file_goes_on file at size more is some same =
+    let h : nat_lt at size ≡ true = sym (is same) ∙ some in
+    let lt : at < size = grind (arith, nat_tests) in
+    left_some file at size same lt
+
+pub buffer_len : (line : List ℕ) (start end : ℕ) → start ≤ end → end ≤ length line → length (take (end - start) (drop start line)) ≡ end - start
+buffer_len line start end ends in_line = let n : length (drop start line) ≡ length line - start = length-drop start line in length-take-le (end - start) (drop start line) (omega arith)
 
 pub stays_then : {a b d : TreeState} → Stays a b → Stays b d → Stays a d
 stays_then {a} {b} {d} s t = record { steady = λ h. t.steady (s.steady h); files = λ h. t.files (s.steady h) ∙ s.files h }
@@ -299,9 +326,9 @@ pub fill_bytes : (line buf file : List ℕ) (filled want at room : ℕ) (r : Res
 fill_bytes line buf file filled want at room (Ok n) le len within reads = fill_at line buf file filled want at n le (omega arith) reads.bytes
 fill_bytes line buf file filled want at room (Err e) le len within reads = tt
 
-pub last_none : (s : OutputState) (entries : Entries) (path : List ℕ) (number : ℕ) (bytes : List ℕ) → length bytes ≡ 0 → Sends s s (steps_from entries path number (lines_of bytes)) true
+pub last_none : (s : OutputState) (entries : Entries) (path : List ℕ) (number : ℕ) (bytes : List ℕ) → length bytes ≡ 0 → Writes s (steps_from entries path number (lines_of bytes)) Whole s
 unfolding steps_from lines_of
-last_none s entries path number [] h = sends_nothing s
+last_none s entries path number [] h = writes_nothing s
 last_none s entries path number (b ∷ bytes) h = absurd (omega arith)
 
 pub fault_none : (number : ℕ) (bytes : List ℕ) → length bytes ≡ 0 → fault_from number (lines_of bytes) ≡ None
@@ -323,8 +350,8 @@ steps_one entries path number line = steps_one_at entries path number line (line
   steps_one_at entries path number line None e = steps_from-none entries path number line [] e ∙ ap (λ r. line_steps entries path number line ++ r) (steps_from-end entries path (number + 1)) ∙ append-nil (line_steps entries path number line)
   steps_one_at entries path number line (Some f) e = steps_from-some entries path number line [] f e
 
-pub last_one : {old new : OutputState} (entries : Entries) (path : List ℕ) (number : ℕ) (bytes : List ℕ) {whole : Bool} → (length bytes ≡ 0 → ⊥) → Lacks 10 bytes
-    → Sends old new (line_steps entries path number bytes) whole → Sends old new (steps_from entries path number (lines_of bytes)) whole
+pub last_one : {old new : OutputState} (entries : Entries) (path : List ℕ) (number : ℕ) (bytes : List ℕ) {e : Ending} → (length bytes ≡ 0 → ⊥) → Lacks 10 bytes
+    → Writes old (line_steps entries path number bytes) e new → Writes old (steps_from entries path number (lines_of bytes)) e new
 last_one entries path number [] some lacks s = absurd (some refl)
 last_one entries path number (b ∷ bytes) some lacks s = rw (lines_of-last b bytes lacks) (rw (steps_one entries path number (b ∷ bytes)) s)
 

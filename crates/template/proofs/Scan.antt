@@ -8,7 +8,8 @@ use Rattle.std.proofs.lemmas.List.{take-replicate, length-append, length-take, l
 use Rattle.std.specs.Prelude.{replicate, nat_lt, slice_index, if◌then◌else◌}
 use Rattle.std.specs.List.{prefix_len, AllPass}
 use Rattle.std.proofs.lemmas.List.{map-append, append-nil}
-use Rattle.ports.specs.Outputs.{OutputState, Step, Puts, puts, Sends}
+use Rattle.ports.specs.Endings.{Ending, Whole, Failed}
+use Rattle.ports.specs.Outputs.{OutputState, Step, Puts, puts, Writes}
 use Rattle.ports.proofs.Going.{Going, going_on, going_stop, going_last, going_as}
 use Rattle.std.proofs.lemmas.List.{take_rest, drop-drop, length-drop}
 use Rattle.template.specs.Config.{Entries}
@@ -224,12 +225,12 @@ sign_going entries path number line from text at name h s =
 
 pub sign_text : {old mid new : OutputState} {run : List Step} (entries : Entries) (path : List ℕ) (number : ℕ) (line : List ℕ) (from text at name : ℕ)
     → Going old mid run (replaced entries path number 0 0 (drop from line)) → IsSign (take (length line - from) (drop from line)) text at name
-    → Sends mid new (puts (take (from + text - from) (drop from line))) true → Going old new run (sign_steps entries path number name (drop (from + (at + 1)) line))
+    → Writes mid (puts (take (from + text - from) (drop from line))) Whole new → Going old new run (sign_steps entries path number name (drop (from + (at + 1)) line))
 sign_text entries path number line from text at name h s t = going_on (sign_going entries path number line from text at name h s) t
 
 pub sign_text_stop : {old mid new : OutputState} {run : List Step} (entries : Entries) (path : List ℕ) (number : ℕ) (line : List ℕ) (from text at name : ℕ)
     → Going old mid run (replaced entries path number 0 0 (drop from line)) → IsSign (take (length line - from) (drop from line)) text at name
-    → Sends mid new (puts (take (from + text - from) (drop from line))) false → Sends old new run false
+    → Writes mid (puts (take (from + text - from) (drop from line))) Failed new → Writes old run Failed new
 sign_text_stop entries path number line from text at name h s t = going_stop _ (sign_going entries path number line from text at name h s) t
 
 name_going : {old mid : OutputState} {run : List Step} (entries : Entries) (path : List ℕ) (number : ℕ) (line : List ℕ) (i name : ℕ)
@@ -241,22 +242,22 @@ name_going entries path number line i name h some =
     ∙ ap (λ n. in_place entries path number (take n (drop i line)) ++ replaced entries path number 0 0 (drop (i + (name + 1)) line)) (let e : name ≡ i + name - i = omega arith in e))
 
 pub name_on : {old mid new : OutputState} {run : List Step} (entries : Entries) (path : List ℕ) (number : ℕ) (line : List ℕ) (i name : ℕ)
-    → Going old mid run (sign_steps entries path number name (drop i line)) → 0 < name → Sends mid new (in_place entries path number (take (i + name - i) (drop i line))) true
+    → Going old mid run (sign_steps entries path number name (drop i line)) → 0 < name → Writes mid (in_place entries path number (take (i + name - i) (drop i line))) Whole new
     → Going old new run (replaced entries path number 0 0 (drop (i + (name + 1)) line))
 name_on entries path number line i name h some t = going_on (name_going entries path number line i name h some) t
 
 pub name_stop : {old mid new : OutputState} {run : List Step} (entries : Entries) (path : List ℕ) (number : ℕ) (line : List ℕ) (i name : ℕ)
-    → Going old mid run (sign_steps entries path number name (drop i line)) → 0 < name → Sends mid new (in_place entries path number (take (i + name - i) (drop i line))) false
-    → Sends old new run false
+    → Going old mid run (sign_steps entries path number name (drop i line)) → 0 < name → Writes mid (in_place entries path number (take (i + name - i) (drop i line))) Failed new
+    → Writes old run Failed new
 name_stop entries path number line i name h some t = going_stop _ (name_going entries path number line i name h some) t
 
 pub alone_going : {old mid : OutputState} {run : List Step} (entries : Entries) (path : List ℕ) (number name : ℕ) (bytes : List ℕ)
     → Going old mid run (sign_steps entries path number name bytes) → name ≤ 0 → Going old mid run (puts (64 ∷ []) ++ replaced entries path number 0 0 bytes)
 alone_going entries path number name bytes h none = going_as h (sign_steps-alone entries path number name bytes none)
 
-pub plain_last : {old mid new : OutputState} {run : List Step} (entries : Entries) (path : List ℕ) (number : ℕ) (line : List ℕ) (from : ℕ) {whole : Bool}
+pub plain_last : {old mid new : OutputState} {run : List Step} (entries : Entries) (path : List ℕ) (number : ℕ) (line : List ℕ) (from : ℕ) {e : Ending}
     → Going old mid run (replaced entries path number 0 0 (drop from line)) → IsPlain (take (length line - from) (drop from line))
-    → Sends mid new (puts (take (length line - from) (drop from line))) whole → Sends old new run whole
+    → Writes mid (puts (take (length line - from) (drop from line))) e new → Writes old run e new
 plain_last entries path number line from h p t =
     let p' = rw take_rest at p in
     let t' = rw take_rest at t in

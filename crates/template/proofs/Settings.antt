@@ -211,16 +211,16 @@ pub value_of-with_value : (entries : Entries) (name : List ℕ) (content : Conte
 unfolding value_of with_value
 value_of-with_value entries name content q = found_after q name content entries
 
-value_of-cons : (name : List ℕ) (content : Content) (entries : Entries) (q : List ℕ) → value_of ((name, content) ∷ entries) q ≡ cond (bytes_eq q name) (Some content) (value_of entries q)
+pub value_of-cons : (name : List ℕ) (content : Content) (entries : Entries) (q : List ℕ) → value_of ((name, content) ∷ entries) q ≡ cond (bytes_eq q name) (Some content) (value_of entries q)
 unfolding value_of
 value_of-cons name content entries q = refl
 
-value_of-nil : (q : List ℕ) → value_of [] q ≡ None
+pub value_of-nil : (q : List ℕ) → value_of [] q ≡ None
 unfolding value_of
 value_of-nil q = refl
 
 -- a name below all of these stands for nothing in them
-none_below : (q : List ℕ) (entries : Entries) → AllByRecursion (λ y. slice_cmp nat_cmp q y ≡ Less) (names entries) → value_of entries q ≡ None
+pub none_below : (q : List ℕ) (entries : Entries) → AllByRecursion (λ y. slice_cmp nat_cmp q y ≡ Less) (names entries) → value_of entries q ≡ None
 none_below q [] h = value_of-nil q
 none_below q (entry ∷ entries) h =
     value_of-cons entry.0 entry.1 entries q

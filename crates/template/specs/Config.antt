@@ -7,9 +7,9 @@ use Rattle.std.specs.Ordering.{nat_cmp}
 use Rattle.std.specs.BTreeMap.{insert_entry}
 use Rattle.std.specs.Map.{lookup}
 
--- what a name stands for: a truth value, an integer or a text
+-- what a name stands for: a boolean, an integer or a text
 pub data Content : Type 0 where
-  Flag : (truth : Bool) → Content
+  Flag : (boolean : Bool) → Content
   Number : (number : ℤ) → Content
   Bytes : (text : List ℕ) → Content
 

@@ -2,11 +2,11 @@
 use Rattle.std.specs.Prelude.{List, map, String, string_bytes}
 use Rattle.std.specs.declared.alloc.Global.{Global}
 use Rattle.template.specs.declared.config.ConfigValue.{ConfigValue}
-use Rattle.template.specs.declared.config.ConfigValue.TheVariants.{Truth, Integer, Text}
+use Rattle.template.specs.declared.config.ConfigValue.TheVariants.{Boolean, Integer, Text}
 use Rattle.template.specs.Config.{Content, Flag, Number, Bytes, Entries}
 
 abbrev pub content_of : ConfigValue → Content
-content_of (Truth b) = Flag b
+content_of (Boolean b) = Flag b
 content_of (Integer z) = Number z
 content_of (Text text) = Bytes (string_bytes text)
 

@@ -4,3 +4,4 @@ pub mod Header
 pub mod Line
 pub mod Scan
 pub mod Template
+pub mod Undo

@@ -2,6 +2,7 @@
 use Rattle.std.specs.Prelude.{ℕ, zero, suc, ◌+◌, ◌-◌, ◌/◌, ◌%◌, Bool, true, false, ◌||◌, ◌&&◌, ◌==◌, nat_eq, nat_lt, nat_le, List, [], ◌∷◌, ◌++◌, length, take, drop, replicate, slice_index, Option, Some, None, codes, decimal, if◌then◌else◌}
 use Rattle.std.specs.List.{starts_with, prefix_len, list_all}
 use Rattle.std.specs.Str.{bytes_eq}
+use Rattle.limits.specs.Limits.{line_bytes}
 use Rattle.ports.specs.Outputs.{Step, puts, logs}
 use Rattle.template.specs.Config.{Content, Flag, Number, Bytes, Entries, value_of, printed}
 
@@ -92,7 +93,7 @@ reading_of (word ∷ others) = if starts_with nat_eq word (codes "#mesondefine")
 
 -- how a line is read, its end counted for its length
 unfoldable pub reading : List ℕ → Reading
-reading bytes = if nat_lt 65536 (length bytes) then TooLong else reading_of (words (take (body_length bytes) bytes))
+reading bytes = if nat_lt line_bytes (length bytes) then TooLong else reading_of (words (take (body_length bytes) bytes))
 
 -- a line that defines a name with a content, without its end
 unfoldable pub definition : List ℕ → Content → List Step

@@ -1,5 +1,6 @@
 -- What a whole template writes.
-use Rattle.std.specs.Prelude.{◌≡◌, ℕ, ◌+◌, Bool, true, false, ◌==◌, List, [], ◌∷◌, ◌++◌, Option, Some, None, Result, Ok, Err, is_some, ◌⊎◌, if◌then◌else◌}
+use Rattle.std.specs.Prelude.{◌≡◌, ℕ, ◌+◌, false, ◌==◌, List, [], ◌∷◌, ◌++◌, Option, Some, None, Result, Ok, Err, is_some, ◌⊎◌, if◌then◌else◌}
+use Rattle.ports.specs.Endings.{Ending, Whole, Failed}
 use Rattle.ports.specs.Outputs.{Step}
 use Rattle.template.specs.Config.{Entries}
 use Rattle.template.specs.declared.stop.PassStop.{PassStop}
@@ -39,12 +40,12 @@ template_steps entries path bytes = steps_from entries path 1 (lines_of bytes)
 abbrev pub template_fault : List ℕ → Option (ℕ × Refusal)
 template_fault bytes = fault_from 1 (lines_of bytes)
 
--- whether all of a run stands: not where a device failed
-abbrev pub is_whole : {T : Type 0} → Result T PassStop → Bool
-is_whole (Ok x) = true
-is_whole (Err (Template line)) = true
-is_whole (Err (Limit line)) = true
-is_whole (Err Device) = false
+-- how a pass ended: a template's fault leaves all of its run
+abbrev pub ending_of : {T : Type 0} → Result T PassStop → Ending
+ending_of (Ok x) = Whole
+ending_of (Err (Template line)) = Whole
+ending_of (Err (Limit line)) = Whole
+ending_of (Err Device) = Failed
 
 -- the answer is that of the first fault, or a device's
 abbrev pub Agrees : {T : Type 0} → Result T PassStop → Option (ℕ × Refusal) → Type 0
@@ -52,13 +53,6 @@ Agrees (Ok x) found = found ≡ None
 Agrees (Err (Template line)) found = found ≡ Some (line, BadDefine)
 Agrees (Err (Limit line)) found = found ≡ Some (line, LongLine)
 Agrees (Err Device) found = Unit {0}
-
--- whether a device failed
-abbrev pub is_device : {T : Type 0} → Result T PassStop → Bool
-is_device (Ok x) = false
-is_device (Err (Template line)) = false
-is_device (Err (Limit line)) = false
-is_device (Err Device) = true
 
 -- one of two counts is one more, the other as it was
 abbrev pub OneMore : ℕ → ℕ → ℕ → ℕ → Type 0

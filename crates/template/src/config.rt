@@ -1,13 +1,14 @@
-ghost use Rattle.std.specs.Prelude.{◌≡◌, ◌↔◌, ℕ, List, [], true, false, pos, IsTrue, IsErrOf, OnOk, OnErr, IfOk, Some, is_some, map, string_bytes, if◌then◌else◌};
+ghost use Rattle.std.specs.Prelude.{◌≡◌, ◌↔◌, ℕ, List, [], true, false, pos, IsTrue, IsErrOf, OnOk, OnErr, IfOk, None, Some, is_some, map, string_bytes, if◌then◌else◌};
 ghost use Rattle.std.specs.Option.{option_map, option_or};
 ghost use Rattle.std.specs.List.{AllPass};
 ghost use Rattle.std.specs.List.Sorted.{IsStrictlySortedBy};
 ghost use Rattle.std.specs.Cmp.Lexicographic.{slice_cmp};
 ghost use Rattle.std.specs.Ordering.{nat_cmp};
 ghost use Rattle.std.specs.Str.{bytes_eq};
-ghost use Rattle.template.specs.Config.{Flag, Number, Bytes, merged, names, quoted, value_of, with_value};
+ghost use Rattle.template.specs.Config.{Entries, Flag, Number, Bytes, merged, names, quoted, value_of, with_value};
 ghost use Rattle.template.specs.ConfigData.{content_of, entries_of};
 ghost use Rattle.template.specs.Line.{is_name_byte};
+ghost use Rattle.template.specs.Undo.{AreSet, IsSet, changes_of};
 
 use std::alloc::{AllocError, AllocFailed, Global};
 use std::collections::BTreeMap;
@@ -17,7 +18,7 @@ use thiserror::Error;
 /// What a name of configuration data stands for.
 #[derive(Debug, Drop)]
 pub enum ConfigValue {
-    Truth(bool),
+    Boolean(bool),
     Integer(i128),
     Text(String),
 }
@@ -30,7 +31,7 @@ impl Clone for ConfigValue {
 
     fn clone(&self) -> Result<ConfigValue, AllocError> {
         match self {
-            ConfigValue::Truth(truth) => Ok(ConfigValue::Truth(*truth)),
+            ConfigValue::Boolean(boolean) => Ok(ConfigValue::Boolean(*boolean)),
             ConfigValue::Integer(number) => Ok(ConfigValue::Integer(*number)),
             ConfigValue::Text(text) => Ok(ConfigValue::Text(text.clone()?)),
         }
@@ -158,7 +159,8 @@ impl ConfigData {
     /// Gives this name a value.
     pub fn set(&mut self, name: &str, value: ConfigValue) -> Result<(), SetStop>
         ensures ok { OnOk result (self.new ≡ record self.old { entries = with_value self.old.entries name.now (content_of value) }) }
-        ensures found { OnOk result ((q : List ℕ) → value_of self.new.entries q ≡ (if bytes_eq q name.now then Some (content_of value) else value_of self.old.entries q)) }
+        ensures found { OnOk result ((q : List ℕ) → value_of self.new.entries q
+            ≡ (if bytes_eq q name.now then Some (content_of value) else value_of self.old.entries q)) }
         ensures frozen { IsErrOf result SetStop.Frozen ↔ IsTrue self.old.frozen }
         ensures err { OnErr result (self.new ≡ self.old) }
     {
@@ -171,17 +173,19 @@ impl ConfigData {
     }
 
     /// Gives this name the value 1 for true and 0 for false.
-    pub fn set10(&mut self, name: &str, truth: bool) -> Result<(), SetStop>
-        ensures ok { OnOk result (self.new ≡ record self.old { entries = with_value self.old.entries name.now (Number (pos (if truth then 1 else 0))) }) }
+    pub fn set10(&mut self, name: &str, boolean: bool) -> Result<(), SetStop>
+        ensures ok { let content = Number (pos (if boolean then 1 else 0)) in
+            OnOk result (self.new ≡ record self.old { entries = with_value self.old.entries name.now content }) }
         ensures frozen { IsErrOf result SetStop.Frozen ↔ IsTrue self.old.frozen }
         ensures err { OnErr result (self.new ≡ self.old) }
     {
-        self.set(name, ConfigValue::Integer(if truth { 1 } else { 0 }))
+        self.set(name, ConfigValue::Integer(if boolean { 1 } else { 0 }))
     }
 
     /// Gives this name the text in quotes, with a backslash before each quote inside.
     pub fn set_quoted(&mut self, name: &str, text: &str) -> Result<(), SetStop>
-        ensures ok { OnOk result (self.new ≡ record self.old { entries = with_value self.old.entries name.now (Bytes (quoted text.now)) }) }
+        ensures ok { let content = Bytes (quoted text.now) in
+            OnOk result (self.new ≡ record self.old { entries = with_value self.old.entries name.now content }) }
         ensures frozen { IsErrOf result SetStop.Frozen ↔ IsTrue self.old.frozen }
         ensures err { OnErr result (self.new ≡ self.old) }
     {
@@ -192,33 +196,41 @@ impl ConfigData {
         self.set(name, ConfigValue::Text(value))
     }
 
-    /// Gives each name of the other data the value that it has there.
+    /// Gives each name of the other data the value that it has there. Takes time and memory for what the other data has, and changes
+    /// nothing where memory runs out.
     pub fn merge_from(&mut self, other: &ConfigData) -> Result<(), SetStop>
         ensures ok { OnOk result (self.new ≡ record self.old { entries = merged self.old.entries other.now.entries }) }
-        ensures found { OnOk result ((q : List ℕ) → value_of self.new.entries q ≡ option_or (value_of other.now.entries q) (value_of self.old.entries q)) }
+        ensures found { OnOk result ((q : List ℕ) → value_of self.new.entries q
+            ≡ option_or (value_of other.now.entries q) (value_of self.old.entries q)) }
         ensures frozen { IsErrOf result SetStop.Frozen ↔ IsTrue self.old.frozen }
         ensures err { OnErr result (self.new ≡ self.old) }
     {
         if self.frozen {
             return Err(SetStop::Frozen);
         }
-        self.entries = merge(&self.entries, &other.entries)?;
+        let mut changes = Vec::new(self.alloc);
+        if merge(&mut self.entries, &other.entries, &mut changes).is_err() {
+            undo(&mut self.entries, changes);
+            return Err(SetStop::Memory);
+        }
         Ok(())
     }
 }
 
-// Sets a value in the place of what stood there.
-#[tactic(auto, using(crate::proofs::Settings::entries_of_insert))]
+// Sets a value, and gives what stood in its place.
 fn put(
     entries: &mut BTreeMap<String, ConfigValue>,
     key: String,
     value: ConfigValue,
-) -> Result<(), AllocError>
-    ensures ok { OnOk result (entries_of entries.new.entries ≡ with_value (entries_of entries.old.entries) (string_bytes key) (content_of value)) }
+) -> Result<Option<ConfigValue>, AllocError>
+    ensures ok { OnOk result (entries_of entries.new.entries
+        ≡ with_value (entries_of entries.old.entries) (string_bytes key) (content_of value)) }
+    ensures set { IfOk result (λ before. IsSet (string_bytes key) (option_map content_of before)
+        (entries_of entries.old.entries) (entries_of entries.new.entries)) }
+    ensures absent { OnErr result (value_of (entries_of entries.old.entries) (string_bytes key) ≡ None) }
     ensures err { OnErr result (entries.new.entries ≡ entries.old.entries) }
 {
-    entries.insert(key, value)?;
-    Ok(())
+    Ok(entries.insert(key, value)?)
 }
 
 // The text in quotes, with a backslash before each quote inside.
@@ -238,18 +250,54 @@ fn make_quoted(alloc: Global, text: &str) -> Result<String, AllocError>
     Ok(made)
 }
 
-// The entries with each of the others set in turn.
+// Sets each of the others in turn, and notes what each name stood for before.
 #[tactic(auto, unfolding(crate::specs::Config::merged))]
 fn merge(
-    entries: &BTreeMap<String, ConfigValue>,
+    entries: &mut BTreeMap<String, ConfigValue>,
     others: &BTreeMap<String, ConfigValue>,
-) -> Result<BTreeMap<String, ConfigValue>, AllocError>
-    ensures entries { IfOk result (λ all. entries_of all.entries ≡ merged (entries_of entries.now.entries) (entries_of others.now.entries)) }
+    changes: &mut Vec<(String, Option<ConfigValue>)>,
+) -> Result<(), AllocError>
+    requires { changes.old.items ≡ [] }
+    ensures entries { OnOk result (entries_of entries.new.entries
+        ≡ merged (entries_of entries.old.entries) (entries_of others.now.entries)) }
+    ensures changes { AreSet (changes_of changes.new.items) (entries_of entries.old.entries) (entries_of entries.new.entries) }
     ensures ascending { OnOk result (IsStrictlySortedBy (slice_cmp nat_cmp) (names (entries_of others.now.entries))) }
 {
-    let mut all = entries.clone()?;
     for (name, value) in others {
-        put(&mut all, name.clone()?, value.clone()?)?;
+        let noted = name.clone()?;
+        let key = name.clone()?;
+        let value = value.clone()?;
+        changes.reserve(1)?;
+        let before = put(entries, key, value)?;
+        changes.push_reserved((noted, before));
     }
-    Ok(all)
+    Ok(())
+}
+
+// Gives the name what it stood for before. It takes no memory, since the name is there.
+fn restore(entries: &mut BTreeMap<String, ConfigValue>, name: String, before: Option<ConfigValue>)
+    ensures { (old : Entries) → IsSet (string_bytes name) (option_map content_of before) old (entries_of entries.old.entries)
+        → entries_of entries.new.entries ≡ old }
+{
+    match before {
+        Some(value) => {
+            let _ = put(entries, name, value);
+        }
+        None => {
+            entries.remove(name.as_str());
+        }
+    }
+}
+
+// Takes the changes back, the last one first.
+fn undo(
+    entries: &mut BTreeMap<String, ConfigValue>,
+    mut changes: Vec<(String, Option<ConfigValue>)>,
+)
+    ensures { (old : Entries) → AreSet (changes_of changes.items) old (entries_of entries.old.entries)
+        → entries_of entries.new.entries ≡ old }
+{
+    while let Some((name, before)) = changes.pop() {
+        restore(entries, name, before);
+    }
 }

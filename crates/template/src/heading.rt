@@ -1,5 +1,5 @@
-ghost use Rattle.std.specs.Prelude.{◌≡◌, ◌+◌, ◌^◌, ◌<◌, is_ok, IsSome, if◌then◌else◌};
-ghost use Rattle.ports.specs.Outputs.{OutputState, Sends};
+ghost use Rattle.ports.specs.Endings.{ended};
+ghost use Rattle.ports.specs.Outputs.{OutputState, IsOpen, Writes};
 ghost use Rattle.template.specs.Header.{header_steps};
 
 use crate::ConfigData;
@@ -10,11 +10,8 @@ use ports::{DeviceFault, Outputs, put_all};
 /// `#define` or `#undef` for each name, by the order of their bytes. Takes no memory. Fails where a device does.
 #[tactic(auto, using(ports::proofs::Going::going))]
 pub fn header<O: Outputs>(config: &ConfigData, out: &mut O) -> Result<(), DeviceFault>
-    requires room { (O.seen out.old).failures + 1 < 2 ^ 64 }
-    requires is_open { IsSome (O.seen out.old).open_name }
-    ensures events { Sends (O.seen out.old) (O.seen out.new) (header_steps config.now.entries) (is_ok result) }
-    ensures name { (O.seen out.new).open_name ≡ (O.seen out.old).open_name }
-    ensures failures { (O.seen out.new).failures ≡ (if is_ok result then (O.seen out.old).failures else (O.seen out.old).failures + 1) }
+    requires { IsOpen (O.seen out.old) }
+    ensures { Writes (O.seen out.old) (header_steps config.now.entries) (ended result) (O.seen out.new) }
 {
     put_all(out, b"/* Generated. Do not edit. */\n#pragma once\n\n")?;
     for (name, value) in &config.entries {

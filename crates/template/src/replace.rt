@@ -1,10 +1,11 @@
-ghost use Rattle.std.specs.Prelude.{MatchOption, length, None, ◌≡◌, ◌+◌, ◌^◌, ◌<◌, ◌≤◌, [], is_ok, IsSome, IfSome, if◌then◌else◌};
-ghost use Rattle.ports.specs.Outputs.{OutputState, Sends, puts, logs};
+ghost use Rattle.std.specs.Prelude.{MatchOption, length, None, ◌≡◌, ◌≤◌, IfSome};
+ghost use Rattle.ports.specs.Endings.{HasRoom, ended};
+ghost use Rattle.ports.specs.Outputs.{OutputState, IsOpen, Writes, puts, logs};
 ghost use Rattle.std.specs.List.{prefix_len, list_all, AllPass};
 ghost use Rattle.template.specs.Config.{value_of, printed};
 ghost use Rattle.template.specs.ConfigData.{content_of};
-ghost use Rattle.template.specs.Template.{Agrees, first_fault, is_device, is_whole};
-ghost use Rattle.template.specs.Line.{Defines, Malformed, body_length, defined_in, definition, definition_or_comment, ended, is_blank, is_name, line_fault, line_steps, in_place, name_length, replaced, warning, words, is_name_byte};
+ghost use Rattle.template.specs.Template.{Agrees, ending_of, first_fault};
+ghost use Rattle.template.specs.Line.{Defines, Malformed, body_length, defined_in, definition, definition_or_comment, is_blank, is_name, line_fault, line_steps, in_place, name_length, replaced, warning, words, is_name_byte};
 ghost use Rattle.template.specs.Scan.{is_word_byte, IsFirstWord, IsPlain, IsSign, slashes_at};
 
 use crate::{ConfigData, ConfigValue, PassStop};
@@ -96,11 +97,8 @@ fn put_replaced<O: Outputs>(
     line: &[u8],
     out: &mut O,
 ) -> Result<(), DeviceFault>
-    requires room { (O.seen out.old).failures + 1 < 2 ^ 64 }
-    requires is_open { IsSome (O.seen out.old).open_name }
-    ensures events { Sends (O.seen out.old) (O.seen out.new) (replaced config.now.entries path.now number 0 0 line.now) (is_ok result) }
-    ensures name { (O.seen out.new).open_name ≡ (O.seen out.old).open_name }
-    ensures failures { (O.seen out.new).failures ≡ (if is_ok result then (O.seen out.old).failures else (O.seen out.old).failures + 1) }
+    requires { IsOpen (O.seen out.old) }
+    ensures { Writes (O.seen out.old) (replaced config.now.entries path.now number 0 0 line.now) (ended result) (O.seen out.new) }
 {
     let mut from = 0;
     while let Some(sign) = find_sign(&line[from..]) {
@@ -125,12 +123,9 @@ fn put_in_place<O: Outputs>(
     name: &[u8],
     out: &mut O,
 ) -> Result<(), DeviceFault>
-    requires room { (O.seen out.old).failures + 1 < 2 ^ 64 }
-    requires is_open { IsSome (O.seen out.old).open_name }
+    requires out { IsOpen (O.seen out.old) }
     requires named { AllPass is_name_byte name.now }
-    ensures events { Sends (O.seen out.old) (O.seen out.new) (in_place config.now.entries path.now number name.now) (is_ok result) }
-    ensures name { (O.seen out.new).open_name ≡ (O.seen out.old).open_name }
-    ensures failures { (O.seen out.new).failures ≡ (if is_ok result then (O.seen out.old).failures else (O.seen out.old).failures + 1) }
+    ensures { Writes (O.seen out.old) (in_place config.now.entries path.now number name.now) (ended result) (O.seen out.new) }
 {
     match config.value_at(name) {
         Some(value) => put_value(value, out),
@@ -141,15 +136,12 @@ fn put_in_place<O: Outputs>(
 /// Puts a value as it is printed.
 #[tactic(auto, using(ports::proofs::Sending::sending), unfolding(crate::specs::Config::printed))]
 fn put_value<O: Outputs>(value: &ConfigValue, out: &mut O) -> Result<(), DeviceFault>
-    requires room { (O.seen out.old).failures + 1 < 2 ^ 64 }
-    requires is_open { IsSome (O.seen out.old).open_name }
-    ensures events { Sends (O.seen out.old) (O.seen out.new) (puts (printed (content_of value.now))) (is_ok result) }
-    ensures name { (O.seen out.new).open_name ≡ (O.seen out.old).open_name }
-    ensures failures { (O.seen out.new).failures ≡ (if is_ok result then (O.seen out.old).failures else (O.seen out.old).failures + 1) }
+    requires { IsOpen (O.seen out.old) }
+    ensures { Writes (O.seen out.old) (puts (printed (content_of value.now))) (ended result) (O.seen out.new) }
 {
     match value {
-        ConfigValue::Truth(true) => put_all(out, b"true"),
-        ConfigValue::Truth(false) => put_all(out, b"false"),
+        ConfigValue::Boolean(true) => put_all(out, b"true"),
+        ConfigValue::Boolean(false) => put_all(out, b"false"),
         ConfigValue::Integer(number) => put_all(out, Buffer::new().format(*number).as_bytes()),
         ConfigValue::Text(text) => put_all(out, text.as_bytes()),
     }
@@ -163,10 +155,8 @@ fn log_warning<O: Outputs>(
     name: &[u8],
     out: &mut O,
 ) -> Result<(), DeviceFault>
-    requires room { (O.seen out.old).failures + 1 < 2 ^ 64 }
-    ensures events { Sends (O.seen out.old) (O.seen out.new) (warning path.now number name.now) (is_ok result) }
-    ensures name { (O.seen out.new).open_name ≡ (O.seen out.old).open_name }
-    ensures failures { (O.seen out.new).failures ≡ (if is_ok result then (O.seen out.old).failures else (O.seen out.old).failures + 1) }
+    requires { HasRoom (O.seen out.old).failures }
+    ensures { Writes (O.seen out.old) (warning path.now number name.now) (ended result) (O.seen out.new) }
 {
     let mut buffer = Buffer::new();
     log_all(out, b"WARNING: ")?;
@@ -258,7 +248,8 @@ fn is_name(bytes: &[u8]) -> bool
 
 /// The one name behind the word `#mesondefine`, where nothing else stands in the line.
 fn defined_name<'a>(word: &[u8], rest: &'a [u8]) -> Option<&'a [u8]>
-    ensures read { MatchOption result (defined_in word.now (words rest.now) ≡ Malformed) (λ name. defined_in word.now (words rest.now) ≡ Defines name.now) }
+    ensures read { let read = defined_in word.now (words rest.now) in
+        MatchOption result (read ≡ Malformed) (λ name. read ≡ Defines name.now) }
     ensures named { IfSome result (λ name. AllPass is_name_byte name.now) }
 {
     let second = first_word(rest);
@@ -273,12 +264,10 @@ fn defined_name<'a>(word: &[u8], rest: &'a [u8]) -> Option<&'a [u8]>
 /// Puts the line of a key, without its end.
 #[tactic(auto, using(ports::proofs::Sending::sending), unfolding(crate::specs::Line::definition_or_comment, crate::specs::Line::definition))]
 fn put_define<O: Outputs>(config: &ConfigData, name: &[u8], out: &mut O) -> Result<(), DeviceFault>
-    requires room { (O.seen out.old).failures + 1 < 2 ^ 64 }
-    requires is_open { IsSome (O.seen out.old).open_name }
+    requires out { IsOpen (O.seen out.old) }
     requires named { AllPass is_name_byte name.now }
-    ensures events { Sends (O.seen out.old) (O.seen out.new) (definition_or_comment name.now (value_of config.now.entries name.now)) (is_ok result) }
-    ensures name { (O.seen out.new).open_name ≡ (O.seen out.old).open_name }
-    ensures failures { (O.seen out.new).failures ≡ (if is_ok result then (O.seen out.old).failures else (O.seen out.old).failures + 1) }
+    ensures { let run = definition_or_comment name.now (value_of config.now.entries name.now) in
+        Writes (O.seen out.old) run (ended result) (O.seen out.new) }
 {
     match config.value_at(name) {
         None => {
@@ -297,18 +286,15 @@ pub(crate) fn put_key<O: Outputs>(
     value: &ConfigValue,
     out: &mut O,
 ) -> Result<(), DeviceFault>
-    requires room { (O.seen out.old).failures + 1 < 2 ^ 64 }
-    requires is_open { IsSome (O.seen out.old).open_name }
-    ensures events { Sends (O.seen out.old) (O.seen out.new) (definition name.now (content_of value.now)) (is_ok result) }
-    ensures name { (O.seen out.new).open_name ≡ (O.seen out.old).open_name }
-    ensures failures { (O.seen out.new).failures ≡ (if is_ok result then (O.seen out.old).failures else (O.seen out.old).failures + 1) }
+    requires { IsOpen (O.seen out.old) }
+    ensures { Writes (O.seen out.old) (definition name.now (content_of value.now)) (ended result) (O.seen out.new) }
 {
     match value {
-        ConfigValue::Truth(true) => {
+        ConfigValue::Boolean(true) => {
             put_all(out, b"#define ")?;
             put_all(out, name)
         }
-        ConfigValue::Truth(false) => {
+        ConfigValue::Boolean(false) => {
             put_all(out, b"#undef ")?;
             put_all(out, name)
         }
@@ -329,13 +315,10 @@ pub(crate) fn replace_line<O: Outputs>(
     line: &[u8],
     out: &mut O,
 ) -> Result<(), PassStop>
-    requires room { (O.seen out.old).failures + 1 < 2 ^ 64 }
-    requires is_open { IsSome (O.seen out.old).open_name }
+    requires out { IsOpen (O.seen out.old) }
     requires len { length line.now ≤ 65536 }
-    ensures events { Sends (O.seen out.old) (O.seen out.new) (line_steps config.now.entries path.now number line.now) (is_whole result) }
+    ensures writes { Writes (O.seen out.old) (line_steps config.now.entries path.now number line.now) (ending_of result) (O.seen out.new) }
     ensures fault { Agrees result (first_fault number (line_fault line.now) None) }
-    ensures name { (O.seen out.new).open_name ≡ (O.seen out.old).open_name }
-    ensures failures { (O.seen out.new).failures ≡ (if is_device result then (O.seen out.old).failures + 1 else (O.seen out.old).failures) }
 {
     let len = body_length(line);
     let first = first_word(&line[..len]);

@@ -1,16 +1,18 @@
-ghost use Rattle.std.specs.Prelude.{◌≡◌, ◌+◌, ◌-◌, ◌^◌, ◌<◌, ◌≤◌, ◌++◌, take, drop, length, is_ok, IsTrue, IfOk, IsSome, if◌then◌else◌};
-ghost use Rattle.ports.specs.Outputs.{OutputState, Sends};
-ghost use Rattle.ports.specs.Tree.{TreeState, bytes_at, Stays};
+ghost use Rattle.std.specs.Prelude.{◌≡◌, ◌+◌, ◌-◌, ◌^◌, ◌<◌, ◌≤◌, ◌++◌, take, drop, length, nat_lt, IsTrue, IfOk};
+ghost use Rattle.ports.specs.Endings.{HasRoom, ended, is_whole};
+ghost use Rattle.ports.specs.Outputs.{OutputState, IsOpen, Sends, Writes};
+ghost use Rattle.ports.specs.Tree.{TreeState, bytes_at, Asks, Stays};
 ghost use Rattle.template.specs.Line.{line_fault, line_steps};
-ghost use Rattle.template.specs.Template.{Agrees, Lacks, PassFailures, fault_from, first_fault, is_device, is_whole, lines_of, steps_from, template_fault, template_steps};
+ghost use Rattle.template.specs.Template.{Agrees, Lacks, PassFailures, ending_of, fault_from, first_fault, lines_of, steps_from, template_fault, template_steps};
 
 use crate::replace::replace_line;
 use crate::{ConfigData, PassStop};
+use limits::LINE_BYTES;
 use memchr::memchr;
 use ports::{DeviceFault, Outputs, Tree};
 
 /// How many bytes a line of a template may have, its end counted.
-pub const LINE_LIMIT: usize = 65_536;
+pub const LINE_LIMIT: usize = LINE_BYTES;
 
 /// Moves the bytes from `start` to `end` to the front, and gives their number.
 fn keep_rest(line: &mut [u8], start: usize, end: usize) -> usize
@@ -32,15 +34,17 @@ fn fill<T: Tree>(
     line: &mut [u8],
     filled: usize,
 ) -> Result<usize, DeviceFault>
-    requires room { (T.seen tree.old).failures + 1 < 2 ^ 64 }
+    requires room { HasRoom (T.seen tree.old).failures }
     requires at { at ≤ size }
     requires filled { filled ≤ length line.old }
     ensures within { IfOk result (λ n. filled + n ≤ length line.old) }
     ensures size { IfOk result (λ n. at + n ≤ size) }
-    ensures bytes { IsTrue (T.seen tree.old).steady → IfOk result (λ n. take (filled + n) line.new ≡ take filled line.old ++ take n (drop at (bytes_at (T.seen tree.old).files path.now))) }
-    ensures some { IsTrue (T.seen tree.old).steady → IfOk result (λ n. filled < length line.old → at < size → at < length (bytes_at (T.seen tree.old).files path.now) → 0 < n) }
-    ensures stays { Stays (T.seen tree.old) (T.seen tree.new) }
-    ensures failures { (T.seen tree.new).failures ≡ (if is_ok result then (T.seen tree.old).failures else (T.seen tree.old).failures + 1) }
+    ensures kept { take filled line.new ≡ take filled line.old }
+    ensures bytes { let file = bytes_at (T.seen tree.old).files path.now in IsTrue (T.seen tree.old).steady
+        → IfOk result (λ n. take (filled + n) line.new ≡ take filled line.old ++ take n (drop at file)) }
+    ensures some { let file = bytes_at (T.seen tree.old).files path.now in IsTrue (T.seen tree.old).steady
+        → IfOk result (λ n. filled < length line.old → at < size → at < length file → 0 < n) }
+    ensures asks { Asks (T.seen tree.old) (ended result) (T.seen tree.new) }
 {
     let room = line.len() - filled;
     let left = size - at;
@@ -53,6 +57,21 @@ fn fill<T: Tree>(
         return Ok(0);
     }
     tree.read_at(path, at, &mut line[filled..filled + want])
+}
+
+/// Whether the file has a byte at this place. Its end may stand before the size that was told.
+fn has_more<T: Tree>(tree: &mut T, path: &str, at: u64, size: u64) -> Result<bool, DeviceFault>
+    requires { HasRoom (T.seen tree.old).failures }
+    ensures more { let file = bytes_at (T.seen tree.old).files path.now in IsTrue (T.seen tree.old).steady
+        → size ≡ length file → IfOk result (λ more. more ≡ nat_lt at size) }
+    ensures asks { Asks (T.seen tree.old) (ended result) (T.seen tree.new) }
+{
+    if at >= size {
+        return Ok(false);
+    }
+    let mut next = [0];
+    let count = tree.read_at(path, at, &mut next)?;
+    Ok(count > 0)
 }
 
 /// Writes the template at this path to the open output, with its names replaced by the values of `config`, as
@@ -70,15 +89,17 @@ pub fn pass<T: Tree, O: Outputs>(
     line: &mut [u8],
     out: &mut O,
 ) -> Result<(), PassStop>
-    requires tree_room { (T.seen tree.old).failures + 1 < 2 ^ 64 }
-    requires out_room { (O.seen out.old).failures + 1 < 2 ^ 64 }
-    requires is_open { IsSome (O.seen out.old).open_name }
+    requires tree { HasRoom (T.seen tree.old).failures }
+    requires out { IsOpen (O.seen out.old) }
     requires line_len { length line.old ≡ LINE_LIMIT }
-    ensures events { IsTrue (T.seen tree.old).steady → Sends (O.seen out.old) (O.seen out.new) (template_steps config.now.entries path.now (bytes_at (T.seen tree.old).files path.now)) (is_whole result) }
-    ensures fault { IsTrue (T.seen tree.old).steady → Agrees result (template_fault (bytes_at (T.seen tree.old).files path.now)) }
+    ensures events { let file = bytes_at (T.seen tree.old).files path.now in IsTrue (T.seen tree.old).steady
+        → Sends (O.seen out.old) (O.seen out.new) (template_steps config.now.entries path.now file) (is_whole (ending_of result)) }
+    ensures fault { IsTrue (T.seen tree.old).steady
+        → Agrees result (template_fault (bytes_at (T.seen tree.old).files path.now)) }
     ensures name { (O.seen out.new).open_name ≡ (O.seen out.old).open_name }
     ensures stays { Stays (T.seen tree.old) (T.seen tree.new) }
-    ensures failures { PassFailures (T.seen tree.old).failures (T.seen tree.new).failures (O.seen out.old).failures (O.seen out.new).failures result }
+    ensures failures { let tree_old = (T.seen tree.old).failures in
+        PassFailures tree_old (T.seen tree.new).failures (O.seen out.old).failures (O.seen out.new).failures result }
 {
     let size = tree.size(path)?.unwrap_or(0);
     let mut at = 0;
@@ -95,8 +116,11 @@ pub fn pass<T: Tree, O: Outputs>(
             None => {
                 end = keep_rest(line, start, end);
                 start = 0;
-                if end == line.len() && at < size {
-                    return Err(PassStop::Limit(lines + 1));
+                if end == line.len() {
+                    if has_more(tree, path, at, size)? {
+                        return Err(PassStop::Limit(lines + 1));
+                    }
+                    return put_last(config, path, lines, line, out);
                 }
                 let count = fill(tree, path, at, size, line, end)?;
                 if count == 0 {
@@ -117,14 +141,13 @@ fn put_last<O: Outputs>(
     bytes: &[u8],
     out: &mut O,
 ) -> Result<(), PassStop>
-    requires room { (O.seen out.old).failures + 1 < 2 ^ 64 }
-    requires is_open { IsSome (O.seen out.old).open_name }
+    requires out { IsOpen (O.seen out.old) }
     requires len { length bytes.now ≤ LINE_LIMIT }
     requires number { 0 < length bytes.now → lines + 1 < 2 ^ 64 }
-    ensures events { Lacks 10 bytes.now → Sends (O.seen out.old) (O.seen out.new) (steps_from config.now.entries path.now (lines + 1) (lines_of bytes.now)) (is_whole result) }
-    ensures fault { Lacks 10 bytes.now → Agrees result (fault_from (lines + 1) (lines_of bytes.now)) }
-    ensures name { (O.seen out.new).open_name ≡ (O.seen out.old).open_name }
-    ensures failures { (O.seen out.new).failures ≡ (if is_device result then (O.seen out.old).failures + 1 else (O.seen out.old).failures) }
+    requires lacks { Lacks 10 bytes.now }
+    ensures writes { let run = steps_from config.now.entries path.now (lines + 1) (lines_of bytes.now) in
+        Writes (O.seen out.old) run (ending_of result) (O.seen out.new) }
+    ensures fault { Agrees result (fault_from (lines + 1) (lines_of bytes.now)) }
 {
     if bytes.is_empty() {
         Ok(())

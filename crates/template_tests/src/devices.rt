@@ -1,3 +1,4 @@
+ghost use Rattle.ports.specs.Endings.{HasRoom};
 ghost use Rattle.std.specs.Prelude.{◌≡◌, ◌+◌, ◌^◌, ◌<◌, [], length, false, None, IfOk};
 ghost use Rattle.ports.specs.Tree.{TreeState};
 ghost use Rattle.ports.specs.Outputs.{OutputState};
@@ -16,8 +17,8 @@ fn write_three<T: Tree, O: Outputs>(
     line: &mut [u8],
     out: &mut O,
 ) -> Result<(), PassStop>
-    requires tree_room { (T.seen tree.old).failures + 1 < 2 ^ 64 }
-    requires out_room { (O.seen out.old).failures + 1 < 2 ^ 64 }
+    requires tree { HasRoom (T.seen tree.old).failures }
+    requires out { HasRoom (O.seen out.old).failures }
     requires line_len { length line.old ≡ 65536 }
 {
     out.open("a.h")?;
@@ -37,7 +38,7 @@ const WRITTEN: &str = "<a.h>/* Generated. Do not edit. */\n#pragma once\n\n#defi
 // Writes the three over devices that behave by this plan. `A` is true, nothing else has a value.
 fn three(alloc: Global, plan: Plan) -> Result<Outcome, Fail> {
     let mut config = ConfigData::new(alloc);
-    config.set("A", ConfigValue::Truth(true))?;
+    config.set("A", ConfigValue::Boolean(true))?;
     let mut files = Vec::new(alloc);
     for (path, bytes) in [
         ("c.h.in", "#mesondefine A\nx@B@y\nz"),
@@ -146,10 +147,11 @@ fn each_failing_call_of_the_tree_leaves_a_beginning(rt: HostRuntime) -> Result<(
     check_tree_calls(&rt, alloc, usize::MAX, 4)
 }
 
-// A file of three bytes that answers `a` at every place, or nothing at any.
+// A file that tells a size, and has so many `a`.
 #[derive(Drop)]
 struct OddTree {
-    gives: bool,
+    size: u64,
+    bytes: u64,
 }
 
 impl Tree for OddTree {
@@ -160,32 +162,47 @@ impl Tree for OddTree {
     }
 
     fn size(&mut self, _path: &str) -> Result<Option<u64>, DeviceFault> {
-        Ok(Some(3))
+        Ok(Some(self.size))
     }
 
-    fn read_at(&mut self, _path: &str, _at: u64, buf: &mut [u8]) -> Result<usize, DeviceFault> {
-        if !self.gives {
-            return Ok(0);
-        }
-        for byte in buf.iter_mut() {
+    fn read_at(&mut self, _path: &str, at: u64, buf: &mut [u8]) -> Result<usize, DeviceFault> {
+        let left = self.bytes.saturating_sub(at);
+        let count = (buf.len() as u64).min(left) as usize;
+        for byte in buf[..count].iter_mut() {
             *byte = b'a';
         }
-        Ok(buf.len())
+        Ok(count)
     }
+}
+
+// Passes the odd file, and says how it ended and how many bytes it wrote.
+fn passed(alloc: Global, size: u64, bytes: u64) -> Result<(Option<PassStop>, usize), Fail> {
+    let config = ConfigData::new(alloc);
+    let mut line = zeros(alloc, LINE_LIMIT)?;
+    let mut tree = OddTree { size, bytes };
+    let mut out = MemOutputs::new(alloc, 70_000)?;
+    out.open("o")?;
+    let stop = pass(&mut tree, "t", &config, line.as_mut_slice(), &mut out).err();
+    Ok((stop, out.event_count().saturating_sub(1)))
 }
 
 #[test]
 fn no_more_is_read_than_the_size(rt: HostRuntime) -> Result<(), Fail> {
     let alloc = rt.alloc();
-    let config = ConfigData::new(alloc);
-    let mut line = zeros(alloc, LINE_LIMIT)?;
-    for (gives, expected) in [(true, "<o>aaa"), (false, "<o>")] {
-        let mut tree = OddTree { gives };
-        let mut out = MemOutputs::new(alloc, 100)?;
-        out.open("o")?;
-        pass(&mut tree, "t", &config, line.as_mut_slice(), &mut out)?;
-        assert_eq!(rt; shown(alloc, &out)?.as_slice(), expected.as_bytes());
-    }
+    assert_eq!(rt; passed(alloc, 3, 10)?, (None, 3));
+    assert_eq!(rt; passed(alloc, 3, 0)?, (None, 0));
+    Ok(())
+}
+
+#[test]
+fn an_earlier_end_is_the_end_of_the_file(rt: HostRuntime) -> Result<(), Fail> {
+    let alloc = rt.alloc();
+    assert_eq!(rt; passed(alloc, 65_540, 65_536)?, (None, 65_536));
+    assert_eq!(rt;
+        passed(alloc, 65_540, 65_537)?,
+        (Some(PassStop::Limit(1)), 0)
+    );
+    assert_eq!(rt; passed(alloc, 65_536, 65_540)?, (None, 65_536));
     Ok(())
 }
 

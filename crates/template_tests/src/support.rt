@@ -9,9 +9,9 @@ use template::{ConfigData, ConfigValue, LINE_LIMIT, PassStop, SetStop, header, p
 /// that looks like a name, `a-b_1` a text. Nothing else has a value.
 pub fn sample(alloc: Global) -> Result<ConfigData, SetStop> {
     let mut config = ConfigData::new(alloc);
-    config.set("A", ConfigValue::Truth(true))?;
+    config.set("A", ConfigValue::Boolean(true))?;
     config.set("B", ConfigValue::Integer(2))?;
-    config.set("D", ConfigValue::Truth(false))?;
+    config.set("D", ConfigValue::Boolean(false))?;
     config.set("N", ConfigValue::Integer(-5))?;
     config.set_quoted("Q", "a\"b")?;
     for (name, text) in [("C", "x"), ("E", ""), ("V", "@B@"), ("a-b_1", "long name")] {

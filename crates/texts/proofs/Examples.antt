@@ -11,7 +11,8 @@ use Rattle.texts.specs.Number.{integer_of}
 use Rattle.texts.specs.Letters.{underscorified}
 use Rattle.texts.specs.Pieces.{split_at, words, lines}
 use Rattle.texts.specs.Joined.{joined, replaced}
-use Rattle.texts.specs.Format.{formatted}
+use Rattle.texts.specs.declared.placed.Places.TheVariants as places
+use Rattle.texts.specs.Segments.{text, place, segments}
 
 -- an `é`, in UTF-8
 abbrev acute : List ℕ
@@ -123,18 +124,18 @@ nothing_joined = refl
 from_the_left : replaced (codes "aaa") (codes "aa") (codes "b") ≡ Ok (codes "ba")
 from_the_left = refl
 
--- a value is not looked at again
-once : formatted (codes "@1@ @0@") (codes "x" ∷ codes "@0@" ∷ []) ≡ Ok (codes "@0@ x")
-once = refl
+-- places are found from the left, and a name is not looked at again
+in_order : segments places.Numbers (codes "@1@ @0@") ≡ place (codes "1") ∷ text (codes " ") ∷ place (codes "0") ∷ []
+in_order = refl
 
-taken_at_is_gone : formatted (codes "@0@0@") (codes "x" ∷ []) ≡ Ok (codes "x0@")
+taken_at_is_gone : segments places.Numbers (codes "@0@0@") ≡ place (codes "0") ∷ text (codes "0@") ∷ []
 taken_at_is_gone = refl
 
-no_places : formatted (codes "@@ @x@ a@b@ 1@0@") (codes "v" ∷ []) ≡ Ok (codes "@@ @x@ a@b@ 1v")
+no_places : segments places.Numbers (codes "@@ @x@ a@b@ 1@0@") ≡ text (codes "@@ @x@ a@b@ 1") ∷ place (codes "0") ∷ []
 no_places = refl
 
-behind_another_at : formatted (codes "@@00@") (codes "v" ∷ []) ≡ Ok (codes "@v")
+behind_another_at : segments places.Numbers (codes "@@00@") ≡ text (codes "@") ∷ place (codes "00") ∷ []
 behind_another_at = refl
 
-no_such_value : formatted (codes "@0@@1@") (codes "v" ∷ []) ≡ Err refusal.Absent
-no_such_value = refl
+names : segments places.Names (codes "@a@b@_c1@@1@") ≡ place (codes "a") ∷ text (codes "b") ∷ place (codes "_c1") ∷ text (codes "@1@") ∷ []
+names = refl

@@ -6,7 +6,8 @@ use Rattle.std.specs.List.{flat_map, starts_with, onto_first}
 use Rattle.std.proofs.lemmas.List.{append_assoc, length-append, drop_more, drop_all}
 use Rattle.data.specs.declared.refusal.Refusal.TheVariants as refusal
 use Rattle.texts.specs.Pieces.{parts, parts_after}
-use Rattle.texts.specs.Joined.{joined, within_bytes, replaced}
+use Rattle.texts.specs.Joined.{joined, replaced}
+use Rattle.data.specs.Limits.{within_bytes}
 use Rattle.texts.proofs.PiecesLemmas.{when, unless}
 
 pub too_long : (all made piece more : List ℕ) → all ≡ made ++ (piece ++ more) → 16777216 < length (made ++ piece)

@@ -5,6 +5,6 @@ pub mod StripLemmas
 pub mod PiecesLemmas
 pub mod CutLemmas
 pub mod JoinedLemmas
-pub mod FormatLemmas
+pub mod SegmentLemmas
 pub mod PartsLaws
 mod Examples

@@ -18,7 +18,7 @@ pub both : (a b : Bool) → (a && b) ≡ true → (a ≡ true) × (b ≡ true)
 both true b h = (refl, h)
 both false b h = absurd (false≢true h)
 
-AllDigits-from_test : (ds : List ℕ) → list_all is_ascii_digit ds ≡ true → AllDigits 10 ds
+pub AllDigits-from_test : (ds : List ℕ) → list_all is_ascii_digit ds ≡ true → AllDigits 10 ds
 AllDigits-from_test [] h = tt
 AllDigits-from_test (d ∷ ds) h =
     let parts = both (is_ascii_digit d) (list_all is_ascii_digit ds) h in

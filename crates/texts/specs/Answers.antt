@@ -1,5 +1,5 @@
 -- What an answer says.
-use Rattle.std.specs.Prelude.{ℕ, List, map, Vec, String, string_bytes, Result, Ok, Err}
+use Rattle.std.specs.Prelude.{ℕ, List, map, Vec, Result, Ok, Err}
 use denote.Ref.{Bor}
 use Rattle.data.specs.declared.refusal.Refusal.{Refusal}
 
@@ -7,8 +7,3 @@ use Rattle.data.specs.declared.refusal.Refusal.{Refusal}
 abbrev pub pieces_in : {Z : Type 0} → Result (Vec (Bor (List ℕ)) Z) Refusal → Result (List (List ℕ)) Refusal
 pieces_in (Ok pieces) = Ok (map (λ piece. piece.now) pieces.items)
 pieces_in (Err refusal) = Err refusal
-
--- the text that it has, or the refusal
-abbrev pub text_in : {Z : Type 0} → Result (String Z) Refusal → Result (List ℕ) Refusal
-text_in (Ok text) = Ok (string_bytes text)
-text_in (Err refusal) = Err refusal

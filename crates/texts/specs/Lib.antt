@@ -7,4 +7,4 @@ pub mod Pieces
 pub mod Joined
 pub mod Answers
 pub mod Cut
-pub mod Format
+pub mod Segments

@@ -1,11 +1,12 @@
 //! Texts made of pieces, within the limit of a text.
 
 ghost use Rattle.std.specs.Prelude.{◌≡◌, ◌++◌, map, IfOk, string_bytes};
-ghost use Rattle.texts.specs.Joined.{joined, within_bytes, replaced, Appends};
-ghost use Rattle.texts.specs.Answers.{text_in};
+ghost use Rattle.texts.specs.Joined.{joined, replaced};
+ghost use Rattle.data.specs.Limits.{within_bytes, Appends};
+ghost use Rattle.data.specs.Tables.{string_in};
 
 use crate::cut::first_part;
-use data::{Refusal, Text};
+use data::{Refusal, Text, append};
 use std::alloc::{AllocError, Global};
 
 /// The pieces in order, with `separator` between each two.
@@ -14,19 +15,19 @@ use std::alloc::{AllocError, Global};
 pub fn join(
     alloc: Global,
     separator: &str,
-    pieces: &[&str],
+    pieces: &[&Text],
 ) -> Result<Result<String, Refusal>, AllocError>
-    ensures { IfOk result (λ r. text_in r ≡ within_bytes (joined separator.now (map (λ p. p.now) pieces.now))) }
+    ensures { IfOk result (λ r. string_in r ≡ within_bytes (joined separator.now (map (λ p. p.now) pieces.now))) }
 {
     let mut made = String::new(alloc);
     let Some((first, others)) = pieces.split_first() else {
         return Ok(Ok(made));
     };
-    if let Err(refusal) = append(&mut made, first)? {
+    if let Err(refusal) = append(&mut made, first.as_str())? {
         return Ok(Err(refusal));
     }
     for piece in others {
-        if let Err(refusal) = append_both(&mut made, separator, piece)? {
+        if let Err(refusal) = append_both(&mut made, separator, piece.as_str())? {
             return Ok(Err(refusal));
         }
     }
@@ -42,7 +43,7 @@ pub fn replace(
     old: &str,
     new: &str,
 ) -> Result<Result<String, Refusal>, AllocError>
-    ensures { IfOk result (λ r. text_in r ≡ replaced text.now old.now new.now) }
+    ensures { IfOk result (λ r. string_in r ≡ replaced text.now old.now new.now) }
 {
     if old.is_empty() {
         return Ok(Err(Refusal::Arguments));
@@ -64,19 +65,8 @@ pub fn replace(
     }
 }
 
-/// A piece behind the text, unless the text becomes too long.
-pub fn append(made: &mut String, piece: &str) -> Result<Result<(), Refusal>, AllocError>
-    ensures { IfOk result (λ r. Appends (string_bytes made.old) piece.now (string_bytes made.new) r) }
-{
-    if made.len() + piece.len() > Text::MOST_BYTES {
-        return Ok(Err(Refusal::Limit));
-    }
-    made.push_str(piece)?;
-    Ok(Ok(()))
-}
-
-/// Two pieces behind the text, unless the text becomes too long.
-pub fn append_both(
+// Two pieces behind the text, unless the text becomes too long.
+fn append_both(
     made: &mut String,
     first: &str,
     second: &str,

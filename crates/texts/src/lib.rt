@@ -9,7 +9,7 @@ mod joining;
 mod letters;
 mod number;
 mod part;
-mod places;
+mod placed;
 mod search;
 mod split;
 
@@ -18,6 +18,6 @@ pub use joining::{join, replace};
 pub use letters::{to_lower, to_upper, underscorify};
 pub use number::to_int;
 pub use part::substring;
-pub use places::format;
+pub use placed::{Places, Segment, digit_count, number_of, segments};
 pub use search::{contains, ends_with, starts_with};
 pub use split::{split_at, split_blank, split_lines};

@@ -31,7 +31,8 @@ fn is_numeral(text: &[u8]) -> bool
     !digits.is_empty() && are_digits(digits)
 }
 
-fn are_digits(bytes: &[u8]) -> bool
+/// Whether each of some bytes is a digit.
+pub fn are_digits(bytes: &[u8]) -> bool
     ensures { result ≡ list_all is_ascii_digit bytes.now }
 {
     bytes.iter().all(|b| b.is_ascii_digit())

@@ -3,12 +3,13 @@
 
 pub use data::{
     Dependency, Dictionary, DictionaryBuilder, Feature, List, Machine, Numbers, Object, Program,
-    Refusal, Source, Sources, Text, Texts, Value, equal_objects, is_equal,
+    Refusal, Source, Sources, Text, Texts, Value, append, equal_objects, have_disabler, is_equal,
 };
-pub use methods::{format_text, has_method, method};
+pub use methods::{flat_texts, flat_values, format_text, has_method, method, readers};
 pub use operators::{
-    Binary, Connective, Left, Unary, binary, dictionary, index, indexed_item, left_side,
-    right_side, unary,
+    Binary, Connective, Left, Unary, binary, dictionary, index, indexed_item, left_side, list,
+    path_below, right_side, unary,
 };
-pub use printing::{is_printable, printed};
+pub use printing::{Piece, Printer, is_printable, printed, write};
+pub use texts::{Places, Segment, number_of, segments};
 pub use versions::version_compare;

@@ -216,6 +216,8 @@ fn bytes_behind_a_full_text(rt: HostRuntime) -> Result<(), Fail> {
         refusal(alloc, &places, "format", &past)?,
         Some(Refusal::Limit)
     );
+    let first = text_value(alloc, "@1@")?;
+    assert!(rt; refusal(alloc, &first, "format", &past)?.is_none());
     Ok(())
 }
 

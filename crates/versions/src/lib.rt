@@ -10,6 +10,7 @@ ghost use Rattle.versions.specs.Condition.{relation_of, sign_length, allows, mee
 ghost use Rattle.versions.specs.Code.{run_in, IsWellFormed};
 
 use std::cmp::Ordering;
+use texts::digit_count;
 
 /// What a condition asks of a version, beside the one that it names.
 #[derive(Clone, Copy)]
@@ -135,19 +136,6 @@ fn without_separators(version: &[u8]) -> &[u8]
         from = rest;
     }
     from
-}
-
-// How many digits a text begins with.
-fn digit_count(bytes: &[u8]) -> usize
-    ensures count { result ≡ prefix_len is_ascii_digit bytes.now }
-    ensures within { result ≤ length bytes.now }
-{
-    for (i, b) in bytes.iter().enumerate() {
-        if !b.is_ascii_digit() {
-            return i;
-        }
-    }
-    bytes.len()
 }
 
 // How many ASCII letters a text begins with.

@@ -1,22 +1,25 @@
 //! Dictionaries as they are made.
 
-ghost use Rattle.std.specs.Prelude.{◌≡◌, IfSome, option_map, max, ◌<◌, ◌≤◌, ◌+◌, ◌^◌, length, OnOk, IfOk, string_bytes, is_some, Ok, Err, if◌then◌else◌};
-ghost use Rattle.data.specs.Data.{no_entries, entry_count, find, put, merged, entry_values};
+ghost use Rattle.std.specs.Prelude.{◌≡◌, IfSome, option_map, max, ◌<◌, ◌≤◌, ◌+◌, ◌^◌, length, OnOk, IfOk, is_some, Ok, Err};
+ghost use Rattle.std.specs.Prelude.{option_and_then, if◌then◌else◌};
+ghost use Rattle.data.specs.Builder.{replaced_depth};
+ghost use Rattle.data.specs.Data.{no_entries, find, put, merged};
 ghost use Rattle.data.specs.Weight.{weight, depth, items_depth, entries_weight};
 ghost use Rattle.data.specs.Limits.{entries_fit};
 ghost use Rattle.data.specs.View.{data_of, items_of};
 ghost use Rattle.data.specs.declared.refusal.Refusal.TheVariants as refusal;
 
-use super::{Dictionary, Value, is_within};
+use super::{Dictionary, Value, deepest, is_within};
 use crate::refusal::Refusal;
-use indexmap::IndexSet;
+use crate::text::Text;
 use std::alloc::{AllocError, Global};
 use std::marker::Model;
+use tables::{SipSet, new_set};
 
 /// A dictionary that may pass the limits while it is made; `finish` looks at them once.
 #[derive(Drop)]
 pub struct DictionaryBuilder {
-    keys: IndexSet<String>,
+    keys: SipSet<Text>,
     values: Vec<Value>,
     // wide enough for the weight of all that memory holds
     weight: u128,
@@ -45,7 +48,7 @@ impl DictionaryBuilder {
         ensures { result ≡ no_entries }
     {
         DictionaryBuilder {
-            keys: IndexSet::new(alloc),
+            keys: new_set(alloc),
             values: Vec::new(alloc),
             weight: 0,
             depth: Some(0),
@@ -77,32 +80,34 @@ impl DictionaryBuilder {
         ensures within { IfOk result (λ b. entries_weight b < 2 ^ 61) }
     {
         let mut copy = DictionaryBuilder::new(alloc);
-        copy.put_all(alloc, dictionary)?;
+        copy.put_all(dictionary)?;
         Ok(copy)
     }
 
     /// Whether there is a value at a key.
-    pub fn contains_key(&self, key: &str) -> bool
+    pub fn contains_key(&self, key: &Text) -> bool
         ensures { result ≡ is_some (find key.now self.now) }
     {
         self.keys.get_index_of(key).is_some()
     }
 
     /// Puts a value at a key: a key that is there keeps its place, another goes last.
-    pub fn put(&mut self, key: String, value: Value) -> Result<(), AllocError>
-        requires { entries_weight self.old + (length (string_bytes key) + 1) + weight (data_of value) < 2 ^ 126 }
-        ensures { OnOk result (self.new ≡ put (string_bytes key) (data_of value) self.old) }
+    pub fn put(&mut self, key: Text, value: Value) -> Result<(), AllocError>
+        requires { entries_weight self.old + (length key + 1) + weight (data_of value) < 2 ^ 126 }
+        ensures { OnOk result (self.new ≡ put key (data_of value) self.old) }
     {
-        match self.keys.get_index_of(key.as_str()) {
+        match self.keys.get_index_of(&key) {
             Some(index) => {
                 let old_weight = self.values[index].weight() as u128;
+                let old_depth = self.values[index].depth();
                 let weight = value.weight() as u128;
+                let depth = value.depth();
                 self.values[index] = value;
                 self.weight = self.weight - old_weight + weight;
-                self.depth = None;
+                self.depth = replaced_depth(self.depth, old_depth, depth);
             }
             None => {
-                let key_weight = key.len() as u128 + 1;
+                let key_weight = key.as_str().len() as u128 + 1;
                 let weight = value.weight() as u128;
                 let depth = value.depth();
                 self.keys.reserve(1)?;
@@ -118,7 +123,7 @@ impl DictionaryBuilder {
     }
 
     /// Puts the entries of a dictionary, in their order.
-    pub fn put_all(&mut self, alloc: Global, dictionary: &Dictionary) -> Result<(), AllocError>
+    pub fn put_all(&mut self, dictionary: &Dictionary) -> Result<(), AllocError>
         requires { entries_weight self.old < 2 ^ 125 }
         ensures merged { OnOk result (self.new ≡ merged self.old dictionary.now) }
         ensures within { OnOk result (entries_weight dictionary.now + 1 ≤ 33554432) }
@@ -126,7 +131,7 @@ impl DictionaryBuilder {
     {
         let values = dictionary.values();
         for (i, value) in values.iter().enumerate() {
-            let key = String::from_str(alloc, dictionary.key(i))?;
+            let key = dictionary.key(i).clone()?;
             self.put(key, value.clone()?)?;
         }
         Ok(())
@@ -162,6 +167,21 @@ fn deeper(depth: Option<u32>, more: u32) -> Option<u32>
     Some(depth?.max(more))
 }
 
+// The depth with a value in place of another, where it was counted before. Where one of the deepest has gone, it is counted
+// again in the end.
+fn replaced_depth(depth: Option<u32>, old: u32, new: u32) -> Option<u32>
+    ensures { result ≡ option_and_then (replaced_depth old new) depth }
+{
+    let depth = depth?;
+    if new >= old {
+        Some(depth.max(new))
+    } else if old < depth {
+        Some(depth)
+    } else {
+        None
+    }
+}
+
 // The depth as it was counted, or counted now.
 fn counted_depth(depth: Option<u32>, values: &[Value]) -> u32
     requires counted { IfSome depth (λ d. d ≡ items_depth (items_of values.now)) }
@@ -173,16 +193,4 @@ fn counted_depth(depth: Option<u32>, values: &[Value]) -> u32
         Some(depth) => depth,
         None => deepest(values),
     }
-}
-
-// The levels of the deepest of some values.
-fn deepest(values: &[Value]) -> u32
-    ensures deepest { result ≡ items_depth (items_of values.now) }
-    ensures within { result ≤ 64 }
-{
-    let mut depth = 0;
-    for value in values {
-        depth = depth.max(value.depth());
-    }
-    depth
 }

@@ -1,14 +1,13 @@
 //! Reads atoms: names, literals, and what stands in brackets.
 
-ghost use Rattle.std.specs.Prelude.{Some, ◌≡◌, ◌-◌, ◌<◌, ◌≤◌, length, map, OnOk};
+ghost use Rattle.std.specs.Prelude.{Some, ◌≡◌, ◌-◌, ◌<◌, ◌≤◌, length, OnOk};
 ghost use Rattle.lexer.specs.Lexeme.{lexemes};
 ghost use Rattle.grammar.specs.ExpressionTree.{entry_of, expression_of};
 ghost use Rattle.grammar.specs.Expressions.{literal_of};
-ghost use Rattle.grammar.specs.Form.{same_state};
-ghost use Rattle.grammar.specs.Reading.{Gives, listed_at};
-ghost use Rattle.grammar.specs.ReadingExpressions.{atom_at, choice_at, dictionary_at, entered_at, entry_at, group_at, inner_at, list_at, literal_at, name_at, unary_at};
+ghost use Rattle.grammar.specs.Reading.{Gives, more_at};
+ghost use Rattle.grammar.specs.ReadingExpressions.{base_at, dictionary_at, entered_at, entry_at, inner_at, list_at, literal_at, name_at, ternary_at, unary_at};
 
-use super::Parser;
+use super::{Parser, fitted, put};
 use crate::stop::ReadError;
 use crate::tree::{Entry, Expression, Literal};
 use lexer::token::Kind;
@@ -62,66 +61,45 @@ impl<'a> Parser<'_, 'a> {
         })
     }
 
-    // An expression in parentheses.
-    #[cycle(expression)]
-    #[tactic(auto, unfolding(crate::specs::ReadingExpressions::entered_at, crate::specs::ReadingExpressions::group_at))]
-    fn group(
-        &mut self,
-        alloc: Global,
-        levels: u32,
-        choices: bool,
-    ) -> Result<Expression<'a>, ReadError>
-        ensures read { Gives expression_of result (lexemes self.new.rest.now)
-            (entered_at Kind.OpenParenthesis levels (λ e. group_at e choices) (lexemes self.old.rest.now)) }
-        ensures shorter { OnOk result (length self.new.rest.now < length self.old.rest.now) }
+    // Whether a further element of a list comes, with the comma before it taken.
+    #[tactic(auto, using(crate::proofs::Loops::more_end, crate::proofs::Loops::more_none, crate::proofs::Loops::more_comma))]
+    pub(super) fn more(&mut self, close: Kind) -> bool
+        ensures read { (result, lexemes self.new.rest.now) ≡ more_at close (lexemes self.old.rest.now) }
+        ensures within { length self.new.rest.now ≤ length self.old.rest.now }
     {
-        let (_, levels) = self.enter(Kind::OpenParenthesis, levels)?;
-        let inner = self.choice(alloc, levels, choices)?;
-        self.take(Kind::CloseParenthesis)?;
-        Ok(inner)
-    }
-
-    // The values of a list, up to its closing bracket.
-    #[cycle(expression)]
-    fn values(
-        &mut self,
-        alloc: Global,
-        levels: u32,
-        choices: bool,
-    ) -> Result<Vec<Expression<'a>>, ReadError>
-        ensures read { Gives (λ v. map expression_of v.items) result (lexemes self.new.rest.now)
-            (listed_at Kind.CloseBracket (λ s. choice_at (unary_at levels) choices) same_state tt (lexemes self.old.rest.now)) }
-        ensures shorter { OnOk result (length self.new.rest.now ≤ length self.old.rest.now) }
-    {
-        let mut values = Vec::new(alloc);
-        while !self.begins(Kind::CloseBracket) {
-            values.push(self.choice(alloc, levels, choices)?)?;
-            if !self.begins(Kind::Comma) {
-                return Ok(values);
+        match self.rest {
+            [comma, rest @ ..] if comma.is(Kind::Comma) => {
+                self.rest = rest;
+                !self.begins(close)
             }
-            self.take(Kind::Comma)?;
+            _ => false,
         }
-        Ok(values)
     }
 
     // A list.
     #[cycle(expression)]
-    #[tactic(auto, unfolding(crate::specs::ReadingExpressions::entered_at, crate::specs::ReadingExpressions::list_at))]
+    #[tactic(auto, unfolding(crate::specs::ReadingExpressions::entered_at))]
     fn list(
         &mut self,
         alloc: Global,
         levels: u32,
-        choices: bool,
+        ternaries: bool,
     ) -> Result<Expression<'a>, ReadError>
         ensures read { Gives expression_of result (lexemes self.new.rest.now)
-            (entered_at Kind.OpenBracket levels (λ e. list_at e choices) (lexemes self.old.rest.now)) }
+            (entered_at Kind.OpenBracket levels (λ e. list_at e ternaries) (lexemes self.old.rest.now)) }
         ensures shorter { OnOk result (length self.new.rest.now < length self.old.rest.now) }
     {
-        let (open, levels) = self.enter(Kind::OpenBracket, levels)?;
-        let items = self.values(alloc, levels, choices)?;
-        self.take(Kind::CloseBracket)?;
+        let (open, inside) = self.enter(Kind::OpenBracket, levels)?;
+        let mut items = Vec::new(alloc);
+        let mut more = !self.begins(Kind::CloseBracket);
+        while more {
+            let item = self.ternary(alloc, inside, ternaries)?;
+            put(&mut items, item)?;
+            more = self.more(Kind::CloseBracket);
+        }
+        let items = self.closed(Kind::CloseBracket, items)?;
         Ok(Expression::List {
-            items,
+            items: fitted(items),
             line: open.line,
         })
     }
@@ -129,83 +107,76 @@ impl<'a> Parser<'_, 'a> {
     // A key and its value.
     #[cycle(expression)]
     #[tactic(auto, unfolding(crate::specs::ReadingExpressions::entry_at))]
-    fn entry(&mut self, alloc: Global, levels: u32, choices: bool) -> Result<Entry<'a>, ReadError>
+    fn entry(&mut self, alloc: Global, levels: u32, ternaries: bool) -> Result<Entry<'a>, ReadError>
         ensures read { Gives entry_of result (lexemes self.new.rest.now)
-            (entry_at (choice_at (unary_at levels) choices) (lexemes self.old.rest.now)) }
+            (entry_at (ternary_at (unary_at levels) ternaries) (lexemes self.old.rest.now)) }
         ensures shorter { OnOk result (length self.new.rest.now < length self.old.rest.now) }
     {
-        let key = self.choice(alloc, levels, choices)?;
-        self.take(Kind::Colon)?;
-        let value = self.choice(alloc, levels, choices)?;
+        let key = self.ternary(alloc, levels, ternaries)?;
+        let key = self.closed(Kind::Colon, key)?;
+        let value = self.ternary(alloc, levels, ternaries)?;
         Ok(Entry { key, value })
-    }
-
-    // The entries of a dictionary, up to its closing brace.
-    #[cycle(expression)]
-    fn entries(
-        &mut self,
-        alloc: Global,
-        levels: u32,
-        choices: bool,
-    ) -> Result<Vec<Entry<'a>>, ReadError>
-        ensures read { Gives (λ v. map entry_of v.items) result (lexemes self.new.rest.now)
-            (listed_at Kind.CloseBrace (λ s. entry_at (choice_at (unary_at levels) choices)) same_state tt (lexemes self.old.rest.now)) }
-        ensures shorter { OnOk result (length self.new.rest.now ≤ length self.old.rest.now) }
-    {
-        let mut entries = Vec::new(alloc);
-        while !self.begins(Kind::CloseBrace) {
-            entries.push(self.entry(alloc, levels, choices)?)?;
-            if !self.begins(Kind::Comma) {
-                return Ok(entries);
-            }
-            self.take(Kind::Comma)?;
-        }
-        Ok(entries)
     }
 
     // A dictionary.
     #[cycle(expression)]
-    #[tactic(auto, unfolding(crate::specs::ReadingExpressions::entered_at, crate::specs::ReadingExpressions::dictionary_at))]
+    #[tactic(auto, unfolding(crate::specs::ReadingExpressions::entered_at))]
     fn dictionary(
         &mut self,
         alloc: Global,
         levels: u32,
-        choices: bool,
+        ternaries: bool,
     ) -> Result<Expression<'a>, ReadError>
         ensures read { Gives expression_of result (lexemes self.new.rest.now)
-            (entered_at Kind.OpenBrace levels (λ e. dictionary_at e choices) (lexemes self.old.rest.now)) }
+            (entered_at Kind.OpenBrace levels (λ e. dictionary_at e ternaries) (lexemes self.old.rest.now)) }
         ensures shorter { OnOk result (length self.new.rest.now < length self.old.rest.now) }
     {
-        let (open, levels) = self.enter(Kind::OpenBrace, levels)?;
-        let entries = self.entries(alloc, levels, choices)?;
-        self.take(Kind::CloseBrace)?;
+        let (open, inside) = self.enter(Kind::OpenBrace, levels)?;
+        let mut entries = Vec::new(alloc);
+        let mut more = !self.begins(Kind::CloseBrace);
+        while more {
+            let entry = self.entry(alloc, inside, ternaries)?;
+            put(&mut entries, entry)?;
+            more = self.more(Kind::CloseBrace);
+        }
+        let entries = self.closed(Kind::CloseBrace, entries)?;
         Ok(Expression::Dictionary {
-            entries,
+            entries: fitted(entries),
             line: open.line,
         })
     }
 
-    // An atom.
+    // A call of a function, or an atom.
     #[cycle(expression)]
-    #[tactic(auto, using(crate::proofs::ExpressionTails::atom_name, crate::proofs::ExpressionTails::atom_group, crate::proofs::ExpressionTails::atom_list, crate::proofs::ExpressionTails::atom_dictionary, crate::proofs::ExpressionTails::atom_literal))]
-    pub(super) fn atom(
+    #[tactic(auto, using(crate::proofs::ExpressionTails::base_call, crate::proofs::ExpressionTails::atom_name, crate::proofs::ExpressionTails::atom_group, crate::proofs::ExpressionTails::atom_list, crate::proofs::ExpressionTails::atom_dictionary, crate::proofs::ExpressionTails::atom_literal), unfolding(crate::specs::ReadingExpressions::call_at, crate::specs::ReadingExpressions::entered_at, crate::specs::ReadingExpressions::group_at))]
+    pub(super) fn base(
         &mut self,
         alloc: Global,
         levels: u32,
-        choices: bool,
+        ternaries: bool,
     ) -> Result<Expression<'a>, ReadError>
         ensures read { Gives expression_of result (lexemes self.new.rest.now)
-            (atom_at (inner_at levels) choices (lexemes self.old.rest.now)) }
+            (base_at (inner_at levels) ternaries (lexemes self.old.rest.now)) }
         ensures shorter { OnOk result (length self.new.rest.now < length self.old.rest.now) }
     {
-        if self.begins(Kind::Name) {
+        if self.two_begin(Kind::Name, Kind::OpenParenthesis) {
+            let name = self.take(Kind::Name)?;
+            let arguments = self.arguments(alloc, levels, ternaries)?;
+            Ok(Expression::Call {
+                name: name.text,
+                arguments,
+                line: name.line,
+            })
+        } else if self.begins(Kind::Name) {
             self.name()
         } else if self.begins(Kind::OpenParenthesis) {
-            self.group(alloc, levels, choices)
+            let (_, levels) = self.enter(Kind::OpenParenthesis, levels)?;
+            let inner = self.ternary(alloc, levels, ternaries)?;
+            Ok(self.closed(Kind::CloseParenthesis, inner)?)
         } else if self.begins(Kind::OpenBracket) {
-            self.list(alloc, levels, choices)
+            self.list(alloc, levels, ternaries)
         } else if self.begins(Kind::OpenBrace) {
-            self.dictionary(alloc, levels, choices)
+            self.dictionary(alloc, levels, ternaries)
         } else {
             self.literal()
         }

@@ -1,15 +1,15 @@
-//! Reads expressions: choices, and chains of operators.
+//! Reads expressions: ternaries, and chains of operators.
 
-ghost use Rattle.std.specs.Prelude.{true, false, Some, IfOk, ◌≡◌, ◌-◌, ◌<◌, ◌≤◌, length, map, OnOk};
+ghost use Rattle.std.specs.Prelude.{true, false, Some, IfOk, ◌≡◌, ◌&&◌, ◌-◌, ◌<◌, ◌≤◌, length, map, OnOk};
 ghost use Rattle.std.specs.Option.{OnSome};
 ghost use Rattle.lexer.specs.Lexeme.{lexeme_of, lexemes};
-ghost use Rattle.grammar.specs.ExpressionTree.{ChoiceTree, expression_of, operand_of};
-ghost use Rattle.grammar.specs.Expressions.{chain_tree, comparative};
-ghost use Rattle.grammar.specs.Parts.{first_line, taken};
-ghost use Rattle.grammar.specs.Reading.{Gives, head_is, two_begin};
-ghost use Rattle.grammar.specs.ReadingExpressions.{branches_at, chain_at, choice_at, compared_at, comparison_at, comparison_operator_at, compares, disjunction_at, enter_at, expr_at, not_in_at, operands_at, operator_of, part_at, sum_at, unary_at};
+ghost use Rattle.grammar.specs.ExpressionTree.{expression_of, operand_of};
+ghost use Rattle.grammar.specs.Expressions.{comparative};
+ghost use Rattle.grammar.specs.Parts.{first_line, stands_for, taken};
+ghost use Rattle.grammar.specs.Reading.{Gives, begins, head_is, two_begin};
+ghost use Rattle.grammar.specs.ReadingExpressions.{branches_at, chain_at, ternary_at, comparison_at, comparison_operator_at, compares, disjunction_at, enter_at, expr_at, not_in_at, operands_at, operator_of, part_at, unary_at};
 
-use super::Parser;
+use super::{Parser, fitted, put};
 use crate::stop::{ReadError, Stop};
 use crate::tree::{Expression, Operand, Operator};
 use lexer::token::{Kind, Token};
@@ -69,42 +69,11 @@ fn comparative(kind: Kind) -> Option<Operator>
     }
 }
 
-// A first value and others with their operators: one node, or the value itself where it stands alone.
-fn chain_of<'a>(
-    alloc: Global,
-    first: Expression<'a>,
-    others: Vec<Operand<'a>>,
-    line: usize,
-) -> Result<Expression<'a>, AllocError>
-    ensures { IfOk result (λ e. expression_of e ≡ chain_tree line (expression_of first.entry) (map operand_of others.entry.items)) }
+// A value on the heap.
+pub(super) fn boxed<T: Drop>(alloc: Global, value: T) -> Result<Box<T>, AllocError>
+    ensures { IfOk result (λ b. b.value ≡ value) }
 {
-    if others.is_empty() {
-        return Ok(first);
-    }
-    let first = Box::new(alloc, first)?;
-    Ok(Expression::Chain {
-        first,
-        others,
-        line,
-    })
-}
-
-// A choice between two values.
-fn choice_of<'a>(
-    alloc: Global,
-    test: Expression<'a>,
-    yes: Expression<'a>,
-    no: Expression<'a>,
-    line: usize,
-) -> Result<Expression<'a>, AllocError>
-    ensures { IfOk result (λ e. expression_of e ≡ ChoiceTree (expression_of test.entry) (expression_of yes.entry) (expression_of no.entry) line) }
-{
-    Ok(Expression::Choice {
-        test: Box::new(alloc, test)?,
-        yes: Box::new(alloc, yes)?,
-        no: Box::new(alloc, no)?,
-        line,
-    })
+    Ok(Box::new(alloc, value)?)
 }
 
 impl<'a> Parser<'_, 'a> {
@@ -133,6 +102,16 @@ impl<'a> Parser<'_, 'a> {
         };
         self.rest = rest;
         Some(operator)
+    }
+
+    // Whether an operator of this rank comes.
+    fn operates(&self, rank: Rank) -> bool
+        ensures { result ≡ head_is (stands_for (operator_of rank)) (lexemes self.now.rest.now) }
+    {
+        match self.rest {
+            [token, ..] => rank.operator(token.kind).is_some(),
+            [] => false,
+        }
     }
 
     // Takes the comparison of one token that comes, if one does.
@@ -184,6 +163,13 @@ impl<'a> Parser<'_, 'a> {
         }
     }
 
+    // Whether a ternary goes on, where one may stand.
+    fn asks(&self, ternaries: bool) -> bool
+        ensures { result ≡ (ternaries && begins Kind.Question (lexemes self.now.rest.now)) }
+    {
+        ternaries && self.begins(Kind::Question)
+    }
+
     // Whether the first two tokens are of these kinds.
     pub(super) fn two_begin(&self, first: Kind, second: Kind) -> bool
         ensures { result ≡ two_begin first second (lexemes self.now.rest.now) }
@@ -218,17 +204,17 @@ impl<'a> Parser<'_, 'a> {
         &mut self,
         alloc: Global,
         levels: u32,
-        choices: bool,
+        ternaries: bool,
         rank: Rank,
     ) -> Result<Expression<'a>, ReadError>
-        ensures read { Gives expression_of result (lexemes self.new.rest.now) (part_at rank (unary_at levels choices) (lexemes self.old.rest.now)) }
+        ensures read { Gives expression_of result (lexemes self.new.rest.now) (part_at rank (unary_at levels ternaries) (lexemes self.old.rest.now)) }
         ensures shorter { OnOk result (length self.new.rest.now < length self.old.rest.now) }
     {
         match rank {
-            Rank::Or => self.chain(alloc, levels, choices, Rank::And),
-            Rank::And => self.comparison(alloc, levels, choices),
-            Rank::Sum => self.chain(alloc, levels, choices, Rank::Product),
-            Rank::Product => self.unary(alloc, levels, choices),
+            Rank::Or => self.chain(alloc, levels, ternaries, Rank::And),
+            Rank::And => self.comparison(alloc, levels, ternaries),
+            Rank::Sum => self.chain(alloc, levels, ternaries, Rank::Product),
+            Rank::Product => self.unary(alloc, levels, ternaries),
         }
     }
 
@@ -238,132 +224,123 @@ impl<'a> Parser<'_, 'a> {
         &mut self,
         alloc: Global,
         levels: u32,
-        choices: bool,
+        ternaries: bool,
         rank: Rank,
     ) -> Result<Vec<Operand<'a>>, ReadError>
         ensures read { Gives (λ v. map operand_of v.items) result (lexemes self.new.rest.now)
-            (operands_at (operator_of rank) (part_at rank (unary_at levels choices)) (lexemes self.old.rest.now)) }
+            (operands_at (operator_of rank) (part_at rank (unary_at levels ternaries)) (lexemes self.old.rest.now)) }
         ensures shorter { OnOk result (length self.new.rest.now ≤ length self.old.rest.now) }
     {
         let mut operands = Vec::new(alloc);
         while let Some(operator) = self.operator(rank) {
-            let value = self.part(alloc, levels, choices, rank)?;
-            operands.push(Operand { operator, value })?;
+            let value = self.part(alloc, levels, ternaries, rank)?;
+            put(&mut operands, Operand { operator, value })?;
         }
-        Ok(operands)
+        Ok(fitted(operands))
     }
 
     // Parts with operators of this rank between them.
     #[cycle(expression)]
-    #[tactic(auto, unfolding(crate::specs::ReadingExpressions::chain_at))]
+    #[tactic(auto, using(crate::proofs::ExpressionTails::chain_alone, crate::proofs::ExpressionTails::chain_more), unfolding(crate::specs::ReadingExpressions::chain_at))]
     fn chain(
         &mut self,
         alloc: Global,
         levels: u32,
-        choices: bool,
+        ternaries: bool,
         rank: Rank,
     ) -> Result<Expression<'a>, ReadError>
         ensures read { Gives expression_of result (lexemes self.new.rest.now)
-            (chain_at (operator_of rank) (part_at rank (unary_at levels choices)) (lexemes self.old.rest.now)) }
+            (chain_at (operator_of rank) (part_at rank (unary_at levels ternaries)) (lexemes self.old.rest.now)) }
         ensures shorter { OnOk result (length self.new.rest.now < length self.old.rest.now) }
     {
         let line = self.first_line();
-        let first = self.part(alloc, levels, choices, rank)?;
-        let others = self.operands(alloc, levels, choices, rank)?;
-        Ok(chain_of(alloc, first, others, line)?)
-    }
-
-    // A comparison and the sum behind it.
-    #[cycle(expression)]
-    #[tactic(auto, unfolding(crate::specs::ReadingExpressions::compared_at, crate::specs::ReadingExpressions::sum_at))]
-    fn compared(
-        &mut self,
-        alloc: Global,
-        levels: u32,
-        choices: bool,
-    ) -> Result<Operand<'a>, ReadError>
-        ensures read { Gives operand_of result (lexemes self.new.rest.now) (compared_at (sum_at (unary_at levels choices)) (lexemes self.old.rest.now)) }
-        ensures shorter { OnOk result (length self.new.rest.now < length self.old.rest.now) }
-    {
-        let operator = self.comparison_operator()?;
-        let value = self.chain(alloc, levels, choices, Rank::Sum)?;
-        Ok(Operand { operator, value })
+        let first = self.part(alloc, levels, ternaries, rank)?;
+        if !self.operates(rank) {
+            return Ok(first);
+        }
+        let first = boxed(alloc, first)?;
+        let others = self.operands(alloc, levels, ternaries, rank)?;
+        Ok(Expression::Chain {
+            first,
+            others,
+            line,
+        })
     }
 
     // A sum, or two that are compared.
     #[cycle(expression)]
-    #[tactic(auto, unfolding(crate::specs::ReadingExpressions::comparison_at, crate::specs::ReadingExpressions::sum_at, crate::specs::Reading::optional_at, crate::specs::Reading::or_at))]
+    #[tactic(auto, unfolding(crate::specs::ReadingExpressions::comparison_at, crate::specs::ReadingExpressions::compared_at, crate::specs::ReadingExpressions::sum_at, crate::specs::Reading::optional_at, crate::specs::Reading::or_at))]
     fn comparison(
         &mut self,
         alloc: Global,
         levels: u32,
-        choices: bool,
+        ternaries: bool,
     ) -> Result<Expression<'a>, ReadError>
-        ensures read { Gives expression_of result (lexemes self.new.rest.now) (comparison_at (unary_at levels choices) (lexemes self.old.rest.now)) }
+        ensures read { Gives expression_of result (lexemes self.new.rest.now) (comparison_at (unary_at levels ternaries) (lexemes self.old.rest.now)) }
         ensures shorter { OnOk result (length self.new.rest.now < length self.old.rest.now) }
     {
         let line = self.first_line();
-        let first = self.chain(alloc, levels, choices, Rank::Sum)?;
+        let first = self.chain(alloc, levels, ternaries, Rank::Sum)?;
         if !self.compares() {
             return Ok(first);
         }
-        let other = self.compared(alloc, levels, choices)?;
-        let others = vec![in alloc; other]?;
-        Ok(chain_of(alloc, first, others, line)?)
+        let first = boxed(alloc, first)?;
+        let operator = self.comparison_operator()?;
+        let value = self.chain(alloc, levels, ternaries, Rank::Sum)?;
+        let mut others = Vec::with_capacity(alloc, 1)?;
+        put(&mut others, Operand { operator, value })?;
+        Ok(Expression::Chain {
+            first,
+            others,
+            line,
+        })
     }
 
-    // Both values of a choice, behind its test.
+    // Both values of a ternary, behind its test.
     #[cycle(expression)]
     #[tactic(auto, unfolding(crate::specs::ReadingExpressions::branches_at, crate::specs::ReadingExpressions::disjunction_at))]
     fn branches(
         &mut self,
         alloc: Global,
         levels: u32,
-    ) -> Result<(Expression<'a>, Expression<'a>), ReadError>
-        ensures read { Gives (λ p. (expression_of p.0, expression_of p.1)) result (lexemes self.new.rest.now)
+    ) -> Result<(Box<Expression<'a>>, Box<Expression<'a>>), ReadError>
+        ensures read { Gives (λ p. (expression_of p.0.value, expression_of p.1.value)) result (lexemes self.new.rest.now)
             (branches_at (disjunction_at (unary_at levels false)) (lexemes self.old.rest.now)) }
         ensures shorter { OnOk result (length self.new.rest.now < length self.old.rest.now) }
     {
         self.take(Kind::Question)?;
         let yes = self.chain(alloc, levels, false, Rank::Or)?;
-        self.take(Kind::Colon)?;
+        let yes = self.closed(Kind::Colon, yes)?;
+        let yes = boxed(alloc, yes)?;
         let no = self.chain(alloc, levels, false, Rank::Or)?;
-        Ok((yes, no))
+        Ok((yes, boxed(alloc, no)?))
     }
 
-    // An expression, which may be a choice.
+    // An expression, in which a ternary may stand or not.
     #[cycle(expression)]
-    #[tactic(auto, unfolding(crate::specs::ReadingExpressions::choice_at, crate::specs::ReadingExpressions::disjunction_at, crate::specs::Reading::optional_at, crate::specs::Reading::or_at))]
-    fn ternary(&mut self, alloc: Global, levels: u32) -> Result<Expression<'a>, ReadError>
-        ensures read { Gives expression_of result (lexemes self.new.rest.now) (choice_at (unary_at levels) true (lexemes self.old.rest.now)) }
-        ensures shorter { OnOk result (length self.new.rest.now < length self.old.rest.now) }
-    {
-        let line = self.first_line();
-        let test = self.chain(alloc, levels, true, Rank::Or)?;
-        if !self.begins(Kind::Question) {
-            return Ok(test);
-        }
-        let (yes, no) = self.branches(alloc, levels)?;
-        Ok(choice_of(alloc, test, yes, no, line)?)
-    }
-
-    // An expression, in which a choice may stand or not.
-    #[cycle(expression)]
-    #[tactic(auto, using(crate::proofs::ExpressionTails::choice_plain, crate::proofs::ExpressionTails::choice_any), unfolding(crate::specs::ReadingExpressions::disjunction_at))]
-    pub(super) fn choice(
+    #[tactic(auto, using(crate::proofs::ExpressionTails::ternary_alone, crate::proofs::ExpressionTails::ternary_asks, crate::proofs::ExpressionTails::ternary_test_fails, crate::proofs::ExpressionTails::ternary_branches_fail), unfolding(crate::specs::ReadingExpressions::disjunction_at))]
+    pub(super) fn ternary(
         &mut self,
         alloc: Global,
         levels: u32,
-        choices: bool,
+        ternaries: bool,
     ) -> Result<Expression<'a>, ReadError>
-        ensures read { Gives expression_of result (lexemes self.new.rest.now) (choice_at (unary_at levels) choices (lexemes self.old.rest.now)) }
+        ensures read { Gives expression_of result (lexemes self.new.rest.now) (ternary_at (unary_at levels) ternaries (lexemes self.old.rest.now)) }
         ensures shorter { OnOk result (length self.new.rest.now < length self.old.rest.now) }
     {
-        if choices {
-            self.ternary(alloc, levels)
-        } else {
-            self.chain(alloc, levels, false, Rank::Or)
+        let line = self.first_line();
+        let test = self.chain(alloc, levels, ternaries, Rank::Or)?;
+        if !self.asks(ternaries) {
+            return Ok(test);
         }
+        let test = boxed(alloc, test)?;
+        let (yes, no) = self.branches(alloc, levels)?;
+        Ok(Expression::Ternary {
+            test,
+            yes,
+            no,
+            line,
+        })
     }
 
     // An expression, where so many levels may still be opened.
@@ -376,6 +353,6 @@ impl<'a> Parser<'_, 'a> {
         ensures read { Gives expression_of result (lexemes self.new.rest.now) (expr_at levels (lexemes self.old.rest.now)) }
         ensures shorter { OnOk result (length self.new.rest.now < length self.old.rest.now) }
     {
-        self.ternary(alloc, levels)
+        self.ternary(alloc, levels, true)
     }
 }

@@ -3,16 +3,36 @@
 ghost use Rattle.std.specs.Prelude.{◌≡◌, ◌<◌, ◌≤◌, length, map, OnOk, true};
 ghost use Rattle.std.specs.Option.{option_map};
 ghost use Rattle.lexer.specs.Lexeme.{lexemes};
+ghost use Rattle.grammar.specs.ExpressionTree.{expression_of};
 ghost use Rattle.grammar.specs.Reading.{Gives, begins, optional_at, two_begin};
 ghost use Rattle.grammar.specs.ReadingExpressions.{expr_at};
-ghost use Rattle.grammar.specs.ReadingStatements.{begins_block, block_at, body_at, branch_at, conditional_at, elif_at, ended_line_at, ends_line, foreach_at, in_body, last_part_at, leave_at, maybe_at, otherwise_at, parts_at, plain_at, second_at, set_at, simple_at, stmt_at};
-ghost use Rattle.grammar.specs.Tree.{AppendTree, AssignTree, BreakTree, ContinueTree, branch_of, statement_of};
+ghost use Rattle.grammar.specs.ReadingStatements.{GivesLine, begins_block, body_at, branch_at, conditional_at, ends_line, foreach_at, in_body, leave_at, maybe_at, names_at, otherwise_at, parts_at, plain_at, second_at, set_at, set_tree, sign_of, simple_at, stmt_at};
+ghost use Rattle.grammar.specs.Tree.{BreakTree, ContinueTree, branch_of, statement_of};
 
-use super::Parser;
+use super::{Parser, fitted, put};
 use crate::stop::{ReadError, Stop};
-use crate::tree::{Branch, Statement};
-use lexer::token::Kind;
+use crate::tree::{Branch, Expression, Statement};
+use lexer::token::{Kind, Token};
 use std::alloc::Global;
+
+// What gives a name a value, or adds one to what it has.
+fn set<'a>(name: Token<'a>, adds: bool, value: Expression<'a>) -> Statement<'a>
+    ensures { statement_of result ≡ set_tree adds name.entry.text.now name.entry.line (expression_of value.entry) }
+{
+    if adds {
+        Statement::Append {
+            name: name.text,
+            line: name.line,
+            value,
+        }
+    } else {
+        Statement::Assign {
+            name: name.text,
+            line: name.line,
+            value,
+        }
+    }
+}
 
 impl<'a> Parser<'_, 'a> {
     // Whether a name and this sign come.
@@ -60,38 +80,17 @@ impl<'a> Parser<'_, 'a> {
         }
     }
 
-    // An assignment.
+    // A name, `=` or `+=`, and a value.
     #[tactic(auto, unfolding(crate::specs::ReadingStatements::set_at))]
-    fn assign(&mut self, alloc: Global, levels: u32) -> Result<Statement<'a>, ReadError>
+    fn assign(&mut self, alloc: Global, adds: bool, levels: u32) -> Result<Statement<'a>, ReadError>
         ensures read { Gives statement_of result (lexemes self.new.rest.now)
-            (set_at Kind.Assign AssignTree (expr_at levels) (lexemes self.old.rest.now)) }
+            (set_at (sign_of adds) (set_tree adds) (expr_at levels) (lexemes self.old.rest.now)) }
         ensures shorter { OnOk result (length self.new.rest.now < length self.old.rest.now) }
     {
         let name = self.take(Kind::Name)?;
-        self.take(Kind::Assign)?;
+        self.take(if adds { Kind::PlusAssign } else { Kind::Assign })?;
         let value = self.expression(alloc, levels)?;
-        Ok(Statement::Assign {
-            name: name.text,
-            line: name.line,
-            value,
-        })
-    }
-
-    // A value that is added.
-    #[tactic(auto, unfolding(crate::specs::ReadingStatements::set_at))]
-    fn append(&mut self, alloc: Global, levels: u32) -> Result<Statement<'a>, ReadError>
-        ensures read { Gives statement_of result (lexemes self.new.rest.now)
-            (set_at Kind.PlusAssign AppendTree (expr_at levels) (lexemes self.old.rest.now)) }
-        ensures shorter { OnOk result (length self.new.rest.now < length self.old.rest.now) }
-    {
-        let name = self.take(Kind::Name)?;
-        self.take(Kind::PlusAssign)?;
-        let value = self.expression(alloc, levels)?;
-        Ok(Statement::Append {
-            name: name.text,
-            line: name.line,
-            value,
-        })
+        Ok(set(name, adds, value))
     }
 
     // An expression alone.
@@ -152,9 +151,9 @@ impl<'a> Parser<'_, 'a> {
         } else if self.begins(Kind::Continue) {
             self.leave_round(inside)
         } else if self.begins_sign(Kind::Assign) {
-            self.assign(alloc, levels)
+            self.assign(alloc, false, levels)
         } else if self.begins_sign(Kind::PlusAssign) {
-            self.append(alloc, levels)
+            self.assign(alloc, true, levels)
         } else {
             self.plain(alloc, levels)
         }
@@ -162,7 +161,7 @@ impl<'a> Parser<'_, 'a> {
 
     // A statement, where so many levels may still be opened; inside says whether a `foreach` is open.
     #[cycle(statement)]
-    #[tactic(auto, using(crate::proofs::StatementTails::stmt_block, crate::proofs::StatementTails::stmt_simple))]
+    #[tactic(auto, using(crate::proofs::StatementTails::stmt_simple, crate::proofs::StatementTails::stmt_deep, crate::proofs::StatementTails::stmt_foreach, crate::proofs::StatementTails::stmt_conditional, crate::proofs::Tails::fails_at))]
     fn statement(
         &mut self,
         alloc: Global,
@@ -172,35 +171,14 @@ impl<'a> Parser<'_, 'a> {
         ensures read { Gives statement_of result (lexemes self.new.rest.now) (stmt_at inside levels (lexemes self.old.rest.now)) }
         ensures shorter { OnOk result (length self.new.rest.now < length self.old.rest.now) }
     {
-        if self.begins_block() {
-            self.block(alloc, inside, levels)
-        } else {
+        if !self.begins_block() {
             self.simple(alloc, inside, levels)
-        }
-    }
-
-    // A statement that opens a level.
-    #[cycle(statement)]
-    #[tactic(auto, using(crate::proofs::StatementTails::block_foreach, crate::proofs::StatementTails::block_conditional, crate::proofs::StatementTails::block_deep, crate::proofs::StatementTails::block_unexpected, crate::proofs::Tails::fails_at))]
-    fn block(
-        &mut self,
-        alloc: Global,
-        inside: bool,
-        levels: u32,
-    ) -> Result<Statement<'a>, ReadError>
-        ensures read { Gives statement_of result (lexemes self.new.rest.now) (block_at inside levels (lexemes self.old.rest.now)) }
-        ensures shorter { OnOk result (length self.new.rest.now < length self.old.rest.now) }
-    {
-        if levels > 0 {
-            if self.begins(Kind::Foreach) {
-                self.foreach(alloc, levels - 1)
-            } else {
-                self.conditional(alloc, inside, levels - 1)
-            }
-        } else if self.begins_block() {
+        } else if levels == 0 {
             Err(ReadError::Stop(Stop::TooDeep(self.rest.len())))
+        } else if self.begins(Kind::Foreach) {
+            self.foreach(alloc, levels - 1)
         } else {
-            Err(self.unexpected())
+            self.conditional(alloc, inside, levels - 1)
         }
     }
 
@@ -229,6 +207,19 @@ impl<'a> Parser<'_, 'a> {
         }
     }
 
+    // The names of a `foreach`, up to the colon.
+    #[tactic(auto, unfolding(crate::specs::ReadingStatements::names_at))]
+    fn names(&mut self) -> Result<(&'a str, Option<&'a str>), ReadError>
+        ensures read { Gives (λ p. (p.0.now, option_map (λ name. name.now) p.1)) result (lexemes self.new.rest.now)
+            (names_at (lexemes self.old.rest.now)) }
+        ensures shorter { OnOk result (length self.new.rest.now < length self.old.rest.now) }
+    {
+        let first = self.take(Kind::Name)?;
+        let second = self.second()?;
+        self.take(Kind::Colon)?;
+        Ok((first.text, second))
+    }
+
     // A `foreach`, up to its `endforeach`.
     #[cycle(statement)]
     #[tactic(auto, unfolding(crate::specs::ReadingStatements::foreach_at))]
@@ -238,21 +229,16 @@ impl<'a> Parser<'_, 'a> {
         ensures shorter { OnOk result (length self.new.rest.now < length self.old.rest.now) }
     {
         let word = self.take(Kind::Foreach)?;
-        let first = self.take(Kind::Name)?;
-        let second = self.second()?;
-        self.take(Kind::Colon)?;
-        let list_line = self.first_line();
-        let list = self.expression(alloc, levels)?;
-        self.take(Kind::Newline)?;
-        let body = self.body(alloc, true, levels)?;
-        self.take(Kind::EndForeach)?;
+        let (first, second) = self.names()?;
+        let round = self.branch(alloc, true, levels)?;
+        let round = self.closed(Kind::EndForeach, round)?;
         Ok(Statement::Foreach {
             line: word.line,
-            first: first.text,
+            first,
             second,
-            list,
-            list_line,
-            body,
+            list: round.condition,
+            list_line: round.line,
+            body: round.body,
         })
     }
 
@@ -272,7 +258,7 @@ impl<'a> Parser<'_, 'a> {
         let word = self.take(Kind::If)?;
         let branches = self.parts(alloc, inside, levels)?;
         let otherwise = self.otherwise(alloc, inside, levels)?;
-        self.take(Kind::EndIf)?;
+        let (branches, otherwise) = self.closed(Kind::EndIf, (branches, otherwise))?;
         Ok(Statement::If {
             line: word.line,
             branches,
@@ -280,7 +266,7 @@ impl<'a> Parser<'_, 'a> {
         })
     }
 
-    // A condition and the statements behind it.
+    // A condition, or what a `foreach` goes over, and the statements behind it.
     #[cycle(statement)]
     #[tactic(auto, unfolding(crate::specs::ReadingStatements::branch_at))]
     fn branch(&mut self, alloc: Global, inside: bool, levels: u32) -> Result<Branch<'a>, ReadError>
@@ -290,25 +276,13 @@ impl<'a> Parser<'_, 'a> {
     {
         let line = self.first_line();
         let condition = self.expression(alloc, levels)?;
-        self.take(Kind::Newline)?;
+        let condition = self.closed(Kind::Newline, condition)?;
         let body = self.body(alloc, inside, levels)?;
         Ok(Branch {
             condition,
             line,
             body,
         })
-    }
-
-    // An `elif` and its part.
-    #[cycle(statement)]
-    #[tactic(auto, unfolding(crate::specs::ReadingStatements::elif_at))]
-    fn elif(&mut self, alloc: Global, inside: bool, levels: u32) -> Result<Branch<'a>, ReadError>
-        ensures read { Gives branch_of result (lexemes self.new.rest.now)
-            (elif_at (expr_at levels) (stmt_at inside levels) (lexemes self.old.rest.now)) }
-        ensures shorter { OnOk result (length self.new.rest.now < length self.old.rest.now) }
-    {
-        self.take(Kind::Elif)?;
-        self.branch(alloc, inside, levels)
     }
 
     // The parts of an `if` that have a condition.
@@ -324,34 +298,19 @@ impl<'a> Parser<'_, 'a> {
         ensures shorter { OnOk result (length self.new.rest.now < length self.old.rest.now) }
     {
         let mut parts = Vec::new(alloc);
-        parts.push(self.branch(alloc, inside, levels)?)?;
+        let first = self.branch(alloc, inside, levels)?;
+        put(&mut parts, first)?;
         while self.begins(Kind::Elif) {
-            parts.push(self.elif(alloc, inside, levels)?)?;
+            self.take(Kind::Elif)?;
+            let other = self.branch(alloc, inside, levels)?;
+            put(&mut parts, other)?;
         }
-        Ok(parts)
-    }
-
-    // An `else` and the statements behind it.
-    #[cycle(statement)]
-    #[tactic(auto, unfolding(crate::specs::ReadingStatements::last_part_at))]
-    fn last_part(
-        &mut self,
-        alloc: Global,
-        inside: bool,
-        levels: u32,
-    ) -> Result<Vec<Statement<'a>>, ReadError>
-        ensures read { Gives (λ v. map statement_of v.items) result (lexemes self.new.rest.now)
-            (last_part_at (stmt_at inside levels) (lexemes self.old.rest.now)) }
-        ensures shorter { OnOk result (length self.new.rest.now < length self.old.rest.now) }
-    {
-        self.take(Kind::Else)?;
-        self.take(Kind::Newline)?;
-        self.body(alloc, inside, levels)
+        Ok(fitted(parts))
     }
 
     // What stands behind `else`, or nothing.
     #[cycle(statement)]
-    #[tactic(auto, using(crate::proofs::StatementTails::otherwise_part, crate::proofs::StatementTails::otherwise_none))]
+    #[tactic(auto, using(crate::proofs::StatementTails::otherwise_part, crate::proofs::StatementTails::otherwise_none), unfolding(crate::specs::ReadingStatements::last_part_at))]
     fn otherwise(
         &mut self,
         alloc: Global,
@@ -362,11 +321,12 @@ impl<'a> Parser<'_, 'a> {
             (otherwise_at (stmt_at inside levels) (lexemes self.old.rest.now)) }
         ensures shorter { OnOk result (length self.new.rest.now ≤ length self.old.rest.now) }
     {
-        if self.begins(Kind::Else) {
-            self.last_part(alloc, inside, levels)
-        } else {
-            Ok(Vec::new(alloc))
+        if !self.begins(Kind::Else) {
+            return Ok(Vec::new(alloc));
         }
+        self.take(Kind::Else)?;
+        self.take(Kind::Newline)?;
+        self.body(alloc, inside, levels)
     }
 
     // The statements up to the next part or the end of a block.
@@ -383,48 +343,31 @@ impl<'a> Parser<'_, 'a> {
     {
         let mut statements = Vec::new(alloc);
         while self.in_body() {
-            if let Some(statement) = self.ended_line(alloc, inside, levels)? {
-                statements.push(statement)?;
-            }
+            self.line(alloc, inside, levels, &mut statements)?;
+            self.take(Kind::Newline)?;
         }
-        Ok(statements)
+        Ok(fitted(statements))
     }
 
-    // The statement of a line, if there is one, and the line's end.
+    // Puts the statement of a line behind the others, if there is one.
     #[cycle(statement)]
-    #[tactic(auto, unfolding(crate::specs::ReadingStatements::ended_line_at))]
-    fn ended_line(
-        &mut self,
-        alloc: Global,
-        inside: bool,
-        levels: u32,
-    ) -> Result<Option<Statement<'a>>, ReadError>
-        ensures read { Gives (option_map statement_of) result (lexemes self.new.rest.now)
-            (ended_line_at (stmt_at inside levels) (lexemes self.old.rest.now)) }
-        ensures shorter { OnOk result (length self.new.rest.now < length self.old.rest.now) }
-    {
-        let statement = self.line(alloc, inside, levels)?;
-        self.take(Kind::Newline)?;
-        Ok(statement)
-    }
-
-    // The statement of a line, if there is one.
-    #[cycle(statement)]
-    #[tactic(auto, using(crate::proofs::StatementTails::maybe_some, crate::proofs::StatementTails::maybe_none, crate::proofs::StatementTails::maybe_fails))]
+    #[tactic(auto, using(crate::proofs::StatementTails::line_some, crate::proofs::StatementTails::line_none, crate::proofs::StatementTails::line_fails))]
     pub(super) fn line(
         &mut self,
         alloc: Global,
         inside: bool,
         levels: u32,
-    ) -> Result<Option<Statement<'a>>, ReadError>
-        ensures read { Gives (option_map statement_of) result (lexemes self.new.rest.now)
-            (maybe_at (stmt_at inside levels) (lexemes self.old.rest.now)) }
+        statements: &mut Vec<Statement<'a>>,
+    ) -> Result<(), ReadError>
+        ensures read { GivesLine (map statement_of statements.old.items) (map statement_of statements.new.items) result
+            (lexemes self.new.rest.now) (maybe_at (stmt_at inside levels) (lexemes self.old.rest.now)) }
         ensures shorter { OnOk result (length self.new.rest.now ≤ length self.old.rest.now) }
     {
         if self.ends_line() {
-            Ok(None)
-        } else {
-            Ok(Some(self.statement(alloc, inside, levels)?))
+            return Ok(());
         }
+        let statement = self.statement(alloc, inside, levels)?;
+        put(statements, statement)?;
+        Ok(())
     }
 }

@@ -1,55 +1,61 @@
 //! Calls of `option` that declare none.
 
-use crate::declarations::{check, check_refused};
+use crate::declarations::check;
 use std::test::Fail;
 
 // Arguments without a name that an option may have, or with more than a name before the keywords.
-const NAMES: &[&str] = &[
-    "",
-    "type: 'string'",
-    "'', type: 'string'",
-    "'a b', type: 'string'",
-    "'a.b', type: 'string'",
-    "'é', type: 'string'",
-    "'prefix', type: 'string'",
-    "'auto_features', type: 'feature'",
-    "5, type: 'string'",
-    "true, type: 'string'",
-    "a, type: 'string'",
-    "['a'], type: 'string'",
-    "f'a', type: 'string'",
-    "'a', 'b', type: 'string'",
+const NAMES: &[(&str, &str)] = &[
+    ("", "E15 at 1"),
+    ("type: 'string'", "E15 at 1"),
+    ("'', type: 'string'", "E15 at 1"),
+    ("'a b', type: 'string'", "E15 at 1"),
+    ("'a.b', type: 'string'", "E15 at 1"),
+    ("'é', type: 'string'", "E15 at 1"),
+    ("'prefix', type: 'string'", "E15 at 1"),
+    ("'auto_features', type: 'feature'", "E15 at 1"),
+    ("5, type: 'string'", "E15 at 1"),
+    ("true, type: 'string'", "E15 at 1"),
+    ("a, type: 'string'", "E15 at 1"),
+    ("['a'], type: 'string'", "E15 at 1"),
+    ("f'a', type: 'string'", "E15 at 1"),
+    ("'a', 'b', type: 'string'", "E15 at 1"),
 ];
 
 // Keywords that are none of `option`, come twice, give what they may not, or lack one that is needed.
-const KEYWORDS: &[&str] = &[
-    "value: 'x'",
-    "type: ''",
-    "type: 'String'",
-    "type: 'list'",
-    "type: ['string']",
-    "type: 5",
-    "type: string",
-    "type: 'string', kind: 'x'",
-    "type: 'string', type: 'string'",
-    "type: 'string', kind: 1, kind: 2",
-    "type: 'string', description: d",
-    "type: 'string', value: f'x'",
-    "type: 'integer'",
-    "type: 'integer', min: 1",
-    "type: 'integer', value: 1, min: '1'",
-    "type: 'integer', value: 1, max: true",
-    "type: 'integer', value: 1, min: 9223372036854775808",
-    "type: 'integer', value: 1, max: -9223372036854775809",
-    "type: 'combo'",
-    "type: 'combo', value: 'x'",
-    "type: 'combo', choices: []",
-    "type: 'combo', choices: 'x'",
-    "type: 'combo', choices: ['x', 1]",
-    "type: 'array', choices: true",
-    "type: 'string', choices: 'x'",
-    "type: 'boolean', min: 'x'",
-    "type: 'feature', max: []",
+const KEYWORDS: &[(&str, &str)] = &[
+    ("value: 'x'", "E15 at 1"),
+    ("type: ''", "E15 at 1"),
+    ("type: 'String'", "E15 at 1"),
+    ("type: 'list'", "E15 at 1"),
+    ("type: ['string']", "E15 at 1"),
+    ("type: 5", "E15 at 1"),
+    ("type: string", "E15 at 1"),
+    ("type: 'string', kind: 'x'", "E15 at 1"),
+    ("type: 'string', type: 'string'", "E15 at 1"),
+    ("type: 'string', kind: 1, kind: 2", "E15 at 1"),
+    ("type: 'string', description: d", "E15 at 1"),
+    ("type: 'string', value: f'x'", "E15 at 1"),
+    ("type: 'integer'", "E15 at 1"),
+    ("type: 'integer', min: 1", "E15 at 1"),
+    ("type: 'integer', value: 1, min: '1'", "E15 at 1"),
+    ("type: 'integer', value: 1, max: true", "E15 at 1"),
+    (
+        "type: 'integer', value: 1, min: 9223372036854775808",
+        "E15 at 1",
+    ),
+    (
+        "type: 'integer', value: 1, max: -9223372036854775809",
+        "E15 at 1",
+    ),
+    ("type: 'combo'", "E15 at 1"),
+    ("type: 'combo', value: 'x'", "E15 at 1"),
+    ("type: 'combo', choices: []", "E15 at 1"),
+    ("type: 'combo', choices: 'x'", "E15 at 1"),
+    ("type: 'combo', choices: ['x', 1]", "E15 at 1"),
+    ("type: 'array', choices: true", "E15 at 1"),
+    ("type: 'string', choices: 'x'", "E15 at 1"),
+    ("type: 'boolean', min: 'x'", "E15 at 1"),
+    ("type: 'feature', max: []", "E15 at 1"),
 ];
 
 // A keyword twice is found first, then one that is left out, and then all else.
@@ -66,8 +72,8 @@ const LEFT_OUT: &[(&str, &str)] = &[
 #[test]
 fn calls(rt: HostRuntime) -> Result<(), Fail> {
     let alloc = rt.alloc();
-    check_refused(&rt, alloc, "option(", ")", NAMES)?;
-    check_refused(&rt, alloc, "option('n', ", ")", KEYWORDS)?;
+    check(&rt, alloc, "option(", ")", NAMES)?;
+    check(&rt, alloc, "option('n', ", ")", KEYWORDS)?;
     check(&rt, alloc, "option(", ")", LEFT_OUT)?;
     Ok(())
 }

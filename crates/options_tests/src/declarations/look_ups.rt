@@ -2,7 +2,8 @@
 
 use crate::declarations::{check, shown};
 use grammar::parse;
-use option_file::{Declared, declare, is_built_in};
+use option_file::{Declared, declare};
+use option_values::is_built_in;
 use std::alloc::{AllocError, Global};
 use std::process::Abort;
 use std::test::Fail;
@@ -40,7 +41,9 @@ fn look_ups(rt: HostRuntime) -> Result<(), Fail> {
     let alloc = rt.alloc();
     check(&rt, alloc, "", "", LISTED)?;
     let file = parse(alloc, SOURCE)?;
-    let declared = declare(alloc, &file)??;
+    let Ok(declared) = declare(alloc, &file)? else {
+        return Err(Fail::from("an option at fault"));
+    };
     assert_eq!(rt; declared.len(), 2);
     assert!(rt; !declared.is_empty());
     assert!(rt; declared.at(2).is_none());

@@ -1,6 +1,6 @@
 //! Statements, and the order of faults.
 
-use crate::declarations::{check, check_refused};
+use crate::declarations::check;
 use std::test::Fail;
 
 // Files whose statements all declare options.
@@ -20,21 +20,21 @@ const GOOD: &[(&str, &str)] = &[
 ];
 
 // Statements that are no call of `option`.
-const NO_CALLS: &[&str] = &[
-    "a = 1",
-    "a += 1",
-    "a",
-    "'a'",
-    "option",
-    "message('a')",
-    "options('a', type: 'string')",
-    "option('a', type: 'string').x()",
-    "[option('a', type: 'string')]",
-    "not option('a', type: 'string')",
-    "if true\noption('a', type: 'string')\nendif",
-    "foreach x : []\nendforeach",
-    "message(kwargs: {})",
-    "project('p', 'c')",
+const NO_CALLS: &[(&str, &str)] = &[
+    ("a = 1", "E15 at 1"),
+    ("a += 1", "E15 at 1"),
+    ("a", "E15 at 1"),
+    ("'a'", "E15 at 1"),
+    ("option", "E15 at 1"),
+    ("message('a')", "E15 at 1"),
+    ("options('a', type: 'string')", "E15 at 1"),
+    ("option('a', type: 'string').x()", "E15 at 1"),
+    ("[option('a', type: 'string')]", "E15 at 1"),
+    ("not option('a', type: 'string')", "E15 at 1"),
+    ("if true\noption('a', type: 'string')\nendif", "E15 at 1"),
+    ("foreach x : []\nendforeach", "E15 at 1"),
+    ("message(kwargs: {})", "E15 at 1"),
+    ("project('p', 'c')", "E15 at 1"),
 ];
 
 // The first statement at fault is the fault.
@@ -78,7 +78,7 @@ const ORDERS: &[(&str, &str)] = &[
 fn statements(rt: HostRuntime) -> Result<(), Fail> {
     let alloc = rt.alloc();
     check(&rt, alloc, "", "", GOOD)?;
-    check_refused(&rt, alloc, "", "", NO_CALLS)?;
+    check(&rt, alloc, "", "", NO_CALLS)?;
     check(&rt, alloc, "", "", ORDERS)?;
     Ok(())
 }

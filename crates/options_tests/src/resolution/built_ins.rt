@@ -1,7 +1,7 @@
 //! The options that every project has.
 
 use crate::resolution::{Row, Source, check, check_listed, resolved};
-use options::Options;
+use options::{Options, Resolved};
 use std::alloc::Global;
 use std::test::Fail;
 
@@ -14,13 +14,13 @@ const TABLE: &[&str] = &[
     "datadir: text share",
     "mandir: text share/man",
     "sysconfdir: text etc",
-    "buildtype: text debug",
+    "buildtype: combo debug",
     "debug: boolean true",
-    "optimization: text 0",
-    "warning_level: text 1",
+    "optimization: combo 0",
+    "warning_level: combo 1",
     "werror: boolean false",
-    "c_std: text none",
-    "default_library: text shared",
+    "c_std: combo none",
+    "default_library: combo shared",
     "c_args: array",
     "c_link_args: array",
     "auto_features: auto",
@@ -33,9 +33,13 @@ const DECLARED: &str = "option('b', type: 'string', value: 'x')\noption('a', typ
 
 // The options of a project with this option file, and no values but those that it has by itself.
 fn options_of(alloc: Global, file: &str) -> Result<Options, Fail> {
-    match resolved(alloc, file, &[], "", &[])? {
-        Some(resolved) => Ok(resolved.outcome?),
-        None => Err(Fail::from("a file at fault")),
+    let Some(resolved) = resolved(alloc, file, &[], "", &[])? else {
+        return Err(Fail::from("a file at fault"));
+    };
+    let Resolved { outcome, .. } = resolved;
+    match outcome {
+        Ok(options) => Ok(options),
+        Err(_) => Err(Fail::from("a value at fault")),
     }
 }
 
@@ -54,19 +58,19 @@ fn table(rt: HostRuntime) -> Result<(), Fail> {
 const VALUES: &[Row] = &[
     ("prefix=", "prefix", "text "),
     ("bindir=x=y", "bindir", "text x=y"),
-    ("buildtype=minsize", "buildtype", "text minsize"),
+    ("buildtype=minsize", "buildtype", "combo minsize"),
     ("buildtype=custom", "buildtype", "word:1 E15"),
     ("debug=false", "debug", "boolean false"),
     ("debug=0", "debug", "word:1 E15"),
-    ("optimization=g", "optimization", "text g"),
+    ("optimization=g", "optimization", "combo g"),
     ("optimization=4", "optimization", "word:1 E15"),
-    ("warning_level=3", "warning_level", "text 3"),
+    ("warning_level=3", "warning_level", "combo 3"),
     ("warning_level=everything", "warning_level", "word:1 E15"),
     ("werror=true", "werror", "boolean true"),
     ("werror=", "werror", "word:1 E15"),
-    ("c_std=gnu17", "c_std", "text gnu17"),
+    ("c_std=gnu17", "c_std", "combo gnu17"),
     ("c_std=c23", "c_std", "word:1 E15"),
-    ("default_library=static", "default_library", "text static"),
+    ("default_library=static", "default_library", "combo static"),
     ("default_library=both", "default_library", "word:1 E23"),
     ("default_library=none", "default_library", "word:1 E15"),
     ("auto_features=enabled", "auto_features", "enabled"),

@@ -11,11 +11,11 @@ const TAKEN: &[Row] = &[
     ("type: 'boolean'", "o", "boolean true"),
     ("type: 'boolean', value: false", "o", "boolean false"),
     ("type: 'boolean', value: 'false'", "o", "boolean false"),
-    ("type: 'combo', choices: ['b', 'a']", "o", "text b"),
+    ("type: 'combo', choices: ['b', 'a']", "o", "combo b"),
     (
         "type: 'combo', choices: ['b', 'a'], value: 'a'",
         "o",
-        "text a",
+        "combo a",
     ),
     ("type: 'integer', value: -7", "o", "integer -7"),
     ("type: 'integer', value: '-7'", "o", "integer -7"),

@@ -1,25 +1,32 @@
 //! What some options say of others.
 
 use crate::resolution::{PlacesRow, Row, Source, check, check_places};
+use options::ProjectDefault::Assignment;
 use std::test::Fail;
 
 // Each type of build says what `debug` and `optimization` are.
 const BUILD_TYPES: &[Row] = &[
     ("buildtype=plain", "debug", "boolean false"),
-    ("buildtype=plain", "optimization", "text plain"),
+    ("buildtype=plain", "optimization", "combo plain"),
     ("buildtype=debug", "debug", "boolean true"),
-    ("buildtype=debug", "optimization", "text 0"),
+    ("buildtype=debug", "optimization", "combo 0"),
     ("buildtype=debugoptimized", "debug", "boolean true"),
-    ("buildtype=debugoptimized", "optimization", "text 2"),
+    ("buildtype=debugoptimized", "optimization", "combo 2"),
     ("buildtype=release", "debug", "boolean false"),
-    ("buildtype=release", "optimization", "text 3"),
+    ("buildtype=release", "optimization", "combo 3"),
     ("buildtype=minsize", "debug", "boolean true"),
-    ("buildtype=minsize", "optimization", "text s"),
+    ("buildtype=minsize", "optimization", "combo s"),
 ];
 
 // The type of build can come from each place, and what is given stays, also where it is the default.
 const BUILDS: &[PlacesRow] = &[
-    (&["buildtype=release"], "", &[], "optimization", "text 3"),
+    (
+        &[Assignment("buildtype=release")],
+        "",
+        &[],
+        "optimization",
+        "combo 3",
+    ),
     (
         &[],
         "[built-in options]\nbuildtype = 'plain'",
@@ -28,11 +35,11 @@ const BUILDS: &[PlacesRow] = &[
         "boolean false",
     ),
     (
-        &["buildtype=release"],
+        &[Assignment("buildtype=release")],
         "",
         &["buildtype=minsize"],
         "optimization",
-        "text s",
+        "combo s",
     ),
     (
         &[],
@@ -42,7 +49,7 @@ const BUILDS: &[PlacesRow] = &[
         "boolean false",
     ),
     (
-        &["debug=true"],
+        &[Assignment("debug=true")],
         "",
         &["buildtype=release"],
         "debug",
@@ -67,23 +74,23 @@ const BUILDS: &[PlacesRow] = &[
         "",
         &["debug=true", "buildtype=release"],
         "optimization",
-        "text 3",
+        "combo 3",
     ),
     (
-        &["optimization=0"],
+        &[Assignment("optimization=0")],
         "",
         &["buildtype=release"],
         "optimization",
-        "text 0",
+        "combo 0",
     ),
     (
-        &["optimization=0"],
+        &[Assignment("optimization=0")],
         "",
         &["buildtype=release"],
         "debug",
         "boolean false",
     ),
-    (&[], "", &["debug=false"], "optimization", "text 0"),
+    (&[], "", &["debug=false"], "optimization", "combo 0"),
 ];
 
 // The words of a build.
@@ -95,16 +102,22 @@ const RELEASE: &[&str] = &[
 ];
 
 const RELEASED: &[PlacesRow] = &[
-    (&[], "", RELEASE, "buildtype", "text release"),
+    (&[], "", RELEASE, "buildtype", "combo release"),
     (&[], "", RELEASE, "debug", "boolean true"),
-    (&[], "", RELEASE, "optimization", "text 3"),
-    (&[], "", RELEASE, "warning_level", "text 2"),
+    (&[], "", RELEASE, "optimization", "combo 3"),
+    (&[], "", RELEASE, "warning_level", "combo 2"),
     (&[], "", RELEASE, "c_args", "array <-DA> <-DB>"),
 ];
 
 // Below one prefix the settings of the system have a folder of their own.
 const PREFIXES: &[PlacesRow] = &[
-    (&["prefix=/usr"], "", &[], "sysconfdir", "text /etc"),
+    (
+        &[Assignment("prefix=/usr")],
+        "",
+        &[],
+        "sysconfdir",
+        "text /etc",
+    ),
     (
         &[],
         "[built-in options]\nprefix = '/usr'",
@@ -122,14 +135,14 @@ const PREFIXES: &[PlacesRow] = &[
         "text etc",
     ),
     (
-        &["prefix=/opt"],
+        &[Assignment("prefix=/opt")],
         "",
         &["prefix=/usr"],
         "sysconfdir",
         "text /etc",
     ),
     (
-        &["sysconfdir=etc"],
+        &[Assignment("sysconfdir=etc")],
         "",
         &["prefix=/usr"],
         "sysconfdir",
@@ -160,7 +173,13 @@ const AUTO: &[PlacesRow] = &[
     (&[], "", &["auto_features=auto"], "a", "auto"),
     (&[], "", &["auto_features=enabled"], "a", "enabled"),
     (&[], "", &["auto_features=disabled"], "a", "disabled"),
-    (&["auto_features=enabled"], "", &[], "a", "enabled"),
+    (
+        &[Assignment("auto_features=enabled")],
+        "",
+        &[],
+        "a",
+        "enabled",
+    ),
     (
         &[],
         "[built-in options]\nauto_features = 'disabled'",
@@ -169,7 +188,7 @@ const AUTO: &[PlacesRow] = &[
         "disabled",
     ),
     (
-        &["auto_features=enabled"],
+        &[Assignment("auto_features=enabled")],
         "",
         &["auto_features=auto"],
         "a",

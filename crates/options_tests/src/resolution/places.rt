@@ -1,6 +1,7 @@
 //! Which of four places gives a value, and names of no option.
 
 use crate::resolution::{PlacesRow, Row, Source, check, check_places};
+use options::ProjectDefault::{Assignment, Entry};
 use std::test::Fail;
 
 const MODE: &str = "option('mode', type: 'combo', choices: ['fast', 'slow', 'safe'])";
@@ -9,75 +10,145 @@ const MACHINE: &str = "[project options]\nmode = 'fast'";
 
 // The last value holds.
 const MODES: &[PlacesRow] = &[
-    (&[], "", &[], "mode", "text fast"),
-    (&["mode=safe"], "", &[], "mode", "text safe"),
-    (&["mode=safe", "mode=slow"], "", &[], "mode", "text slow"),
+    (&[], "", &[], "mode", "combo fast"),
+    (&[Assignment("mode=safe")], "", &[], "mode", "combo safe"),
+    (
+        &[Assignment("mode=safe"), Assignment("mode=slow")],
+        "",
+        &[],
+        "mode",
+        "combo slow",
+    ),
     (
         &[],
         "[project options]\nmode = 'safe'",
         &[],
         "mode",
-        "text safe",
+        "combo safe",
     ),
-    (&["mode=safe"], MACHINE, &[], "mode", "text fast"),
-    (&[], "", &["mode=slow"], "mode", "text slow"),
-    (&["mode=safe"], "", &["mode=slow"], "mode", "text slow"),
-    (&[], MACHINE, &["mode=slow"], "mode", "text slow"),
     (
-        &["mode=safe"],
+        &[Assignment("mode=safe")],
+        MACHINE,
+        &[],
+        "mode",
+        "combo fast",
+    ),
+    (&[], "", &["mode=slow"], "mode", "combo slow"),
+    (
+        &[Assignment("mode=safe")],
+        "",
+        &["mode=slow"],
+        "mode",
+        "combo slow",
+    ),
+    (&[], MACHINE, &["mode=slow"], "mode", "combo slow"),
+    (
+        &[Assignment("mode=safe")],
         MACHINE,
         &["mode=fast", "mode=slow"],
         "mode",
-        "text slow",
+        "combo slow",
     ),
     (
         &[],
         "",
         &["mode=slow", "werror=true", "mode=safe"],
         "mode",
-        "text safe",
+        "combo safe",
     ),
-    (&["mode=safe"], MACHINE, &["mode=odd"], "mode", "word:1 E15"),
+    (
+        &[Assignment("mode=safe")],
+        MACHINE,
+        &["mode=odd"],
+        "mode",
+        "word:1 E15",
+    ),
 ];
 
 // Names in `default_options` that no option has, up to the first fault.
 const NAMES: &[PlacesRow] = &[
-    (&["zz=1"], "", &[], "mode", "zz? text fast"),
+    (&[Assignment("zz=1")], "", &[], "mode", "zz? combo fast"),
     (
-        &["zz=1", "mode=safe", "y=", "zz=2"],
+        &[
+            Assignment("zz=1"),
+            Assignment("mode=safe"),
+            Assignment("y="),
+            Assignment("zz=2"),
+        ],
         "",
         &[],
         "mode",
-        "zz? y? zz? text safe",
+        "zz? y? zz? combo safe",
     ),
-    (&["Mode=safe", "=1"], "", &[], "mode", "Mode? ? text fast"),
     (
-        &["zz=1", "mode=odd", "y="],
+        &[Assignment("Mode=safe"), Assignment("=1")],
+        "",
+        &[],
+        "mode",
+        "Mode? ? combo fast",
+    ),
+    (
+        &[Assignment("zz=1"), Assignment("mode=odd"), Assignment("y=")],
         "",
         &[],
         "mode",
         "zz? project E15",
     ),
-    (&["zz=1", "mode", "y="], "", &[], "mode", "zz? project E15"),
     (
-        &["zz=1"],
+        &[Assignment("zz=1"), Assignment("mode"), Assignment("y=")],
+        "",
+        &[],
+        "mode",
+        "zz? project E15",
+    ),
+    (
+        &[Assignment("zz=1")],
         "[project options]\nzz = 1",
         &[],
         "mode",
         "zz? machine:2 E15",
     ),
-    (&["zz=1"], "", &["zz=1"], "mode", "zz? word:1 E15"),
+    (
+        &[Assignment("zz=1")],
+        "",
+        &["zz=1"],
+        "mode",
+        "zz? word:1 E15",
+    ),
 ];
 
 // None where the option file has a fault.
 const BAD: &str = "option('a', type: 'boolean', value: 'x')";
 
-const NO_NAMES: &[PlacesRow] = &[(&["zz=1"], "", &[], "a", "declared:1 E15")];
+const NO_NAMES: &[PlacesRow] = &[(&[Assignment("zz=1")], "", &[], "a", "declared:1 E15")];
+
+// A dictionary gives its keys as names, also where an `=` is in them.
+const ENTRIES: &[PlacesRow] = &[
+    (&[Entry("mode", "slow")], "", &[], "mode", "combo slow"),
+    (&[Entry("mode", "odd")], "", &[], "mode", "project E15"),
+    (&[Entry("a=b", "c")], "", &[], "mode", "a=b? combo fast"),
+    (
+        &[Entry("prefix=/x", "y")],
+        "",
+        &[],
+        "prefix",
+        "prefix=/x? text /usr/local",
+    ),
+    (&[Entry("prefix", "/a=b")], "", &[], "prefix", "text /a=b"),
+    (
+        &[Assignment("mode=safe"), Entry("mode", "slow")],
+        "",
+        &[],
+        "mode",
+        "combo slow",
+    ),
+];
 
 #[test]
 fn places(rt: HostRuntime) -> Result<(), Fail> {
     let alloc = rt.alloc();
     check_places(&rt, alloc, MODE, MODES)?;
+    check_places(&rt, rt.alloc(), MODE, ENTRIES)?;
     check_places(&rt, alloc, MODE, NAMES)?;
     check_places(&rt, alloc, BAD, NO_NAMES)?;
     Ok(())

@@ -1,6 +1,6 @@
 //! Lists, and values of a machine file, as values of options.
 
-use crate::written_values::Input::{FileInteger, FileText, FileTexts, FileTruth, Items};
+use crate::written_values::Input::{FileBoolean, FileInteger, FileText, FileTexts, Items};
 use crate::written_values::{Kind, Row, check};
 use std::test::Fail;
 
@@ -34,7 +34,7 @@ const PRINTED: &[Row] = &[
         "text ['a', 'b c', '']",
     ),
     (Kind::Text, Items(&["it's", "\\"]), "text ['it's', '\\']"),
-    (ODD, Items(&["a"]), "text ['a']"),
+    (ODD, Items(&["a"]), "combo ['a']"),
     (ODD, Items(&["b"]), "none"),
     (Kind::Boolean, Items(&["true"]), "none"),
     (Kind::Feature, Items(&["auto"]), "none"),
@@ -62,7 +62,7 @@ const NUMBERS: &[Row] = &[
     (Kind::Text, FileInteger(-3), "text -3"),
     (Kind::Array, FileInteger(-3), "array <-3>"),
     (Kind::Words, FileInteger(-3), "array <-3>"),
-    (Kind::Combo(&["3", "-3"]), FileInteger(-3), "text -3"),
+    (Kind::Combo(&["3", "-3"]), FileInteger(-3), "combo -3"),
     (Kind::Combo(&["3"]), FileInteger(-3), "none"),
     (Kind::Boolean, FileInteger(-3), "none"),
     (Kind::Feature, FileInteger(-3), "none"),
@@ -70,14 +70,14 @@ const NUMBERS: &[Row] = &[
     (FREE, FileInteger(i64::MIN), "integer -9223372036854775808"),
 ];
 
-const TRUTHS: &[Row] = &[
-    (Kind::Boolean, FileTruth(true), "boolean true"),
-    (Kind::Boolean, FileTruth(false), "boolean false"),
-    (Kind::Text, FileTruth(false), "text false"),
-    (Kind::Combo(&["true"]), FileTruth(true), "text true"),
-    (Kind::Array, FileTruth(true), "array <true>"),
-    (Kind::Feature, FileTruth(true), "none"),
-    (FREE, FileTruth(true), "none"),
+const BOOLEANS: &[Row] = &[
+    (Kind::Boolean, FileBoolean(true), "boolean true"),
+    (Kind::Boolean, FileBoolean(false), "boolean false"),
+    (Kind::Text, FileBoolean(false), "text false"),
+    (Kind::Combo(&["true"]), FileBoolean(true), "combo true"),
+    (Kind::Array, FileBoolean(true), "array <true>"),
+    (Kind::Feature, FileBoolean(true), "none"),
+    (FREE, FileBoolean(true), "none"),
 ];
 
 const LISTS: &[Row] = &[
@@ -95,7 +95,7 @@ const LISTS: &[Row] = &[
 fn values_of_machine_files(rt: HostRuntime) -> Result<(), Fail> {
     check(&rt, rt.alloc(), TEXTS)?;
     check(&rt, rt.alloc(), NUMBERS)?;
-    check(&rt, rt.alloc(), TRUTHS)?;
+    check(&rt, rt.alloc(), BOOLEANS)?;
     check(&rt, rt.alloc(), LISTS)?;
     Ok(())
 }

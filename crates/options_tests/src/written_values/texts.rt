@@ -12,7 +12,7 @@ const TEXTS: &[TextRow] = &[
     ("é", "text é"),
 ];
 
-const TRUTHS: &[TextRow] = &[
+const BOOLEANS: &[TextRow] = &[
     ("true", "boolean true"),
     ("false", "boolean false"),
     ("", "none"),
@@ -25,16 +25,16 @@ const TRUTHS: &[TextRow] = &[
 ];
 
 #[test]
-fn texts_and_truths(rt: HostRuntime) -> Result<(), Fail> {
+fn texts_and_booleans(rt: HostRuntime) -> Result<(), Fail> {
     check_texts(&rt, rt.alloc(), Kind::Text, TEXTS)?;
-    check_texts(&rt, rt.alloc(), Kind::Boolean, TRUTHS)?;
+    check_texts(&rt, rt.alloc(), Kind::Boolean, BOOLEANS)?;
     Ok(())
 }
 
 const COMBOS: &[TextRow] = &[
-    ("a", "text a"),
-    ("b c", "text b c"),
-    ("é", "text é"),
+    ("a", "combo a"),
+    ("b c", "combo b c"),
+    ("é", "combo é"),
     ("", "none"),
     ("A", "none"),
     ("b", "none"),

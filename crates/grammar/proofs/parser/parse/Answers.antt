@@ -10,7 +10,7 @@ use Rattle.grammar.specs.Parsed.{located, parsed}
 use Rattle.grammar.specs.Reading.{all_of, tokens_left}
 use Rattle.grammar.specs.ReadingStatements.{file_at}
 use Rattle.grammar.specs.Tree.{file_of}
-use Rattle.grammar.proofs.Parses.{complete_all, no_tokens, only_all, read_all, refused_all, spelled_all, stop_is, stop_within, stopped}
+use Rattle.grammar.proofs.Parses.{complete_all, faulty_all, fronts_shorter, no_tokens, only_all, read_all, refused_all, spelled_all, stop_is, stop_within, stopped}
 use Rattle.grammar.proofs.parser.parse.Goals as goal
 use Rattle.grammar.proofs.parser.parse.Goals.{After-from_residual, After-drop-tokens, After-drop-tokens-2}
 
@@ -65,3 +65,27 @@ returns-clause-complete c = complete_all c.args.source.now (Err (errors.Fault c.
 
 pub returns-clause-refused : goal.returns-clause-refused
 returns-clause-refused c = refused_all c.args.source.now (Err (errors.Fault c.located.result)) (stop_here c)
+
+pub returns-in_err-tokens-clause-faulty : goal.returns-in_err-tokens-clause-faulty
+returns-in_err-tokens-clause-faulty c = faulty_all c.args.source.now c.from_residual.result (no_tokens_here c)
+
+pub returns-in_err-tokens-clause-fronts : goal.returns-in_err-tokens-clause-fronts
+returns-in_err-tokens-clause-fronts c = fronts_shorter c.args.source.now
+
+pub returns-in-Ok-clause-faulty : goal.returns-in-Ok-clause-faulty
+returns-in-Ok-clause-faulty c = faulty_all c.args.source.now (Ok c.in-Ok.file) (read_here c)
+
+pub returns-in-Ok-clause-fronts : goal.returns-in-Ok-clause-fronts
+returns-in-Ok-clause-fronts c = fronts_shorter c.args.source.now
+
+pub returns-in-Err-Memory-clause-faulty : goal.returns-in-Err-Memory-clause-faulty
+returns-in-Err-Memory-clause-faulty c = faulty_all c.args.source.now (Err errors.Memory) tt
+
+pub returns-in-Err-Memory-clause-fronts : goal.returns-in-Err-Memory-clause-fronts
+returns-in-Err-Memory-clause-fronts c = fronts_shorter c.args.source.now
+
+pub returns-clause-faulty : goal.returns-clause-faulty
+returns-clause-faulty c = faulty_all c.args.source.now (Err (errors.Fault c.located.result)) (stop_here c)
+
+pub returns-clause-fronts : goal.returns-clause-fronts
+returns-clause-fronts c = fronts_shorter c.args.source.now

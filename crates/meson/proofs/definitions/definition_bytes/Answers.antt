@@ -1,11 +1,12 @@
 use Rattle.std.proofs.Common.{◌≡◌, ℕ, ◌<◌, ◌≤◌, List, [], Option, Some, None, IfOk, Vec, Global, length, option_map, unwrap_or, refl, sym, ap, subst, ◌∙◌}
 use Rattle.std.proofs.lemmas.Bool.{lt-ltb, le-ltb}
 use Rattle.ports.specs.Tree.{TreeState, file_at, bytes_at}
-use Rattle.meson.specs.Evaluation.{Files, definition_bytes, within_limit, most_bytes, fault_at, plain_fault, looking}
+use Rattle.faults.specs.Faults.{plain_fault}
+use Rattle.meson.specs.Evaluation.{Files, definition_bytes, within_limit, most_bytes, fault_at, looking}
 use Rattle.meson.specs.Gives.{Holds}
 use Rattle.meson.specs.Run.{World, pure, refuse}
 use Rattle.meson.specs.Store.{world_of}
-use Rattle.meson.specs.declared.refusal.Refusal.TheVariants as refusals
+use Rattle.faults.specs.declared.refusal.Refusal.TheVariants as refusals
 use Rattle.meson.proofs.Follow.{after-nil, begun, same_run, wanted_later, failed_later, refused_later, read_later}
 use Rattle.meson.proofs.Holding.{holds_later}
 use Rattle.meson.proofs.definitions.definition_bytes.Goals as goal
@@ -55,7 +56,7 @@ returns-else-size-gt-MOST_BYTES-clause-gives g c = λ files holds old.
     let bytes : bytes_at files path ≡ there.0 = ap (λ o. unwrap_or o []) there.1 in
     read_later there.0 c.read_file.result v old
     (same_run (looked_at files path (Some there.0) w v there.1 c.in_ok-note_look.ensures ∙ within path there.0 v (subst (λ n. n ≤ most_bytes) there.2 c.if-size-gt-MOST_BYTES.false)) old)
-    (subst (λ bs. IfOk c.read_file.result (λ v. v.items ≡ bs)) bytes (c.read_file.ensures.bytes files (holds_later c.in_ok-size.ensures.stays holds) (there.2 ∙ ap length (sym bytes))))
+    (subst (λ bs. IfOk c.read_file.result (λ v. v.items ≡ bs)) bytes (c.read_file.ensures.bytes files (holds_later c.in_ok-size.ensures.asks.stays holds) (there.2 ∙ ap length (sym bytes))))
     c.read_file.ensures.no_fault
 
 pub returns-in-None-clause-gives : goal.returns-in-None-clause-gives

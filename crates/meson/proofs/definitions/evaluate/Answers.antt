@@ -1,9 +1,10 @@
 use Rattle.std.proofs.Common.{ℕ, List, codes, ap}
-use Rattle.meson.specs.Evaluation.{evaluation, plain_fault}
+use Rattle.faults.specs.Faults.{plain_fault}
+use Rattle.meson.specs.Evaluation.{evaluation}
 use Rattle.meson.specs.SettingsView.{settings_view}
 use Rattle.meson.specs.Store.{world_of}
 use Rattle.meson.specs.Trace.{seen}
-use Rattle.meson.specs.declared.refusal.Refusal.TheVariants as refusals
+use Rattle.faults.specs.declared.refusal.Refusal.TheVariants as refusals
 use Rattle.meson.proofs.Follow.{same_run, refused_later}
 use Rattle.meson.proofs.Tests.{is_not_empty}
 use Rattle.meson.proofs.definitions.evaluate.Goals as goal

@@ -4,10 +4,11 @@ use Rattle.std.specs.Str.Lossy.{utf8_valid_len}
 use Rattle.std.proofs.lemmas.Str.{IsUtf8-from_is_utf8, is_utf8-from_IsUtf8}
 use Rattle.grammar.specs.Parsed.{parsed}
 use Rattle.grammar.specs.Tree.{file_of}
-use Rattle.meson.specs.Evaluation.{spelled, tree_or_fault, line_at, plain_fault}
+use Rattle.faults.specs.Faults.{plain_fault}
+use Rattle.meson.specs.Evaluation.{spelled, tree_or_fault, line_at}
 use Rattle.meson.specs.Gives.{Gives}
 use Rattle.meson.specs.Run.{World, refuse}
-use Rattle.meson.specs.declared.refusal.Refusal.TheVariants as refusals
+use Rattle.faults.specs.declared.refusal.Refusal.TheVariants as refusals
 use Rattle.meson.proofs.Follow.{same_run, refused_later, gives_later}
 use Rattle.meson.proofs.definitions.spelled.Goals as goal
 

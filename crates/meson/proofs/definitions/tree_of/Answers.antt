@@ -3,7 +3,8 @@ use Rattle.lexer.specs.Answers.{Refuses}
 use Rattle.grammar.specs.Parsed.{parsed}
 use Rattle.grammar.specs.Tree.{FileTree, file_of}
 use Rattle.lexer.specs.declared.fault.SyntaxFault.{SyntaxFault}
-use Rattle.meson.specs.Evaluation.{tree_or_fault, plain_fault}
+use Rattle.faults.specs.Faults.{plain_fault}
+use Rattle.meson.specs.Evaluation.{tree_or_fault}
 use Rattle.meson.specs.Run.{refuse}
 use Rattle.meson.proofs.Follow.{same_run, wants, refused_later, ended_later}
 use Rattle.meson.proofs.definitions.tree_of.Goals as goal

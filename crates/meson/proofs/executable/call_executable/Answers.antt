@@ -1,4 +1,4 @@
-use Rattle.std.proofs.Common.{List, [], map, Err, subst}
+use Rattle.std.proofs.Common.{List, map, Err, subst}
 use Rattle.grammar.specs.ExpressionTree.{argument_trees}
 use Rattle.build.specs.View.{target_view}
 use Rattle.meson.specs.Evaluation.{first_target, arguments_of, target_of, checked_target, described_target, executable_call}

@@ -3,10 +3,11 @@ use Rattle.build.specs.declared.project.Duplicate.{Duplicate}
 use Rattle.build.specs.Data.{TargetData}
 use Rattle.build.specs.Outputs.{is_free, with_target}
 use Rattle.build.specs.View.{target_view}
-use Rattle.meson.specs.Evaluation.{declared, with_project, plain_fault}
+use Rattle.faults.specs.Faults.{plain_fault}
+use Rattle.meson.specs.Evaluation.{declared, with_project}
 use Rattle.meson.specs.Run.{World, ran, Done, pure, refuse}
 use Rattle.meson.specs.Store.{world_of}
-use Rattle.meson.specs.declared.refusal.Refusal.TheVariants as refusals
+use Rattle.faults.specs.declared.refusal.Refusal.TheVariants as refusals
 use Rattle.meson.proofs.Follow.{same_run, wanted_later, refused_later, ended_later, begun}
 use Rattle.meson.proofs.executable.declare.Goals as goal
 

@@ -1,10 +1,11 @@
 use Rattle.std.proofs.Common.{◌≡◌, ℕ, ◌==◌, List, [], ◌∷◌, Bool, true, false, not, length, refl, sym, ◌∙◌, arith}
 use Rattle.std.proofs.lemmas.Bool.{false≢true, eqb-true}
 use Rattle.build.specs.Data.{TargetData}
-use Rattle.meson.specs.Evaluation.{no_target, plain_fault}
+use Rattle.faults.specs.Faults.{plain_fault}
+use Rattle.meson.specs.Evaluation.{no_target}
 use Rattle.meson.specs.Run.{World, pure, refuse}
 use Rattle.meson.specs.Store.{world_of}
-use Rattle.meson.specs.declared.refusal.Refusal.TheVariants as refusals
+use Rattle.faults.specs.declared.refusal.Refusal.TheVariants as refusals
 use Rattle.meson.proofs.Follow.{same_run, refused_later, ended_later}
 use Rattle.meson.proofs.executable.require_first.Goals as goal
 

@@ -2,10 +2,11 @@ use Rattle.std.proofs.Common.{◌≡◌, ℕ, List, true, false, map, refl, sym,
 use Rattle.build.specs.Data.{TargetData}
 use Rattle.build.specs.Edges.{edges_of}
 use Rattle.build.specs.View.{target_view, edge_view}
-use Rattle.ninja.specs.Holding.{edges_held}
-use Rattle.meson.specs.Evaluation.{held, plain_fault}
+use Rattle.first_ninja.specs.Holding.{edges_held}
+use Rattle.faults.specs.Faults.{plain_fault}
+use Rattle.meson.specs.Evaluation.{held}
 use Rattle.meson.specs.Run.{World, pure, refuse}
-use Rattle.meson.specs.declared.refusal.Refusal.TheVariants as refusals
+use Rattle.faults.specs.declared.refusal.Refusal.TheVariants as refusals
 use Rattle.meson.proofs.Follow.{same_run, wanted_later, refused_later, ended_later, begun}
 use Rattle.meson.proofs.executable.require_held.Goals as goal
 

@@ -1,7 +1,8 @@
 use Rattle.std.proofs.Common.{option_map, string_bytes, sym, ap, ◌∙◌}
 use Rattle.build.specs.View.{target_view}
-use Rattle.meson.specs.Evaluation.{target_at, plain_fault}
-use Rattle.meson.specs.declared.refusal.Refusal.TheVariants as refusals
+use Rattle.faults.specs.Faults.{plain_fault}
+use Rattle.meson.specs.Evaluation.{target_at}
+use Rattle.faults.specs.declared.refusal.Refusal.TheVariants as refusals
 use Rattle.meson.proofs.Follow.{same_run, wanted_later, refused_later, begun}
 use Rattle.meson.proofs.executable.target_at.Goals as goal
 

@@ -3,9 +3,10 @@ use Rattle.std.specs.List.{ends_with}
 use Rattle.std.specs.Prelude.{nat_eq}
 use Rattle.build.specs.Data.{TargetData}
 use Rattle.build.specs.View.{target_view}
-use Rattle.meson.specs.Evaluation.{is_target_name, target_from, plain_fault}
+use Rattle.faults.specs.Faults.{plain_fault}
+use Rattle.meson.specs.Evaluation.{is_target_name, target_from}
 use Rattle.meson.specs.Run.{World, Act, pure, refuse}
-use Rattle.meson.specs.declared.refusal.Refusal.TheVariants as refusals
+use Rattle.faults.specs.declared.refusal.Refusal.TheVariants as refusals
 use Rattle.meson.proofs.Follow.{same_run, wanted_later, refused_later, ended_later, begun}
 use Rattle.meson.proofs.executable.target_from.Goals as goal
 

@@ -1,6 +1,6 @@
-use Rattle.meson.specs.Evaluation.{plain_fault}
+use Rattle.faults.specs.Faults.{plain_fault}
 use Rattle.meson.specs.ValueView.{view}
-use Rattle.meson.specs.declared.refusal.Refusal.TheVariants as refusals
+use Rattle.faults.specs.declared.refusal.Refusal.TheVariants as refusals
 use Rattle.meson.proofs.Follow.{begun, refused_later}
 use Rattle.meson.proofs.expressions.left_out.Goals as goal
 

@@ -1,8 +1,9 @@
-use Rattle.std.proofs.Common.{◌≡◌, ℕ, List, true, false, refl, sym, ap, ◌∙◌}
+use Rattle.std.proofs.Common.{◌≡◌, ℕ, List, true, false, refl, sym, ◌∙◌}
 use Rattle.grammar.specs.ExpressionTree.{ArgumentTrees, argument_trees}
-use Rattle.meson.specs.Evaluation.{has_named, left_out, plain_fault, unnamed}
+use Rattle.faults.specs.Faults.{plain_fault}
+use Rattle.meson.specs.Evaluation.{has_named, left_out, unnamed}
 use Rattle.meson.specs.Run.{World, pure}
-use Rattle.meson.specs.declared.refusal.Refusal.TheVariants as refusals
+use Rattle.faults.specs.declared.refusal.Refusal.TheVariants as refusals
 use Rattle.meson.proofs.Follow.{ended_later, refused_later, same_run}
 use Rattle.meson.proofs.Trees.{has_named-any}
 use Rattle.meson.proofs.expressions.refuse_named.Goals as goal

@@ -1,6 +1,6 @@
 use Rattle.std.proofs.Common.{[], drop, map}
 use Rattle.ports.specs.Outputs.{OutputState}
-use Rattle.grammar.specs.ExpressionTree.{argument_of, argument_trees}
+use Rattle.grammar.specs.ExpressionTree.{argument_trees}
 use Rattle.meson.specs.Evaluation.{values_of}
 use Rattle.meson.specs.ValueView.{view}
 use Rattle.meson.specs.Store.{world_of}

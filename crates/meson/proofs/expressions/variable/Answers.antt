@@ -1,11 +1,12 @@
 use Rattle.std.proofs.Common.{◌≡◌, ℕ, List, Option, Some, None, true, false, refl, sym, ap, ◌∙◌, option_map}
 use Rattle.meson.specs.Data.{Data}
 use Rattle.meson.specs.Run.{World, refuse}
-use Rattle.meson.specs.Evaluation.{variable, known, fault_at, plain_fault}
+use Rattle.faults.specs.Faults.{plain_fault}
+use Rattle.meson.specs.Evaluation.{variable, known, fault_at}
 use Rattle.meson.specs.Names.{is_predefined}
 use Rattle.meson.specs.Store.{world_of}
 use Rattle.meson.specs.ValueView.{view}
-use Rattle.meson.specs.declared.refusal.Refusal.TheVariants as refusals
+use Rattle.faults.specs.declared.refusal.Refusal.TheVariants as refusals
 use Rattle.meson.proofs.Follow.{same_run, wanted_later, refused_later, ended_later, begun}
 use Rattle.meson.proofs.expressions.variable.Goals as goal
 

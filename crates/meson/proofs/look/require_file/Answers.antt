@@ -2,7 +2,7 @@ use Rattle.std.proofs.Common.{refl, subst}
 use Rattle.meson.specs.Evaluation.{is_there, required, there, fault_at}
 use Rattle.meson.specs.Gives.{Continues}
 use Rattle.meson.specs.Store.{world_of}
-use Rattle.meson.specs.declared.refusal.Refusal.TheVariants as refusals
+use Rattle.faults.specs.declared.refusal.Refusal.TheVariants as refusals
 use Rattle.meson.proofs.Follow.{stopped_later, refused_later, ended_later, begun, done}
 use Rattle.meson.proofs.look.require_file.Goals as goal
 

@@ -1,4 +1,4 @@
-use Rattle.std.proofs.Common.{List, Err, [], map, subst}
+use Rattle.std.proofs.Common.{List, Err, map, subst}
 use Rattle.grammar.specs.ExpressionTree.{argument_trees}
 use Rattle.meson.specs.Evaluation.{arguments_of, project_taken, options_read, project_call}
 use Rattle.meson.specs.Gives.{Gives}

@@ -1,4 +1,3 @@
-use Rattle.std.proofs.Common.{[], map}
 use Rattle.grammar.specs.ExpressionTree.{argument_trees}
 use Rattle.meson.specs.Evaluation.{arguments_of, project_again_fault, again_called}
 use Rattle.meson.specs.Run.{refuse}

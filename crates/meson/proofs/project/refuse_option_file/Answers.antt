@@ -1,8 +1,9 @@
 use Rattle.std.proofs.Common.{refl, subst}
-use Rattle.meson.specs.Evaluation.{is_there, no_option_file, no_option_file_there, plain_fault}
+use Rattle.faults.specs.Faults.{plain_fault}
+use Rattle.meson.specs.Evaluation.{is_there, no_option_file, no_option_file_there}
 use Rattle.meson.specs.Gives.{Continues}
 use Rattle.meson.specs.Store.{world_of}
-use Rattle.meson.specs.declared.refusal.Refusal.TheVariants as refusals
+use Rattle.faults.specs.declared.refusal.Refusal.TheVariants as refusals
 use Rattle.meson.proofs.Follow.{stopped_later, refused_later, ended_later, begun, done}
 use Rattle.meson.proofs.project.refuse_option_file.Goals as goal
 

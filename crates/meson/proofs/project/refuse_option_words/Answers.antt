@@ -1,6 +1,7 @@
 use Rattle.std.proofs.Common.{List, map, codes, String, Global, string_bytes, refl, ap}
-use Rattle.meson.specs.Evaluation.{no_option_words, plain_fault}
-use Rattle.meson.specs.declared.refusal.Refusal.TheVariants as refusals
+use Rattle.faults.specs.Faults.{plain_fault}
+use Rattle.meson.specs.Evaluation.{no_option_words}
+use Rattle.faults.specs.declared.refusal.Refusal.TheVariants as refusals
 use Rattle.meson.proofs.Follow.{same_run, refused_later, ended_later}
 use Rattle.meson.proofs.Tests.{is_empty_nil, is_not_empty}
 use Rattle.meson.proofs.project.refuse_option_words.Goals as goal

@@ -1,11 +1,12 @@
 use Rattle.std.proofs.Common.{◌≡◌, ℕ, List, ◌∷◌, Bool, true, false, map, if◌then◌else◌, refl, sym, ap, ◌∙◌}
 use Rattle.std.specs.List.{list_all}
 use Rattle.std.proofs.lemmas.List.Folds.{list_all-map}
-use Rattle.meson.specs.Evaluation.{is_c, languages_taken, plain_fault}
+use Rattle.faults.specs.Faults.{plain_fault}
+use Rattle.meson.specs.Evaluation.{is_c, languages_taken}
 use Rattle.meson.specs.Run.{World, Act, pure, refuse}
 use Rattle.meson.specs.ValueView.{view}
 use Rattle.meson.specs.declared.value.Value.{Value}
-use Rattle.meson.specs.declared.refusal.Refusal.TheVariants as refusals
+use Rattle.faults.specs.declared.refusal.Refusal.TheVariants as refusals
 use Rattle.meson.proofs.Follow.{same_run, refused_later, ended_later}
 use Rattle.meson.proofs.Tests.{is_empty_nil, is_not_empty}
 use Rattle.meson.proofs.project.take_languages.Goals as goal

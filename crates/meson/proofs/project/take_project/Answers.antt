@@ -1,8 +1,9 @@
 use Rattle.std.proofs.Common.{◌≡◌, List, [], ◌∷◌, map, length, refl, ap, arith}
-use Rattle.meson.specs.Evaluation.{project_taken, plain_fault}
+use Rattle.faults.specs.Faults.{plain_fault}
+use Rattle.meson.specs.Evaluation.{project_taken}
 use Rattle.meson.specs.ValueView.{view}
 use Rattle.meson.specs.declared.value.Value.{Value}
-use Rattle.meson.specs.declared.refusal.Refusal.TheVariants as refusals
+use Rattle.faults.specs.declared.refusal.Refusal.TheVariants as refusals
 use Rattle.meson.proofs.Follow.{same_run, refused_later}
 use Rattle.meson.proofs.project.take_project.Goals as goal
 

@@ -30,4 +30,4 @@ returns-clause-run g c = λ files holds.
     let v = world_of c.evaluate.new.store in
     configures_file (evaluation files s c.args.machine.now (first_world s)) v c.project.result.now o (g.O.Outputs.seen c.write_build_file.new.out) c.args.steps.now c.evaluate.new.steps c.write_build_file.result
     (subst (λ w. Ends {A = Unit {0}} (evaluation files s c.args.machine.now w) (Done tt) v (seen o c.args.steps.now) (seen o c.evaluate.new.steps)) c.in_ok-store.ensures (c.in_ok-evaluate.ensures.gives files holds o))
-    c.project.ensures c.write_build_file.ensures.no_fault c.write_build_file.ensures.events
+    c.project.ensures c.write_build_file.ensures.no_fault c.write_build_file.ensures.makes.sends

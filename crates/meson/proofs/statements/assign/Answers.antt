@@ -1,13 +1,14 @@
 use Rattle.std.proofs.Common.{◌≡◌, ℕ, List, [], true, false, refl, sym, ap, ◌∙◌}
 use Rattle.grammar.specs.ExpressionTree.{expression_of}
 use Rattle.meson.specs.Data.{Data}
-use Rattle.meson.specs.Evaluation.{value_of, assigned, assignment, setting, plain_fault}
+use Rattle.faults.specs.Faults.{plain_fault}
+use Rattle.meson.specs.Evaluation.{value_of, assigned, assignment, setting}
 use Rattle.meson.specs.Names.{is_predefined}
 use Rattle.meson.specs.Run.{World, ran, Done, pure, refuse, rule}
 use Rattle.meson.specs.Store.{world_of}
 use Rattle.meson.specs.Trace.{seen}
 use Rattle.meson.specs.ValueView.{view}
-use Rattle.meson.specs.declared.refusal.Refusal.TheVariants as refusals
+use Rattle.faults.specs.declared.refusal.Refusal.TheVariants as refusals
 use Rattle.meson.proofs.Follow.{begun, done, further, same_run, stopped_later, wanted_later, refused_later, ended_later}
 use Rattle.meson.proofs.statements.assign.Goals as goal
 

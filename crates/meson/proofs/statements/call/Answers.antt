@@ -1,10 +1,11 @@
-use Rattle.std.proofs.Common.{map, sym, ap}
+use Rattle.std.proofs.Common.{sym, ap}
 use Rattle.grammar.specs.ExpressionTree.{argument_trees}
-use Rattle.meson.specs.Evaluation.{called, fault_at, plain_fault}
+use Rattle.faults.specs.Faults.{plain_fault}
+use Rattle.meson.specs.Evaluation.{called, fault_at}
 use Rattle.meson.specs.SettingsView.{settings_view}
 use Rattle.meson.specs.Store.{world_of}
 use Rattle.meson.specs.Trace.{seen}
-use Rattle.meson.specs.declared.refusal.Refusal.TheVariants as refusals
+use Rattle.faults.specs.declared.refusal.Refusal.TheVariants as refusals
 use Rattle.meson.proofs.Follow.{same_run, refused_later}
 use Rattle.meson.proofs.statements.call.Goals as goal
 

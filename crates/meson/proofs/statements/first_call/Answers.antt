@@ -1,4 +1,3 @@
-use Rattle.std.proofs.Common.{map}
 use Rattle.grammar.specs.ExpressionTree.{argument_trees}
 use Rattle.meson.specs.Evaluation.{project_call}
 use Rattle.meson.specs.SettingsView.{settings_view}

@@ -1,5 +1,5 @@
-use Rattle.meson.specs.Evaluation.{plain_fault}
-use Rattle.meson.specs.declared.refusal.Refusal.TheVariants as refusals
+use Rattle.faults.specs.Faults.{plain_fault}
+use Rattle.faults.specs.declared.refusal.Refusal.TheVariants as refusals
 use Rattle.meson.proofs.Follow.{begun, refused_later}
 use Rattle.meson.proofs.statements.no_project_call.Goals as goal
 

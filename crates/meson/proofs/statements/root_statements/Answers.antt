@@ -2,11 +2,12 @@ use Rattle.std.proofs.Common.{◌≡◌, ◌==◌, List, [], ◌∷◌, Bool, fa
 use Rattle.std.proofs.lemmas.List.{take_rest}
 use Rattle.grammar.specs.Tree.{statement_of}
 use Rattle.grammar.specs.declared.tree.Statement.{Statement}
-use Rattle.meson.specs.Evaluation.{begins, do_all, root, plain_fault}
+use Rattle.faults.specs.Faults.{plain_fault}
+use Rattle.meson.specs.Evaluation.{begins, do_all, root}
 use Rattle.meson.specs.SettingsView.{settings_view}
 use Rattle.meson.specs.Store.{world_of}
 use Rattle.meson.specs.Trace.{seen}
-use Rattle.meson.specs.declared.refusal.Refusal.TheVariants as refusals
+use Rattle.faults.specs.declared.refusal.Refusal.TheVariants as refusals
 use Rattle.meson.proofs.Follow.{done, further, same_run, stopped_later, refused_later, gives_later}
 use Rattle.meson.proofs.Holding.{holds_later}
 use Rattle.meson.proofs.Tests.{is_empty_nil, is_not_empty}

@@ -1,30 +1,39 @@
-use Rattle.std.proofs.Common.{◌≡◌, map, string_bytes, ap, sym, ◌∙◌}
-use Rattle.std.proofs.lemmas.Result.{IfOk-weaker}
+use Rattle.std.proofs.Common.{map, sym, ap, ◌∙◌, string_bytes}
+use Rattle.std.specs.List.{list_all}
 use Rattle.data.specs.View.{data_of}
-use Rattle.texts.specs.Answers.{text_in}
-use Rattle.texts.specs.Format.{formatted}
-use Rattle.methods.specs.Formatted.{formatted_text}
-use Rattle.methods.proofs.FormattedLemmas.{formatted_refused, formatted_of, printing_refused}
+use Rattle.texts.specs.Segments.{segment_data}
+use Rattle.methods.specs.Formatted.{has_value}
+use Rattle.methods.proofs.FormattedLemmas.{formatted_refused, formatted_absent, formatted_made, formatted_long}
 use Rattle.methods.proofs.formatted.format_text.Goals as goal
 
 pub returns-then-not-are_printable : goal.returns-then-not-are_printable
 returns-then-not-are_printable c = formatted_refused c.args.text.now c.args.values.now
     (sym c.are_printable.ensures ∙ c.if-not-are_printable.true)
 
-pub returns-in_ok-slices-in-Ok : goal.returns-in_ok-slices-in-Ok
-returns-in_ok-slices-in-Ok c =
-    let t = c.args.text.now in
-    let vs = c.args.values.now in
-    let texts : map (λ s. s.now) c.deref-in-Ok.result.now ≡ map string_bytes c.in-Ok.printed.items =
-    ap (map (λ s. s.now)) c.deref-in-Ok.ensures.value ∙ c.in_ok-slices-in-Ok.ensures ∙ ap (map string_bytes) c.deref.ensures.value in
-    let given = formatted_of t vs (map string_bytes c.in-Ok.printed.items) (sym c.are_printable.ensures ∙ c.if-not-are_printable.false)
-    c.in-Ok.ensures in
-    IfOk-weaker c.format.result (λ r. text_in r ≡ formatted t (map (λ s. s.now) c.deref-in-Ok.result.now))
-    (λ r. text_in r ≡ formatted_text t (map data_of vs))
-    (λ r is. is ∙ ap (formatted t) texts ∙ given) c.format.ensures
+pub returns-then-not-have_values : goal.returns-then-not-have_values
+returns-then-not-have_values c =
+    formatted_absent c.args.text.now c.args.values.now (sym c.are_printable.ensures ∙ c.if-not-are_printable.false)
+    (ap (list_all (has_value (map data_of c.args.values.now))) (sym c.in_ok-segments.ensures.segments ∙ ap (map segment_data) (sym c.deref.ensures.value))
+    ∙ sym c.have_values.ensures ∙ c.if-not-have_values.true)
 
-pub returns-in-Err-Refused : goal.returns-in-Err-Refused
-returns-in-Err-Refused c =
-    let refused = rw c.in-Err-Refused.field-0-is at c.in-Err-Refused.ensures in
-    rw c.in-Err-Refused.field-0-is
-    (printing_refused c.args.text.now c.args.values.now _ (sym c.are_printable.ensures ∙ c.if-not-are_printable.false) refused)
+pub returns-in-Ok : goal.returns-in-Ok
+returns-in-Ok c =
+    let values = map data_of c.args.values.now in
+    let wrote = rw c.in-Ok.is at c.in_ok-write_segments.ensures in
+    formatted_made c.args.text.now c.args.values.now (map segment_data c.deref-2.result.now) (string_bytes c.new-made.result)
+    (string_bytes c.write_segments.new.made) (sym c.are_printable.ensures ∙ c.if-not-are_printable.false)
+    (ap (map segment_data) c.deref-2.ensures.value ∙ c.in_ok-segments.ensures.segments)
+    (ap (λ ss. list_all (has_value values) (map segment_data ss)) (c.deref-2.ensures.value ∙ sym c.deref.ensures.value)
+    ∙ sym c.have_values.ensures ∙ c.if-not-have_values.false)
+    c.new-made.ensures.bytes wrote
+
+pub returns : goal.returns
+returns c =
+    let values = map data_of c.args.values.now in
+    let wrote = rw c.in-Err.is at c.in_ok-write_segments.ensures in
+    formatted_long c.args.text.now c.args.values.now (map segment_data c.deref-2.result.now) (string_bytes c.new-made.result)
+    (string_bytes c.write_segments.new.made) c.in-Err.refusal (sym c.are_printable.ensures ∙ c.if-not-are_printable.false)
+    (ap (map segment_data) c.deref-2.ensures.value ∙ c.in_ok-segments.ensures.segments)
+    (ap (λ ss. list_all (has_value values) (map segment_data ss)) (c.deref-2.ensures.value ∙ sym c.deref.ensures.value)
+    ∙ sym c.have_values.ensures ∙ c.if-not-have_values.false)
+    c.new-made.ensures.bytes wrote

@@ -1,14 +1,14 @@
-use Rattle.build.specs.View.{edge_view}
+use Rattle.edge.specs.View.{edge_view}
 use Rattle.ninja.proofs.EdgeTexts.{edge_puts}
 use Rattle.ninja.proofs.EdgeBlocks.{edge_text_read}
 use Rattle.ninja.proofs.WholeFile.{runs_words}
 use Rattle.ninja.proofs.edges.write_edge.Goals as goal
 
-pub returns-clause-events : goal.returns-clause-events
-returns-clause-events g c = rw (edge_puts (edge_view c.args.edge.now)) c.put_edge.ensures.events
+pub returns-clause-writes : goal.returns-clause-writes
+returns-clause-writes g c = rw (edge_puts (edge_view c.args.edge.now)) c.put_edge.ensures
 
 pub returns-clause-read : goal.returns-clause-read
 returns-clause-read g c h m rest = edge_text_read m (edge_view c.args.edge.now) rest h
 
 pub returns-clause-runs : goal.returns-clause-runs
-returns-clause-runs g c h m rules = runs_words m (edge_view c.args.edge.now) rules h.has_word
+returns-clause-runs g c h m rules = runs_words m (edge_view c.args.edge.now) rules h

@@ -1,16 +1,16 @@
-use Rattle.ports.proofs.Sending.{sends_exit}
+use Rattle.ports.proofs.Sending.{writes_exit}
 use Rattle.ninja.specs.Escapes.{leading_dollar, value_rest_text, value_text}
-use Rattle.ninja.proofs.Puts.{sends_text, sends_no_more}
+use Rattle.ninja.proofs.Puts.{writes_text, writes_no_more}
 use Rattle.ninja.proofs.escapes.write_value.Goals as goal
 
-pub returns-in_err-put_leading_dollar-clause-events : goal.returns-in_err-put_leading_dollar-clause-events
+pub returns-in_err-put_leading_dollar : goal.returns-in_err-put_leading_dollar
 unfolding value_text
-returns-in_err-put_leading_dollar-clause-events g c =
+returns-in_err-put_leading_dollar g c =
     let text = c.args.text.now in
-    sends_exit _ c.from_residual.ensures.0 (sends_no_more (leading_dollar text) (value_rest_text text) (rw c.as_bytes.ensures.value at c.in_err-put_leading_dollar.ensures.events))
+    writes_exit _ c.from_residual.ensures.0 (writes_no_more (leading_dollar text) (value_rest_text text) (rw c.as_bytes.ensures.value at c.in_err-put_leading_dollar.ensures))
 
-pub returns-clause-events : goal.returns-clause-events
+pub returns : goal.returns
 unfolding value_text
-returns-clause-events g c =
+returns g c =
     let text = c.args.text.now in
-    sends_text (leading_dollar text) (value_rest_text text) (rw c.as_bytes.ensures.value at c.in_ok-put_leading_dollar.ensures.events) (rw c.as_bytes-2.ensures.value at c.put_escaped.ensures.events)
+    writes_text (leading_dollar text) (value_rest_text text) (rw c.as_bytes.ensures.value at c.in_ok-put_leading_dollar.ensures) (rw c.as_bytes-2.ensures.value at c.put_escaped.ensures)

@@ -1,5 +1,5 @@
 use Rattle.ninja.proofs.EdgeTexts.{tail_puts}
 use Rattle.ninja.proofs.file.write_tail.Goals as goal
 
-pub returns-clause-events : goal.returns-clause-events
-returns-clause-events g c = rw (← c.targets.ensures) (rw (tail_puts c.targets.result.now) c.put_tail.ensures.events)
+pub returns : goal.returns
+returns g c = rw (tail_puts c.args.paths.now) c.put_tail.ensures

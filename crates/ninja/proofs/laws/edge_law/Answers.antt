@@ -3,4 +3,4 @@ use Rattle.ninja.proofs.WholeFile.{runs_words}
 use Rattle.ninja.proofs.laws.edge_law.Goals as goal
 
 pub returns : goal.returns
-returns c = record { read = edge_text_read; runs = λ m e r h. runs_words m e r h.has_word }
+returns c = record { read = edge_text_read; runs = runs_words }

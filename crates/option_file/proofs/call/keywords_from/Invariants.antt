@@ -8,4 +8,5 @@ use Rattle.option_file.proofs.call.keywords_from.Given as goal
 -- what all arguments give is what the others give after those so far
 abbrev pub invariant-loop-argument : goal.invariant-loop-argument
 invariant-loop-argument l =
-    keywords_from nothing_given (argument_trees l.arguments) ≡ keywords_from (keywords_in l.keywords) (argument_trees (drop l.argument-index l.arguments))
+    keywords_from nothing_given (argument_trees l.arguments)
+    ≡ keywords_from (keywords_in l.keywords) (argument_trees (drop l.argument-index l.arguments))

@@ -10,14 +10,18 @@ pub loop-statement-init : goal.loop-statement-init
 loop-statement-init c = declares_first c.deref-statement-items.result.now (options_in c.empty-declared.result) c.empty-declared.ensures
 
 pub returns-in-Err : goal.returns-in-Err
-returns-in-Err c = declares_fault c.deref-statement-items.result.now c.loop-statement.statement-index c.statement-item.result (options_in c.loop-statement.declared) c.in-Err.kind c.line_of-line.result
-    c.loop-statement.invariant c.loop-statement-test.true c.statement-item.is (ap after_in (sym c.in-Err.is) ∙ c.in_ok-more.ensures) c.line_of-line.ensures
+returns-in-Err c = declares_fault c.deref-statement-items.result.now c.loop-statement.statement-index c.statement-item.result
+    (options_in c.loop-statement.declared) c.in-Err.refusal c.line_of-line.result
+    c.loop-statement.invariant c.loop-statement-test.true c.statement-item.is (ap after_in (sym c.in-Err.is)
+    ∙ c.in_ok-more.ensures) c.line_of-line.ensures
     ∙ ap (λ (xs : List Statement). declares_from (map statement_of xs) []) c.deref-statement-items.ensures.value
 
 pub loop-statement-preserved : goal.loop-statement-preserved
-loop-statement-preserved c = declares_more c.deref-statement-items.result.now c.loop-statement.statement-index c.statement-item.result (options_in c.loop-statement.declared) (options_in c.in-Ok.more)
+loop-statement-preserved c = declares_more c.deref-statement-items.result.now c.loop-statement.statement-index c.statement-item.result
+    (options_in c.loop-statement.declared) (options_in c.in-Ok.more)
     c.loop-statement.invariant c.loop-statement-test.true c.statement-item.is (ap after_in (sym c.in-Ok.is) ∙ c.in_ok-more.ensures)
 
 pub returns : goal.returns
-returns c = declares_end c.deref-statement-items.result.now c.loop-statement.statement-index (options_in c.loop-statement.declared) c.loop-statement.invariant c.loop-statement-test.false
+returns c = declares_end c.deref-statement-items.result.now c.loop-statement.statement-index (options_in c.loop-statement.declared)
+    c.loop-statement.invariant c.loop-statement-test.false
     ∙ ap (λ (xs : List Statement). declares_from (map statement_of xs) []) c.deref-statement-items.ensures.value

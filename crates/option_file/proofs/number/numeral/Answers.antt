@@ -1,6 +1,6 @@
 use Rattle.std.proofs.Common.{◌∙◌, Some, sym, ap, arith}
 use Rattle.std.specs.Option.{option_map}
-use Rattle.machine.specs.Numbers.{integer_of}
+use Rattle.machine_file.specs.Numbers.{integer_of}
 use Rattle.option_file.specs.Given.{Given, integer}
 use Rattle.option_file.specs.View.{given_in}
 use Rattle.option_file.proofs.Ranges.{past_128, in_128}

@@ -7,7 +7,8 @@ pub loop-item-preserved : goal.loop-item-preserved
 loop-item-preserved c =
     let item = get_or c.args.items.now c.loop-item.item-index c.item-item.result in (
       search rules,
-      printed_more c.args.items.now (string_bytes c.loop-item.text) _ c.loop-item.separator.now _ c.item-item.result c.loop-item.item-index c.loop-item-test.true c.loop-item.invariant.1
+      printed_more c.args.items.now (string_bytes c.loop-item.text) _ c.loop-item.separator.now _ c.item-item.result c.loop-item.item-index
+          c.loop-item-test.true c.loop-item.invariant.1
           (c.in_ok-push_str-4.ensures.bytes
           ∙ ap (λ t. t ++ codes "'")
           (c.in_ok-push_str-3.ensures.bytes

@@ -21,5 +21,12 @@ pub returns : goal.returns
 returns c =
     let f = decided c.args.state in
     let ss = settings_in c.args.settings.now.entries in
-    let e : c.loop-i.i ≡ length ss = omega (arith, c.len-i-end.ensures.len, length-map c.args.settings.now.entries entry_in, c.loop-i-test.false, c.loop-i.auto.i-end) in
+    let e : c.loop-i.i
+    ≡ length ss = omega (
+      arith,
+      c.len-i-end.ensures.len,
+      length-map c.args.settings.now.entries entry_in,
+      c.loop-i-test.false,
+      c.loop-i.auto.i-end,
+    ) in
     c.loop-i.invariant ∙ ap (λ (n : ℕ). map_first f n ss) e ∙ all_first f ss

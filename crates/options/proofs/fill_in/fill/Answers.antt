@@ -6,7 +6,9 @@ use Rattle.options.proofs.fill_in.fill.Goals as goal
 
 pub returns-in-Some : goal.returns-in-Some
 returns-in-Some c = ap settings_in (c.get_mut.follows.holds c.fill_one.new.setting).0
-    ∙ filled c.args.name.now (value_in c.args.value) c.in-Some.setting.now c.fill_one.new.setting c.args.settings.now.entries c.fill_one.ensures (sym c.in-Some.ensures.value)
+    ∙ filled c.args.name.now (value_in c.args.value) c.in-Some.setting.now c.fill_one.new.setting c.args.settings.now.entries
+    c.fill_one.ensures (sym c.in-Some.ensures.value)
 
 pub returns-in-None : goal.returns-in-None
-returns-in-None c = rw c.get_mut.follows.holds-at-none (not_filled c.args.name.now (value_in c.args.value) c.args.settings.now.entries (sym c.in-None.ensures.value))
+returns-in-None c = rw c.get_mut.follows.holds-at-none (not_filled c.args.name.now (value_in c.args.value) c.args.settings.now.entries
+    (sym c.in-None.ensures.value))

@@ -4,7 +4,8 @@ use Rattle.options.proofs.Lookups.{part_looked_up}
 use Rattle.options.proofs.fill_in.text_at.Goals as goal
 
 pub returns-in-Some : goal.returns-in-Some
-returns-in-Some c = c.text_in.ensures ∙ part_looked_up text_in c.args.name.now c.args.settings.now.entries (Some c.in-Some.setting.now) c.in-Some.ensures.value
+returns-in-Some c = c.text_in.ensures
+    ∙ part_looked_up text_in c.args.name.now c.args.settings.now.entries (Some c.in-Some.setting.now) c.in-Some.ensures.value
 
 pub returns-in-None : goal.returns-in-None
 returns-in-None c = part_looked_up text_in c.args.name.now c.args.settings.now.entries None c.in-None.ensures.value

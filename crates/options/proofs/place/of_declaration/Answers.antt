@@ -7,8 +7,11 @@ use Rattle.options.proofs.place.of_declaration.Goals as goal
 
 pub returns-in-Some : goal.returns-in-Some
 unfolding of_declaration
-returns-in-Some c = ap (of_default (option_in c.args.name.now c.args.declaration.now)) (ap (option_map value_in) (sym c.in-Some.is) ∙ c.in_ok-value.ensures c.args.name.now)
+returns-in-Some c = ap (of_default (option_in c.args.name.now c.args.declaration.now)) (ap (option_map value_in) (sym c.in-Some.is)
+    ∙ c.in_ok-value.ensures c.args.name.now)
 
 pub returns-in-None : goal.returns-in-None
 unfolding of_declaration
-returns-in-None c = c.refused.ensures ∙ ap (of_default (option_in c.args.name.now c.args.declaration.now)) (ap (option_map value_in) (sym c.in-None.is) ∙ c.in_ok-value.ensures c.args.name.now)
+returns-in-None c = c.refused.ensures
+    ∙ ap (of_default (option_in c.args.name.now c.args.declaration.now)) (ap (option_map value_in) (sym c.in-None.is)
+    ∙ c.in_ok-value.ensures c.args.name.now)

@@ -1,7 +1,7 @@
 use Rattle.std.proofs.Common.{◌∙◌, sym, ap, arith}
 use Rattle.std.specs.List.{fold}
-use Rattle.machine.specs.Files as machine
-use Rattle.machine.specs.View.{machine_in, entries_of}
+use Rattle.machine_file.specs.Files as machine
+use Rattle.machine_file.specs.View.{machine_in, entries_of}
 use Rattle.option_file.specs.View.{options_in}
 use Rattle.options.specs.Resolves.{State, next}
 use Rattle.options.specs.Verdicts.{of_section}
@@ -14,7 +14,7 @@ returns-in_default c = is_there (machine_in c.args.machine.now) c.loop-i.i c.in_
 
 pub loop-i-preserved : goal.loop-i-preserved
 loop-i-preserved c =
-    let f = of_section (options_in c.args.declared.now) in
+    let f = of_section (options_in c.args.known.now.declared.now) in
     let section : machine.Section = record { name = c.in-Some.name.now; entries = entries_of c.in-Some.section.now } in
     c.in_ok-take_section.ensures
     ∙ ap (λ (s : State). fold next s (f section)) c.loop-i.invariant

@@ -8,4 +8,5 @@ use Rattle.options.specs.View.{state_in}
 use Rattle.options.proofs.place.take_words.Given as goal
 
 abbrev pub invariant-loop-i : goal.invariant-loop-i
-invariant-loop-i l = state_in l.state ≡ fold next (state_in l.fn.state) (of_words (options_in l.declared) 1 (strings_in (take l.i l.words)))
+invariant-loop-i l = state_in l.state
+    ≡ fold next (state_in l.fn.state) (of_words (options_in l.known.declared.now) 1 (strings_in (take l.i l.words)))

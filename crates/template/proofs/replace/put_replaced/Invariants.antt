@@ -1,4 +1,4 @@
-use Rattle.std.proofs.Common.{◌≡◌, ◌≤◌, ◌-◌, drop, length}
+use Rattle.std.proofs.Common.{◌≤◌, ◌-◌, drop, length}
 use Rattle.template.specs.Line.{replaced}
 use Rattle.ports.proofs.Going.{Going}
 use Rattle.template.proofs.replace.put_replaced.Given as goal
@@ -7,8 +7,6 @@ abbrev pub invariant-loop-sign : goal.invariant-loop-sign
 invariant-loop-sign g l = record {
   in_range : l.from ≤ length l.line;
   going : Going (g.O.Outputs.seen l.fn.out) (g.O.Outputs.seen l.out) (replaced l.config.entries l.path l.number 0 0 l.line) (replaced l.config.entries l.path l.number 0 0 (drop l.from l.line));
-  name : (g.O.Outputs.seen l.out).open_name ≡ (g.O.Outputs.seen l.fn.out).open_name;
-  failures : (g.O.Outputs.seen l.out).failures ≡ (g.O.Outputs.seen l.fn.out).failures;
 }
 
 abbrev pub decreases-loop-sign : goal.decreases-loop-sign

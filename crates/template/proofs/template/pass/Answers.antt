@@ -1,14 +1,13 @@
-use Rattle.std.proofs.Common.{arith, rules, ◌≡◌, ◌-◌, ◌≤◌, take, drop, length, refl, ap, subst, ◌∙◌, unwrap_or, Err}
+use Rattle.std.proofs.Common.{arith, rules, ◌≡◌, ◌-◌, ◌≤◌, take, drop, length, refl, sym, append-nil, ◌++◌, ap, subst, ◌∙◌, unwrap_or, Err}
 use Rattle.ports.specs.Tree.{bytes_at, file_at}
 use Rattle.ports.proofs.Sending.{sends_none}
 use Rattle.template.specs.Template.{Lacks}
-use Rattle.template.proofs.Passing.{cut_at, passing_as, passing_last, passing_line, passing_long, passing_start, passing_stop, size_is, exit_device, exit_same, filled_more, filled_last, buffer_len, left_some, stays_then, file_past}
+use Rattle.template.proofs.Passing.{cut_at, file_goes_on, file_over, whole_kept, passing_fault, passing_as, passing_last, passing_line, passing_long, passing_start, passing_stop, size_is, exit_sends, exit_same, filled_more, filled_last, buffer_len, stays_then, file_past}
 use Rattle.template.proofs.Scan.{lacks_all}
-use Rattle.template.proofs.template.pass.Goals.{else-end-line-via-then-end-line+else-at-size, else-end-line-via-else-end-line}
 use Rattle.template.proofs.template.pass.Goals as goal
 
 pub returns-in_err-size-clause-events : goal.returns-in_err-size-clause-events
-returns-in_err-size-clause-events g c = λ steady. exit_device _ c.from_residual.ensures.1 (sends_none _ _)
+returns-in_err-size-clause-events g c = λ steady. exit_sends _ c.from_residual.ensures.1 (sends_none _ _)
 
 pub lines-init : goal.lines-init
 lines-init g c = record {
@@ -31,7 +30,7 @@ returns-in_err-replace_line-in-Some-clause-events g c = λ steady.
     let inv = c.lines.invariant in
     let cut = cut_at c.lines.line (drop c.lines.at file) c.lines.start c.lines.end c.in-Some.len inv.ends inv.in_line c.in-Some.ensures in
     let x = c.in_err-replace_line-in-Some.field-0.0 in
-    let p = passing_stop _ _ (Err x) refl (passing_as (inv.passing steady) cut.rest) cut.lacks (rw cut.whole at c.in_err-replace_line-in-Some.ensures.events) (rw cut.whole at c.in_err-replace_line-in-Some.ensures.fault) in
+    let p = passing_stop _ _ (Err x) refl (passing_as (inv.passing steady) cut.rest) cut.lacks (rw cut.whole at c.in_err-replace_line-in-Some.ensures.writes) (rw cut.whole at c.in_err-replace_line-in-Some.ensures.fault) in
     rw (exit_same _ x c.from_residual-in_err-replace_line-in-Some.ensures.1) p.events
 
 pub returns-in_err-replace_line-in-Some-clause-fault : goal.returns-in_err-replace_line-in-Some-clause-fault
@@ -40,7 +39,7 @@ returns-in_err-replace_line-in-Some-clause-fault g c = λ steady.
     let inv = c.lines.invariant in
     let cut = cut_at c.lines.line (drop c.lines.at file) c.lines.start c.lines.end c.in-Some.len inv.ends inv.in_line c.in-Some.ensures in
     let x = c.in_err-replace_line-in-Some.field-0.0 in
-    let p = passing_stop _ _ (Err x) refl (passing_as (inv.passing steady) cut.rest) cut.lacks (rw cut.whole at c.in_err-replace_line-in-Some.ensures.events) (rw cut.whole at c.in_err-replace_line-in-Some.ensures.fault) in
+    let p = passing_stop _ _ (Err x) refl (passing_as (inv.passing steady) cut.rest) cut.lacks (rw cut.whole at c.in_err-replace_line-in-Some.ensures.writes) (rw cut.whole at c.in_err-replace_line-in-Some.ensures.fault) in
     rw (exit_same _ x c.from_residual-in_err-replace_line-in-Some.ensures.1) p.fault
 
 pub lines-preserved-in-Some : goal.lines-preserved-in-Some
@@ -55,28 +54,85 @@ lines-preserved-in-Some g c =
       in_file = inv.in_file;
       counted = let range = cut.range in omega arith;
       size = inv.size;
-      passing = λ steady. passing_line _ _ (passing_as (inv.passing steady) cut.rest) cut.lacks (rw cut.whole at c.in_ok-replace_line-in-Some.ensures.events) (rw cut.whole at c.in_ok-replace_line-in-Some.ensures.fault);
+      passing = λ steady. passing_line _ _ (passing_as (inv.passing steady) cut.rest) cut.lacks (rw cut.whole at c.in_ok-replace_line-in-Some.ensures.writes) (rw cut.whole at c.in_ok-replace_line-in-Some.ensures.fault);
       stays = inv.stays;
       tree_failures = inv.tree_failures;
       name = search rules;
       out_failures = search rules;
     }
 
-pub returns-then-at-size-clause-events : goal.returns-then-at-size-clause-events
-returns-then-at-size-clause-events g c = λ steady.
-    let file = bytes_at (g.T.Tree.seen c.args.tree.now).files c.args.path.now in
-    let inv = c.lines.invariant in
-    let buffer = take (c.lines.end - c.lines.start) (drop c.lines.start c.lines.line) in
-    let len : length buffer ≡ 65536 = let n = buffer_len c.lines.line c.lines.start c.lines.end inv.ends inv.in_line in let full = c.if-end-line.true in let count = c.keep_rest-end.ensures.count in let same = c.keep_rest-end.auto.line in omega arith in
-    (passing_long buffer (drop c.lines.at file) (inv.passing steady) (lacks_all 10 buffer c.in-None.ensures) (left_some file c.lines.at _ (inv.size steady) c.if-at-size.true) len).events
+pub returns-in_err-has_more-in-None-clause-events : goal.returns-in_err-has_more-in-None-clause-events
+returns-in_err-has_more-in-None-clause-events g c = λ steady.
+    exit_sends _ c.from_residual-in_err-has_more-in-None.ensures.1 (passing_fault (c.lines.invariant.passing steady))
 
-pub returns-then-at-size-clause-fault : goal.returns-then-at-size-clause-fault
-returns-then-at-size-clause-fault g c = λ steady.
+pub returns-then-branch-clause-events : goal.returns-then-branch-clause-events
+returns-then-branch-clause-events g c = λ steady.
     let file = bytes_at (g.T.Tree.seen c.args.tree.now).files c.args.path.now in
     let inv = c.lines.invariant in
     let buffer = take (c.lines.end - c.lines.start) (drop c.lines.start c.lines.line) in
-    let len : length buffer ≡ 65536 = let n = buffer_len c.lines.line c.lines.start c.lines.end inv.ends inv.in_line in let full = c.if-end-line.true in let count = c.keep_rest-end.ensures.count in let same = c.keep_rest-end.auto.line in omega arith in
-    (passing_long buffer (drop c.lines.at file) (inv.passing steady) (lacks_all 10 buffer c.in-None.ensures) (left_some file c.lines.at _ (inv.size steady) c.if-at-size.true) len).fault
+    let len : length buffer ≡ 65536 =
+    let n = buffer_len c.lines.line c.lines.start c.lines.end inv.ends inv.in_line in
+    let full = c.if-end-line.true in
+    let count = c.keep_rest-end.ensures.count in
+    let same = c.keep_rest-end.auto.line in
+    omega arith in
+    let more = rw (inv.stays.files steady) at (c.in_ok-has_more-in-None.ensures.more (inv.stays.steady steady)) in
+    let left = file_goes_on file c.lines.at _ _ more c.if-branch.true (inv.size steady) in
+    (passing_long buffer (drop c.lines.at file) (inv.passing steady) (lacks_all 10 buffer c.in-None.ensures) left len).events
+
+pub returns-then-branch-clause-fault : goal.returns-then-branch-clause-fault
+returns-then-branch-clause-fault g c = λ steady.
+    let file = bytes_at (g.T.Tree.seen c.args.tree.now).files c.args.path.now in
+    let inv = c.lines.invariant in
+    let buffer = take (c.lines.end - c.lines.start) (drop c.lines.start c.lines.line) in
+    let len : length buffer ≡ 65536 =
+    let n = buffer_len c.lines.line c.lines.start c.lines.end inv.ends inv.in_line in
+    let full = c.if-end-line.true in
+    let count = c.keep_rest-end.ensures.count in
+    let same = c.keep_rest-end.auto.line in
+    omega arith in
+    let more = rw (inv.stays.files steady) at (c.in_ok-has_more-in-None.ensures.more (inv.stays.steady steady)) in
+    let left = file_goes_on file c.lines.at _ _ more c.if-branch.true (inv.size steady) in
+    (passing_long buffer (drop c.lines.at file) (inv.passing steady) (lacks_all 10 buffer c.in-None.ensures) left len).fault
+
+pub put_last-requires-clause-lacks : goal.put_last-requires-clause-lacks
+put_last-requires-clause-lacks g c =
+    let inv = c.lines.invariant in
+    let moved = c.keep_rest-end.new.line in
+    let kept = whole_kept c.lines.line moved c.lines.start c.lines.end _ c.keep_rest-end.ensures.count c.keep_rest-end.ensures.rest c.if-end-line.true in
+    subst (Lacks 10) kept (lacks_all 10 _ c.in-None.ensures)
+
+pub returns-then-end-line-clause-events : goal.returns-then-end-line-clause-events
+returns-then-end-line-clause-events g c = λ steady.
+    let file = bytes_at (g.T.Tree.seen c.args.tree.now).files c.args.path.now in
+    let inv = c.lines.invariant in
+    let more = rw (inv.stays.files steady) at (c.in_ok-has_more-in-None.ensures.more (inv.stays.steady steady)) in
+    let gone = file_over file c.lines.at _ _ more c.if-branch.false (inv.size steady) in
+    let moved = c.keep_rest-end.new.line in
+    let kept = whole_kept c.lines.line moved c.lines.start c.lines.end _ c.keep_rest-end.ensures.count c.keep_rest-end.ensures.rest c.if-end-line.true in
+    let rest = ap (λ l. l ++ drop c.lines.at file) kept ∙ ap (λ l. moved ++ l) gone ∙ append-nil moved in
+    (passing_last c.put_last.result (passing_as (inv.passing steady) rest) c.put_last.ensures.writes c.put_last.ensures.fault).events
+
+pub returns-then-end-line-clause-fault : goal.returns-then-end-line-clause-fault
+returns-then-end-line-clause-fault g c = λ steady.
+    let file = bytes_at (g.T.Tree.seen c.args.tree.now).files c.args.path.now in
+    let inv = c.lines.invariant in
+    let more = rw (inv.stays.files steady) at (c.in_ok-has_more-in-None.ensures.more (inv.stays.steady steady)) in
+    let gone = file_over file c.lines.at _ _ more c.if-branch.false (inv.size steady) in
+    let moved = c.keep_rest-end.new.line in
+    let kept = whole_kept c.lines.line moved c.lines.start c.lines.end _ c.keep_rest-end.ensures.count c.keep_rest-end.ensures.rest c.if-end-line.true in
+    let rest = ap (λ l. l ++ drop c.lines.at file) kept ∙ ap (λ l. moved ++ l) gone ∙ append-nil moved in
+    (passing_last c.put_last.result (passing_as (inv.passing steady) rest) c.put_last.ensures.writes c.put_last.ensures.fault).fault
+
+pub returns-in_err-count-in-None-clause-events : goal.returns-in_err-count-in-None-clause-events
+returns-in_err-count-in-None-clause-events g c = λ steady.
+    exit_sends _ c.from_residual-in_err-count-in-None.ensures.1 (passing_fault (c.lines.invariant.passing steady))
+
+pub put_last-requires-then-count-eq0-clause-lacks : goal.put_last-requires-then-count-eq0-clause-lacks
+put_last-requires-then-count-eq0-clause-lacks g c =
+    let moved = c.keep_rest-end.new.line in
+    let kept = sym c.keep_rest-end.ensures.rest ∙ ap (λ k. take k moved) (sym c.keep_rest-end.ensures.count) ∙ sym c.in_ok-count-in-None.ensures.kept in
+    subst (Lacks 10) kept (lacks_all 10 _ c.in-None.ensures)
 
 pub returns-then-count-eq0-clause-events : goal.returns-then-count-eq0-clause-events
 returns-then-count-eq0-clause-events g c = λ steady.
@@ -86,14 +142,11 @@ returns-then-count-eq0-clause-events g c = λ steady.
     let some = rw (inv.stays.files steady) at (c.in_ok-count-in-None.ensures.some (inv.stays.steady steady)) in
     let none = c.if-count-eq0.true in
     let size = inv.size steady in
-    let past : length file ≤ c.lines.at =
-    elim c.else-end-line.branch [
-      | else-end-line-via-then-end-line+else-at-size w ↦ (let h = w.if-at-size.false in omega arith)
-      | else-end-line-via-else-end-line w ↦ file_past _ _ _ _ _ _ some none (omega arith) w.if-end-line.false size
-    ] in
-    let last = filled_last c.lines.line c.keep_rest-end.new.line c.fill.new.line file c.lines.start c.lines.end c.keep_rest-end.result c.lines.at c.in_ok-count-in-None.count c.keep_rest-end.ensures.count c.keep_rest-end.ensures.rest read none past in
-    let lacks = subst (Lacks 10) last.1 (lacks_all 10 _ c.in-None.ensures) in
-    (passing_last c.put_last.result (passing_as (inv.passing steady) last.0) (c.put_last.ensures.events lacks) (c.put_last.ensures.fault lacks)).events
+    let past : length file ≤ c.lines.at = file_past _ _ _ _ _ _ some none (omega arith) c.if-end-line.false size in
+    let last =
+    filled_last c.lines.line c.keep_rest-end.new.line c.fill.new.line file c.lines.start c.lines.end c.keep_rest-end.result c.lines.at
+    c.in_ok-count-in-None.count c.keep_rest-end.ensures.count c.keep_rest-end.ensures.rest read none past in
+    (passing_last c.put_last-then-count-eq0.result (passing_as (inv.passing steady) last.0) c.put_last-then-count-eq0.ensures.writes c.put_last-then-count-eq0.ensures.fault).events
 
 pub returns-then-count-eq0-clause-fault : goal.returns-then-count-eq0-clause-fault
 returns-then-count-eq0-clause-fault g c = λ steady.
@@ -103,14 +156,11 @@ returns-then-count-eq0-clause-fault g c = λ steady.
     let some = rw (inv.stays.files steady) at (c.in_ok-count-in-None.ensures.some (inv.stays.steady steady)) in
     let none = c.if-count-eq0.true in
     let size = inv.size steady in
-    let past : length file ≤ c.lines.at =
-    elim c.else-end-line.branch [
-      | else-end-line-via-then-end-line+else-at-size w ↦ (let h = w.if-at-size.false in omega arith)
-      | else-end-line-via-else-end-line w ↦ file_past _ _ _ _ _ _ some none (omega arith) w.if-end-line.false size
-    ] in
-    let last = filled_last c.lines.line c.keep_rest-end.new.line c.fill.new.line file c.lines.start c.lines.end c.keep_rest-end.result c.lines.at c.in_ok-count-in-None.count c.keep_rest-end.ensures.count c.keep_rest-end.ensures.rest read none past in
-    let lacks = subst (Lacks 10) last.1 (lacks_all 10 _ c.in-None.ensures) in
-    (passing_last c.put_last.result (passing_as (inv.passing steady) last.0) (c.put_last.ensures.events lacks) (c.put_last.ensures.fault lacks)).fault
+    let past : length file ≤ c.lines.at = file_past _ _ _ _ _ _ some none (omega arith) c.if-end-line.false size in
+    let last =
+    filled_last c.lines.line c.keep_rest-end.new.line c.fill.new.line file c.lines.start c.lines.end c.keep_rest-end.result c.lines.at
+    c.in_ok-count-in-None.count c.keep_rest-end.ensures.count c.keep_rest-end.ensures.rest read none past in
+    (passing_last c.put_last-then-count-eq0.result (passing_as (inv.passing steady) last.0) c.put_last-then-count-eq0.ensures.writes c.put_last-then-count-eq0.ensures.fault).fault
 
 pub lines-preserved : goal.lines-preserved
 lines-preserved g c =
@@ -128,7 +178,7 @@ lines-preserved g c =
           let read = c.in_ok-count-in-None.ensures.bytes (inv.stays.steady steady) in
           let read' = rw (inv.stays.files steady) at read in
           passing_as (inv.passing steady) (filled_more c.lines.line c.keep_rest-end.new.line c.fill.new.line file c.lines.start c.lines.end c.keep_rest-end.result c.lines.at n c.keep_rest-end.ensures.count c.keep_rest-end.ensures.rest read');
-      stays = stays_then inv.stays c.in_ok-count-in-None.ensures.stays;
+      stays = stays_then inv.stays c.in_ok-count-in-None.ensures.asks.stays;
       tree_failures = search rules;
       name = search rules;
       out_failures = search rules;

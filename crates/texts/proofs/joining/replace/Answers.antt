@@ -27,11 +27,11 @@ returns-in-Err c =
 pub returns-in_default : goal.returns-in_default
 returns-in_default c =
     let appended = rw c.in_default-2.is at c.in_ok-refusal.ensures in
-    short_enough _ (string_bytes c.append.new.made)
-    (grown _ (string_bytes c.loop-after.made) c.first_part.result.0.now [] (string_bytes c.append.new.made)
+    short_enough _ (string_bytes c.append.new.string)
+    (grown _ (string_bytes c.loop-after.made) c.first_part.result.0.now [] (string_bytes c.append.new.string)
     (c.loop-after.invariant.1 ∙ ap (λ ps. string_bytes c.loop-after.made ++ joined c.args.new.now ps) (c.first_part.ensures.first
     ∙ ap (λ o. c.first_part.result.0.now ∷ left (parts c.args.old.now) o) c.in_default.is))
-    appended.0 ∙ append-nil (string_bytes c.append.new.made))
+    appended.0 ∙ append-nil (string_bytes c.append.new.string))
     appended.1
     ∙ sym (replaced_is c.args.text.now c.args.old.now c.args.new.now (sym c.is_empty.ensures ∙ c.if-is_empty.false))
 

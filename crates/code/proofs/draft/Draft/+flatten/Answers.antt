@@ -1,10 +1,11 @@
-use Rattle.std.proofs.Common.{sym, ap, ◌∙◌, ◌&&◌, length, nat_lt, option_map}
-use Rattle.grammar.specs.ExpressionTree.{ExpressionTree, expression_of, entry_of, argument_of, operand_of, link_of}
+use Rattle.std.proofs.Common.{sym, ap, ◌∙◌, ◌&&◌, length, map, nat_lt, option_map}
+use Rattle.std.specs.List.{list_all}
+use Rattle.grammar.specs.ExpressionTree.{ExpressionTree, ListTree, DictionaryTree, FunctionTree, PostfixTree, PrefixTree, ChainTree, TernaryTree, arguments, entries, expressions, links, operands, expression_of, entry_of, argument_of, operand_of, link_of}
 use Rattle.code.specs.Nodes.{tree_at, entry_at, argument_at, operand_at, link_at, entry_within, argument_within, operand_within, link_within}
 use Rattle.code.specs.Draft.{trees_in}
 use Rattle.code.proofs.Trees.{and_both}
 use Rattle.code.proofs.Parts.{grows_trans, stands_more, parts_step, keeps_number, keeps_entry, keeps_argument, keeps_operand, keeps_link}
-use Rattle.code.proofs.Made.{entry_is, argument_is, operand_is}
+use Rattle.code.proofs.Made.{entry_is, argument_is, operand_is, stands_as, name_made, literal_made, list_made, dictionary_made, call_made, postfix_made, prefix_made, chain_made, ternary_made}
 use Rattle.code.proofs.draft.Draft.+flatten.Goals as goal
 
 pub items-loop-item-preserved : goal.items-loop-item-preserved
@@ -94,8 +95,8 @@ links-loop-link-preserved t c =
           c.link.ensures.grows.trees c.loop-link.invariant.parts c.in_ok-node.ensures.within c.in_ok-node.ensures.is;
     }
 
-pub choice-push-requires : goal.choice-push-requires
-choice-push-requires t c =
+pub ternary-push-requires : goal.ternary-push-requires
+ternary-push-requires t c =
     let one = trees_in c.expression.new.self in
     let two = trees_in c.expression-2.new.self in
     let ts = trees_in c.expression-3.new.self in
@@ -106,3 +107,195 @@ choice-push-requires t c =
     c.in_ok-yes.ensures.stands in
     and_both (nat_lt c.in_ok-test.test (length ts)) (nat_lt c.in_ok-yes.yes (length ts) && nat_lt c.in_ok-no.no (length ts)) test.within
     (and_both (nat_lt c.in_ok-yes.yes (length ts)) (nat_lt c.in_ok-no.no (length ts)) yes.within c.in_ok-no.ensures.stands.within)
+
+-- ---- one variant
+
+pub expression-returns-in-Name-clause-grows : goal.expression-returns-in-Name-clause-grows
+expression-returns-in-Name-clause-grows t c = c.named.ensures.grows
+
+pub expression-returns-in-Name-clause-stands : goal.expression-returns-in-Name-clause-stands
+expression-returns-in-Name-clause-stands t c = stands_as c.named.result (trees_in c.named.new.self) _ (expression_of c.args.expression.now) c.named.ensures.stands
+    (name_made c.args.expression.now c.in-Name.line c.in-Name.name c.in-Name.is)
+
+pub expression-returns-in-Literal-clause-grows : goal.expression-returns-in-Literal-clause-grows
+expression-returns-in-Literal-clause-grows t c = c.literal.ensures.grows
+
+pub expression-returns-in-Literal-clause-stands : goal.expression-returns-in-Literal-clause-stands
+expression-returns-in-Literal-clause-stands t c = stands_as c.literal.result (trees_in c.literal.new.self) _ (expression_of c.args.expression.now) c.literal.ensures.stands
+    (literal_made c.args.expression.now c.in-Literal.line c.in-Literal.literal c.in-Literal.text c.in-Literal.is)
+
+pub expression-returns-in-List-clause-grows : goal.expression-returns-in-List-clause-grows
+expression-returns-in-List-clause-grows t c = c.list.ensures.grows
+
+pub expression-returns-in-List-clause-stands : goal.expression-returns-in-List-clause-stands
+expression-returns-in-List-clause-stands t c = stands_as c.list.result (trees_in c.list.new.self) _ (expression_of c.args.expression.now) c.list.ensures.stands
+    (list_made c.args.expression.now c.in-List.line c.in-List.items c.deref.result.now c.in-List.is c.deref.ensures.value)
+
+pub expression-returns-in-Dictionary-clause-grows : goal.expression-returns-in-Dictionary-clause-grows
+expression-returns-in-Dictionary-clause-grows t c = c.dictionary.ensures.grows
+
+pub expression-returns-in-Dictionary-clause-stands : goal.expression-returns-in-Dictionary-clause-stands
+expression-returns-in-Dictionary-clause-stands t c = stands_as c.dictionary.result (trees_in c.dictionary.new.self) _ (expression_of c.args.expression.now) c.dictionary.ensures.stands
+    (dictionary_made c.args.expression.now c.in-Dictionary.line c.in-Dictionary.entries c.deref-in-Dictionary.result.now c.in-Dictionary.is c.deref-in-Dictionary.ensures.value)
+
+pub expression-returns-in-Call-clause-grows : goal.expression-returns-in-Call-clause-grows
+expression-returns-in-Call-clause-grows t c = c.call.ensures.grows
+
+pub expression-returns-in-Call-clause-stands : goal.expression-returns-in-Call-clause-stands
+expression-returns-in-Call-clause-stands t c = stands_as c.call.result (trees_in c.call.new.self) _ (expression_of c.args.expression.now) c.call.ensures.stands
+    (call_made c.args.expression.now c.in-Call.line c.in-Call.name c.in-Call.arguments c.deref-in-Call.result.now c.in-Call.is c.deref-in-Call.ensures.value)
+
+pub expression-returns-in-Postfix-clause-grows : goal.expression-returns-in-Postfix-clause-grows
+expression-returns-in-Postfix-clause-grows t c = c.postfix.ensures.grows
+
+pub expression-returns-in-Postfix-clause-stands : goal.expression-returns-in-Postfix-clause-stands
+expression-returns-in-Postfix-clause-stands t c = stands_as c.postfix.result (trees_in c.postfix.new.self) _ (expression_of c.args.expression.now) c.postfix.ensures.stands
+    (ap (λ e. PostfixTree (expression_of e) (links (map link_of c.deref-in-Postfix-2.result.now)) c.in-Postfix.line) c.deref-in-Postfix.ensures
+    ∙ postfix_made c.args.expression.now c.in-Postfix.line c.in-Postfix.first c.in-Postfix.links c.deref-in-Postfix-2.result.now c.in-Postfix.is c.deref-in-Postfix-2.ensures.value)
+
+pub expression-returns-in-Prefix-clause-grows : goal.expression-returns-in-Prefix-clause-grows
+expression-returns-in-Prefix-clause-grows t c = c.prefix.ensures.grows
+
+pub expression-returns-in-Prefix-clause-stands : goal.expression-returns-in-Prefix-clause-stands
+expression-returns-in-Prefix-clause-stands t c = stands_as c.prefix.result (trees_in c.prefix.new.self) _ (expression_of c.args.expression.now) c.prefix.ensures.stands
+    (ap (λ e. PrefixTree c.in-Prefix.prefix (expression_of e) c.in-Prefix.line) c.deref-in-Prefix.ensures
+    ∙ prefix_made c.args.expression.now c.in-Prefix.line c.in-Prefix.prefix c.in-Prefix.value c.in-Prefix.is)
+
+pub expression-returns-in-Chain-clause-grows : goal.expression-returns-in-Chain-clause-grows
+expression-returns-in-Chain-clause-grows t c = c.chain.ensures.grows
+
+pub expression-returns-in-Chain-clause-stands : goal.expression-returns-in-Chain-clause-stands
+expression-returns-in-Chain-clause-stands t c = stands_as c.chain.result (trees_in c.chain.new.self) _ (expression_of c.args.expression.now) c.chain.ensures.stands
+    (ap (λ e. ChainTree (expression_of e) (operands (map operand_of c.deref-in-Chain-2.result.now)) c.in-Chain.line) c.deref-in-Chain.ensures
+    ∙ chain_made c.args.expression.now c.in-Chain.line c.in-Chain.first c.in-Chain.others c.deref-in-Chain-2.result.now c.in-Chain.is c.deref-in-Chain-2.ensures.value)
+
+pub expression-returns-in-Ternary-clause-grows : goal.expression-returns-in-Ternary-clause-grows
+expression-returns-in-Ternary-clause-grows t c = c.ternary.ensures.grows
+
+pub expression-returns-in-Ternary-clause-stands : goal.expression-returns-in-Ternary-clause-stands
+expression-returns-in-Ternary-clause-stands t c = stands_as c.ternary.result (trees_in c.ternary.new.self) _ (expression_of c.args.expression.now) c.ternary.ensures.stands
+    (ap (λ e. TernaryTree (expression_of e) (expression_of c.deref-in-Ternary-2.result.now) (expression_of c.deref-in-Ternary-3.result.now) c.in-Ternary.line) c.deref-in-Ternary.ensures
+    ∙ ap (λ e. TernaryTree (expression_of c.in-Ternary.test.value) (expression_of e) (expression_of c.deref-in-Ternary-3.result.now) c.in-Ternary.line) c.deref-in-Ternary-2.ensures
+    ∙ ap (λ e. TernaryTree (expression_of c.in-Ternary.test.value) (expression_of c.in-Ternary.yes.value) (expression_of e) c.in-Ternary.line) c.deref-in-Ternary-3.ensures
+    ∙ ternary_made c.args.expression.now c.in-Ternary.line c.in-Ternary.test c.in-Ternary.yes c.in-Ternary.no c.in-Ternary.is)
+
+-- ---- a node over its parts
+
+pub list-returns-in_err-items-clause-grows : goal.list-returns-in_err-items-clause-grows
+list-returns-in_err-items-clause-grows t c = c.items.ensures.grows
+
+pub list-push-requires : goal.list-push-requires
+list-push-requires t c = c.in_ok-items.ensures.parts.within
+
+pub list-returns-clause-grows : goal.list-returns-clause-grows
+list-returns-clause-grows t c = grows_trans c.args.self.now c.items.new.self c.push.new.self c.items.ensures.grows c.push.ensures.grows
+
+pub list-returns-clause-stands : goal.list-returns-clause-stands
+list-returns-clause-stands t c = stands_as c.push.result (trees_in c.push.new.self) _ _ c.push.ensures.stands (ap (λ l. ListTree (expressions l) c.args.line) c.in_ok-items.ensures.parts.are)
+
+pub dictionary-returns-in_err-entries-clause-grows : goal.dictionary-returns-in_err-entries-clause-grows
+dictionary-returns-in_err-entries-clause-grows t c = c.entries.ensures.grows
+
+pub dictionary-push-requires : goal.dictionary-push-requires
+dictionary-push-requires t c = c.in_ok-entries.ensures.parts.within
+
+pub dictionary-returns-clause-grows : goal.dictionary-returns-clause-grows
+dictionary-returns-clause-grows t c = grows_trans c.args.self.now c.entries.new.self c.push.new.self c.entries.ensures.grows c.push.ensures.grows
+
+pub dictionary-returns-clause-stands : goal.dictionary-returns-clause-stands
+dictionary-returns-clause-stands t c = stands_as c.push.result (trees_in c.push.new.self) _ _ c.push.ensures.stands (ap (λ l. DictionaryTree (entries l) c.args.line) c.in_ok-entries.ensures.parts.are)
+
+pub call-returns-in_err-arguments-clause-grows : goal.call-returns-in_err-arguments-clause-grows
+call-returns-in_err-arguments-clause-grows t c = c.arguments.ensures.grows
+
+pub call-push-requires : goal.call-push-requires
+call-push-requires t c = c.in_ok-arguments.ensures.parts.within
+
+pub call-returns-clause-grows : goal.call-returns-clause-grows
+call-returns-clause-grows t c = grows_trans c.args.self.now c.arguments.new.self c.push.new.self c.arguments.ensures.grows c.push.ensures.grows
+
+pub call-returns-clause-stands : goal.call-returns-clause-stands
+call-returns-clause-stands t c = stands_as c.push.result (trees_in c.push.new.self) _ _ c.push.ensures.stands
+    (ap (λ n. FunctionTree n (arguments (map (argument_at (trees_in c.arguments.new.self)) c.in_ok-arguments.arguments.items)) c.args.line) c.in_ok-name.ensures.ok
+    ∙ ap (λ l. FunctionTree c.args.name.now (arguments l) c.args.line) c.in_ok-arguments.ensures.parts.are)
+
+pub prefix-returns-in_err-value-clause-grows : goal.prefix-returns-in_err-value-clause-grows
+prefix-returns-in_err-value-clause-grows t c = c.expression.ensures.grows
+
+pub prefix-push-requires : goal.prefix-push-requires
+prefix-push-requires t c = c.in_ok-value.ensures.stands.within
+
+pub prefix-returns-clause-grows : goal.prefix-returns-clause-grows
+prefix-returns-clause-grows t c = grows_trans c.args.self.now c.expression.new.self c.push.new.self c.expression.ensures.grows c.push.ensures.grows
+
+pub prefix-returns-clause-stands : goal.prefix-returns-clause-stands
+prefix-returns-clause-stands t c = stands_as c.push.result (trees_in c.push.new.self) _ _ c.push.ensures.stands (ap (λ e. PrefixTree c.args.prefix e c.args.line) c.in_ok-value.ensures.stands.is)
+
+pub postfix-returns-in_err-first-clause-grows : goal.postfix-returns-in_err-first-clause-grows
+postfix-returns-in_err-first-clause-grows t c = c.expression.ensures.grows
+
+pub postfix-returns-in_err-links-clause-grows : goal.postfix-returns-in_err-links-clause-grows
+postfix-returns-in_err-links-clause-grows t c = grows_trans c.args.self.now c.expression.new.self c.links.new.self c.expression.ensures.grows c.links.ensures.grows
+
+pub postfix-push-requires : goal.postfix-push-requires
+postfix-push-requires t c =
+    let ts = trees_in c.links.new.self in
+    let first = stands_more (trees_in c.expression.new.self) ts c.in_ok-first.first (expression_of c.args.first.now) c.links.ensures.grows.trees c.in_ok-first.ensures.stands in
+    and_both (nat_lt c.in_ok-first.first (length ts)) (list_all (link_within (length ts)) c.in_ok-links.links.items) first.within c.in_ok-links.ensures.parts.within
+
+pub postfix-returns-clause-grows : goal.postfix-returns-clause-grows
+postfix-returns-clause-grows t c = grows_trans c.args.self.now c.links.new.self c.push.new.self
+    (grows_trans c.args.self.now c.expression.new.self c.links.new.self c.expression.ensures.grows c.links.ensures.grows) c.push.ensures.grows
+
+pub postfix-returns-clause-stands : goal.postfix-returns-clause-stands
+postfix-returns-clause-stands t c =
+    let ts = trees_in c.links.new.self in
+    let first = stands_more (trees_in c.expression.new.self) ts c.in_ok-first.first (expression_of c.args.first.now) c.links.ensures.grows.trees c.in_ok-first.ensures.stands in
+    stands_as c.push.result (trees_in c.push.new.self) _ _ c.push.ensures.stands
+    (ap (λ e. PostfixTree e (links (map (link_at ts) c.in_ok-links.links.items)) c.args.line) first.is
+    ∙ ap (λ l. PostfixTree (expression_of c.args.first.now) (links l) c.args.line) c.in_ok-links.ensures.parts.are)
+
+pub chain-returns-in_err-first-clause-grows : goal.chain-returns-in_err-first-clause-grows
+chain-returns-in_err-first-clause-grows t c = c.expression.ensures.grows
+
+pub chain-returns-in_err-others-clause-grows : goal.chain-returns-in_err-others-clause-grows
+chain-returns-in_err-others-clause-grows t c = grows_trans c.args.self.now c.expression.new.self c.operands.new.self c.expression.ensures.grows c.operands.ensures.grows
+
+pub chain-push-requires : goal.chain-push-requires
+chain-push-requires t c =
+    let ts = trees_in c.operands.new.self in
+    let first = stands_more (trees_in c.expression.new.self) ts c.in_ok-first.first (expression_of c.args.first.now) c.operands.ensures.grows.trees c.in_ok-first.ensures.stands in
+    and_both (nat_lt c.in_ok-first.first (length ts)) (list_all (operand_within (length ts)) c.in_ok-others.others.items) first.within c.in_ok-others.ensures.parts.within
+
+pub chain-returns-clause-grows : goal.chain-returns-clause-grows
+chain-returns-clause-grows t c = grows_trans c.args.self.now c.operands.new.self c.push.new.self
+    (grows_trans c.args.self.now c.expression.new.self c.operands.new.self c.expression.ensures.grows c.operands.ensures.grows) c.push.ensures.grows
+
+pub chain-returns-clause-stands : goal.chain-returns-clause-stands
+chain-returns-clause-stands t c =
+    let ts = trees_in c.operands.new.self in
+    let first = stands_more (trees_in c.expression.new.self) ts c.in_ok-first.first (expression_of c.args.first.now) c.operands.ensures.grows.trees c.in_ok-first.ensures.stands in
+    stands_as c.push.result (trees_in c.push.new.self) _ _ c.push.ensures.stands
+    (ap (λ e. ChainTree e (operands (map (operand_at ts) c.in_ok-others.others.items)) c.args.line) first.is
+    ∙ ap (λ l. ChainTree (expression_of c.args.first.now) (operands l) c.args.line) c.in_ok-others.ensures.parts.are)
+
+pub ternary-returns-clause-grows : goal.ternary-returns-clause-grows
+ternary-returns-clause-grows t c = grows_trans c.args.self.now c.expression-3.new.self c.push.new.self
+    (grows_trans c.args.self.now c.expression-2.new.self c.expression-3.new.self
+    (grows_trans c.args.self.now c.expression.new.self c.expression-2.new.self c.expression.ensures.grows c.expression-2.ensures.grows) c.expression-3.ensures.grows)
+    c.push.ensures.grows
+
+pub ternary-returns-clause-stands : goal.ternary-returns-clause-stands
+ternary-returns-clause-stands t c =
+    let one = trees_in c.expression.new.self in
+    let two = trees_in c.expression-2.new.self in
+    let ts = trees_in c.expression-3.new.self in
+    let test = stands_more two ts c.in_ok-test.test (expression_of c.args.test.now) c.expression-3.ensures.grows.trees
+    (stands_more one two c.in_ok-test.test (expression_of c.args.test.now) c.expression-2.ensures.grows.trees
+    c.in_ok-test.ensures.stands) in
+    let yes = stands_more two ts c.in_ok-yes.yes (expression_of c.args.yes.now) c.expression-3.ensures.grows.trees
+    c.in_ok-yes.ensures.stands in
+    stands_as c.push.result (trees_in c.push.new.self) _ _ c.push.ensures.stands
+    (ap (λ e. TernaryTree e (tree_at ts c.in_ok-yes.yes) (tree_at ts c.in_ok-no.no) c.args.line) test.is
+    ∙ ap (λ e. TernaryTree (expression_of c.args.test.now) e (tree_at ts c.in_ok-no.no) c.args.line) yes.is
+    ∙ ap (λ e. TernaryTree (expression_of c.args.test.now) (expression_of c.args.yes.now) e c.args.line) c.in_ok-no.ensures.stands.is)

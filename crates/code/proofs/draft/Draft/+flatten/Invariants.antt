@@ -47,8 +47,8 @@ decreases-postfix l = 3 * max (size-Expression l.first.now) (most (λ x. size-Li
 abbrev pub decreases-chain : goal.decreases-chain
 decreases-chain l = 3 * max (size-Expression l.first.now) (most (λ x. size-Operand x) l.others.now) + 2
 
-abbrev pub decreases-choice : goal.decreases-choice
-decreases-choice l = 3 * max (size-Expression l.test.now) (max (size-Expression l.yes.now) (size-Expression l.no.now)) + 1
+abbrev pub decreases-ternary : goal.decreases-ternary
+decreases-ternary l = 3 * max (size-Expression l.test.now) (max (size-Expression l.yes.now) (size-Expression l.no.now)) + 1
 
 -- ---- the loops
 

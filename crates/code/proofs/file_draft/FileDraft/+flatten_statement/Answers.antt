@@ -1,39 +1,57 @@
-use Rattle.std.proofs.Common.{map, nat_lt, length, sym, ap, ◌∙◌}
+use Rattle.std.proofs.Common.{refl, map, nat_lt, length, sym, ap, ◌∙◌}
 use Rattle.std.specs.List.{list_all}
 use Rattle.grammar.specs.ExpressionTree.{ExpressionTree, expression_of}
-use Rattle.grammar.specs.Tree.{statement_of, branch_of, statements}
+use Rattle.grammar.specs.Tree.{IfTree, branches, statement_of, branch_of, statements}
 use Rattle.code.specs.declared.node.StatementNode.TheVariants as flat
 use Rattle.code.specs.Draft.{trees_in}
-use Rattle.code.specs.Statements.{statement_at, statement_tree, branch_at, branch_within}
+use Rattle.code.specs.Statements.{statement_at, statement_tree, branch_within}
 use Rattle.code.specs.FileDraft.{statements_in}
 use Rattle.code.proofs.Parts.{stands_more}
 use Rattle.code.proofs.Trees.{and_both}
-use Rattle.code.proofs.Placed.{extends_trans, are_step, branches_step, branches_more, branch_is, statement_as, if_made}
+use Rattle.code.proofs.Placed.{extends_trans, are_step, branches_step, branches_more, branch_is, statement_as, if_made, assign_made, append_made, value_made, break_made, continue_made, each_made}
 use Rattle.code.proofs.file_draft.FileDraft.+flatten_statement.Goals as goal
 
-pub statement-push-requires-in-If : goal.statement-push-requires-in-If
-statement-push-requires-in-If t c =
-    let new = c.body.new.self in
-    let parts = branches_more c.branches.new.self new c.in_ok-branches-in-If.branches.items (map branch_of c.deref.result.now)
-    c.body.ensures.extends c.in_ok-branches-in-If.ensures.are in
-    and_both (list_all (branch_within (length (trees_in new.draft)) (length (statements_in new))) c.in_ok-branches-in-If.branches.items)
-    (list_all (λ i. nat_lt i (length (statements_in new))) c.in_ok-otherwise-in-If.otherwise.items) parts.within
-    c.in_ok-otherwise-in-If.ensures.are.within
+pub conditional-returns-in_err-branches-clause-extends : goal.conditional-returns-in_err-branches-clause-extends
+conditional-returns-in_err-branches-clause-extends t c = c.branches.ensures.extends
 
-pub statement-returns-in_ok-otherwise-in-If-clause-is : goal.statement-returns-in_ok-otherwise-in-If-clause-is
-statement-returns-in_ok-otherwise-in-If-clause-is t c =
+pub conditional-returns-in_err-otherwise-clause-extends : goal.conditional-returns-in_err-otherwise-clause-extends
+conditional-returns-in_err-otherwise-clause-extends t c =
+    extends_trans c.args.self.now c.branches.new.self c.body.new.self c.branches.ensures.extends c.body.ensures.extends
+
+pub conditional-push-requires : goal.conditional-push-requires
+conditional-push-requires t c =
     let new = c.body.new.self in
-    let parts = branches_more c.branches.new.self new c.in_ok-branches-in-If.branches.items (map branch_of c.deref.result.now)
-    c.body.ensures.extends c.in_ok-branches-in-If.ensures.are in
-    statement_as c.push-in-If.result c.push-in-If.new.self
+    let parts = branches_more c.branches.new.self new c.in_ok-branches.branches.items (map branch_of c.args.branches.now)
+    c.body.ensures.extends c.in_ok-branches.ensures.are in
+    and_both (list_all (branch_within (length (trees_in new.draft)) (length (statements_in new))) c.in_ok-branches.branches.items)
+    (list_all (λ i. nat_lt i (length (statements_in new))) c.in_ok-otherwise.otherwise.items) parts.within
+    c.in_ok-otherwise.ensures.are.within
+
+pub conditional-returns-clause-extends : goal.conditional-returns-clause-extends
+conditional-returns-clause-extends t c =
+    extends_trans c.args.self.now c.body.new.self c.push.new.self
+    (extends_trans c.args.self.now c.branches.new.self c.body.new.self c.branches.ensures.extends c.body.ensures.extends) c.push.ensures.extends
+
+pub conditional-returns-clause-is : goal.conditional-returns-clause-is
+conditional-returns-clause-is t c =
+    let new = c.body.new.self in
+    let parts = branches_more c.branches.new.self new c.in_ok-branches.branches.items (map branch_of c.args.branches.now)
+    c.body.ensures.extends c.in_ok-branches.ensures.are in
+    statement_as c.push.result c.push.new.self
     (statement_tree new.draft.names (trees_in new.draft) (statements_in new)
-    (flat.If c.in-If.line c.in_ok-branches-in-If.branches c.in_ok-otherwise-in-If.otherwise))
-    (statement_of c.args.statement.now) c.push-in-If.ensures.is
+    (flat.If c.args.line c.in_ok-branches.branches c.in_ok-otherwise.otherwise))
+    (IfTree c.args.line (branches (map branch_of c.args.branches.now)) (statements (map statement_of c.args.otherwise.now))) c.push.ensures.is
+    (ap (λ l. IfTree c.args.line (branches l) (statements (map (statement_at (statements_in new)) c.in_ok-otherwise.otherwise.items))) parts.are
+    ∙ ap (λ l. IfTree c.args.line (branches (map branch_of c.args.branches.now)) (statements l)) c.in_ok-otherwise.ensures.are.are)
+
+pub statement-returns-in-If-clause-is : goal.statement-returns-in-If-clause-is
+statement-returns-in-If-clause-is t c =
+    statement_as c.conditional.result c.conditional.new.self
+    (IfTree c.in-If.line (branches (map branch_of c.deref.result.now)) (statements (map statement_of c.deref-in-If.result.now)))
+    (statement_of c.args.statement.now) c.conditional.ensures.is
     (if_made c.args.statement.now c.in-If.line c.in-If.branches c.in-If.otherwise
-    (map (branch_at (trees_in new.draft) (statements_in new)) c.in_ok-branches-in-If.branches.items)
-    (map (statement_at (statements_in new)) c.in_ok-otherwise-in-If.otherwise.items) c.deref.result.now c.deref-in-If.result.now
-    c.in-If.is c.deref.ensures.value c.deref-in-If.ensures.value parts.are
-    c.in_ok-otherwise-in-If.ensures.are.are)
+    (map branch_of c.deref.result.now) (map statement_of c.deref-in-If.result.now) c.deref.result.now c.deref-in-If.result.now
+    c.in-If.is c.deref.ensures.value c.deref-in-If.ensures.value refl refl)
 
 pub body-loop-statement-preserved : goal.body-loop-statement-preserved
 body-loop-statement-preserved t c =
@@ -69,3 +87,78 @@ branches-loop-branch-preserved t c =
           ∙ ap (λ l. (expression_of a.condition, a.line, statements l)) (body.are ∙ ap (map statement_of) c.deref.ensures.value)
           ∙ sym (branch_is a));
     }
+
+pub statement-returns-in-Assign-clause-extends : goal.statement-returns-in-Assign-clause-extends
+statement-returns-in-Assign-clause-extends t c = c.assign.ensures.extends
+
+pub statement-returns-in-Assign-clause-is : goal.statement-returns-in-Assign-clause-is
+statement-returns-in-Assign-clause-is t c = statement_as c.assign.result c.assign.new.self _ (statement_of c.args.statement.now) c.assign.ensures.is
+    (assign_made c.args.statement.now c.in-Assign.line c.in-Assign.name c.in-Assign.value c.in-Assign.is)
+
+pub statement-returns-in-Append-clause-extends : goal.statement-returns-in-Append-clause-extends
+statement-returns-in-Append-clause-extends t c = c.assign-in-Append.ensures.extends
+
+pub statement-returns-in-Append-clause-is : goal.statement-returns-in-Append-clause-is
+statement-returns-in-Append-clause-is t c = statement_as c.assign-in-Append.result c.assign-in-Append.new.self _ (statement_of c.args.statement.now) c.assign-in-Append.ensures.is
+    (append_made c.args.statement.now c.in-Append.line c.in-Append.name c.in-Append.value c.in-Append.is)
+
+pub statement-returns-in-Expression-clause-extends : goal.statement-returns-in-Expression-clause-extends
+statement-returns-in-Expression-clause-extends t c = c.value.ensures.extends
+
+pub statement-returns-in-Expression-clause-is : goal.statement-returns-in-Expression-clause-is
+statement-returns-in-Expression-clause-is t c = statement_as c.value.result c.value.new.self _ (statement_of c.args.statement.now) c.value.ensures.is
+    (value_made c.args.statement.now c.in-Expression.line c.in-Expression.value c.in-Expression.is)
+
+pub statement-returns-in-Break-clause-extends : goal.statement-returns-in-Break-clause-extends
+statement-returns-in-Break-clause-extends t c = c.push.ensures.extends
+
+pub statement-returns-in-Break-clause-is : goal.statement-returns-in-Break-clause-is
+statement-returns-in-Break-clause-is t c = statement_as c.push.result c.push.new.self _ (statement_of c.args.statement.now) c.push.ensures.is
+    (break_made c.args.statement.now c.in-Break.line c.in-Break.is)
+
+pub statement-returns-in-Continue-clause-extends : goal.statement-returns-in-Continue-clause-extends
+statement-returns-in-Continue-clause-extends t c = c.push-in-Continue.ensures.extends
+
+pub statement-returns-in-Continue-clause-is : goal.statement-returns-in-Continue-clause-is
+statement-returns-in-Continue-clause-is t c = statement_as c.push-in-Continue.result c.push-in-Continue.new.self _ (statement_of c.args.statement.now) c.push-in-Continue.ensures.is
+    (continue_made c.args.statement.now c.in-Continue.line c.in-Continue.is)
+
+pub statement-returns-in-If-clause-extends : goal.statement-returns-in-If-clause-extends
+statement-returns-in-If-clause-extends t c = c.conditional.ensures.extends
+
+pub statement-returns-in_err-body-in-Foreach-clause-extends : goal.statement-returns-in_err-body-in-Foreach-clause-extends
+statement-returns-in_err-body-in-Foreach-clause-extends t c = c.body.ensures.extends
+
+pub statement-foreach-requires : goal.statement-foreach-requires
+statement-foreach-requires t c = c.in_ok-body-in-Foreach.ensures.are.within
+
+pub statement-returns-in_ok-body-in-Foreach-clause-extends : goal.statement-returns-in_ok-body-in-Foreach-clause-extends
+statement-returns-in_ok-body-in-Foreach-clause-extends t c =
+    extends_trans c.args.self.now c.body.new.self c.foreach.new.self c.body.ensures.extends c.foreach.ensures.extends
+
+pub statement-returns-in_ok-body-in-Foreach-clause-is : goal.statement-returns-in_ok-body-in-Foreach-clause-is
+statement-returns-in_ok-body-in-Foreach-clause-is t c = statement_as c.foreach.result c.foreach.new.self _ (statement_of c.args.statement.now) c.foreach.ensures.is
+    (each_made c.args.statement.now c.in-Foreach.line c.in-Foreach.first c.in-Foreach.second c.in-Foreach.list c.in-Foreach.list_line c.in-Foreach.body
+    c.deref-in-Foreach.result.now (map (statement_at (statements_in c.body.new.self)) c.in_ok-body-in-Foreach.body.items) c.in-Foreach.is c.deref-in-Foreach.ensures.value c.in_ok-body-in-Foreach.ensures.are.are)
+
+pub body-returns-in_err-number-clause-extends : goal.body-returns-in_err-number-clause-extends
+body-returns-in_err-number-clause-extends t c =
+    extends_trans c.args.self.now c.loop-statement.self c.statement.new.self c.loop-statement.invariant.extends c.statement.ensures.extends
+
+pub body-returns-in_err-push-clause-extends : goal.body-returns-in_err-push-clause-extends
+body-returns-in_err-push-clause-extends t c =
+    extends_trans c.args.self.now c.loop-statement.self c.statement.new.self c.loop-statement.invariant.extends c.statement.ensures.extends
+
+pub branches-returns-in_err-condition-clause-extends : goal.branches-returns-in_err-condition-clause-extends
+branches-returns-in_err-condition-clause-extends t c =
+    extends_trans c.args.self.now c.loop-branch.self c.expression.new.self c.loop-branch.invariant.extends c.expression.ensures.extends
+
+pub branches-returns-in_err-body-clause-extends : goal.branches-returns-in_err-body-clause-extends
+branches-returns-in_err-body-clause-extends t c =
+    extends_trans c.args.self.now c.expression.new.self c.body.new.self
+    (extends_trans c.args.self.now c.loop-branch.self c.expression.new.self c.loop-branch.invariant.extends c.expression.ensures.extends) c.body.ensures.extends
+
+pub branches-returns-in_err-push-clause-extends : goal.branches-returns-in_err-push-clause-extends
+branches-returns-in_err-push-clause-extends t c =
+    extends_trans c.args.self.now c.expression.new.self c.body.new.self
+    (extends_trans c.args.self.now c.loop-branch.self c.expression.new.self c.loop-branch.invariant.extends c.expression.ensures.extends) c.body.ensures.extends

@@ -59,3 +59,21 @@ returns-clause-is c =
     (tree_at (trees_in new.draft) c.in_ok-list.list) (expression_of c.args.list.now)
     (map (statement_at (statements_in new)) c.args.body.items) (map (statement_at (statements_in old)) c.args.body.items)
     first.1 c.in_ok-second.ensures.is list.is body.are)
+
+pub returns-in_err-list-clause-extends : goal.returns-in_err-list-clause-extends
+returns-in_err-list-clause-extends c = c.expression.ensures.extends
+
+pub returns-in_err-first-clause-extends : goal.returns-in_err-first-clause-extends
+returns-in_err-first-clause-extends c =
+    extends_trans c.args.self.now c.expression.new.self c.name.new.self c.expression.ensures.extends c.name.ensures.extends
+
+pub returns-in_err-second-clause-extends : goal.returns-in_err-second-clause-extends
+returns-in_err-second-clause-extends c =
+    extends_trans c.args.self.now c.expression.new.self c.second_name.new.self c.expression.ensures.extends
+    (extends_trans c.expression.new.self c.name.new.self c.second_name.new.self c.name.ensures.extends c.second_name.ensures.extends)
+
+pub returns-clause-extends : goal.returns-clause-extends
+returns-clause-extends c =
+    extends_trans c.args.self.now c.second_name.new.self c.push.new.self
+    (extends_trans c.args.self.now c.expression.new.self c.second_name.new.self c.expression.ensures.extends
+    (extends_trans c.expression.new.self c.name.new.self c.second_name.new.self c.name.ensures.extends c.second_name.ensures.extends)) c.push.ensures.extends

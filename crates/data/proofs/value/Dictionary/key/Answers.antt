@@ -1,4 +1,4 @@
-use Rattle.std.proofs.Common.{Some, sym, ap, ◌∙◌}
+use Rattle.std.proofs.Common.{sym, ap, ◌∙◌}
 use Rattle.std.specs.Prelude.{slice_get}
 use Rattle.data.specs.Data.{keys_in}
 use Rattle.data.proofs.EntriesLemmas.{key_there, key_read}
@@ -12,4 +12,3 @@ pub returns : goal.returns
 returns c =
     ap (λ es. slice_get (keys_in es) c.args.index) (sym c.self.view_is)
     ∙ key_read c.self.inside.keys.keys c.self.inside.values.items c.args.index c.in-Some.key.now c.self.invariant.pairs (sym c.in-Some.ensures.key)
-    ∙ ap Some (sym c.as_str.ensures.value)

@@ -1,9 +1,9 @@
-use Rattle.std.proofs.Common.{◌≡◌, ap, arith}
-use Rattle.std.specs.Prelude.{◌+◌}
-use Rattle.data.specs.Data.{items_append, item, no_items, count}
+use Rattle.std.proofs.Common.{◌≡◌, sym, ap, ◌∙◌, arith}
+use Rattle.std.specs.Prelude.{◌+◌, ◌||◌}
+use Rattle.data.specs.Data.{items_append, item, no_items, count, have_disabler}
 use Rattle.data.specs.Weight.{items_weight, items_depth}
 use Rattle.data.specs.View.{data_of, items_of}
-use Rattle.data.proofs.ItemsLemmas.{items_of-push, weight_pushed, depth_pushed, within_facts, count-items_of}
+use Rattle.data.proofs.ItemsLemmas.{items_of-push, weight_pushed, depth_pushed, within_facts, count-items_of, disabler_pushed}
 use Rattle.data.proofs.value.List.push.Goals as goal
 
 pub invariant_of-self-2 : goal.invariant_of-self-2
@@ -16,6 +16,9 @@ invariant_of-self-2 c =
     record {
       weight = omega (arith, ap items_weight is, weight_pushed old (data_of c.args.value), c.self.invariant.weight, ap items_weight c.self.view_is, c.weight-weight.ensures.weight);
       depth = omega (arith, ap items_depth is, depth_pushed old (data_of c.args.value), c.self.invariant.depth, ap items_depth c.self.view_is, c.depth-depth.ensures.depth, c.max-self-inside.ensures);
+      disabled =
+          c.either-has_disabler.ensures ∙ ap (λ b. b || c.has_disabler.result) (c.self.invariant.disabled ∙ ap have_disabler c.self.view_is)
+          ∙ ap (λ b. have_disabler old || b) c.has_disabler.ensures ∙ sym (ap have_disabler is ∙ disabler_pushed old (data_of c.args.value));
       few = omega (arith, fit.0, ap count is, count-items_of new);
       light = omega (arith, fit.1.0, weight_pushed old (data_of c.args.value), c.self.invariant.weight, ap items_weight c.self.view_is, c.weight-weight.ensures.weight);
       shallow = omega (arith, fit.1.1, depth_pushed old (data_of c.args.value), c.self.invariant.depth, ap items_depth c.self.view_is, c.depth-depth.ensures.depth, c.max-self-inside.ensures);

@@ -1,18 +1,20 @@
-use Rattle.std.proofs.Common.{◌∙◌, sym, false, ◌≡◌, map, [], ◌∷◌, ◌++◌, arith}
+use Rattle.std.proofs.Common.{List, Result, Ok, ap, not, refl, ◌∙◌, sym, false, ◌≡◌, map, [], ◌∷◌, ◌++◌, arith}
 use Rattle.std.proofs.lemmas.Result.{err_from_is_err_and}
-use Rattle.lexer.specs.Lexeme.{lexeme_of, lexemes}
+use Rattle.std.specs.Option.{option_map}
+use Rattle.grammar.specs.declared.stop.Stop.{Stop}
+use Rattle.lexer.specs.Lexeme.{Lexeme, lexeme_of, lexemes}
 use Rattle.lexer.specs.declared.token.Kind.TheVariants as Kinds
-use Rattle.grammar.specs.ExpressionTree.{argument_of, entry_of, expression_of, link_of, operand_of}
+use Rattle.grammar.specs.ExpressionTree.{ArgumentTree, argument_of, entry_of, expression_of, link_of, operand_of}
 use Rattle.grammar.specs.Expressions.{is_named}
 use Rattle.grammar.specs.Form.{same_state}
 use Rattle.std.proofs.lemmas.List.{map_push}
 use Rattle.grammar.specs.Parts.{stands_for}
 use Rattle.grammar.specs.Reading.{begins, head_is}
-use Rattle.grammar.specs.ReadingExpressions.{argument_at, choice_at, entry_at, inner_at, link_at, links_at, links_on, operand_at, operands_at, operator_of, part_at, unary_at}
-use Rattle.grammar.proofs.ExpressionTails.{head_long, operand_fails, operand_reads, taken_head, taken_other}
-use Rattle.grammar.proofs.Loops.{items_closed, items_comma_fails, items_fails, items_first, items_last, items_more, still_ends, still_fails, still_first, still_more}
+use Rattle.grammar.specs.ReadingExpressions.{disjunction_at, argument_at, ternary_at, entry_at, inner_at, link_at, links_at, links_on, operand_at, operands_at, operator_of, part_at, unary_at}
+use Rattle.grammar.proofs.ExpressionTails.{list_stops, list_unclosed, list_reads, dictionary_stops, dictionary_unclosed, dictionary_reads, arguments_stops, arguments_unclosed, arguments_reads, call_reads, chain_more, index_reads, method_reads, postfix_more, prefixed_reads, prefixed_value_fails, prefixed_word_fails, ternary_asks, ternary_branches_fail, ternary_test_fails, argument_label_fails, argument_reads, argument_value_fails, operand_fails, operand_reads, taken_head, taken_other}
+use Rattle.grammar.proofs.Loops.{pending_done, pending_fails, pending_first, pending_more, still_ends, still_fails, still_first, still_more}
 use Rattle.grammar.proofs.Tails.{length_lexemes}
-use Rattle.grammar.proofs.Views.{argument_of-named, operands_pushed}
+use Rattle.grammar.proofs.Views.{dictionary_seen, list_seen, arguments_pushed, call_seen, chain_seen, index_seen, method_seen, operands_pushed, postfix_seen, prefix_seen, some_kept, ternary_seen}
 use Rattle.grammar.proofs.parser.Parser.+expression.Goals as goal
 
 pub operands-loop-operator-init : goal.operands-loop-operator-init
@@ -23,22 +25,22 @@ pub operands-returns-in_err-value-clause-read : goal.operands-returns-in_err-val
 operands-returns-in_err-value-clause-read t c =
     let p = err_from_is_err_and c.from_residual.result c.from_residual.ensures.1 in
     let f = operator_of c.args.rank in
-    let part = part_at c.args.rank (unary_at c.args.levels c.args.choices) in
+    let part = part_at c.args.rank (unary_at c.args.levels c.args.ternaries) in
     let ts = lexemes c.loop-operator.self.rest.now in
     let b = taken_head f c.operator.result c.in-Some.operator ts _ c.operator.ensures.read c.in-Some.is in
-    rw (p.1, p.2) (still_fails (head_is (stands_for f)) (operand_at f part) (map operand_of c.loop-operator.operands.items) ts _ c.in_err-value.field-0.0 c.loop-operator.invariant.read b (head_long (stands_for f) ts b)
+    rw (p.1, p.2) (still_fails (stands_for f) (operand_at f part) (map operand_of c.loop-operator.operands.items) ts _ c.in_err-value.field-0.0 c.loop-operator.invariant.read b
     (operand_fails f part c.operator.result c.in-Some.operator ts (lexemes c.operator.new.self.rest.now) c.in_err-value.field-0.0 c.operator.ensures.read c.in-Some.is c.in_err-value.ensures.read))
 
 pub operands-loop-operator-preserved : goal.operands-loop-operator-preserved
 operands-loop-operator-preserved t c =
     let f = operator_of c.args.rank in
-    let part = part_at c.args.rank (unary_at c.args.levels c.args.choices) in
+    let part = part_at c.args.rank (unary_at c.args.levels c.args.ternaries) in
     let ts = lexemes c.loop-operator.self.rest.now in
     let b = taken_head f c.operator.result c.in-Some.operator ts _ c.operator.ensures.read c.in-Some.is in
-    let e : map operand_of c.push.new.self.items ≡ map operand_of c.loop-operator.operands.items ++ (c.in-Some.operator, expression_of c.in_ok-value.value) ∷ [] = rw c.in_ok-push.ensures.items (operands_pushed c.loop-operator.operands.items c.in-Some.operator c.in_ok-value.value) in
+    let e : map operand_of c.put.new.items.items ≡ map operand_of c.loop-operator.operands.items ++ (c.in-Some.operator, expression_of c.in_ok-value.value) ∷ [] = rw c.in_ok-put.ensures (operands_pushed c.loop-operator.operands.items c.in-Some.operator c.in_ok-value.value) in
     record {
       within = omega (arith, c.in_ok-value.ensures.shorter, c.operator.ensures.within, c.loop-operator.invariant.within);
-      read = rw e (still_more (head_is (stands_for f)) (operand_at f part) (map operand_of c.loop-operator.operands.items) ts _ (c.in-Some.operator, expression_of c.in_ok-value.value) (lexemes c.part.new.self.rest.now) c.loop-operator.invariant.read b
+      read = rw e (still_more (stands_for f) (operand_at f part) (map operand_of c.loop-operator.operands.items) ts _ (c.in-Some.operator, expression_of c.in_ok-value.value) (lexemes c.part.new.self.rest.now) c.loop-operator.invariant.read b
           (operand_reads f part c.operator.result c.in-Some.operator ts (lexemes c.operator.new.self.rest.now) (expression_of c.in_ok-value.value) (lexemes c.part.new.self.rest.now) c.operator.ensures.read c.in-Some.is c.in_ok-value.ensures.read)
           (omega (arith, c.in_ok-value.ensures.shorter, c.operator.ensures.within, length_lexemes c.part.new.self.rest.now, length_lexemes c.loop-operator.self.rest.now)));
     }
@@ -46,104 +48,125 @@ operands-loop-operator-preserved t c =
 pub operands-returns-clause-read : goal.operands-returns-clause-read
 operands-returns-clause-read t c =
     let f = operator_of c.args.rank in
-    let part = part_at c.args.rank (unary_at c.args.levels c.args.choices) in
+    let part = part_at c.args.rank (unary_at c.args.levels c.args.ternaries) in
     let ts = lexemes c.loop-operator.self.rest.now in
     let w = taken_other f c.operator.result ts (lexemes c.operator.new.self.rest.now) c.operator.ensures.read c.in_default.is in
-    rw w.0 (still_ends (head_is (stands_for f)) (operand_at f part) (map operand_of c.loop-operator.operands.items) ts _ c.loop-operator.invariant.read w.1)
+    rw (w.0, c.fitted.ensures) (still_ends (stands_for f) (operand_at f part) (map operand_of c.loop-operator.operands.items) ts _ c.loop-operator.invariant.read w.1)
 
-pub values-loop-alloc-init : goal.values-loop-alloc-init
-values-loop-alloc-init t c = record { within = omega arith; read = rw c.new-values.ensures.items (items_first Kinds.CloseBracket (λ s. choice_at (unary_at c.args.levels) c.args.choices) same_state tt (lexemes c.args.self.now.rest.now)) }
+-- what was read, as the tree of what is returned
+returned : {A : Type 0} (read : Result (A × List Lexeme) Stop) (a b : A) (rest : List Lexeme) → read ≡ Ok (a, rest) → a ≡ b → read ≡ Ok (b, rest)
+returned {A} read a b rest e same = e ∙ ap (λ (x : A). Ok (x, rest)) same
 
-pub values-returns-in_err-choice-clause-read : goal.values-returns-in_err-choice-clause-read
-values-returns-in_err-choice-clause-read t c =
-    let p = err_from_is_err_and c.from_residual.result c.from_residual.ensures.1 in
-    rw (p.1, p.2) (items_fails (begins Kinds.CloseBracket) (λ s. choice_at (unary_at c.args.levels) c.args.choices) same_state tt (map expression_of c.loop-alloc.values.items) (lexemes c.loop-alloc.self.rest.now) _ c.loop-alloc.invariant.read c.in_err-choice.field-0.0 (sym c.begins.ensures ∙ c.loop-alloc-test.true) c.in_err-choice.ensures.read)
+pub list-loop-more-init : goal.list-loop-more-init
+list-loop-more-init t c = record {
+  within = omega (arith, c.in_ok-open.ensures.shorter);
+  read = rw c.new-items.ensures.items (pending_first Kinds.CloseBracket (λ s. ternary_at (unary_at c.in_ok-open.inside) c.args.ternaries) same_state _ tt (lexemes c.enter.new.self.rest.now) (ap not c.begins-more.ensures));
+}
 
-pub values-returns-then-not-begins-clause-read : goal.values-returns-then-not-begins-clause-read
-values-returns-then-not-begins-clause-read t c =
-    let e : map expression_of c.push.new.self.items ≡ map expression_of c.loop-alloc.values.items ++ expression_of c.in_ok-choice.field-0 ∷ [] = rw c.in_ok-push.ensures.items (map_push _ c.loop-alloc.values.items c.in_ok-choice.field-0) in
-    rw e (items_last (begins Kinds.CloseBracket) (λ s. choice_at (unary_at c.args.levels) c.args.choices) same_state tt (map expression_of c.loop-alloc.values.items) (lexemes c.loop-alloc.self.rest.now) _ c.loop-alloc.invariant.read (expression_of c.in_ok-choice.field-0) (lexemes c.choice.new.self.rest.now) (sym c.begins.ensures ∙ c.loop-alloc-test.true) c.in_ok-choice.ensures.read (sym c.begins-in-loop-alloc.ensures ∙ c.if-not-begins.true))
+pub list-returns-in_err-item-clause-read : goal.list-returns-in_err-item-clause-read
+list-returns-in_err-item-clause-read t c =
+    let p = err_from_is_err_and c.from_residual-in_err-item.result c.from_residual-in_err-item.ensures.1 in
+    rw (p.1, p.2) (list_stops c.args.levels c.args.ternaries (lexemes c.args.self.now.rest.now) (lexeme_of c.in_ok-open.open) c.in_ok-open.inside (lexemes c.enter.new.self.rest.now) c.in_ok-open.ensures.read c.in_err-item.field-0.0
+    (pending_fails Kinds.CloseBracket (λ s. ternary_at (unary_at c.in_ok-open.inside) c.args.ternaries) same_state c.loop-more.more tt (map expression_of c.loop-more.items.items) (lexemes c.loop-more.self.rest.now) _ c.loop-more.invariant.read c.in_err-item.field-0.0 c.loop-more-test.true c.in_err-item.ensures.read))
 
-pub values-loop-alloc-preserved : goal.values-loop-alloc-preserved
-values-loop-alloc-preserved t c =
-    let e : map expression_of c.push.new.self.items ≡ map expression_of c.loop-alloc.values.items ++ expression_of c.in_ok-choice.field-0 ∷ [] = rw c.in_ok-push.ensures.items (map_push _ c.loop-alloc.values.items c.in_ok-choice.field-0) in
+pub list-loop-more-preserved : goal.list-loop-more-preserved
+list-loop-more-preserved t c =
+    let e : map expression_of c.put.new.items.items ≡ map expression_of c.loop-more.items.items ++ expression_of c.in_ok-item.item ∷ [] = rw c.in_ok-put.ensures (map_push _ c.loop-more.items.items c.in_ok-item.item) in
     record {
-      within = omega (arith, c.in_ok-choice.ensures.shorter, c.in_ok-take.ensures.shorter, c.loop-alloc.invariant.within);
-      read = rw e (items_more (begins Kinds.CloseBracket) (λ s. choice_at (unary_at c.args.levels) c.args.choices) same_state tt (map expression_of c.loop-alloc.values.items) (lexemes c.loop-alloc.self.rest.now) _ c.loop-alloc.invariant.read (expression_of c.in_ok-choice.field-0) (lexemes c.choice.new.self.rest.now) (lexeme_of c.in_ok-take.field-0) (lexemes c.take.new.self.rest.now)
-          (sym c.begins.ensures ∙ c.loop-alloc-test.true) c.in_ok-choice.ensures.read (sym c.begins-in-loop-alloc.ensures ∙ c.if-not-begins.false) c.in_ok-take.ensures.read
-          (omega (arith, c.in_ok-choice.ensures.shorter, c.in_ok-take.ensures.shorter, length_lexemes c.take.new.self.rest.now, length_lexemes c.loop-alloc.self.rest.now)));
+      within = omega (arith, c.in_ok-item.ensures.shorter, c.more-more.ensures.within, c.loop-more.invariant.within);
+      read = rw e (pending_more Kinds.CloseBracket (λ s. ternary_at (unary_at c.in_ok-open.inside) c.args.ternaries) same_state c.loop-more.more tt (map expression_of c.loop-more.items.items) (lexemes c.loop-more.self.rest.now) _ c.loop-more.invariant.read
+          (expression_of c.in_ok-item.item) (lexemes c.ternary.new.self.rest.now) c.more-more.result (lexemes c.more-more.new.self.rest.now) tt c.loop-more-test.true c.in_ok-item.ensures.read
+          (omega (arith, c.in_ok-item.ensures.shorter, length_lexemes c.ternary.new.self.rest.now, length_lexemes c.loop-more.self.rest.now)) c.more-more.ensures.read refl);
     }
 
-pub values-returns-in_err-take-clause-read : goal.values-returns-in_err-take-clause-read
-values-returns-in_err-take-clause-read t c =
-    let p = err_from_is_err_and c.from_residual-in_err-take.result c.from_residual-in_err-take.ensures.1 in
-    rw (p.1, p.2) (items_comma_fails (begins Kinds.CloseBracket) (λ s. choice_at (unary_at c.args.levels) c.args.choices) same_state tt (map expression_of c.loop-alloc.values.items) (lexemes c.loop-alloc.self.rest.now) _ c.loop-alloc.invariant.read (expression_of c.in_ok-choice.field-0) (lexemes c.choice.new.self.rest.now) c.in_err-take.field-0.0 (sym c.begins.ensures ∙ c.loop-alloc-test.true) c.in_ok-choice.ensures.read (sym c.begins-in-loop-alloc.ensures ∙ c.if-not-begins.false) c.in_err-take.ensures.read)
+pub list-returns-in_err-items-clause-read : goal.list-returns-in_err-items-clause-read
+list-returns-in_err-items-clause-read t c =
+    let p = err_from_is_err_and c.from_residual-in_err-items.result c.from_residual-in_err-items.ensures.1 in
+    rw (p.1, p.2) (list_unclosed c.args.levels c.args.ternaries (lexemes c.args.self.now.rest.now) (lexeme_of c.in_ok-open.open) c.in_ok-open.inside (lexemes c.enter.new.self.rest.now) c.in_ok-open.ensures.read _ (lexemes c.loop-more.self.rest.now) c.in_err-items.field-0.0 (pending_done Kinds.CloseBracket (λ s. ternary_at (unary_at c.in_ok-open.inside) c.args.ternaries) same_state c.loop-more.more tt (map expression_of c.loop-more.items.items) (lexemes c.loop-more.self.rest.now) _ c.loop-more.invariant.read c.loop-more-test.false) c.in_err-items.ensures.read)
 
-pub values-returns-clause-read : goal.values-returns-clause-read
-values-returns-clause-read t c = items_closed (begins Kinds.CloseBracket) (λ s. choice_at (unary_at c.args.levels) c.args.choices) same_state tt (map expression_of c.loop-alloc.values.items) (lexemes c.loop-alloc.self.rest.now) _ c.loop-alloc.invariant.read (sym c.begins.ensures ∙ c.loop-alloc-test.false)
+pub list-returns-clause-read : goal.list-returns-clause-read
+list-returns-clause-read t c = returned _ _ _ _
+    (list_reads c.args.levels c.args.ternaries (lexemes c.args.self.now.rest.now) (lexeme_of c.in_ok-open.open) c.in_ok-open.inside (lexemes c.enter.new.self.rest.now) c.in_ok-open.ensures.read _ (lexemes c.loop-more.self.rest.now) _ (lexemes c.closed.new.self.rest.now) (pending_done Kinds.CloseBracket (λ s. ternary_at (unary_at c.in_ok-open.inside) c.args.ternaries) same_state c.loop-more.more tt (map expression_of c.loop-more.items.items) (lexemes c.loop-more.self.rest.now) _ c.loop-more.invariant.read c.loop-more-test.false) c.in_ok-items.ensures.read)
+    (list_seen c.fitted.result c.in_ok-open.open.line _ (ap (λ v. map expression_of v.items) (sym c.in_ok-items.ensures.same) ∙ ap (map expression_of) (sym c.fitted.ensures)))
 
-pub entries-loop-alloc-init : goal.entries-loop-alloc-init
-entries-loop-alloc-init t c = record { within = omega arith; read = rw c.new-entries.ensures.items (items_first Kinds.CloseBrace (λ s. entry_at (choice_at (unary_at c.args.levels) c.args.choices)) same_state tt (lexemes c.args.self.now.rest.now)) }
+pub dictionary-loop-more-init : goal.dictionary-loop-more-init
+dictionary-loop-more-init t c = record {
+  within = omega (arith, c.in_ok-open.ensures.shorter);
+  read = rw c.new-entries.ensures.items (pending_first Kinds.CloseBrace (λ s. entry_at (ternary_at (unary_at c.in_ok-open.inside) c.args.ternaries)) same_state _ tt (lexemes c.enter.new.self.rest.now) (ap not c.begins-more.ensures));
+}
 
-pub entries-returns-in_err-entry-clause-read : goal.entries-returns-in_err-entry-clause-read
-entries-returns-in_err-entry-clause-read t c =
-    let p = err_from_is_err_and c.from_residual.result c.from_residual.ensures.1 in
-    rw (p.1, p.2) (items_fails (begins Kinds.CloseBrace) (λ s. entry_at (choice_at (unary_at c.args.levels) c.args.choices)) same_state tt (map entry_of c.loop-alloc.entries.items) (lexemes c.loop-alloc.self.rest.now) _ c.loop-alloc.invariant.read c.in_err-entry.field-0.0 (sym c.begins.ensures ∙ c.loop-alloc-test.true) c.in_err-entry.ensures.read)
+pub dictionary-returns-in_err-entry-clause-read : goal.dictionary-returns-in_err-entry-clause-read
+dictionary-returns-in_err-entry-clause-read t c =
+    let p = err_from_is_err_and c.from_residual-in_err-entry.result c.from_residual-in_err-entry.ensures.1 in
+    rw (p.1, p.2) (dictionary_stops c.args.levels c.args.ternaries (lexemes c.args.self.now.rest.now) (lexeme_of c.in_ok-open.open) c.in_ok-open.inside (lexemes c.enter.new.self.rest.now) c.in_ok-open.ensures.read c.in_err-entry.field-0.0
+    (pending_fails Kinds.CloseBrace (λ s. entry_at (ternary_at (unary_at c.in_ok-open.inside) c.args.ternaries)) same_state c.loop-more.more tt (map entry_of c.loop-more.entries.items) (lexemes c.loop-more.self.rest.now) _ c.loop-more.invariant.read c.in_err-entry.field-0.0 c.loop-more-test.true c.in_err-entry.ensures.read))
 
-pub entries-returns-then-not-begins-clause-read : goal.entries-returns-then-not-begins-clause-read
-entries-returns-then-not-begins-clause-read t c =
-    let e : map entry_of c.push.new.self.items ≡ map entry_of c.loop-alloc.entries.items ++ entry_of c.in_ok-entry.field-0 ∷ [] = rw c.in_ok-push.ensures.items (map_push _ c.loop-alloc.entries.items c.in_ok-entry.field-0) in
-    rw e (items_last (begins Kinds.CloseBrace) (λ s. entry_at (choice_at (unary_at c.args.levels) c.args.choices)) same_state tt (map entry_of c.loop-alloc.entries.items) (lexemes c.loop-alloc.self.rest.now) _ c.loop-alloc.invariant.read (entry_of c.in_ok-entry.field-0) (lexemes c.entry.new.self.rest.now) (sym c.begins.ensures ∙ c.loop-alloc-test.true) c.in_ok-entry.ensures.read (sym c.begins-in-loop-alloc.ensures ∙ c.if-not-begins.true))
-
-pub entries-loop-alloc-preserved : goal.entries-loop-alloc-preserved
-entries-loop-alloc-preserved t c =
-    let e : map entry_of c.push.new.self.items ≡ map entry_of c.loop-alloc.entries.items ++ entry_of c.in_ok-entry.field-0 ∷ [] = rw c.in_ok-push.ensures.items (map_push _ c.loop-alloc.entries.items c.in_ok-entry.field-0) in
+pub dictionary-loop-more-preserved : goal.dictionary-loop-more-preserved
+dictionary-loop-more-preserved t c =
+    let e : map entry_of c.put.new.items.items ≡ map entry_of c.loop-more.entries.items ++ entry_of c.in_ok-entry.entry ∷ [] = rw c.in_ok-put.ensures (map_push _ c.loop-more.entries.items c.in_ok-entry.entry) in
     record {
-      within = omega (arith, c.in_ok-entry.ensures.shorter, c.in_ok-take.ensures.shorter, c.loop-alloc.invariant.within);
-      read = rw e (items_more (begins Kinds.CloseBrace) (λ s. entry_at (choice_at (unary_at c.args.levels) c.args.choices)) same_state tt (map entry_of c.loop-alloc.entries.items) (lexemes c.loop-alloc.self.rest.now) _ c.loop-alloc.invariant.read (entry_of c.in_ok-entry.field-0) (lexemes c.entry.new.self.rest.now) (lexeme_of c.in_ok-take.field-0) (lexemes c.take.new.self.rest.now)
-          (sym c.begins.ensures ∙ c.loop-alloc-test.true) c.in_ok-entry.ensures.read (sym c.begins-in-loop-alloc.ensures ∙ c.if-not-begins.false) c.in_ok-take.ensures.read
-          (omega (arith, c.in_ok-entry.ensures.shorter, c.in_ok-take.ensures.shorter, length_lexemes c.take.new.self.rest.now, length_lexemes c.loop-alloc.self.rest.now)));
+      within = omega (arith, c.in_ok-entry.ensures.shorter, c.more-more.ensures.within, c.loop-more.invariant.within);
+      read = rw e (pending_more Kinds.CloseBrace (λ s. entry_at (ternary_at (unary_at c.in_ok-open.inside) c.args.ternaries)) same_state c.loop-more.more tt (map entry_of c.loop-more.entries.items) (lexemes c.loop-more.self.rest.now) _ c.loop-more.invariant.read
+          (entry_of c.in_ok-entry.entry) (lexemes c.entry.new.self.rest.now) c.more-more.result (lexemes c.more-more.new.self.rest.now) tt c.loop-more-test.true c.in_ok-entry.ensures.read
+          (omega (arith, c.in_ok-entry.ensures.shorter, length_lexemes c.entry.new.self.rest.now, length_lexemes c.loop-more.self.rest.now)) c.more-more.ensures.read refl);
     }
 
-pub entries-returns-in_err-take-clause-read : goal.entries-returns-in_err-take-clause-read
-entries-returns-in_err-take-clause-read t c =
-    let p = err_from_is_err_and c.from_residual-in_err-take.result c.from_residual-in_err-take.ensures.1 in
-    rw (p.1, p.2) (items_comma_fails (begins Kinds.CloseBrace) (λ s. entry_at (choice_at (unary_at c.args.levels) c.args.choices)) same_state tt (map entry_of c.loop-alloc.entries.items) (lexemes c.loop-alloc.self.rest.now) _ c.loop-alloc.invariant.read (entry_of c.in_ok-entry.field-0) (lexemes c.entry.new.self.rest.now) c.in_err-take.field-0.0 (sym c.begins.ensures ∙ c.loop-alloc-test.true) c.in_ok-entry.ensures.read (sym c.begins-in-loop-alloc.ensures ∙ c.if-not-begins.false) c.in_err-take.ensures.read)
+pub dictionary-returns-in_err-entries-clause-read : goal.dictionary-returns-in_err-entries-clause-read
+dictionary-returns-in_err-entries-clause-read t c =
+    let p = err_from_is_err_and c.from_residual-in_err-entries.result c.from_residual-in_err-entries.ensures.1 in
+    rw (p.1, p.2) (dictionary_unclosed c.args.levels c.args.ternaries (lexemes c.args.self.now.rest.now) (lexeme_of c.in_ok-open.open) c.in_ok-open.inside (lexemes c.enter.new.self.rest.now) c.in_ok-open.ensures.read _ (lexemes c.loop-more.self.rest.now) c.in_err-entries.field-0.0 (pending_done Kinds.CloseBrace (λ s. entry_at (ternary_at (unary_at c.in_ok-open.inside) c.args.ternaries)) same_state c.loop-more.more tt (map entry_of c.loop-more.entries.items) (lexemes c.loop-more.self.rest.now) _ c.loop-more.invariant.read c.loop-more-test.false) c.in_err-entries.ensures.read)
 
-pub entries-returns-clause-read : goal.entries-returns-clause-read
-entries-returns-clause-read t c = items_closed (begins Kinds.CloseBrace) (λ s. entry_at (choice_at (unary_at c.args.levels) c.args.choices)) same_state tt (map entry_of c.loop-alloc.entries.items) (lexemes c.loop-alloc.self.rest.now) _ c.loop-alloc.invariant.read (sym c.begins.ensures ∙ c.loop-alloc-test.false)
+pub dictionary-returns-clause-read : goal.dictionary-returns-clause-read
+dictionary-returns-clause-read t c = returned _ _ _ _
+    (dictionary_reads c.args.levels c.args.ternaries (lexemes c.args.self.now.rest.now) (lexeme_of c.in_ok-open.open) c.in_ok-open.inside (lexemes c.enter.new.self.rest.now) c.in_ok-open.ensures.read _ (lexemes c.loop-more.self.rest.now) _ (lexemes c.closed.new.self.rest.now) (pending_done Kinds.CloseBrace (λ s. entry_at (ternary_at (unary_at c.in_ok-open.inside) c.args.ternaries)) same_state c.loop-more.more tt (map entry_of c.loop-more.entries.items) (lexemes c.loop-more.self.rest.now) _ c.loop-more.invariant.read c.loop-more-test.false) c.in_ok-entries.ensures.read)
+    (dictionary_seen c.fitted.result c.in_ok-open.open.line _ (ap (λ v. map entry_of v.items) (sym c.in_ok-entries.ensures.same) ∙ ap (map entry_of) (sym c.fitted.ensures)))
 
-pub items-loop-alloc-init : goal.items-loop-alloc-init
-items-loop-alloc-init t c = record { within = omega arith; read = rw c.new-items.ensures.items (items_first Kinds.CloseParenthesis (argument_at (choice_at (unary_at c.args.levels) c.args.choices)) is_named false (lexemes c.args.self.now.rest.now)) }
+pub arguments-loop-more-init : goal.arguments-loop-more-init
+arguments-loop-more-init t c = record {
+  within = omega (arith, c.in_ok-inside.ensures.shorter);
+  read = rw c.new-items.ensures.items (pending_first Kinds.CloseParenthesis (argument_at (ternary_at (unary_at c.in_ok-inside.inside) c.args.ternaries)) is_named _ false (lexemes c.enter.new.self.rest.now) (ap not c.begins-more.ensures));
+}
 
-pub items-returns-in_err-item-clause-read : goal.items-returns-in_err-item-clause-read
-items-returns-in_err-item-clause-read t c =
-    let p = err_from_is_err_and c.from_residual.result c.from_residual.ensures.1 in
-    rw (p.1, p.2) (items_fails (begins Kinds.CloseParenthesis) (argument_at (choice_at (unary_at c.args.levels) c.args.choices)) is_named c.loop-alloc.behind (map argument_of c.loop-alloc.items.items) (lexemes c.loop-alloc.self.rest.now) _ c.loop-alloc.invariant.read c.in_err-item.field-0.0 (sym c.begins.ensures ∙ c.loop-alloc-test.true) c.in_err-item.ensures.read)
+pub arguments-returns-in_err-name-clause-read : goal.arguments-returns-in_err-name-clause-read
+arguments-returns-in_err-name-clause-read t c =
+    let p = err_from_is_err_and c.from_residual-in_err-name.result c.from_residual-in_err-name.ensures.1 in
+    let part = ternary_at (unary_at c.in_ok-inside.inside) c.args.ternaries in
+    rw (p.1, p.2) (arguments_stops c.args.levels c.args.ternaries (lexemes c.args.self.now.rest.now) (lexeme_of c.in_ok-inside.field-0-0) c.in_ok-inside.inside (lexemes c.enter.new.self.rest.now) c.in_ok-inside.ensures.read c.in_err-name.field-0.0
+    (pending_fails Kinds.CloseParenthesis (argument_at (ternary_at (unary_at c.in_ok-inside.inside) c.args.ternaries)) is_named c.loop-more.more c.loop-more.behind (map argument_of c.loop-more.items.items) (lexemes c.loop-more.self.rest.now) _ c.loop-more.invariant.read c.in_err-name.field-0.0 c.loop-more-test.true
+    (argument_label_fails part c.loop-more.behind (lexemes c.loop-more.self.rest.now) c.in_err-name.field-0.0 c.in_err-name.ensures.read)))
 
-pub items-returns-then-not-begins-clause-read : goal.items-returns-then-not-begins-clause-read
-items-returns-then-not-begins-clause-read t c =
-    let e : map argument_of c.push.new.self.items ≡ map argument_of c.loop-alloc.items.items ++ argument_of c.in_ok-item.item ∷ [] = rw c.in_ok-push.ensures.items (map_push _ c.loop-alloc.items.items c.in_ok-item.item) in
-    rw e (items_last (begins Kinds.CloseParenthesis) (argument_at (choice_at (unary_at c.args.levels) c.args.choices)) is_named c.loop-alloc.behind (map argument_of c.loop-alloc.items.items) (lexemes c.loop-alloc.self.rest.now) _ c.loop-alloc.invariant.read (argument_of c.in_ok-item.item) (lexemes c.argument.new.self.rest.now) (sym c.begins.ensures ∙ c.loop-alloc-test.true) c.in_ok-item.ensures.read (sym c.begins-in-loop-alloc.ensures ∙ c.if-not-begins.true))
+pub arguments-returns-in_err-value-clause-read : goal.arguments-returns-in_err-value-clause-read
+arguments-returns-in_err-value-clause-read t c =
+    let p = err_from_is_err_and c.from_residual-in_err-value.result c.from_residual-in_err-value.ensures.1 in
+    let part = ternary_at (unary_at c.in_ok-inside.inside) c.args.ternaries in
+    rw (p.1, p.2) (arguments_stops c.args.levels c.args.ternaries (lexemes c.args.self.now.rest.now) (lexeme_of c.in_ok-inside.field-0-0) c.in_ok-inside.inside (lexemes c.enter.new.self.rest.now) c.in_ok-inside.ensures.read c.in_err-value.field-0.0
+    (pending_fails Kinds.CloseParenthesis (argument_at (ternary_at (unary_at c.in_ok-inside.inside) c.args.ternaries)) is_named c.loop-more.more c.loop-more.behind (map argument_of c.loop-more.items.items) (lexemes c.loop-more.self.rest.now) _ c.loop-more.invariant.read c.in_err-value.field-0.0 c.loop-more-test.true
+    (argument_value_fails part c.loop-more.behind (lexemes c.loop-more.self.rest.now) _ (lexemes c.label.new.self.rest.now) c.in_err-value.field-0.0
+    c.in_ok-name.ensures.read c.in_err-value.ensures.read)))
 
-pub items-loop-alloc-preserved : goal.items-loop-alloc-preserved
-items-loop-alloc-preserved t c =
-    let e : map argument_of c.push.new.self.items ≡ map argument_of c.loop-alloc.items.items ++ argument_of c.in_ok-item.item ∷ [] = rw c.in_ok-push.ensures.items (map_push _ c.loop-alloc.items.items c.in_ok-item.item) in
-    let state : c.is_some-behind.result ≡ is_named c.loop-alloc.behind (argument_of c.in_ok-item.item) = c.is_some-behind.ensures ∙ sym (argument_of-named c.in_ok-item.item) in
+pub arguments-loop-more-preserved : goal.arguments-loop-more-preserved
+arguments-loop-more-preserved t c =
+    let part = ternary_at (unary_at c.in_ok-inside.inside) c.args.ternaries in
+    let a : ArgumentTree = (option_map (λ k. k.now) c.in_ok-name.name, expression_of c.in_ok-value.value) in
+    let e : map argument_of c.put.new.items.items ≡ map argument_of c.loop-more.items.items ++ a ∷ [] = rw c.in_ok-put.ensures (arguments_pushed c.loop-more.items.items c.in_ok-name.name c.in_ok-value.value) in
+    let state : c.is_some-behind.result ≡ is_named c.loop-more.behind a = c.is_some-behind.ensures ∙ sym (some_kept c.in_ok-name.name) in
     record {
-      within = omega (arith, c.in_ok-item.ensures.shorter, c.in_ok-take.ensures.shorter, c.loop-alloc.invariant.within);
-      read = rw (e, state) (items_more (begins Kinds.CloseParenthesis) (argument_at (choice_at (unary_at c.args.levels) c.args.choices)) is_named c.loop-alloc.behind (map argument_of c.loop-alloc.items.items) (lexemes c.loop-alloc.self.rest.now) _ c.loop-alloc.invariant.read (argument_of c.in_ok-item.item) (lexemes c.argument.new.self.rest.now) (lexeme_of c.in_ok-take.field-0) (lexemes c.take.new.self.rest.now)
-          (sym c.begins.ensures ∙ c.loop-alloc-test.true) c.in_ok-item.ensures.read (sym c.begins-in-loop-alloc.ensures ∙ c.if-not-begins.false) c.in_ok-take.ensures.read
-          (omega (arith, c.in_ok-item.ensures.shorter, c.in_ok-take.ensures.shorter, length_lexemes c.take.new.self.rest.now, length_lexemes c.loop-alloc.self.rest.now)));
+      within = omega (arith, c.in_ok-name.ensures.shorter, c.in_ok-value.ensures.shorter, c.more-more.ensures.within, c.loop-more.invariant.within);
+      read = rw e (pending_more Kinds.CloseParenthesis (argument_at (ternary_at (unary_at c.in_ok-inside.inside) c.args.ternaries)) is_named c.loop-more.more c.loop-more.behind (map argument_of c.loop-more.items.items) (lexemes c.loop-more.self.rest.now) _ c.loop-more.invariant.read
+          a (lexemes c.ternary.new.self.rest.now) c.more-more.result (lexemes c.more-more.new.self.rest.now) c.is_some-behind.result c.loop-more-test.true
+          (argument_reads part c.loop-more.behind (lexemes c.loop-more.self.rest.now) _ (lexemes c.label.new.self.rest.now) _ (lexemes c.ternary.new.self.rest.now) c.in_ok-name.ensures.read c.in_ok-value.ensures.read)
+          (omega (arith, c.in_ok-name.ensures.shorter, c.in_ok-value.ensures.shorter, length_lexemes c.ternary.new.self.rest.now, length_lexemes c.loop-more.self.rest.now)) c.more-more.ensures.read state);
     }
 
-pub items-returns-in_err-take-clause-read : goal.items-returns-in_err-take-clause-read
-items-returns-in_err-take-clause-read t c =
-    let p = err_from_is_err_and c.from_residual-in_err-take.result c.from_residual-in_err-take.ensures.1 in
-    rw (p.1, p.2) (items_comma_fails (begins Kinds.CloseParenthesis) (argument_at (choice_at (unary_at c.args.levels) c.args.choices)) is_named c.loop-alloc.behind (map argument_of c.loop-alloc.items.items) (lexemes c.loop-alloc.self.rest.now) _ c.loop-alloc.invariant.read (argument_of c.in_ok-item.item) (lexemes c.argument.new.self.rest.now) c.in_err-take.field-0.0 (sym c.begins.ensures ∙ c.loop-alloc-test.true) c.in_ok-item.ensures.read (sym c.begins-in-loop-alloc.ensures ∙ c.if-not-begins.false) c.in_err-take.ensures.read)
+pub arguments-returns-in_err-items-clause-read : goal.arguments-returns-in_err-items-clause-read
+arguments-returns-in_err-items-clause-read t c =
+    let p = err_from_is_err_and c.from_residual-in_err-items.result c.from_residual-in_err-items.ensures.1 in
+    rw (p.1, p.2) (arguments_unclosed c.args.levels c.args.ternaries (lexemes c.args.self.now.rest.now) (lexeme_of c.in_ok-inside.field-0-0) c.in_ok-inside.inside (lexemes c.enter.new.self.rest.now) c.in_ok-inside.ensures.read _ (lexemes c.loop-more.self.rest.now) c.in_err-items.field-0.0 (pending_done Kinds.CloseParenthesis (argument_at (ternary_at (unary_at c.in_ok-inside.inside) c.args.ternaries)) is_named c.loop-more.more c.loop-more.behind (map argument_of c.loop-more.items.items) (lexemes c.loop-more.self.rest.now) _ c.loop-more.invariant.read c.loop-more-test.false) c.in_err-items.ensures.read)
 
-pub items-returns-clause-read : goal.items-returns-clause-read
-items-returns-clause-read t c = items_closed (begins Kinds.CloseParenthesis) (argument_at (choice_at (unary_at c.args.levels) c.args.choices)) is_named c.loop-alloc.behind (map argument_of c.loop-alloc.items.items) (lexemes c.loop-alloc.self.rest.now) _ c.loop-alloc.invariant.read (sym c.begins.ensures ∙ c.loop-alloc-test.false)
+pub arguments-returns-clause-read : goal.arguments-returns-clause-read
+arguments-returns-clause-read t c = returned _ _ _ _
+    (arguments_reads c.args.levels c.args.ternaries (lexemes c.args.self.now.rest.now) (lexeme_of c.in_ok-inside.field-0-0) c.in_ok-inside.inside (lexemes c.enter.new.self.rest.now) c.in_ok-inside.ensures.read _ (lexemes c.loop-more.self.rest.now) _ (lexemes c.closed.new.self.rest.now) (pending_done Kinds.CloseParenthesis (argument_at (ternary_at (unary_at c.in_ok-inside.inside) c.args.ternaries)) is_named c.loop-more.more c.loop-more.behind (map argument_of c.loop-more.items.items) (lexemes c.loop-more.self.rest.now) _ c.loop-more.invariant.read c.loop-more-test.false) c.in_ok-items.ensures.read)
+    (ap (λ v. map argument_of v.items) (sym c.in_ok-items.ensures.same) ∙ ap (map argument_of) (sym c.fitted.ensures))
 
 pub links-loop-alloc-init : goal.links-loop-alloc-init
 unfolding links_at
@@ -151,9 +174,87 @@ links-loop-alloc-init t c = record { within = omega arith; read = rw c.new-links
 
 pub links-loop-alloc-preserved : goal.links-loop-alloc-preserved
 links-loop-alloc-preserved t c =
-    let e : map link_of c.push.new.self.items ≡ map link_of c.loop-alloc.links.items ++ link_of c.in_ok-link.field-0 ∷ [] = rw c.in_ok-push.ensures.items (map_push _ c.loop-alloc.links.items c.in_ok-link.field-0) in
+    let e : map link_of c.put.new.items.items ≡ map link_of c.loop-alloc.links.items ++ link_of c.in_ok-link.link ∷ [] = rw c.in_ok-put.ensures (map_push _ c.loop-alloc.links.items c.in_ok-link.link) in
     record {
       within = omega (arith, c.in_ok-link.ensures.shorter, c.loop-alloc.invariant.within);
-      read = rw e (still_more (head_is links_on) (link_at (inner_at c.args.levels) c.args.choices) (map link_of c.loop-alloc.links.items) (lexemes c.loop-alloc.self.rest.now) _ (link_of c.in_ok-link.field-0) (lexemes c.link.new.self.rest.now) c.loop-alloc.invariant.read
+      read = rw e (still_more links_on (link_at (inner_at c.args.levels) c.args.ternaries) (map link_of c.loop-alloc.links.items) (lexemes c.loop-alloc.self.rest.now) _ (link_of c.in_ok-link.link) (lexemes c.link.new.self.rest.now) c.loop-alloc.invariant.read
           (sym c.links_on.ensures ∙ c.loop-alloc-test.true) c.in_ok-link.ensures.read (omega (arith, c.in_ok-link.ensures.shorter, length_lexemes c.link.new.self.rest.now, length_lexemes c.loop-alloc.self.rest.now)));
     }
+
+pub base-returns-in_ok-arguments-clause-read : goal.base-returns-in_ok-arguments-clause-read
+base-returns-in_ok-arguments-clause-read t c = returned _ _ _ _
+    (call_reads c.args.levels c.args.ternaries (lexemes c.args.self.now.rest.now) (lexeme_of c.in_ok-name.name) (lexemes c.take.new.self.rest.now)
+    (map argument_of c.in_ok-arguments.arguments.items) (lexemes c.arguments.new.self.rest.now)
+    (sym c.two_begin.ensures ∙ c.if-two_begin.true) c.in_ok-name.ensures.read c.in_ok-arguments.ensures.read)
+    (call_seen c.in_ok-name.name.text c.in_ok-arguments.arguments c.in_ok-name.name.line)
+
+pub chain-returns-clause-read : goal.chain-returns-clause-read
+chain-returns-clause-read t c = returned _ _ _ _
+    (chain_more (operator_of c.args.rank) (part_at c.args.rank (unary_at c.args.levels c.args.ternaries)) (lexemes c.args.self.now.rest.now)
+    (expression_of c.in_ok-first.first) (lexemes c.part.new.self.rest.now) (map operand_of c.in_ok-others.others.items) (lexemes c.operands.new.self.rest.now)
+    c.in_ok-first.ensures.read (sym c.operates.ensures ∙ c.if-not-operates.false) c.in_ok-others.ensures.read)
+    (chain_seen c.in_ok-first-2.first c.in_ok-others.others c.first_line-line.result _ _ (ap expression_of (sym c.in_ok-first-2.ensures)) (sym c.first_line-line.ensures))
+
+pub ternary-returns-in_err-test-clause-read : goal.ternary-returns-in_err-test-clause-read
+unfolding disjunction_at
+ternary-returns-in_err-test-clause-read t c =
+    let p = err_from_is_err_and c.from_residual.result c.from_residual.ensures.1 in
+    rw (p.1, p.2) (ternary_test_fails (unary_at c.args.levels) c.args.ternaries (lexemes c.args.self.now.rest.now) c.in_err-test.field-0.0 c.in_err-test.ensures.read)
+
+pub ternary-returns-in_err-yes-clause-read : goal.ternary-returns-in_err-yes-clause-read
+unfolding disjunction_at
+ternary-returns-in_err-yes-clause-read t c =
+    let p = err_from_is_err_and c.from_residual-in_err-yes.result c.from_residual-in_err-yes.ensures.1 in
+    rw (p.1, p.2) (ternary_branches_fail (unary_at c.args.levels) c.args.ternaries (lexemes c.args.self.now.rest.now)
+    (expression_of c.in_ok-test.test) (lexemes c.chain.new.self.rest.now) c.in_err-yes.field-0.0 c.in_ok-test.ensures.read
+    (sym c.asks.ensures ∙ c.if-not-asks.false) c.in_err-yes.ensures.read)
+
+pub ternary-returns-clause-read : goal.ternary-returns-clause-read
+unfolding disjunction_at
+ternary-returns-clause-read t c = returned _ _ _ _
+    (ternary_asks (unary_at c.args.levels) c.args.ternaries (lexemes c.args.self.now.rest.now)
+    (expression_of c.in_ok-test.test) (lexemes c.chain.new.self.rest.now) (expression_of c.in_ok-yes.yes.value) (expression_of c.in_ok-yes.no.value)
+    (lexemes c.branches.new.self.rest.now) c.in_ok-test.ensures.read
+    (sym c.asks.ensures ∙ c.if-not-asks.false) c.in_ok-yes.ensures.read)
+    (ternary_seen c.in_ok-test-2.test c.in_ok-yes.yes c.in_ok-yes.no c.first_line-line.result _ _ (ap expression_of (sym c.in_ok-test-2.ensures)) (sym c.first_line-line.ensures))
+
+pub link-returns-then-begins-clause-read : goal.link-returns-then-begins-clause-read
+link-returns-then-begins-clause-read t c = returned _ _ _ _
+    (method_reads c.args.levels c.args.ternaries (lexemes c.args.self.now.rest.now) (lexeme_of c.in_ok-take.field-0) (lexemes c.take.new.self.rest.now)
+    (lexeme_of c.in_ok-name.name) (lexemes c.take-then-begins.new.self.rest.now) (map argument_of c.in_ok-arguments.arguments.items) (lexemes c.arguments.new.self.rest.now)
+    (sym c.begins.ensures ∙ c.if-begins.true) c.in_ok-take.ensures.read c.in_ok-name.ensures.read c.in_ok-arguments.ensures.read)
+    (method_seen c.in_ok-name.name.text c.in_ok-arguments.arguments)
+
+pub link-returns-clause-read : goal.link-returns-clause-read
+link-returns-clause-read t c = returned _ _ _ _
+    (index_reads c.args.levels c.args.ternaries (lexemes c.args.self.now.rest.now) (lexeme_of c.in_ok-levels.field-0-0) c.in_ok-levels.levels (lexemes c.enter.new.self.rest.now)
+    (expression_of c.in_ok-index.index) (lexemes c.ternary.new.self.rest.now) _ (lexemes c.closed.new.self.rest.now)
+    (sym c.begins.ensures ∙ c.if-begins.false) c.in_ok-levels.ensures.read c.in_ok-index.ensures.read c.in_ok-index-2.ensures.read)
+    (index_seen c.in_ok-index-2.index _ (ap expression_of (sym c.in_ok-index-2.ensures.same)))
+
+pub postfix-returns-clause-read : goal.postfix-returns-clause-read
+postfix-returns-clause-read t c = returned _ _ _ _
+    (postfix_more c.args.levels c.args.ternaries (lexemes c.args.self.now.rest.now) (expression_of c.in_ok-first.first) (lexemes c.base.new.self.rest.now)
+    (map link_of c.in_ok-links.links.items) (lexemes c.links.new.self.rest.now)
+    c.in_ok-first.ensures.read (sym c.links_on.ensures ∙ c.if-not-links_on.false) c.in_ok-links.ensures.read)
+    (postfix_seen c.in_ok-first-2.first c.in_ok-links.links c.first_line-line.result _ _ (ap expression_of (sym c.in_ok-first-2.ensures)) (sym c.first_line-line.ensures))
+
+pub unary-returns-in_err-word-clause-read : goal.unary-returns-in_err-word-clause-read
+unary-returns-in_err-word-clause-read t c =
+    let p = err_from_is_err_and c.from_residual.result c.from_residual.ensures.1 in
+    rw (p.1, p.2) (prefixed_word_fails c.args.levels c.args.ternaries (lexemes c.args.self.now.rest.now) c.in-Some.prefix c.word_of.result
+    (sym c.prefix.ensures ∙ c.in-Some.is) c.word_of.ensures c.in_err-word.field-0.0 c.in_err-word.ensures.read)
+
+pub unary-returns-in_err-value-clause-read : goal.unary-returns-in_err-value-clause-read
+unary-returns-in_err-value-clause-read t c =
+    let p = err_from_is_err_and c.from_residual-in_err-value.result c.from_residual-in_err-value.ensures.1 in
+    rw (p.1, p.2) (prefixed_value_fails c.args.levels c.args.ternaries (lexemes c.args.self.now.rest.now) c.in-Some.prefix c.word_of.result
+    (sym c.prefix.ensures ∙ c.in-Some.is) c.word_of.ensures (lexeme_of c.in_ok-word.word) c.in_ok-word.levels (lexemes c.enter.new.self.rest.now)
+    c.in_err-value.field-0.0 c.in_ok-word.ensures.read c.in_err-value.ensures.read)
+
+pub unary-returns-clause-read : goal.unary-returns-clause-read
+unary-returns-clause-read t c = returned _ _ _ _
+    (prefixed_reads c.args.levels c.args.ternaries (lexemes c.args.self.now.rest.now) c.in-Some.prefix c.word_of.result
+    (sym c.prefix.ensures ∙ c.in-Some.is) c.word_of.ensures (lexeme_of c.in_ok-word.word) c.in_ok-word.levels (lexemes c.enter.new.self.rest.now)
+    (expression_of c.in_ok-value.value) (lexemes c.unary.new.self.rest.now) c.in_ok-word.ensures.read c.in_ok-value.ensures.read)
+    (prefix_seen c.in-Some.prefix c.in_ok-value-2.value c.in_ok-word.word.line _ (ap expression_of (sym c.in_ok-value-2.ensures)))

@@ -6,41 +6,29 @@ use Rattle.grammar.specs.Tree.{branch_of, statement_of}
 use Rattle.grammar.proofs.StatementTails.{StillBody, StillParts}
 use Rattle.grammar.proofs.parser.Parser.+statement.Given as goal
 
-abbrev pub decreases-block : goal.decreases-block
-decreases-block l = 10 * l.levels + 1
-
 abbrev pub decreases-statement : goal.decreases-statement
 decreases-statement l = 10 * l.levels + 2
 
 abbrev pub decreases-line : goal.decreases-line
 decreases-line l = 10 * l.levels + 3
 
-abbrev pub decreases-ended_line : goal.decreases-ended_line
-decreases-ended_line l = 10 * l.levels + 4
-
 abbrev pub decreases-body : goal.decreases-body
-decreases-body l = 10 * l.levels + 5
+decreases-body l = 10 * l.levels + 4
 
 abbrev pub decreases-branch : goal.decreases-branch
-decreases-branch l = 10 * l.levels + 6
-
-abbrev pub decreases-last_part : goal.decreases-last_part
-decreases-last_part l = 10 * l.levels + 6
-
-abbrev pub decreases-elif : goal.decreases-elif
-decreases-elif l = 10 * l.levels + 7
+decreases-branch l = 10 * l.levels + 5
 
 abbrev pub decreases-otherwise : goal.decreases-otherwise
-decreases-otherwise l = 10 * l.levels + 7
+decreases-otherwise l = 10 * l.levels + 6
 
 abbrev pub decreases-parts : goal.decreases-parts
-decreases-parts l = 10 * l.levels + 8
+decreases-parts l = 10 * l.levels + 6
 
 abbrev pub decreases-foreach : goal.decreases-foreach
-decreases-foreach l = 10 * l.levels + 9
+decreases-foreach l = 10 * l.levels + 7
 
 abbrev pub decreases-conditional : goal.decreases-conditional
-decreases-conditional l = 10 * l.levels + 9
+decreases-conditional l = 10 * l.levels + 7
 
 abbrev pub invariant-body-loop-alloc : goal.invariant-body-loop-alloc
 invariant-body-loop-alloc l =

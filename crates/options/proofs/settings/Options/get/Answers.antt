@@ -6,7 +6,9 @@ use Rattle.options.proofs.Lookups.{setting_looked_up}
 use Rattle.options.proofs.settings.Options.get.Goals as goal
 
 pub returns-in-Some : goal.returns-in-Some
-returns-in-Some c = ap (option_map (λ (s : Setting). value_in s.value)) c.in-Some.ensures.value ∙ setting_looked_up (λ v. v) c.args.name.now c.args.self.now.settings.entries
+returns-in-Some c = ap (option_map (λ (s : Setting). value_in s.value)) c.in-Some.ensures.value
+    ∙ setting_looked_up (λ v. v) c.args.name.now c.args.self.now.settings.entries
 
 pub returns-in-None : goal.returns-in-None
-returns-in-None c = ap (option_map (λ (s : Setting). value_in s.value)) c.in-None.ensures.value ∙ setting_looked_up (λ v. v) c.args.name.now c.args.self.now.settings.entries
+returns-in-None c = ap (option_map (λ (s : Setting). value_in s.value)) c.in-None.ensures.value
+    ∙ setting_looked_up (λ v. v) c.args.name.now c.args.self.now.settings.entries

@@ -6,8 +6,10 @@ use Rattle.options.proofs.state.State.next.Goals as goal
 
 pub returns-in-Some : goal.returns-in-Some
 unfolding next
-returns-in-Some c = ap (λ (o : Option OptionFault). unless_fault o (state_in c.args.self.now) (verdict_in c.args.verdict)) (sym c.in-Some.is)
+returns-in-Some c = ap (λ (o : Option OptionFault). unless_fault o (state_in c.args.self.now) (verdict_in c.args.verdict))
+    (sym c.in-Some.is)
 
 pub returns-in_ok-take-in-None : goal.returns-in_ok-take-in-None
 unfolding next
-returns-in_ok-take-in-None c = c.in_ok-take-in-None.ensures ∙ ap (λ (o : Option OptionFault). unless_fault o (state_in c.args.self.now) (verdict_in c.args.verdict)) (sym c.in-None.is)
+returns-in_ok-take-in-None c = c.in_ok-take-in-None.ensures
+    ∙ ap (λ (o : Option OptionFault). unless_fault o (state_in c.args.self.now) (verdict_in c.args.verdict)) (sym c.in-None.is)

@@ -1,3 +1,5 @@
+use Rattle.std.proofs.Common.{sym, ◌∙◌}
+use Rattle.ports.proofs.Sending.{failures_failed, failures_whole}
 use Rattle.ports.proofs.Recorded.{logs_recorded, logs_stay_within}
 use Rattle.ports.proofs.memory_outputs.MemOutputsOutputs.log.Goals as goal
 
@@ -7,8 +9,14 @@ invariant_of-self-else-is_err c = record {
   open_within = c.args.self.now.open_within;
 }
 
-pub returns-then-is_err-clause-events : goal.returns-then-is_err-clause-events
-returns-then-is_err-clause-events c = logs_recorded _ _ _ _ _ _ _ c.record_bytes-taken.ensures.items
+pub returns-then-is_err-clause-took : goal.returns-then-is_err-clause-took
+returns-then-is_err-clause-took c = record {
+  takes = logs_recorded _ _ _ _ _ _ _ c.record_bytes-taken.ensures.items;
+  failures = failures_failed _ _ (sym c.is_err.ensures.value ∙ c.if-is_err.true);
+}
 
-pub returns-else-is_err-clause-events : goal.returns-else-is_err-clause-events
-returns-else-is_err-clause-events c = logs_recorded _ _ _ _ _ _ _ c.record_bytes-taken.ensures.items
+pub returns-else-is_err-clause-took : goal.returns-else-is_err-clause-took
+returns-else-is_err-clause-took c = record {
+  takes = logs_recorded _ _ _ _ _ _ _ c.record_bytes-taken.ensures.items;
+  failures = failures_whole _ _ (sym c.is_err.ensures.value ∙ c.if-is_err.false);
+}

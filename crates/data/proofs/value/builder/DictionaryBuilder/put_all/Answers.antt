@@ -1,4 +1,4 @@
-use Rattle.std.proofs.Common.{◌≡◌, ◌+◌, Some, string_bytes, sym, ap, ◌∙◌, arith}
+use Rattle.std.proofs.Common.{◌≡◌, ◌+◌, Some, sym, ap, ◌∙◌, arith}
 use Rattle.data.specs.Data.{put, entry, merged, count}
 use Rattle.data.specs.Weight.{entries_weight}
 use Rattle.data.specs.View.{data_of}
@@ -14,19 +14,19 @@ key-requires c =
 pub put-requires : goal.put-requires
 put-requires c =
     let es = c.args.dictionary.now in
-    let q = string_bytes c.in_ok-key.key in
+    let q = c.in_ok-key.key in
     let clone = c.in_ok-clone.field-0 in
     let next : entries_from_place c.loop-i.i es ≡ entry q (data_of clone) (entries_from_place (c.loop-i.i + 1) es) =
-    next_entry es c.values-values.result.now c.loop-i.i q c.index-values-i.result clone c.values-values.ensures.values c.loop-i-test.true (c.key.ensures ∙ ap Some (sym c.in_ok-key.ensures.ok)) c.index-values-i.is c.in_ok-clone.ensures.cases in
+    next_entry es c.values-values.result.now c.loop-i.i q c.index-values-i.result clone c.values-values.ensures.values c.loop-i-test.true (c.key.ensures ∙ ap Some (sym c.in_ok-key.ensures.cases)) c.index-values-i.is c.in_ok-clone.ensures.cases in
     omega (arith, ap entries_weight next, c.loop-i.invariant.light, c.requires, c.values-values.ensures.within)
 
 pub loop-i-preserved : goal.loop-i-preserved
 loop-i-preserved c =
     let es = c.args.dictionary.now in
-    let q = string_bytes c.in_ok-key.key in
+    let q = c.in_ok-key.key in
     let clone = c.in_ok-clone.field-0 in
     let next : entries_from_place c.loop-i.i es ≡ entry q (data_of clone) (entries_from_place (c.loop-i.i + 1) es) =
-    next_entry es c.values-values.result.now c.loop-i.i q c.index-values-i.result clone c.values-values.ensures.values c.loop-i-test.true (c.key.ensures ∙ ap Some (sym c.in_ok-key.ensures.ok)) c.index-values-i.is c.in_ok-clone.ensures.cases in
+    next_entry es c.values-values.result.now c.loop-i.i q c.index-values-i.result clone c.values-values.ensures.values c.loop-i-test.true (c.key.ensures ∙ ap Some (sym c.in_ok-key.ensures.cases)) c.index-values-i.is c.in_ok-clone.ensures.cases in
     let is : c.put.new.self ≡ put q (data_of clone) c.loop-i.self = c.in_ok-put.ensures in
     record {
       whole = ap (λ x. merged x (entries_from_place (c.loop-i.i + 1) es)) is ∙ sym (ap (merged c.loop-i.self) next) ∙ c.loop-i.invariant.whole;

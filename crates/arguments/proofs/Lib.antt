@@ -1,0 +1,2 @@
+pub mod FlatLemmas
+pub mod Names

@@ -1,0 +1,9 @@
+pub mod Arguments
+pub mod Dependencies
+pub mod Disablers
+pub mod Flat
+pub mod Given
+pub mod Leaves
+pub mod Pieces
+pub mod Row
+pub mod RowView

@@ -1,0 +1,125 @@
+-- What a call takes, and whether arguments are that.
+use Rattle.std.specs.Prelude.{ℕ, ◌+◌, nat_le, Bool, true, false, ◌&&◌, ◌||◌, not, List, [], ◌∷◌, ◌++◌, length, slice_get}
+use Rattle.std.specs.Prelude.{Option, Some, None, is_some, Result, Ok, Err, bytes_eq, if◌then◌else◌}
+use Rattle.std.specs.List.{list_any}
+use Rattle.data.specs.Data.{Data, boolean_in, integer_in, text_in, entries_in, object}
+use Rattle.data.specs.declared.object.Object.{Object}
+use Rattle.faults.specs.declared.refusal.Refusal.{Refusal}
+use Rattle.faults.specs.declared.refusal.Refusal.TheVariants as refusals
+use Rattle.arguments.specs.declared.row.Kind.{Kind}
+use Rattle.arguments.specs.declared.row.Kind.TheVariants as kinds
+use Rattle.arguments.specs.Arguments.{ArgumentsData}
+use Rattle.arguments.specs.Flat.{is_texts}
+use Rattle.arguments.specs.Dependencies.{are_dependencies}
+use Rattle.arguments.specs.Pieces.{are_pieces, is_command, is_configuration, is_feature, is_file}
+
+pub record KeywordData : Type 0 where
+  pub name : List ℕ
+  pub kind : Kind
+  pub is_needed : Bool
+
+-- the positional arguments and how many of them are needed, what those behind them are, the keywords, and those left out
+pub record RowData : Type 0 where
+  pub positional : List Kind
+  pub needed : ℕ
+  pub others : Option Kind
+  pub keywords : List KeywordData
+  pub left_out : List (List ℕ)
+
+-- ---- words for rows
+
+abbrev pub optional : List ℕ → Kind → KeywordData
+optional name kind = record { name = name; kind = kind; is_needed = false }
+
+abbrev pub needed : List ℕ → Kind → KeywordData
+needed name kind = record { name = name; kind = kind; is_needed = true }
+
+-- ---- whether arguments are what a row says
+
+-- an object that is such
+abbrev pub is_object : (Object → Bool) → Data → Bool
+is_object test (object o) = test o
+is_object test _ = false
+
+abbrev pub is_of : Kind → Data → Bool
+is_of kinds.Any d = true
+is_of kinds.Boolean d = is_some (boolean_in d)
+is_of kinds.Integer d = is_some (integer_in d)
+is_of kinds.Text d = is_some (text_in d)
+is_of kinds.IntegerOrText d = is_some (integer_in d) || is_some (text_in d)
+is_of kinds.Setting d = is_some (boolean_in d) || (is_some (integer_in d) || is_some (text_in d))
+is_of kinds.Requirement d = is_some (boolean_in d) || is_object is_feature d
+is_of kinds.Texts d = is_texts d
+is_of kinds.Dictionary d = is_some (entries_in d)
+is_of kinds.TextsOrDictionary d = is_texts d || is_some (entries_in d)
+is_of kinds.ConfigurationData d = is_object is_configuration d
+is_of kinds.Configuration d = is_object is_configuration d || is_some (entries_in d)
+is_of kinds.File d = is_object is_file d
+is_of kinds.Command d = is_object is_command d
+is_of kinds.Dependencies d = are_dependencies d
+is_of (kinds.Flat piece) d = are_pieces piece d
+
+-- what the positional argument at a place has to be: the row names it, or it is one of the others
+abbrev pub kind_or : Option Kind → Option Kind → Option Kind
+kind_or (Some kind) others = Some kind
+kind_or None others = others
+
+abbrev pub kind_at : RowData → ℕ → Option Kind
+kind_at row i = kind_or (slice_get row.positional i) row.others
+
+abbrev pub is_of_some : Option Kind → Data → Bool
+is_of_some (Some kind) d = is_of kind d
+is_of_some None d = false
+
+-- positional arguments from this place on
+abbrev pub each_fits : RowData → ℕ → List Data → Bool
+each_fits row i [] = true
+each_fits row i (d ∷ ds) = is_of_some (kind_at row i) d && each_fits row (i + 1) ds
+
+-- whether a name is one of these
+abbrev pub is_among : List ℕ → List (List ℕ) → Bool
+is_among name [] = false
+is_among name (n ∷ ns) = bytes_eq n name || is_among name ns
+
+-- what a keyword has to be, if there is such
+abbrev pub keyword_kind : List ℕ → List KeywordData → Option Kind
+keyword_kind name [] = None
+keyword_kind name (k ∷ ks) = if bytes_eq k.name name then Some k.kind else keyword_kind name ks
+
+abbrev pub each_named_fits : List KeywordData → List (List ℕ × Data) → Bool
+each_named_fits ks [] = true
+each_named_fits ks (n ∷ ns) = is_of_some (keyword_kind n.0 ks) n.1 && each_named_fits ks ns
+
+-- the value that is given by a name
+abbrev pub value_named : List ℕ → List (List ℕ × Data) → Option Data
+value_named name [] = None
+value_named name (n ∷ ns) = if bytes_eq n.0 name then Some n.1 else value_named name ns
+
+-- whether each keyword is given that is needed
+abbrev pub each_is_given : List KeywordData → List (List ℕ × Data) → Bool
+each_is_given [] ns = true
+each_is_given (k ∷ ks) ns = (not k.is_needed || is_some (value_named k.name ns)) && each_is_given ks ns
+
+-- whether one of the keywords is among these names, or comes again
+abbrev pub comes_again : List (List ℕ) → List (List ℕ × Data) → Bool
+comes_again names [] = false
+comes_again names (n ∷ ns) = list_any (bytes_eq n.0) names || comes_again (names ++ n.0 ∷ []) ns
+
+abbrev pub has_twice : List (List ℕ × Data) → Bool
+has_twice ns = comes_again [] ns
+
+abbrev pub has_left_out : List (List ℕ) → List (List ℕ × Data) → Bool
+has_left_out names [] = false
+has_left_out names (n ∷ ns) = is_among n.0 names || has_left_out names ns
+
+abbrev pub fits : RowData → ArgumentsData → Bool
+fits row a = nat_le row.needed (length a.positional) && (each_fits row 0 a.positional
+    && (each_named_fits row.keywords a.named && each_is_given row.keywords a.named))
+
+-- A keyword twice, a keyword that is left out, and arguments that are not what the row says: the first of these, in this order.
+abbrev pub checked : RowData → ArgumentsData → Result (Unit {0}) Refusal
+checked row a =
+    if has_twice a.named then Err refusals.Duplicate
+    else if has_left_out row.left_out a.named then Err refusals.LeftOut
+    else if fits row a then Ok tt
+    else Err refusals.Arguments

@@ -1,0 +1,51 @@
+//! The evaluated arguments of a call.
+ghost use Rattle.std.specs.Prelude.{◌≡◌, OnOk, option_map, string_bytes};
+ghost use Rattle.data.specs.View.{data_of};
+ghost use Rattle.arguments.specs.Arguments.{arguments_data, no_arguments, with_argument};
+
+use data::Value;
+use std::alloc::{AllocError, Global};
+
+/// An argument that is given by a name.
+#[derive(Drop)]
+pub struct Named {
+    pub name: String,
+    pub value: Value,
+}
+
+/// The arguments of a call: those without a name, and those with one, each in order.
+#[derive(Drop)]
+pub struct Arguments {
+    pub positional: Vec<Value>,
+    pub named: Vec<Named>,
+}
+
+/// No argument.
+pub fn no_arguments(alloc: Global) -> Arguments
+    ensures { arguments_data result ≡ no_arguments }
+{
+    Arguments {
+        positional: Vec::new(alloc),
+        named: Vec::new(alloc),
+    }
+}
+
+/// One argument more.
+pub fn add_argument(
+    alloc: Global,
+    arguments: &mut Arguments,
+    name: &Option<String>,
+    value: Value,
+) -> Result<(), AllocError>
+    ensures { OnOk result (arguments_data arguments.new
+        ≡ with_argument (arguments_data arguments.old) (option_map string_bytes name.now) (data_of value)) }
+{
+    match name {
+        Some(name) => {
+            let name = String::from_str(alloc, name.as_str())?;
+            arguments.named.push(Named { name, value })?;
+        }
+        None => arguments.positional.push(value)?,
+    }
+    Ok(())
+}

@@ -1,0 +1,37 @@
+//! Disablers among arguments.
+ghost use Rattle.std.specs.Prelude.{◌≡◌, map};
+ghost use Rattle.arguments.specs.Arguments.{arguments_data, named_data};
+ghost use Rattle.arguments.specs.Disablers.{gives_disabler, named_have_disabler, one_has_disabler};
+ghost use Rattle.data.specs.View.{data_of};
+
+use crate::arguments::{Arguments, Named};
+use data::Value;
+
+fn one_has_disabler(values: &[Value]) -> bool
+    ensures { result ≡ one_has_disabler (map data_of values.now) }
+{
+    for value in values {
+        if value.has_disabler() {
+            return true;
+        }
+    }
+    false
+}
+
+fn named_have_disabler(named: &[Named]) -> bool
+    ensures { result ≡ named_have_disabler (map named_data named.now) }
+{
+    for one in named {
+        if one.value.has_disabler() {
+            return true;
+        }
+    }
+    false
+}
+
+/// Whether one of the arguments is a disabler, or a list with one at any depth of lists. Each list knows it of itself.
+pub fn gives_disabler(arguments: &Arguments) -> bool
+    ensures { result ≡ gives_disabler (arguments_data arguments.now) }
+{
+    one_has_disabler(&arguments.positional) || named_have_disabler(&arguments.named)
+}

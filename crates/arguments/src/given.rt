@@ -1,0 +1,240 @@
+//! What is given to a call. The row of the call has been checked before, so nothing here tests a type again: an argument of
+//! another type counts as one that is not given.
+ghost use Rattle.std.specs.Prelude.{◌≡◌, IfOk, drop, map, option_map, string_bytes};
+ghost use Rattle.data.specs.Data.{text_in};
+ghost use Rattle.data.specs.View.{data_of};
+ghost use Rattle.arguments.specs.Arguments.{arguments_data, named_data};
+ghost use Rattle.arguments.specs.Given.{argument, flag, flag_at, integer_of, keyword, of_boolean};
+ghost use Rattle.arguments.specs.Given.{of_feature, path_at, requirement, requirement_in, text_at, text_of, text_or, texts, texts_from};
+ghost use Rattle.arguments.specs.Flat.{flat_all};
+ghost use Rattle.arguments.specs.Row.{value_named};
+
+use crate::arguments::{Arguments, Named};
+use crate::flat::{collect, collect_items};
+use data::{Feature, Object, Value};
+use std::alloc::{AllocError, Global};
+
+/// What the keyword `required` says of a thing that is looked up.
+#[derive(Clone, Copy)]
+pub enum Requirement {
+    /// It has to be found.
+    Required,
+    /// It may be absent.
+    Optional,
+    /// It is not looked up.
+    Disabled,
+}
+
+fn of_boolean(boolean: bool) -> Requirement
+    ensures { result ≡ of_boolean boolean }
+{
+    if boolean {
+        Requirement::Required
+    } else {
+        Requirement::Optional
+    }
+}
+
+fn of_feature(feature: Feature) -> Requirement
+    ensures { result ≡ of_feature feature }
+{
+    match feature {
+        Feature::Enabled => Requirement::Required,
+        Feature::Auto => Requirement::Optional,
+        Feature::Disabled => Requirement::Disabled,
+    }
+}
+
+fn requirement_of(value: &Value) -> Option<Requirement>
+    ensures { result ≡ requirement_in (data_of value.now) }
+{
+    match value {
+        Value::Boolean(boolean) => Some(of_boolean(*boolean)),
+        Value::Object(object) => match &**object {
+            Object::Feature(feature) => Some(of_feature(*feature)),
+            _ => None,
+        },
+        _ => None,
+    }
+}
+
+/// The value of the first argument with a name.
+pub fn value_named<'a>(name: &str, named: &'a [Named]) -> Option<&'a Value>
+    ensures { option_map (λ v. data_of v.now) result ≡ value_named name.now (map named_data named.now) }
+{
+    for one in named {
+        if one.name.as_str() == name {
+            return Some(&one.value);
+        }
+    }
+    None
+}
+
+// The bytes of a text.
+fn bytes_of(value: &Value) -> Option<&str>
+    ensures { option_map (λ t. t.now) result ≡ text_in (data_of value.now) }
+{
+    match value {
+        Value::Text(text) => Some(text.as_str()),
+        _ => None,
+    }
+}
+
+fn path_of(value: &Value) -> Option<&str>
+    ensures { option_map (λ t. t.now) result ≡ Rattle.arguments.specs.Given.path_in (data_of value.now) }
+{
+    match value {
+        Value::Object(object) => match &**object {
+            Object::File { path, .. } => Some(path.as_str()),
+            _ => None,
+        },
+        _ => None,
+    }
+}
+
+/// The values from a place on.
+pub fn behind(values: &[Value], place: usize) -> &[Value]
+    ensures { result.now ≡ drop place values.now }
+{
+    if place < values.len() {
+        &values[place..]
+    } else {
+        &[]
+    }
+}
+
+// Texts of their own.
+fn copies(alloc: Global, texts: &[&str]) -> Result<Vec<String>, AllocError>
+    ensures { IfOk result (λ v. map string_bytes v.items ≡ map (λ t. t.now) texts.now) }
+{
+    let mut own = Vec::new(alloc);
+    for text in texts {
+        own.push(String::from_str(alloc, text)?)?;
+    }
+    Ok(own)
+}
+
+impl Arguments {
+    /// The positional argument at a place.
+    pub fn argument(&self, place: usize) -> Option<&Value>
+        ensures { option_map (λ v. data_of v.now) result ≡ argument place (arguments_data self.now) }
+    {
+        self.positional.get(place)
+    }
+
+    /// The value of a keyword.
+    pub fn keyword(&self, name: &str) -> Option<&Value>
+        ensures { option_map (λ v. data_of v.now) result ≡ keyword name.now (arguments_data self.now) }
+    {
+        value_named(name, &self.named)
+    }
+
+    /// The text at a place.
+    pub fn text_at(&self, place: usize) -> &str
+        ensures { result.now ≡ text_at place (arguments_data self.now) }
+    {
+        match self.argument(place) {
+            Some(value) => bytes_of(value).unwrap_or(""),
+            None => "",
+        }
+    }
+
+    /// The text at a place, or this one.
+    pub fn text_or<'s>(&'s self, place: usize, default: &'s str) -> &'s str
+        ensures { result.now ≡ text_or place default.now (arguments_data self.now) }
+    {
+        match self.argument(place) {
+            Some(value) => bytes_of(value).unwrap_or(default),
+            None => default,
+        }
+    }
+
+    /// The boolean at a place, or this one.
+    pub fn flag_at(&self, place: usize, default: bool) -> bool
+        ensures { result ≡ flag_at place default (arguments_data self.now) }
+    {
+        match self.argument(place) {
+            Some(value) => value.as_boolean().unwrap_or(default),
+            None => default,
+        }
+    }
+
+    /// The path of the file at a place.
+    pub fn path_at(&self, place: usize) -> &str
+        ensures { result.now ≡ path_at place (arguments_data self.now) }
+    {
+        match self.argument(place) {
+            Some(value) => path_of(value).unwrap_or(""),
+            None => "",
+        }
+    }
+
+    /// The text of a keyword, empty where it is not given.
+    pub fn text(&self, name: &str) -> &str
+        ensures { result.now ≡ text_of name.now (arguments_data self.now) }
+    {
+        match self.keyword(name) {
+            Some(value) => bytes_of(value).unwrap_or(""),
+            None => "",
+        }
+    }
+
+    /// The boolean of a keyword, or this one.
+    pub fn flag(&self, name: &str, default: bool) -> bool
+        ensures { result ≡ flag name.now default (arguments_data self.now) }
+    {
+        match self.keyword(name) {
+            Some(value) => value.as_boolean().unwrap_or(default),
+            None => default,
+        }
+    }
+
+    /// The integer of a keyword, or this one.
+    pub fn integer(&self, name: &str, default: i128) -> i128
+        ensures { result ≡ integer_of name.now default (arguments_data self.now) }
+    {
+        match self.keyword(name) {
+            Some(value) => value.as_integer().unwrap_or(default),
+            None => default,
+        }
+    }
+
+    /// The texts of a keyword, none where it is not given.
+    pub fn texts(&self, alloc: Global, name: &str) -> Result<Vec<String>, AllocError>
+        ensures { IfOk result (λ v. map string_bytes v.items ≡ texts name.now (arguments_data self.now)) }
+    {
+        let mut found = Vec::new(alloc);
+        if let Some(value) = self.keyword(name) {
+            collect(&mut found, value)?;
+        }
+        copies(alloc, &found)
+    }
+
+    /// The texts that the positional arguments are.
+    pub fn all_texts(&self, alloc: Global) -> Result<Vec<&str>, AllocError>
+        ensures { IfOk result (λ v. map (λ t. t.now) v.items ≡ flat_all (map data_of self.now.positional.items)) }
+    {
+        let mut found = Vec::new(alloc);
+        collect_items(&mut found, &self.positional)?;
+        Ok(found)
+    }
+
+    /// The texts that the positional arguments from a place on are.
+    pub fn texts_behind(&self, alloc: Global, place: usize) -> Result<Vec<&str>, AllocError>
+        ensures { IfOk result (λ v. map (λ t. t.now) v.items ≡ texts_from place (arguments_data self.now)) }
+    {
+        let mut found = Vec::new(alloc);
+        collect_items(&mut found, behind(&self.positional, place))?;
+        Ok(found)
+    }
+
+    /// What the keyword `required` says, or this where it is not given.
+    pub fn requirement(&self, default: Requirement) -> Requirement
+        ensures { result ≡ requirement default (arguments_data self.now) }
+    {
+        match self.keyword("required") {
+            Some(value) => requirement_of(value).unwrap_or(default),
+            None => default,
+        }
+    }
+}

@@ -1,0 +1,19 @@
+//! The evaluated arguments of a call, and the rows that say what a call takes.
+#![tactic(auto)]
+
+mod arguments;
+mod dependencies;
+mod disablers;
+mod flat;
+mod given;
+mod leaves;
+mod pieces;
+mod reader;
+mod row;
+
+pub use arguments::{Arguments, Named, add_argument, no_arguments};
+pub use dependencies::are_found;
+pub use disablers::gives_disabler;
+pub use given::Requirement;
+pub use reader::check;
+pub use row::{Keyword, Kind, Piece, Row};

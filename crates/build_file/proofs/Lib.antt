@@ -1,0 +1,4 @@
+pub mod Stopping
+pub mod Parts
+pub mod DefaultPaths
+pub mod Counting

@@ -1,0 +1,2 @@
+pub mod BuildFile
+pub mod Parts

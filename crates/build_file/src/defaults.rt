@@ -1,0 +1,46 @@
+//! What is made where Ninja is given no target.
+ghost use Rattle.std.specs.Prelude.{◌≡◌, ◌++◌, flat_map, IfOk};
+ghost use Rattle.edge.specs.Texts.{texts};
+ghost use Rattle.targets.specs.View.{linked_view, target_view};
+ghost use Rattle.build_file.specs.BuildFile.{asked_of, default_outputs, is_default};
+
+use edge::push_copies;
+use project::Project;
+use std::alloc::{AllocError, Global};
+use targets::{Linked, Target};
+
+fn is_default(target: &Target) -> bool
+    ensures { result ≡ is_default (target_view target.now) }
+{
+    match target {
+        Target::Build(target) => target.is_default,
+        Target::Custom(target) => target.is_default,
+    }
+}
+
+fn push_asked(paths: &mut Vec<String>, linked: &Linked) -> Result<(), AllocError>
+    ensures { IfOk result (λ _. texts paths.new.items ≡ texts paths.old.items ++ asked_of (linked_view linked.now)) }
+{
+    if is_default(&linked.target) {
+        push_copies(paths, &linked.paths)
+    } else {
+        Ok(())
+    }
+}
+
+fn all_asked(alloc: Global, targets: &[Linked]) -> Result<Vec<String>, AllocError>
+    ensures { IfOk result (λ v. texts v.items ≡ flat_map (λ l. asked_of (linked_view l)) targets.now) }
+{
+    let mut paths = Vec::new(alloc);
+    for linked in targets {
+        push_asked(&mut paths, linked)?;
+    }
+    Ok(paths)
+}
+
+/// The paths that the edge `all` names.
+pub fn default_paths(alloc: Global, project: &Project) -> Result<Vec<String>, AllocError>
+    ensures { IfOk result (λ v. texts v.items ≡ default_outputs project.now) }
+{
+    all_asked(alloc, project.targets())
+}

@@ -1,0 +1,15 @@
+use Rattle.std.proofs.Common.{ap, refl, sym, ◌∙◌}
+use Rattle.arguments.specs.Arguments.{arguments_data}
+use Rattle.arguments.specs.Row.{checked}
+use Rattle.calls.specs.Functions.{call, does}
+use Rattle.calls.proofs.Values.{views_same}
+use Rattle.world.proofs.Answering.{carries_as, carries_then, carries_stop, carries_give, carries_refuse, carries_fitting}
+use Rattle.calls.proofs.calling.call.Goals as goal
+
+pub returns-in_err-fit : goal.returns-in_err-fit
+unfolding call
+returns-in_err-fit g c = carries_stop c.in_err-fit.ensures c.from_residual.ensures.1
+
+pub returns : goal.returns
+unfolding call
+returns g c = carries_then c.in_ok-fit.ensures c.act.ensures

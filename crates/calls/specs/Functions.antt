@@ -1,0 +1,57 @@
+-- The functions of the page "Reference manual", on evaluated arguments.
+use Rattle.std.specs.Prelude.{Bool, true, false, not, ◌&&◌, [], Option, Some, None}
+use Rattle.data.specs.Data.{Data}
+use Rattle.faults.specs.declared.refusal.Refusal.TheVariants as refusals
+use Rattle.operators.specs.Operations.{disabler}
+use Rattle.arguments.specs.Arguments.{ArgumentsData}
+use Rattle.arguments.specs.Disablers.{gives_disabler}
+use Rattle.arguments.specs.Row.{checked}
+use Rattle.world.specs.Deed.{Deed, give, refuse, ◌>>=◌, fitting}
+use Rattle.calls.specs.Lists.{give_disabler, tell_disabler}
+use Rattle.calls.specs.Messages.{message, warning, error, assert}
+use Rattle.calls.specs.Project.{project}
+use Rattle.calls.specs.Rows.{row_of}
+use Rattle.calls.specs.Variables.{set_variable, get_variable, is_variable, unset_variable}
+use Rattle.calls.specs.declared.function.Function.{Function}
+use Rattle.calls.specs.declared.function.Function.TheVariants as functions
+
+-- what a function does with arguments that its row has let through: a value, or none
+abbrev pub does : Function → ArgumentsData → Deed (Option Data)
+does functions.Assert a = assert a
+does functions.Disabler a = give_disabler
+does functions.Error a = error a
+does functions.Executable a = refuse refusals.LeftOut []
+does functions.GetVariable a = get_variable a
+does functions.IsDisabler a = tell_disabler a
+does functions.IsVariable a = is_variable a
+does functions.JoinPaths a = refuse refusals.LeftOut []
+does functions.Message a = message a
+does functions.Project a = project a
+does functions.Range a = refuse refusals.LeftOut []
+does functions.SetVariable a = set_variable a
+-- as a part of an expression; a statement enters the folder
+does functions.Subdir a = refuse refusals.LeftOut []
+-- as a part of an expression; a statement ends the file
+does functions.SubdirDone a = give None
+does functions.UnsetVariable a = unset_variable a
+does functions.Warning a = warning a
+
+-- the functions that take a disabler as they take any value
+abbrev pub takes_disablers : Function → Bool
+takes_disablers functions.GetVariable = true
+takes_disablers functions.IsDisabler = true
+takes_disablers functions.IsVariable = true
+takes_disablers functions.Project = true
+takes_disablers functions.SetVariable = true
+takes_disablers functions.UnsetVariable = true
+takes_disablers f = false
+
+-- a disabler among the arguments of another turns the call off: it is answered by a disabler, does nothing and refuses nothing
+abbrev pub is_turned_off : Function → ArgumentsData → Bool
+is_turned_off f a = not (takes_disablers f) && gives_disabler a
+
+-- a function on its arguments, which its row looks at first
+unfoldable pub call : Function → ArgumentsData → Deed (Option Data)
+call f a = do
+  _ ← fitting (checked (row_of f) a)
+  does f a

@@ -1,0 +1,8 @@
+pub mod Functions
+pub mod Lists
+pub mod Messages
+pub mod Names
+pub mod Paths
+pub mod Project
+pub mod Rows
+pub mod Variables

@@ -1,0 +1,66 @@
+-- The names that the language gives a meaning to.
+use Rattle.std.specs.Prelude.{ℕ, List, [], ◌∷◌, Bool, false, not, ◌||◌, ◌&&◌, ◌==◌, codes, if◌then◌else◌, Option, Some, None}
+use Rattle.std.specs.Char.{is_ascii_alphabetic, is_ascii_alphanumeric}
+use Rattle.std.specs.List.{list_any, list_all}
+use Rattle.std.specs.Str.{bytes_eq}
+use Rattle.calls.specs.declared.function.Function.{Function}
+use Rattle.calls.specs.declared.function.Function.TheVariants as functions
+
+-- the variables that stand for things of the run: no definition file sets them
+abbrev pub predefined_names : List (List ℕ)
+predefined_names = codes "meson" ∷ codes "host_machine" ∷ codes "build_machine" ∷ codes "target_machine" ∷ []
+
+abbrev pub is_predefined : List ℕ → Bool
+is_predefined name = list_any (bytes_eq name) predefined_names
+
+-- the words that are no names
+abbrev pub keywords : List (List ℕ)
+keywords = codes "true" ∷ codes "false" ∷ codes "if" ∷ codes "elif" ∷ codes "else" ∷ codes "endif" ∷ codes "and" ∷ codes "or" ∷ codes "not"
+    ∷ codes "in" ∷ codes "foreach" ∷ codes "endforeach" ∷ codes "break" ∷ codes "continue" ∷ []
+
+abbrev pub is_name_byte : ℕ → Bool
+is_name_byte b = is_ascii_alphanumeric b || b == 95
+
+abbrev pub begins_name : List ℕ → Bool
+begins_name [] = false
+begins_name (b ∷ bs) = is_ascii_alphabetic b || b == 95
+
+-- letters, digits and underscores of which a digit is not the first, and no keyword
+abbrev pub is_name : List ℕ → Bool
+is_name text = begins_name text && (list_all is_name_byte text && not (list_any (bytes_eq text) keywords))
+
+-- the functions of Meson that are left out, so far or for good
+abbrev pub left_out_names : List (List ℕ)
+left_out_names =
+    codes "add_global_arguments" ∷ codes "add_global_link_arguments" ∷ codes "add_languages" ∷ codes "add_project_arguments"
+    ∷ codes "add_project_link_arguments" ∷ codes "add_test_setup" ∷ codes "alias_target" ∷ codes "benchmark" ∷ codes "both_libraries"
+    ∷ codes "build_target" ∷ codes "configuration_data" ∷ codes "configure_file" ∷ codes "custom_target" ∷ codes "debug"
+    ∷ codes "declare_dependency" ∷ codes "dependency" ∷ codes "environment" ∷ codes "files" ∷ codes "find_program" ∷ codes "generator"
+    ∷ codes "get_option" ∷ codes "import" ∷ codes "include_directories" ∷ codes "install_data" ∷ codes "install_emptydir"
+    ∷ codes "install_headers" ∷ codes "install_man" ∷ codes "install_subdir" ∷ codes "install_symlink" ∷ codes "library"
+    ∷ codes "run_command" ∷ codes "run_target" ∷ codes "shared_library" ∷ codes "shared_module" ∷ codes "static_library"
+    ∷ codes "subproject" ∷ codes "summary" ∷ codes "test" ∷ codes "vcs_tag" ∷ []
+
+abbrev pub is_left_out : List ℕ → Bool
+is_left_out name = list_any (bytes_eq name) left_out_names
+
+-- the function of a name
+abbrev pub function_named : List ℕ → Option Function
+function_named name =
+    if bytes_eq name (codes "assert") then Some functions.Assert
+    else if bytes_eq name (codes "disabler") then Some functions.Disabler
+    else if bytes_eq name (codes "error") then Some functions.Error
+    else if bytes_eq name (codes "executable") then Some functions.Executable
+    else if bytes_eq name (codes "get_variable") then Some functions.GetVariable
+    else if bytes_eq name (codes "is_disabler") then Some functions.IsDisabler
+    else if bytes_eq name (codes "is_variable") then Some functions.IsVariable
+    else if bytes_eq name (codes "join_paths") then Some functions.JoinPaths
+    else if bytes_eq name (codes "message") then Some functions.Message
+    else if bytes_eq name (codes "project") then Some functions.Project
+    else if bytes_eq name (codes "range") then Some functions.Range
+    else if bytes_eq name (codes "set_variable") then Some functions.SetVariable
+    else if bytes_eq name (codes "subdir") then Some functions.Subdir
+    else if bytes_eq name (codes "subdir_done") then Some functions.SubdirDone
+    else if bytes_eq name (codes "unset_variable") then Some functions.UnsetVariable
+    else if bytes_eq name (codes "warning") then Some functions.Warning
+    else None

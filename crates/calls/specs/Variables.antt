@@ -1,0 +1,54 @@
+-- The functions that name a variable by a text.
+use Rattle.std.specs.Prelude.{ℕ, Bool, true, not, ◌||◌, ◌&&◌, List, [], Option, Some, None, is_some}
+use Rattle.data.specs.Data.{Data, boolean}
+use Rattle.faults.specs.declared.refusal.Refusal.TheVariants as refusals
+use Rattle.arguments.specs.Arguments.{ArgumentsData}
+use Rattle.arguments.specs.Given.{argument, text_at}
+use Rattle.world.specs.World.{with_variable}
+use Rattle.world.specs.Deed.{Deed, give, refuse, read, change, ◌>>=◌, need}
+use Rattle.calls.specs.Names.{is_name, is_predefined}
+
+-- a name that definition files may set
+abbrev pub is_settable : List ℕ → Bool
+is_settable name = is_name name && not (is_predefined name)
+
+unfoldable pub set_to : List ℕ → Option Data → Deed (Unit {0})
+set_to name (Some d) = change (with_variable name (Some d))
+set_to name None = refuse refusals.Arguments []
+
+-- `set_variable(name, value)`
+unfoldable pub set_variable : ArgumentsData → Deed (Option Data)
+set_variable a = do
+  _ ← need (is_settable (text_at 0 a)) refusals.Arguments []
+  _ ← set_to (text_at 0 a) (argument 1 a)
+  give None
+
+-- the value of a variable, or else a fallback
+unfoldable pub value_or : List ℕ → Option Data → Option Data → Deed (Option Data)
+value_or name (Some d) fallback = give (Some d)
+value_or name None (Some d) = give (Some d)
+value_or name None None = refuse refusals.UndefinedName name
+
+-- `get_variable(name, fallback)`; the variables that stand for things of the run are left out so far
+unfoldable pub get_variable : ArgumentsData → Deed (Option Data)
+get_variable a = do
+  _ ← need (is_name (text_at 0 a)) refusals.Arguments []
+  _ ← need (not (is_predefined (text_at 0 a))) refusals.LeftOut []
+  facts ← read
+  value_or (text_at 0 a) (facts.variables (text_at 0 a)) (argument 1 a)
+
+-- `is_variable(name)`
+unfoldable pub is_variable : ArgumentsData → Deed (Option Data)
+is_variable a = do
+  _ ← need (is_name (text_at 0 a)) refusals.Arguments []
+  facts ← read
+  give (Some (boolean (is_predefined (text_at 0 a) || is_some (facts.variables (text_at 0 a)))))
+
+-- `unset_variable(name)`
+unfoldable pub unset_variable : ArgumentsData → Deed (Option Data)
+unset_variable a = do
+  _ ← need (is_settable (text_at 0 a)) refusals.Arguments []
+  facts ← read
+  _ ← need (is_some (facts.variables (text_at 0 a))) refusals.UndefinedName (text_at 0 a)
+  _ ← change (with_variable (text_at 0 a) None)
+  give None

@@ -1,0 +1,100 @@
+//! A function on its arguments.
+ghost use Rattle.std.specs.Prelude.{◌≡◌, not, ◌&&◌, option_map};
+ghost use Rattle.data.specs.View.{data_of};
+ghost use Rattle.arguments.specs.Arguments.{arguments_data};
+ghost use Rattle.arguments.specs.Row.{checked};
+ghost use Rattle.world.specs.Answering.{Carries, HasRoom};
+ghost use Rattle.world.specs.Caller.{state_of};
+ghost use Rattle.world.specs.Deed.{fitting};
+ghost use Rattle.calls.specs.Functions.{call, does, is_turned_off, takes_disablers};
+ghost use Rattle.calls.specs.Rows.{row_of};
+
+use crate::function::Function;
+use crate::lists::{disabler, is_disabler};
+use crate::messages::{assert, error, message, warning};
+use crate::project::project;
+use crate::rows::row;
+use crate::variables::{get_variable, is_variable, set_variable, unset_variable};
+use arguments::{Arguments, check, gives_disabler};
+use data::Value;
+use faults::Refusal;
+use ports::{Outputs, Tree};
+use world::{Caller, Stop};
+
+fn takes_disablers(function: Function) -> bool
+    ensures { result ≡ takes_disablers function }
+{
+    matches!(
+        function,
+        Function::GetVariable
+            | Function::IsDisabler
+            | Function::IsVariable
+            | Function::Project
+            | Function::SetVariable
+            | Function::UnsetVariable
+    )
+}
+
+/// Whether a disabler among the arguments turns the call off.
+pub fn is_turned_off(function: Function, arguments: &Arguments) -> bool
+    ensures { result ≡ is_turned_off function (arguments_data arguments.now) }
+{
+    !takes_disablers(function) && gives_disabler(arguments)
+}
+
+// Refuses arguments that the function does not take.
+fn fit<T: Tree, O: Outputs>(
+    caller: &Caller<'_, T, O>,
+    function: Function,
+    arguments: &Arguments,
+) -> Result<(), Stop>
+    ensures { Carries (λ u. u) (fitting (checked (row_of function) (arguments_data arguments.now))) (state_of T.seen O.seen caller.now)
+        result (state_of T.seen O.seen caller.now) }
+{
+    let answer = check(caller.alloc, &row(function), arguments)?;
+    caller.fitting(answer)
+}
+
+// What a function does with arguments that its row has let through.
+fn act<T: Tree, O: Outputs>(
+    caller: &mut Caller<'_, T, O>,
+    function: Function,
+    arguments: &Arguments,
+) -> Result<Option<Value>, Stop>
+    requires { HasRoom (state_of T.seen O.seen caller.old) }
+    ensures { Carries (option_map data_of) (does function (arguments_data arguments.now)) (state_of T.seen O.seen caller.old) result
+        (state_of T.seen O.seen caller.new) }
+{
+    match function {
+        Function::Assert => assert(caller, arguments),
+        Function::Disabler => disabler(caller),
+        Function::Error => error(caller, arguments),
+        Function::GetVariable => get_variable(caller, arguments),
+        Function::IsDisabler => is_disabler(caller, arguments),
+        Function::IsVariable => is_variable(caller, arguments),
+        Function::Message => message(caller, arguments),
+        Function::Project => project(caller, arguments),
+        Function::SetVariable => set_variable(caller, arguments),
+        Function::SubdirDone => Ok(None),
+        Function::UnsetVariable => unset_variable(caller, arguments),
+        Function::Warning => warning(caller, arguments),
+        Function::Executable => caller.refuse(Refusal::LeftOut, ""),
+        Function::JoinPaths => caller.refuse(Refusal::LeftOut, ""),
+        Function::Range => caller.refuse(Refusal::LeftOut, ""),
+        Function::Subdir => caller.refuse(Refusal::LeftOut, ""),
+    }
+}
+
+/// A function on its arguments, which its row looks at first: it gives a value, or nothing.
+pub fn call<T: Tree, O: Outputs>(
+    caller: &mut Caller<'_, T, O>,
+    function: Function,
+    arguments: &Arguments,
+) -> Result<Option<Value>, Stop>
+    requires { HasRoom (state_of T.seen O.seen caller.old) }
+    ensures { Carries (option_map data_of) (call function (arguments_data arguments.now)) (state_of T.seen O.seen caller.old) result
+        (state_of T.seen O.seen caller.new) }
+{
+    fit(caller, function, arguments)?;
+    act(caller, function, arguments)
+}

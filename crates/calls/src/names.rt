@@ -1,0 +1,160 @@
+//! The names that the language gives a meaning to.
+ghost use Rattle.std.specs.Prelude.{◌≡◌};
+ghost use Rattle.std.specs.List.{list_all, list_any};
+ghost use Rattle.std.specs.Str.{bytes_eq};
+ghost use Rattle.calls.specs.Names.{begins_name, function_named, is_left_out, is_name, is_name_byte, is_predefined};
+
+use crate::function::Function;
+
+/// The words that are no names.
+const KEYWORDS: [&str; 14] = [
+    "true",
+    "false",
+    "if",
+    "elif",
+    "else",
+    "endif",
+    "and",
+    "or",
+    "not",
+    "in",
+    "foreach",
+    "endforeach",
+    "break",
+    "continue",
+];
+
+/// The variables that stand for things of the run.
+const PREDEFINED: [&str; 4] = ["meson", "host_machine", "build_machine", "target_machine"];
+
+/// The functions of Meson that are left out, in the order of the alphabet.
+const LEFT_OUT: [&str; 39] = [
+    "add_global_arguments",
+    "add_global_link_arguments",
+    "add_languages",
+    "add_project_arguments",
+    "add_project_link_arguments",
+    "add_test_setup",
+    "alias_target",
+    "benchmark",
+    "both_libraries",
+    "build_target",
+    "configuration_data",
+    "configure_file",
+    "custom_target",
+    "debug",
+    "declare_dependency",
+    "dependency",
+    "environment",
+    "files",
+    "find_program",
+    "generator",
+    "get_option",
+    "import",
+    "include_directories",
+    "install_data",
+    "install_emptydir",
+    "install_headers",
+    "install_man",
+    "install_subdir",
+    "install_symlink",
+    "library",
+    "run_command",
+    "run_target",
+    "shared_library",
+    "shared_module",
+    "static_library",
+    "subproject",
+    "summary",
+    "test",
+    "vcs_tag",
+];
+
+fn is_among(name: &str, names: &[&str]) -> bool
+    ensures { result ≡ list_any (λ other. bytes_eq name.now other.now) names.now }
+{
+    names.iter().any(|other| *other == name)
+}
+
+/// Whether a name is a variable that stands for a thing of the run, as `meson`.
+pub fn is_predefined(name: &str) -> bool
+    ensures { result ≡ is_predefined name.now }
+{
+    is_among(name, &PREDEFINED)
+}
+
+/// Whether a function of this name is left out, so far or for good.
+pub fn is_left_out(name: &str) -> bool
+    ensures { result ≡ is_left_out name.now }
+{
+    is_among(name, &LEFT_OUT)
+}
+
+fn begins_name(text: &[u8]) -> bool
+    ensures { result ≡ begins_name text.now }
+{
+    match text.first() {
+        Some(byte) => byte.is_ascii_alphabetic() || *byte == b'_',
+        None => false,
+    }
+}
+
+fn is_name_byte(byte: u8) -> bool
+    ensures { result ≡ is_name_byte byte }
+{
+    byte.is_ascii_alphanumeric() || byte == b'_'
+}
+
+fn are_name_bytes(text: &[u8]) -> bool
+    ensures { result ≡ list_all is_name_byte text.now }
+{
+    text.iter().all(|byte| is_name_byte(*byte))
+}
+
+/// Whether a text is a name: letters, digits and underscores of which a digit is not the first, and no keyword.
+pub fn is_name(text: &str) -> bool
+    ensures { result ≡ is_name text.now }
+{
+    begins_name(text.as_bytes()) && are_name_bytes(text.as_bytes()) && !is_among(text, &KEYWORDS)
+}
+
+/// The function of a name.
+pub fn function_named(name: &str) -> Option<Function>
+    ensures { result ≡ function_named name.now }
+{
+    if name == "assert" {
+        Some(Function::Assert)
+    } else if name == "disabler" {
+        Some(Function::Disabler)
+    } else if name == "error" {
+        Some(Function::Error)
+    } else if name == "executable" {
+        Some(Function::Executable)
+    } else if name == "get_variable" {
+        Some(Function::GetVariable)
+    } else if name == "is_disabler" {
+        Some(Function::IsDisabler)
+    } else if name == "is_variable" {
+        Some(Function::IsVariable)
+    } else if name == "join_paths" {
+        Some(Function::JoinPaths)
+    } else if name == "message" {
+        Some(Function::Message)
+    } else if name == "project" {
+        Some(Function::Project)
+    } else if name == "range" {
+        Some(Function::Range)
+    } else if name == "set_variable" {
+        Some(Function::SetVariable)
+    } else if name == "subdir" {
+        Some(Function::Subdir)
+    } else if name == "subdir_done" {
+        Some(Function::SubdirDone)
+    } else if name == "unset_variable" {
+        Some(Function::UnsetVariable)
+    } else if name == "warning" {
+        Some(Function::Warning)
+    } else {
+        None
+    }
+}

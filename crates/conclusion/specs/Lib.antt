@@ -1,0 +1,2 @@
+pub mod FaultSteps
+pub mod Concluding

@@ -1,0 +1,68 @@
+//! The end of a run, and its status.
+ghost use Rattle.std.specs.Prelude.{◌≡◌, ◌+◌};
+ghost use Rattle.ports.specs.Endings.{HasRoom, ended};
+ghost use Rattle.faults.specs.View.{fault_view};
+ghost use Rattle.conclusion.specs.Concluding.{Agrees, done_with, failed_devices, faulted_with, status_of_fault, status_of_outputs};
+
+use crate::fault::write_fault;
+use build_file::{WriteStop, write_build_file};
+use faults::Fault;
+use ports::{DeviceFault, Outputs};
+use project::Project;
+use std::alloc::Global;
+
+/// How a run ended.
+#[derive(Clone, Copy, Debug, PartialEq, Eq)]
+pub enum Status {
+    /// All outputs are written.
+    Done,
+    /// The definitions are refused, and the fault line is written.
+    Fault,
+    /// A device failed.
+    Device,
+    /// No memory was left.
+    Memory,
+}
+
+fn status_of_outputs(answer: Result<(), WriteStop>) -> Status
+    ensures { result ≡ status_of_outputs answer }
+{
+    match answer {
+        Ok(()) => Status::Done,
+        Err(WriteStop::Device) => Status::Device,
+        Err(WriteStop::Memory) => Status::Memory,
+    }
+}
+
+fn status_of_fault(answer: Result<(), DeviceFault>) -> Status
+    ensures { result ≡ status_of_fault answer }
+{
+    match answer {
+        Ok(()) => Status::Fault,
+        Err(_) => Status::Device,
+    }
+}
+
+/// Writes the outputs of a project whose definitions are evaluated.
+///
+/// Status `Done` is answered where the outputs took all of it. With `Device` or `Memory` they took a beginning.
+pub fn conclude<O: Outputs>(alloc: Global, project: &Project, out: &mut O) -> Status
+    requires { HasRoom (O.seen out.old).failures }
+    ensures agrees { Agrees (done_with project.now) result (O.seen out.old) (O.seen out.new) }
+    ensures device { (O.seen out.new).failures ≡ (O.seen out.old).failures + failed_devices result }
+{
+    let answer = write_build_file(alloc, project, out);
+    status_of_outputs(answer)
+}
+
+/// Tells the fault for which the definitions are refused.
+///
+/// Status `Fault` is answered where the outputs took the whole line. With `Device` they took a beginning.
+pub fn refuse<O: Outputs>(fault: &Fault, out: &mut O) -> Status
+    requires { HasRoom (O.seen out.old).failures }
+    ensures agrees { Agrees (faulted_with (fault_view fault.now)) result (O.seen out.old) (O.seen out.new) }
+    ensures device { (O.seen out.new).failures ≡ (O.seen out.old).failures + failed_devices result }
+{
+    let answer = write_fault(fault, out);
+    status_of_fault(answer)
+}

@@ -1,0 +1,8 @@
+//! How a run ends: with all outputs, or with the line of a fault.
+#![tactic(auto)]
+
+mod concluding;
+mod fault;
+
+pub use concluding::{Status, conclude, refuse};
+pub use fault::write_fault;

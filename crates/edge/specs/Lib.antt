@@ -1,0 +1,5 @@
+pub mod Texts
+pub mod Data
+pub mod Paths
+pub mod Holding
+pub mod View

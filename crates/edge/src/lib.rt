@@ -1,0 +1,14 @@
+//! Edges of `build.ninja`: what they are, where their paths lie, and what Ninja's text can hold of them.
+#![tactic(auto)]
+
+mod edge;
+mod holding;
+mod paths;
+mod rule;
+mod texts;
+
+pub use edge::Edge;
+pub use holding::{are_writable, can_hold_path, can_hold_value, can_hold_values};
+pub use paths::{is_upward, object_path, source_path, source_root};
+pub use rule::Rule;
+pub use texts::{copies, first_kept, holds, push_all, push_copies, strings};

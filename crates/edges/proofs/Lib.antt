@@ -1,0 +1,2 @@
+pub mod WayTexts
+pub mod Joining

@@ -1,0 +1,13 @@
+pub mod Puts
+pub mod Escaping
+pub mod WordTexts
+pub mod EdgeTexts
+pub mod HeldWords
+pub mod Machines
+pub mod Pieces
+pub mod ShellWords
+pub mod Tokens
+pub mod ReadLines
+pub mod EdgeBlocks
+pub mod WholeFile
+pub mod ReaderChecks

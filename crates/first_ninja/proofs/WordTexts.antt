@@ -1,0 +1,107 @@
+-- The text of words, as a value, in the pieces in which it is put.
+use Rattle.std.proofs.Common.{◌≡◌, ℕ, true, false, eqb, ◌&&◌, not, List, [], ◌∷◌, ◌++◌, length, Option, Some, None, String, Global, string_bytes, codes, ◌<◌, ◌≤◌, ◌-◌, take, drop, get_or, take_all, sub-one, arith, refl, ap, ◌∙◌, inl, inr}
+use Rattle.std.specs.List.{flat_map}
+use Rattle.std.proofs.lemmas.Bool.{and_parts, cases_Bool}
+use Rattle.std.proofs.lemmas.List.Concat.{flat_map-append}
+use Rattle.ports.specs.Outputs.{puts}
+use Rattle.build.specs.Texts.{texts}
+use Rattle.first_ninja.specs.Shell.{is_bare_byte, is_no_first_word}
+use Rattle.first_ninja.specs.Escapes.{value_byte_text, value_rest_text, value_text}
+use Rattle.first_ninja.specs.Words.{is_all_bare, is_bare, quoted_byte, quoted_bytes, quoted, word_text, first_word_text, later_word_text, later_words_text, redirect_text, words_text}
+use Rattle.first_ninja.specs.Places.{byte_text}
+use Rattle.first_ninja.specs.declared.escapes.Place.TheVariants.{InQuotes}
+use Rattle.first_ninja.specs.Runs.{quoted_run, later_word_run, redirect_run, lone_redirect_run}
+use Rattle.first_ninja.proofs.ShellWords.{other_than}
+use Rattle.first_ninja.proofs.Puts.{puts-append, puts_then}
+
+pub is_bare-some : (w : List ℕ) → eqb (length w) 0 ≡ false → is_all_bare w ≡ is_bare w
+is_bare-some [] h = absurd cc
+is_bare-some (b ∷ bs) h = refl
+
+all_bare_value : (w : List ℕ) → is_all_bare w ≡ true → value_rest_text w ≡ w
+all_bare_value [] h = refl
+all_bare_value (b ∷ bs) h =
+    let k = and_parts (is_bare_byte b) (is_all_bare bs) h in
+    rw (other_than is_bare_byte 36 b refl k.0, all_bare_value bs k.1) refl
+
+-- a bare word is a value as it is
+pub bare_value : (w : List ℕ) → is_bare w ≡ true → value_rest_text w ≡ w
+bare_value [] h = absurd cc
+bare_value (b ∷ bs) h = all_bare_value (b ∷ bs) h
+
+flat_map-flat_map : {A : Type 0} (f : ℕ → List ℕ) (h : A → List ℕ) (xs : List A) → flat_map f (flat_map h xs) ≡ flat_map (λ x. flat_map f (h x)) xs
+flat_map-flat_map f h [] = refl
+flat_map-flat_map f h (x ∷ xs) = flat_map-append f (h x) (flat_map h xs) ∙ ap (λ v. flat_map f (h x) ++ v) (flat_map-flat_map f h xs)
+
+quoted_value : (w : List ℕ) → value_rest_text (quoted w) ≡ codes "'" ++ (flat_map (byte_text InQuotes) w ++ codes "'")
+quoted_value w =
+    ap (λ v. 39 ∷ v) (flat_map-append value_byte_text (quoted_bytes w) (39 ∷ []) ∙ ap (λ v. v ++ 39 ∷ []) (flat_map-flat_map value_byte_text quoted_byte w))
+
+pub quoted_puts : (w : List ℕ) → puts (value_rest_text (quoted w)) ≡ quoted_run w
+quoted_puts w = ap puts (quoted_value w) ∙ puts_then (codes "'") (flat_map (byte_text InQuotes) w ++ codes "'") (puts-append (flat_map (byte_text InQuotes) w) (codes "'"))
+
+later_word_puts : (w : List ℕ) → puts (value_rest_text (later_word_text w)) ≡ later_word_run w
+later_word_puts w = puts-append (codes " ") (value_rest_text (word_text w))
+
+later_words_puts : (ss : List (String Global)) → puts (value_rest_text (later_words_text (texts ss))) ≡ flat_map (λ s. later_word_run (string_bytes s)) ss
+unfolding puts
+later_words_puts [] = refl
+later_words_puts (s ∷ ss) =
+    ap puts (flat_map-append value_byte_text (later_word_text (string_bytes s)) (later_words_text (texts ss)))
+    ∙ puts-append (value_rest_text (later_word_text (string_bytes s))) (value_rest_text (later_words_text (texts ss)))
+    ∙ ap (λ r. r ++ puts (value_rest_text (later_words_text (texts ss)))) (later_word_puts (string_bytes s))
+    ∙ ap (λ r. later_word_run (string_bytes s) ++ r) (later_words_puts ss)
+
+redirect_puts : (redirect : Option (List ℕ)) → puts (value_rest_text (redirect_text redirect)) ≡ redirect_run redirect
+unfolding puts
+redirect_puts None = refl
+redirect_puts (Some name) = puts-append (codes " > ") (value_rest_text (word_text name))
+
+lone_redirect_puts : (redirect : Option (List ℕ)) → puts (value_text (words_text [] redirect)) ≡ lone_redirect_run redirect
+unfolding puts value_text
+lone_redirect_puts None = refl
+lone_redirect_puts (Some name) = puts-append (codes "> ") (value_rest_text (word_text name))
+
+no_blank_first : (b : ℕ) (bs : List ℕ) → eqb b 32 ≡ false → value_text (b ∷ bs) ≡ value_rest_text (b ∷ bs)
+unfolding value_text
+no_blank_first b bs h = rw h refl
+
+bare_value_text : (w rest : List ℕ) → is_bare w ≡ true → value_text (w ++ rest) ≡ value_rest_text (w ++ rest)
+bare_value_text [] rest h = absurd cc
+bare_value_text (b ∷ bs) rest h = no_blank_first b (bs ++ rest) (other_than is_bare_byte 32 b refl (and_parts (is_bare_byte b) (is_all_bare bs) h).0)
+
+first_value_text : (w rest : List ℕ) → value_text (first_word_text w ++ rest) ≡ value_rest_text (first_word_text w ++ rest)
+unfolding value_text
+first_value_text w rest =
+    elim (cases_Bool (is_bare w && not (is_no_first_word w))) [
+      | inl e ↦ rw e (bare_value_text w rest (and_parts _ _ e).0)
+      | inr e ↦ rw e refl
+    ]
+
+-- the words one after the other
+words_value : (w : List ℕ) (ws : List (List ℕ)) (redirect : Option (List ℕ))
+    → value_text (words_text (w ∷ ws) redirect) ≡ value_rest_text (first_word_text w) ++ (value_rest_text (later_words_text ws) ++ value_rest_text (redirect_text redirect))
+words_value w ws redirect =
+    first_value_text w (later_words_text ws ++ redirect_text redirect)
+    ∙ flat_map-append value_byte_text (first_word_text w) (later_words_text ws ++ redirect_text redirect)
+    ∙ ap (λ v. value_rest_text (first_word_text w) ++ v) (flat_map-append value_byte_text (later_words_text ws) (redirect_text redirect))
+
+words_puts : (w : List ℕ) (ss : List (String Global)) (redirect : Option (List ℕ))
+    → puts (value_text (words_text (w ∷ texts ss) redirect)) ≡ puts (value_rest_text (first_word_text w)) ++ (flat_map (λ s. later_word_run (string_bytes s)) ss ++ redirect_run redirect)
+words_puts w ss redirect =
+    let later = value_rest_text (later_words_text (texts ss)) in
+    let last = value_rest_text (redirect_text redirect) in
+    ap puts (words_value w (texts ss) redirect)
+    ∙ puts_then (value_rest_text (first_word_text w)) (later ++ last) (puts_then later last (redirect_puts redirect) ∙ ap (λ r. r ++ redirect_run redirect) (later_words_puts ss))
+
+-- no word
+pub no_words_puts : (ss : List (String Global)) (redirect : Option (List ℕ)) → length ss < 1 → puts (value_text (words_text (texts ss) redirect)) ≡ lone_redirect_run redirect
+no_words_puts [] redirect h = lone_redirect_puts redirect
+no_words_puts (s ∷ ss) redirect h = absurd (omega arith)
+
+-- a first word and others
+pub some_words_puts : (ss : List (String Global)) (d : String Global) (redirect : Option (List ℕ)) → 1 ≤ length ss
+    → puts (value_text (words_text (texts ss) redirect))
+    ≡ puts (value_rest_text (first_word_text (string_bytes (get_or ss 0 d)))) ++ (flat_map (λ s. later_word_run (string_bytes s)) (take (length ss - 1) (drop 1 ss)) ++ redirect_run redirect)
+some_words_puts [] d redirect h = absurd (omega arith)
+some_words_puts (s ∷ ss) d redirect h = rw (sub-one, take_all (length ss) ss (omega arith)) (words_puts (string_bytes s) ss redirect)

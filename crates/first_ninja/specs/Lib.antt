@@ -1,0 +1,13 @@
+pub mod Shell
+pub mod Escapes
+pub mod Words
+pub mod Writing
+pub mod Holding
+pub mod Places
+pub mod Runs
+pub mod Machine
+pub mod Pieces
+pub mod Lines
+pub mod Reading
+pub mod Commands
+pub mod Meaning

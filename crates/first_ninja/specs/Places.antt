@@ -1,0 +1,12 @@
+-- What is written for a byte, by where it stands.
+use Rattle.std.specs.Prelude.{ℕ, List}
+use Rattle.first_ninja.specs.declared.escapes.Place.{Place}
+use Rattle.first_ninja.specs.declared.escapes.Place.TheVariants.{InPath, InValue, InQuotes}
+use Rattle.first_ninja.specs.Escapes.{path_byte_text, value_byte_text, value_rest_text}
+use Rattle.first_ninja.specs.Words.{quoted_byte}
+
+-- within a shell's quotes a byte is first quoted, and what comes of that stands in a value
+abbrev pub byte_text : Place → ℕ → List ℕ
+byte_text InPath b = path_byte_text b
+byte_text InValue b = value_byte_text b
+byte_text InQuotes b = value_rest_text (quoted_byte b)

@@ -1,0 +1,9 @@
+pub mod Assigning
+pub mod Blocks
+mod Costs
+pub mod Evaluating
+mod Pairs
+mod Paths
+pub mod Reading
+mod Values
+mod Walking

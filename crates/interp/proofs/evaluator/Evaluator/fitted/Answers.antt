@@ -1,0 +1,10 @@
+use Rattle.std.proofs.Common.{ap, refl, sym}
+use Rattle.interp.specs.Expressions.{fitted}
+use Rattle.interp.proofs.Evaluating.{given_as, given_give, given_refuse}
+use Rattle.interp.proofs.evaluator.Evaluator.fitted.Goals as goal
+
+pub returns-in-Ok-clause-gives : goal.returns-in-Ok-clause-gives
+returns-in-Ok-clause-gives g c = λ files h. given_as (ap (fitted c.args.line) (sym c.in-Ok.is)) (given_give h refl)
+
+pub returns-in-Err-clause-gives : goal.returns-in-Err-clause-gives
+returns-in-Err-clause-gives g c = λ files h. given_as (ap (fitted c.args.line) (sym c.in-Err.is)) (given_refuse h c.refuse.ensures)

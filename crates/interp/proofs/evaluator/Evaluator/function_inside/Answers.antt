@@ -1,0 +1,23 @@
+use Rattle.std.proofs.Common.{ℕ, List, [], Option, Some, None, option_map, true, false, is_some, get_or, ap, refl, sym, ◌∙◌}
+use Rattle.std.specs.Prelude.{◌||◌}
+use Rattle.arguments.specs.Arguments.{arguments_data}
+use Rattle.arguments.specs.Row.{checked}
+use Rattle.data.specs.Data.{object_in}
+use Rattle.data.specs.View.{data_of}
+use Rattle.methods.specs.Methods.{has_name}
+use Rattle.calls.specs.Names.{is_predefined}
+use Rattle.world.specs.Store.{kept_variables}
+use Rattle.interp.specs.Expressions.{allowed, called_by, fitted, function_at, known, known_function, known_method, method_at_by, method_by, method_called_by, refused_name, set_variable, variable, variable_by}
+use Rattle.data.specs.Data.{is_disabler}
+use Rattle.interp.proofs.Evaluating.{given_as, given_change, given_deed, given_give, given_none, given_read, given_refuse, given_refused, given_stop, given_then}
+use Rattle.world.specs.Plan.{give, next as next_plan}
+use Rattle.interp.proofs.evaluator.Evaluator.function_inside.Goals as goal
+
+pub returns-in_err-function-clause-gives : goal.returns-in_err-function-clause-gives
+returns-in_err-function-clause-gives g c = λ files h. given_stop (c.in_err-function.ensures.gives files h) c.from_residual.ensures.1
+
+pub returns-then-is_allowed-clause-gives : goal.returns-then-is_allowed-clause-gives
+returns-then-is_allowed-clause-gives g c = λ files h. given_then (c.in_ok-function.ensures.gives files h) (given_read (given_as (ap (λ b. next_plan (allowed c.args.line b) (λ u. give c.in_ok-function.function)) (sym c.if-is_allowed.true ∙ c.is_allowed-is_allowed.ensures)) (given_then {view = λ (u : Unit {0}). u} {x = tt {0}} (given_give h refl) (given_give h refl))))
+
+pub returns-else-is_allowed-clause-gives : goal.returns-else-is_allowed-clause-gives
+returns-else-is_allowed-clause-gives g c = λ files h. given_then (c.in_ok-function.ensures.gives files h) (given_read (given_as (ap (λ b. next_plan (allowed c.args.line b) (λ u. give c.in_ok-function.function)) (sym c.if-is_allowed.false ∙ c.is_allowed-is_allowed.ensures)) (given_refused c.refuse.result h c.refuse.ensures)))

@@ -1,0 +1,48 @@
+-- Lists of statements in the code of a file, and their trees.
+use Rattle.std.specs.Prelude.{ℕ, zero, suc, List, [], ◌∷◌, map, slice_index_or}
+use Rattle.code.specs.declared.code.Code.{Code}
+use Rattle.code.specs.declared.node.BranchNode.{BranchNode}
+use Rattle.code.specs.declared.node.StatementNode.{StatementNode}
+use Rattle.code.specs.declared.node.StatementNode.TheVariants as flat
+use Rattle.code.specs.Nodes.{trees}
+use Rattle.code.specs.Statements.{statement_at, statement_trees}
+use Rattle.grammar.specs.ExpressionTree.{ExpressionTree}
+use Rattle.grammar.specs.Tree.{StatementTree, Statements, statements}
+use Rattle.interp.specs.declared.block.Block.{Block}
+use Rattle.interp.specs.declared.block.Block.TheVariants as blocks
+
+-- the statements of a branch, or of `else` where there is no such branch
+abbrev pub branch_or : List ℕ → List BranchNode → ℕ → List ℕ
+branch_or otherwise [] part = otherwise
+branch_or otherwise (b ∷ bs) zero = b.body.items
+branch_or otherwise (b ∷ bs) (suc part) = branch_or otherwise bs part
+
+-- the statements of a part of a statement
+abbrev pub part_of : StatementNode → ℕ → List ℕ
+part_of (flat.If line branches otherwise) part = branch_or otherwise.items branches.items part
+part_of (flat.Foreach line first second list list_line body) part = body.items
+part_of (flat.Assign name line value) part = []
+part_of (flat.Append name line value) part = []
+part_of (flat.Expression value line) part = []
+part_of (flat.Break line) part = []
+part_of (flat.Continue line) part = []
+
+-- the statement with a number; there is always one
+abbrev pub node_at : Code → ℕ → StatementNode
+node_at c i = slice_index_or c.statements.items i (flat.Break 0)
+
+abbrev pub statements_of : Code → Block → List ℕ
+statements_of c blocks.File = c.body.items
+statements_of c (blocks.Part statement part) = part_of (node_at c statement) part
+
+-- ---- trees, by the table of names as it was when the code was made
+
+abbrev pub expressions_by : List (List ℕ) → Code → List ExpressionTree
+expressions_by table c = trees table c.nodes.items
+
+abbrev pub statements_by : List (List ℕ) → Code → List StatementTree
+statements_by table c = statement_trees table (expressions_by table c) c.statements.items
+
+-- the trees of some statements
+abbrev pub block_by : List (List ℕ) → Code → List ℕ → Statements
+block_by table c numbers = statements (map (statement_at (statements_by table c)) numbers)

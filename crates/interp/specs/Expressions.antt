@@ -1,0 +1,301 @@
+-- What expressions mean: one paragraph for each form of node.
+use Rattle.std.specs.Prelude.{ℕ, pos, ◌^◌, nat_lt, Bool, true, false, ◌||◌, ◌&&◌, List, [], ◌∷◌, ◌++◌, Option, Some, None, Result, Ok, Err, is_some, bytes_eq, codes, if◌then◌else◌}
+use Rattle.lexer.specs.Texts.{text_of}
+use Rattle.lexer.specs.Numerals.{magnitude}
+use Rattle.lexer.specs.declared.token.Kind.TheVariants as kinds
+use Rattle.grammar.specs.declared.tree.Literal.{Literal}
+use Rattle.grammar.specs.declared.tree.Literal.TheVariants as literals
+use Rattle.grammar.specs.declared.tree.Operator.{Operator}
+use Rattle.grammar.specs.declared.tree.Operator.TheVariants as operators
+use Rattle.grammar.specs.declared.tree.Prefix.{Prefix}
+use Rattle.grammar.specs.declared.tree.Prefix.TheVariants as prefixes
+use Rattle.grammar.specs.ExpressionTree.{ExpressionTree, NameTree, LiteralTree, ListTree, DictionaryTree, FunctionTree, PostfixTree, PrefixTree, ChainTree, TernaryTree, ExpressionTrees, NoExpression, MoreExpressions, EntryTrees, NoEntry, MoreEntries, ArgumentTrees, NoArgument, MoreArguments, LinkTree, MethodTree, IndexTree, LinkTrees, NoLink, MoreLinks, OperandTrees, NoOperand, MoreOperands}
+use Rattle.data.specs.declared.object.Object.{Object}
+use Rattle.data.specs.declared.object.Object.TheVariants as objects
+use Rattle.data.specs.declared.refusal.Refusal.{Refusal as OperationRefusal}
+use Rattle.data.specs.declared.refusal.Refusal.TheVariants as operation
+use Rattle.data.specs.Data.{Data, boolean, integer, text, list, dictionary, object, Items, no_items, item, items_append, boolean_in, object_in, is_disabler}
+use Rattle.data.specs.Limits.{within}
+use Rattle.faults.specs.declared.refusal.Refusal.{Refusal}
+use Rattle.faults.specs.declared.refusal.Refusal.TheVariants as refusals
+use Rattle.operators.specs.declared.operator.Unary.{Unary}
+use Rattle.operators.specs.declared.operator.Unary.TheVariants.{Not, Negate}
+use Rattle.operators.specs.declared.operator.Binary.TheVariants as binaries
+use Rattle.operators.specs.declared.operator.Connective.TheVariants.{And, Or}
+use Rattle.operators.specs.Operations.{unary_answer, binary_answer, disabler}
+use Rattle.operators.specs.Logic.{left_answer, right_answer}
+use Rattle.operators.specs.Index.{index_answer}
+use Rattle.operators.specs.Literal.{literal_answer}
+use Rattle.methods.specs.Methods.{answer as method_answer, has_name}
+use Rattle.arguments.specs.Arguments.{ArgumentsData, no_arguments, with_argument}
+use Rattle.arguments.specs.Disablers.{gives_disabler}
+use Rattle.arguments.specs.Row.{checked}
+use Rattle.calls.specs.Functions.{call, is_turned_off}
+use Rattle.calls.specs.Names.{function_named, is_left_out, is_predefined}
+use Rattle.calls.specs.Rows.{any_values}
+use Rattle.calls.specs.declared.function.Function.{Function}
+use Rattle.calls.specs.declared.function.Function.TheVariants as functions
+use Rattle.world.specs.Deed.{read}
+use Rattle.world.specs.Plan.{Plan, deed, ruled, ◌>>=◌, give, at, refuse, answered}
+use Rattle.interp.specs.declared.meaning.Meaning.{Meaning}
+use Rattle.interp.specs.declared.meaning.Meaning.TheVariants.{Combines, Connects}
+
+-- ---- names and literals
+
+-- what is not there yet
+abbrev pub left_out : {A : Type 0} → ℕ → Plan A
+left_out line = refuse line refusals.LeftOut []
+
+abbrev pub known : ℕ → List ℕ → Option Data → Plan Data
+known line name (Some d) = give d
+known line name None = refuse line refusals.UndefinedName name
+
+-- the value of a variable that definition files set
+abbrev pub set_variable : ℕ → List ℕ → Plan Data
+set_variable line name = do
+  facts ← deed read
+  known line name (facts.variables name)
+
+abbrev pub variable_by : Bool → ℕ → List ℕ → Plan Data
+variable_by true line name = left_out line
+variable_by false line name = set_variable line name
+
+-- A name: the value of the variable. Those that stand for things of the run are left out so far.
+abbrev pub variable : ℕ → List ℕ → Plan Data
+variable line name = variable_by (is_predefined name) line name
+
+-- a number, where it is in the range of integers
+abbrev pub number : ℕ → Result Data OperationRefusal
+number n = if nat_lt n (2 ^ 127) then Ok (integer (pos n)) else Err operation.Range
+
+-- A literal: `true`, a number, or a string with or without escapes.
+abbrev pub literal_value : ℕ → Literal → List ℕ → Plan Data
+literal_value line literals.True t = give (boolean true)
+literal_value line literals.False t = give (boolean false)
+literal_value line literals.Number t = answered line (number (magnitude t))
+literal_value line literals.String t = answered line (within (text (text_of kinds.String t)))
+literal_value line literals.RawString t = answered line (within (text (text_of kinds.RawString t)))
+literal_value line literals.FormatString t = left_out line
+literal_value line literals.RawFormatString t = left_out line
+
+-- ---- operators
+
+-- what an operator of a chain does
+abbrev pub meaning_of : Operator → Meaning
+meaning_of operators.Or = Connects Or
+meaning_of operators.And = Connects And
+meaning_of operators.Equal = Combines binaries.Equal
+meaning_of operators.NotEqual = Combines binaries.NotEqual
+meaning_of operators.Less = Combines binaries.Less
+meaning_of operators.LessOrEqual = Combines binaries.LessOrEqual
+meaning_of operators.Greater = Combines binaries.Greater
+meaning_of operators.GreaterOrEqual = Combines binaries.GreaterOrEqual
+meaning_of operators.In = Combines binaries.In
+meaning_of operators.NotIn = Combines binaries.NotIn
+meaning_of operators.Add = Combines binaries.Add
+meaning_of operators.Subtract = Combines binaries.Subtract
+meaning_of operators.Multiply = Combines binaries.Multiply
+meaning_of operators.Divide = Combines binaries.Divide
+meaning_of operators.Remainder = Combines binaries.Remainder
+
+-- the left side is the whole, or else the right side decides
+abbrev pub unless_decided : ℕ → Option Data → Plan Data → Plan Data
+unless_decided line (Some d) right = give d
+unless_decided line None right = do
+  e ← right
+  answered line (right_answer e)
+
+-- an operator between a value and what is still to be evaluated
+abbrev pub combined : ℕ → Meaning → Data → Plan Data → Plan Data
+combined line (Combines operator) d right = do
+  e ← right
+  answered line (binary_answer operator d e)
+combined line (Connects connective) d right = do
+  whole ← answered line (left_answer connective d)
+  unless_decided line whole right
+
+abbrev pub unary_of : Prefix → Unary
+unary_of prefixes.Not = Not
+unary_of prefixes.Negative = Negate
+
+-- a condition that is no boolean, by whether it is a disabler
+abbrev pub unchosen : ℕ → Bool → Plan Data
+unchosen line true = give disabler
+unchosen line false = refuse line refusals.Type []
+
+-- A ternary, by the boolean that its condition is and whether that is a disabler.
+abbrev pub chosen : ℕ → Option Bool → Bool → Plan Data → Plan Data → Plan Data
+chosen line (Some true) disabled one other = one
+chosen line (Some false) disabled one other = other
+chosen line None disabled one other = unchosen line disabled
+
+-- ---- calls
+
+-- a call that gives nothing is no expression
+abbrev pub needed : ℕ → Option Data → Plan Data
+needed line (Some d) = give d
+needed line None = refuse line refusals.Type []
+
+abbrev pub refused_name : {A : Type 0} → ℕ → List ℕ → Bool → Plan A
+refused_name line name true = left_out line
+refused_name line name false = refuse line refusals.UnknownFunction name
+
+abbrev pub known_function : ℕ → List ℕ → Option Function → Plan Function
+known_function line name (Some f) = give f
+known_function line name None = refused_name line name (is_left_out name)
+
+-- the function of a name
+abbrev pub function_at : ℕ → List ℕ → Plan Function
+function_at line name = known_function line name (function_named name)
+
+-- before `project` was called, that is in its own arguments, only these are
+abbrev pub may_come_first : Function → Bool
+may_come_first functions.Disabler = true
+may_come_first functions.SubdirDone = true
+may_come_first f = false
+
+abbrev pub allowed : ℕ → Bool → Plan (Unit {0})
+allowed line true = give tt
+allowed line false = refuse line refusals.ProjectCall []
+
+-- the function of a call that is a part of an expression
+abbrev pub function_inside : ℕ → List ℕ → Plan Function
+function_inside line name = do
+  f ← function_at line name
+  facts ← deed read
+  _ ← allowed line (facts.is_begun || may_come_first f)
+  give f
+
+-- a disabler among the arguments turns the call off
+abbrev pub called_by : Bool → ℕ → Function → ArgumentsData → Plan (Option Data)
+called_by true line f a = give (Some disabler)
+called_by false line f a = do
+  _ ← at line
+  deed (call f a)
+
+-- a function on its evaluated arguments
+abbrev pub called : ℕ → Function → ArgumentsData → Plan (Option Data)
+called line f a = called_by (is_turned_off f a) line f a
+
+-- ---- methods
+
+abbrev pub are_none : List Data → List (List ℕ × Data) → Bool
+are_none [] [] = true
+are_none _ _ = false
+
+abbrev pub is_empty : ArgumentsData → Bool
+is_empty a = are_none a.positional a.named
+
+-- a method of a disabler: `found()` is false, and anything else is a disabler
+abbrev pub disabler_method : List ℕ → ArgumentsData → Data
+disabler_method name a = if bytes_eq name (codes "found") && is_empty a then boolean false else disabler
+
+-- what a test of arguments answers, or its refusal at a line
+abbrev pub fitted : ℕ → Result (Unit {0}) Refusal → Plan (Unit {0})
+fitted line (Ok u) = give tt
+fitted line (Err refusal) = refuse line refusal []
+
+abbrev pub known_method : ℕ → List ℕ → Bool → Plan (Unit {0})
+known_method line name true = give tt
+known_method line name false = refuse line refusals.UnknownFunction name
+
+abbrev pub method_at_by : Bool → Bool → Bool → ℕ → List ℕ → Plan (Unit {0})
+method_at_by true other has line name = give tt
+method_at_by false true has line name = left_out line
+method_at_by false false has line name = known_method line name has
+
+-- whether a receiver has a method of a name; a disabler has all, and those of other objects are left out so far
+abbrev pub method_at : ℕ → Data → List ℕ → Plan (Unit {0})
+method_at line d name = method_at_by (is_disabler d) (is_some (object_in d)) (has_name d name) line name
+
+-- a method of a value that is no object, by whether a disabler is among the arguments
+abbrev pub method_by : Bool → ℕ → Data → List ℕ → ArgumentsData → Plan Data
+method_by true line d name a = give disabler
+method_by false line d name a = do
+  _ ← fitted line (checked any_values a)
+  answered line (method_answer d name a.positional)
+
+abbrev pub method_called_by : Bool → ℕ → Data → List ℕ → ArgumentsData → Plan Data
+method_called_by true line d name a = give (disabler_method name a)
+method_called_by false line d name a = method_by (gives_disabler a) line d name a
+
+-- a method of a receiver on its evaluated arguments
+abbrev pub method_called : ℕ → Data → List ℕ → ArgumentsData → Plan Data
+method_called line d name a = method_called_by (is_disabler d) line d name a
+
+-- a method of a receiver, whose arguments are evaluated so
+abbrev pub method_of : ℕ → Data → List ℕ → Plan ArgumentsData → Plan Data
+method_of line d name evaluated = do
+  _ ← method_at line d name
+  a ← evaluated
+  method_called line d name a
+
+-- ---- expressions
+
+abbrev mutual
+  pub value_of : ExpressionTree → Plan Data
+  value_of (NameTree name line) = variable line name
+  value_of (LiteralTree literal t line) = literal_value line literal t
+  value_of (ListTree es line) = do
+    ds ← values_of no_items es
+    answered line (within (list ds))
+  value_of (DictionaryTree es line) = do
+    ps ← entries_of [] es
+    answered line (literal_answer ps)
+  value_of (FunctionTree name es line) = do
+    f ← function_inside line name
+    a ← arguments_of no_arguments es
+    d ← called line f a
+    needed line d
+  value_of (PostfixTree first ls line) = do
+    d ← ruled (value_of first)
+    links_of line d ls
+  value_of (PrefixTree prefix value line) = do
+    d ← ruled (value_of value)
+    answered line (unary_answer (unary_of prefix) d)
+  value_of (ChainTree first others line) = do
+    d ← ruled (value_of first)
+    chain_of line d others
+  value_of (TernaryTree test one other line) = do
+    d ← ruled (value_of test)
+    chosen line (boolean_in d) (is_disabler d) (ruled (value_of one)) (ruled (value_of other))
+
+  -- the items so far, and those of the rest
+  pub values_of : Items → ExpressionTrees → Plan Items
+  values_of ds NoExpression = give ds
+  values_of ds (MoreExpressions e es) = do
+    d ← ruled (value_of e)
+    values_of (items_append ds (item d no_items)) es
+
+  pub entries_of : List (Data × Data) → EntryTrees → Plan (List (Data × Data))
+  entries_of ps NoEntry = give ps
+  entries_of ps (MoreEntries key value es) = do
+    k ← ruled (value_of key)
+    d ← ruled (value_of value)
+    entries_of (ps ++ (k, d) ∷ []) es
+
+  pub arguments_of : ArgumentsData → ArgumentTrees → Plan ArgumentsData
+  arguments_of a NoArgument = give a
+  arguments_of a (MoreArguments name e es) = do
+    d ← ruled (value_of e)
+    arguments_of (with_argument a name d) es
+
+  -- what is asked of a value in turn: methods and indexes
+  pub links_of : ℕ → Data → LinkTrees → Plan Data
+  links_of line d NoLink = give d
+  links_of line d (MoreLinks l ls) = do
+    e ← link_of line d l
+    links_of line e ls
+
+  pub link_of : ℕ → Data → LinkTree → Plan Data
+  link_of line d (MethodTree name es) = method_of line d name (arguments_of no_arguments es)
+  link_of line d (IndexTree index) = do
+    i ← ruled (value_of index)
+    answered line (index_answer d i)
+
+  -- a chain of operators, with the value so far
+  pub chain_of : ℕ → Data → OperandTrees → Plan Data
+  chain_of line d NoOperand = give d
+  chain_of line d (MoreOperands operator e es) = do
+    x ← combined line (meaning_of operator) d (ruled (value_of e))
+    chain_of line x es

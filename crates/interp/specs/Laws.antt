@@ -1,0 +1,23 @@
+-- What holds of every evaluation.
+use Rattle.std.specs.Prelude.{◌≡◌, ℕ, ◌≤◌, List}
+use Rattle.world.specs.Deed.{Files}
+use Rattle.world.specs.Look.{Agree}
+use Rattle.world.specs.Plan.{carry}
+use Rattle.world.specs.Run.{marks_of, world_after}
+use Rattle.world.specs.Settings.{SettingsData}
+use Rattle.world.specs.Start.{first_world}
+use Rattle.world.specs.Trace.{ends_of}
+use Rattle.interp.specs.Cost.{tree_cost}
+use Rattle.interp.specs.Evaluation.{evaluation}
+
+-- Of any two trees of files that agree on the paths looked at by the evaluation of the first, both evaluations are equal: in outcome, in
+-- the world after it, and in the marks.
+abbrev pub DependsOnLooked : Type 0
+DependsOnLooked = (f g : Files) (settings : SettingsData) (machine : List ℕ)
+    → Agree f g (world_after (carry f (evaluation machine) (first_world settings))).looked
+    → carry g (evaluation machine) (first_world settings) ≡ carry f (evaluation machine) (first_world settings)
+
+-- an evaluation ends no more rules than its tree of files costs
+abbrev pub StepsWithinCost : Type 0
+StepsWithinCost = (files : Files) (settings : SettingsData) (machine : List ℕ)
+    → ends_of (marks_of (carry files (evaluation machine) (first_world settings))) ≤ tree_cost files

@@ -1,0 +1,13 @@
+pub mod Acting
+pub mod Blocks
+pub mod Conditions
+pub mod Cost
+pub mod Evaluates
+pub mod Evaluation
+pub mod Expressions
+pub mod Files
+pub mod Folders
+pub mod Laws
+pub mod Parts
+pub mod Rounds
+pub mod Statements

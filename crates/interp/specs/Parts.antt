@@ -1,0 +1,27 @@
+-- How far the parts of nodes reach: a number above those of all parts. Evaluation goes down by it.
+use Rattle.std.specs.Prelude.{ℕ, suc, max, List, [], ◌∷◌}
+use Rattle.code.specs.declared.node.EntryNode.{EntryNode}
+use Rattle.code.specs.declared.node.ArgumentNode.{ArgumentNode}
+use Rattle.code.specs.declared.node.OperandNode.{OperandNode}
+use Rattle.code.specs.declared.node.LinkNode.{LinkNode}
+use Rattle.code.specs.declared.node.LinkNode.TheVariants.{Method, Index}
+
+abbrev pub above : {X : Type 0} → (X → ℕ) → List X → ℕ
+above f [] = 0
+above f (x ∷ xs) = max (f x) (above f xs)
+
+abbrev pub above_number : ℕ → ℕ
+above_number i = suc i
+
+abbrev pub above_entry : EntryNode → ℕ
+above_entry e = max (suc e.key) (suc e.value)
+
+abbrev pub above_argument : ArgumentNode → ℕ
+above_argument a = suc a.value
+
+abbrev pub above_operand : OperandNode → ℕ
+above_operand o = suc o.value
+
+abbrev pub above_link : LinkNode → ℕ
+above_link (Method name items) = above above_argument items.items
+above_link (Index i) = suc i

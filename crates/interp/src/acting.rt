@@ -1,0 +1,155 @@
+//! Calls that are statements.
+ghost use Rattle.std.specs.Prelude.{◌≡◌, ◌≤◌, ℕ, IfOk, length, map};
+ghost use Rattle.arguments.specs.Arguments.{arguments_data};
+ghost use Rattle.code.specs.Nodes.{argument_at};
+ghost use Rattle.grammar.specs.ExpressionTree.{arguments as argument_trees};
+ghost use Rattle.world.specs.Gives.{failures_after};
+ghost use Rattle.interp.specs.Acting.{acted, acted_by, action_of, entered_by, entering, is_wanted, leaving, performed, way_view};
+ghost use Rattle.interp.specs.declared.acting.Action.TheVariants.{Call};
+ghost use Rattle.interp.specs.Parts.{above, above_argument};
+
+use crate::evaluator::Evaluator;
+use crate::flow::Flow;
+use arguments::{Arguments, are_found, check, gives_disabler};
+use calls::{Function, row};
+use code::Code;
+use code::node::ArgumentNode;
+use ports::{Outputs, Tree};
+use std::alloc::{AllocError, Global};
+use std::sync::ledger::Ledger;
+use world::Stop;
+
+/// What a function does as a statement.
+#[derive(Clone, Copy)]
+pub enum Action {
+    /// It is called, and what it gives is let go.
+    Call,
+    /// It enters a folder.
+    Enter,
+    /// It leaves the file.
+    Leave,
+}
+
+/// How a call that is a statement goes on.
+#[derive(Drop)]
+pub enum Way {
+    /// The statement has ended.
+    Ends(Flow),
+    /// The folder that this text names is entered.
+    Enters(String),
+}
+
+/// What a function does as a statement.
+pub fn action_of(function: Function) -> Action
+    ensures { result ≡ action_of function }
+{
+    match function {
+        Function::Subdir => Action::Enter,
+        Function::SubdirDone => Action::Leave,
+        _ => Action::Call,
+    }
+}
+
+// Whether all dependencies of `if_found` are found.
+fn is_wanted(arguments: &Arguments) -> bool
+    ensures { result ≡ is_wanted (arguments_data arguments.now) }
+{
+    match arguments.keyword("if_found") {
+        Some(value) => are_found(value),
+        None => true,
+    }
+}
+
+// The folder of a call of `subdir`, where it is wanted.
+fn entered(alloc: Global, arguments: &Arguments) -> Result<Way, AllocError>
+    ensures { IfOk result (λ way. way_view way ≡ entered_by (is_wanted (arguments_data arguments.now)) (arguments_data arguments.now)) }
+{
+    if is_wanted(arguments) {
+        Ok(Way::Enters(String::from_str(alloc, arguments.text_at(0))?))
+    } else {
+        Ok(Way::Ends(Flow::Next))
+    }
+}
+
+impl<'a, T: Tree, O: Outputs, L: Ledger> Evaluator<'a, T, O, L> {
+    ghost use Rattle.interp.specs.Evaluates.{Answers, Evaluates, Fails, HasRoom, Same};
+
+    // `subdir`, up to its folder.
+    fn subdir(&mut self, line: usize, arguments: &Arguments) -> Result<Way, Stop>
+        ensures same { Same self.old self.new }
+        ensures device { Fails T.seen O.seen self.old result self.new }
+        ensures gives { Answers T.seen O.seen way_view (entering line (arguments_data arguments.now)) self.old result self.new }
+    {
+        if gives_disabler(arguments) {
+            return Ok(Way::Ends(Flow::Next));
+        }
+        let fits = check(self.alloc, &row(Function::Subdir), arguments)?;
+        self.fitted(line, fits)?;
+        self.store.at(line);
+        Ok(entered(self.alloc, arguments)?)
+    }
+
+    // `subdir_done`
+    fn subdir_done(&self, line: usize, arguments: &Arguments) -> Result<Way, Stop>
+        ensures gives { Answers T.seen O.seen way_view (leaving line (arguments_data arguments.now)) self.now result self.now }
+        ensures quiet { (n : ℕ) → failures_after n result ≡ n }
+    {
+        if gives_disabler(arguments) {
+            return Ok(Way::Ends(Flow::Next));
+        }
+        let fits = check(self.alloc, &row(Function::SubdirDone), arguments)?;
+        self.fitted(line, fits)?;
+        Ok(Way::Ends(Flow::Finished))
+    }
+
+    // A function whose value, where it gives one, is let go.
+    fn call_alone(
+        &mut self,
+        line: usize,
+        function: Function,
+        arguments: &Arguments,
+    ) -> Result<Way, Stop>
+        requires room { HasRoom T.seen O.seen self.old }
+        ensures same { Same self.old self.new }
+        ensures device { Fails T.seen O.seen self.old result self.new }
+        ensures gives { Answers T.seen O.seen way_view (acted_by Call line function (arguments_data arguments.now))
+            self.old result self.new }
+    {
+        self.called(line, function, arguments)?;
+        Ok(Way::Ends(Flow::Next))
+    }
+
+    // A function as a statement, on its evaluated arguments.
+    fn acted(&mut self, line: usize, function: Function, arguments: &Arguments) -> Result<Way, Stop>
+        requires room { HasRoom T.seen O.seen self.old }
+        ensures same { Same self.old self.new }
+        ensures device { Fails T.seen O.seen self.old result self.new }
+        ensures gives { Answers T.seen O.seen way_view (acted line function (arguments_data arguments.now)) self.old result self.new }
+    {
+        match action_of(function) {
+            Action::Enter => self.subdir(line, arguments),
+            Action::Leave => self.subdir_done(line, arguments),
+            Action::Call => self.call_alone(line, function, arguments),
+        }
+    }
+
+    /// A call that is a statement, up to the folder that it enters.
+    pub fn perform(
+        &mut self,
+        code: &Code,
+        line: usize,
+        name: &str,
+        arguments: &[ArgumentNode],
+    ) -> Result<Way, Stop>
+        requires here { above above_argument arguments.now ≤ length code.now.nodes.items }
+        requires room { HasRoom T.seen O.seen self.old }
+        ensures same { Same self.old self.new }
+        ensures device { Fails T.seen O.seen self.old result self.new }
+        ensures gives { Evaluates T.seen O.seen way_view (λ ts. performed line name.now (argument_trees
+            (map (argument_at ts) arguments.now))) code.now self.old result self.new }
+    {
+        let function = self.function_at(line, name)?;
+        let arguments = self.arguments(code, arguments)?;
+        self.acted(line, function, &arguments)
+    }
+}

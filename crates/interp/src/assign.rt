@@ -1,0 +1,161 @@
+//! Variables that take values.
+ghost use Rattle.std.specs.Prelude.{◌≡◌, ◌<◌, ℕ, IsTrue, Some, length, nat_lt, option_map};
+ghost use Rattle.code.specs.Nodes.{tree_at};
+ghost use Rattle.code.specs.Statements.{name_at, second_within};
+ghost use Rattle.data.specs.View.{data_of};
+ghost use Rattle.world.specs.Plan.{ruled};
+ghost use Rattle.interp.specs.Expressions.{value_of};
+ghost use Rattle.interp.specs.Rounds.{round_data};
+ghost use Rattle.interp.specs.Statements.{added, appended, assigned, bound, summed};
+
+use crate::evaluator::Evaluator;
+use crate::loops::Round;
+use calls::is_predefined;
+use code::Code;
+use data::Value;
+use faults::Refusal;
+use operators::{Binary, binary};
+use ports::{Outputs, Tree};
+use std::sync::ledger::Ledger;
+use world::Stop;
+
+impl<'a, T: Tree, O: Outputs, L: Ledger> Evaluator<'a, T, O, L> {
+    ghost use Rattle.interp.specs.Evaluates.{Answers, Evaluates, Fails, HasRoom, Same};
+
+    // The variable of a name takes a value, unless the name stands for a thing of the run.
+    fn set(&mut self, line: usize, name: &str, value: Value) -> Result<(), Stop>
+        ensures same { Same self.old self.new }
+        ensures device { Fails T.seen O.seen self.old result self.new }
+        ensures gives { Answers T.seen O.seen (λ u. u) (assigned line name.now (data_of value)) self.old result self.new }
+    {
+        if is_predefined(name) {
+            return self.refuse(line, Refusal::Arguments, "");
+        }
+        self.store.set(name, value)?;
+        Ok(())
+    }
+
+    /// The variable of a number takes a value: error 11 where its name stands for a thing of the run.
+    pub fn assign(&mut self, line: usize, number: usize, value: Value) -> Result<(), Stop>
+        ensures same { Same self.old self.new }
+        ensures device { Fails T.seen O.seen self.old result self.new }
+        ensures gives { number < length self.old.store.now.names → Answers T.seen O.seen
+            (λ u. u) (assigned line (name_at self.old.store.now.names number) (data_of value)) self.old result self.new }
+    {
+        let name = String::from_str(self.alloc, self.store.name(number))?;
+        self.set(line, &name, value)
+    }
+
+    /// The variables of a round take their values: the first, and the second where there is one.
+    pub fn bind(
+        &mut self,
+        line: usize,
+        first: usize,
+        second: Option<usize>,
+        round: Round,
+    ) -> Result<(), Stop>
+        ensures same { Same self.old self.new }
+        ensures device { Fails T.seen O.seen self.old result self.new }
+        ensures gives { first < length self.old.store.now.names → IsTrue (second_within (length self.old.store.now.names) second)
+            → Answers T.seen O.seen (λ u. u) (bound line (name_at self.old.store.now.names first) (option_map
+            (name_at self.old.store.now.names) second) (round_data round)) self.old result self.new }
+    {
+        match second {
+            Some(second) => self.bind_pair(line, first, second, round),
+            None => self.assign(line, first, round.first),
+        }
+    }
+
+    // The same with two names.
+    fn bind_pair(
+        &mut self,
+        line: usize,
+        first: usize,
+        second: usize,
+        round: Round,
+    ) -> Result<(), Stop>
+        ensures same { Same self.old self.new }
+        ensures device { Fails T.seen O.seen self.old result self.new }
+        ensures gives { first < length self.old.store.now.names → IsTrue (nat_lt second (length self.old.store.now.names))
+            → Answers T.seen O.seen (λ u. u) (bound line (name_at self.old.store.now.names first) (Some
+            (name_at self.old.store.now.names second)) (round_data round)) self.old result self.new }
+    {
+        let Round {
+            first: key,
+            second: value,
+        } = round;
+        match value {
+            Some(value) => self.assign_both(line, (first, key), (second, value)),
+            None => self.assign(line, first, key),
+        }
+    }
+
+    // Two variables take their values.
+    fn assign_both(
+        &mut self,
+        line: usize,
+        one: (usize, Value),
+        other: (usize, Value),
+    ) -> Result<(), Stop>
+        ensures same { Same self.old self.new }
+        ensures device { Fails T.seen O.seen self.old result self.new }
+        ensures gives { one.0 < length self.old.store.now.names → IsTrue (nat_lt other.0 (length self.old.store.now.names))
+            → Answers T.seen O.seen (λ u. u) (bound line (name_at self.old.store.now.names one.0) (Some
+            (name_at self.old.store.now.names other.0)) (data_of one.1, Some (data_of other.1))) self.old result self.new }
+    {
+        self.assign(line, one.0, one.1)?;
+        let answer = self.assign(line, other.0, other.1);
+        answer
+    }
+
+    /// The variable of a number takes the sum of what it has and the value of an expression.
+    pub fn append(
+        &mut self,
+        code: &Code,
+        number: usize,
+        line: usize,
+        value: usize,
+    ) -> Result<(), Stop>
+        requires here { value < length code.now.nodes.items }
+        requires room { HasRoom T.seen O.seen self.old }
+        ensures same { Same self.old self.new }
+        ensures device { Fails T.seen O.seen self.old result self.new }
+        ensures gives { number < length self.old.store.now.names → Evaluates T.seen O.seen (λ u. u) (λ ts. appended line
+            (name_at self.old.store.now.names number) (ruled (value_of (tree_at ts value)))) code.now self.old result self.new }
+    {
+        let name = String::from_str(self.alloc, self.store.name(number))?;
+        let _ = self.variable(number, line)?;
+        let right = self.eval(code, value)?;
+        self.add(line, &name, right)
+    }
+
+    // The variable of a name takes the sum of what it has and a value. Its value is taken out of it first: what nobody else holds grows
+    // in place.
+    fn add(&mut self, line: usize, name: &str, right: Value) -> Result<(), Stop>
+        ensures same { Same self.old self.new }
+        ensures device { Fails T.seen O.seen self.old result self.new }
+        ensures gives { Answers T.seen O.seen (λ u. u) (summed line name.now (data_of right)) self.old result self.new }
+    {
+        if is_predefined(name) {
+            return self.left_out(line);
+        }
+        match self.store.find(name)? {
+            Some(left) => {
+                self.store.unset(name);
+                self.sum(line, name, left, right)
+            }
+            None => self.refuse(line, Refusal::UndefinedName, name),
+        }
+    }
+
+    // The variable of a name takes the sum of two values.
+    fn sum(&mut self, line: usize, name: &str, left: Value, right: Value) -> Result<(), Stop>
+        ensures same { Same self.old self.new }
+        ensures device { Fails T.seen O.seen self.old result self.new }
+        ensures gives { Answers T.seen O.seen (λ u. u) (added line name.now (data_of left) (data_of right)) self.old result self.new }
+    {
+        let answer = binary(self.alloc, Binary::Add, left, right)?;
+        let sum = self.answered(line, answer)?;
+        self.set(line, name, sum)
+    }
+}

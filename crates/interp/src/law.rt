@@ -1,0 +1,12 @@
+//! What holds of every evaluation.
+ghost use Rattle.interp.specs.Laws.{DependsOnLooked, StepsWithinCost};
+
+/// Of any two trees of files that agree on the paths looked at by the evaluation of the first, both evaluations are equal.
+pub fn depends_on_looked()
+    ensures { DependsOnLooked }
+{}
+
+/// An evaluation ends no more rules than its tree of files costs.
+pub fn steps_within_cost()
+    ensures { StepsWithinCost }
+{}

@@ -1,0 +1,19 @@
+//! What definition files do.
+#![tactic(auto)]
+
+mod acting;
+mod assign;
+mod block;
+mod conditions;
+mod evaluator;
+mod expressions;
+mod flow;
+mod law;
+mod list;
+mod literals;
+mod loops;
+mod meaning;
+mod names;
+
+pub use evaluator::Evaluator;
+pub use law::{depends_on_looked, steps_within_cost};

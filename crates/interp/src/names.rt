@@ -1,0 +1,205 @@
+//! Names: of variables, of functions and of methods.
+ghost use Rattle.std.specs.Prelude.{◌≡◌, ◌<◌, ◌||◌, ◌&&◌, ℕ, IfOk, [], false, codes, bytes_eq, length, option_map, slice_index_or};
+ghost use Rattle.arguments.specs.Arguments.{arguments_data};
+ghost use Rattle.calls.specs.Functions.{is_turned_off};
+ghost use Rattle.data.specs.View.{data_of};
+ghost use Rattle.world.specs.Gives.{failures_after};
+ghost use Rattle.interp.specs.Expressions.{called, called_by, disabler_method, function_at, function_inside, may_come_first, method_at, method_by, method_called, variable};
+
+use crate::evaluator::Evaluator;
+use arguments::{Arguments, check, gives_disabler};
+use calls::{
+    Function, any_values, call, function_named, is_left_out, is_predefined, is_turned_off,
+};
+use data::{Object, Value};
+use faults::Refusal;
+use methods::{has_method, method};
+use ports::{Outputs, Tree};
+use std::alloc::{AllocError, Global};
+use std::sync::ledger::Ledger;
+use world::{Caller, Stop};
+
+// Whether a function may be called in the arguments of `project`.
+fn may_come_first(function: Function) -> bool
+    ensures { result ≡ Rattle.interp.specs.Expressions.may_come_first function }
+{
+    matches!(function, Function::Disabler | Function::SubdirDone)
+}
+
+fn is_empty(arguments: &Arguments) -> bool
+    ensures { result ≡ Rattle.interp.specs.Expressions.is_empty (arguments_data arguments.now) }
+{
+    match (arguments.positional.as_slice(), arguments.named.as_slice()) {
+        ([], []) => true,
+        _ => false,
+    }
+}
+
+// A method of a disabler: `found()` is false, and anything else is a disabler.
+fn disabler_method(alloc: Global, name: &str, arguments: &Arguments) -> Result<Value, AllocError>
+    ensures { IfOk result (λ v. data_of v ≡ disabler_method name.now (arguments_data arguments.now)) }
+{
+    if name == "found" && is_empty(arguments) {
+        Ok(Value::Boolean(false))
+    } else {
+        Value::of_object(alloc, Object::Disabler)
+    }
+}
+
+impl<'a, T: Tree, O: Outputs, L: Ledger> Evaluator<'a, T, O, L> {
+    ghost use Rattle.interp.specs.Evaluates.{Answers, Fails, HasRoom, Same};
+
+    // The value of the variable of a number.
+    pub fn variable(&self, number: usize, line: usize) -> Result<Value, Stop>
+        ensures gives { number < length self.now.store.now.names
+            → Answers T.seen O.seen data_of (variable line (slice_index_or self.now.store.now.names number [])) self.now result self.now }
+        ensures quiet { (n : ℕ) → failures_after n result ≡ n }
+    {
+        let name = self.store.name(number);
+        if is_predefined(name) {
+            return self.left_out(line);
+        }
+        let value = self.store.value(number)?;
+        match value {
+            Some(value) => Ok(value),
+            None => self.refuse(line, Refusal::UndefinedName, name),
+        }
+    }
+
+    /// The function of a name.
+    pub fn function_at(&self, line: usize, name: &str) -> Result<Function, Stop>
+        ensures gives { Answers T.seen O.seen (λ f. f) (function_at line name.now) self.now result self.now }
+        ensures quiet { (n : ℕ) → failures_after n result ≡ n }
+    {
+        match function_named(name) {
+            Some(function) => Ok(function),
+            None => {
+                if is_left_out(name) {
+                    self.left_out(line)
+                } else {
+                    self.refuse(line, Refusal::UnknownFunction, name)
+                }
+            }
+        }
+    }
+
+    // Whether a function may be called inside of an expression yet.
+    fn is_allowed(&self, function: Function) -> bool
+        ensures { result ≡ (self.now.store.now.is_begun || may_come_first function) }
+    {
+        self.store.is_begun() || may_come_first(function)
+    }
+
+    // The function of a call that is a part of an expression.
+    pub fn function_inside(&self, line: usize, name: &str) -> Result<Function, Stop>
+        ensures gives { Answers T.seen O.seen (λ f. f) (function_inside line name.now) self.now result self.now }
+        ensures quiet { (n : ℕ) → failures_after n result ≡ n }
+    {
+        let function = self.function_at(line, name)?;
+        let is_allowed = self.is_allowed(function);
+        if is_allowed {
+            Ok(function)
+        } else {
+            self.refuse(line, Refusal::ProjectCall, "")
+        }
+    }
+
+    /// A function on its evaluated arguments: it gives a value, or nothing.
+    pub fn called(
+        &mut self,
+        line: usize,
+        function: Function,
+        arguments: &Arguments,
+    ) -> Result<Option<Value>, Stop>
+        requires room { HasRoom T.seen O.seen self.old }
+        ensures same { Same self.old self.new }
+        ensures device { Fails T.seen O.seen self.old result self.new }
+        ensures gives { Answers T.seen O.seen (option_map data_of) (called line function (arguments_data arguments.now))
+            self.old result self.new }
+    {
+        if is_turned_off(function, arguments) {
+            return Ok(Some(Value::of_object(self.alloc, Object::Disabler)?));
+        }
+        self.carry_out(line, function, arguments)
+    }
+
+    // A function on its arguments, at a line.
+    fn carry_out(
+        &mut self,
+        line: usize,
+        function: Function,
+        arguments: &Arguments,
+    ) -> Result<Option<Value>, Stop>
+        requires room { HasRoom T.seen O.seen self.old }
+        ensures same { Same self.old self.new }
+        ensures device { Fails T.seen O.seen self.old result self.new }
+        ensures gives { Answers T.seen O.seen (option_map data_of) (called_by false line function (arguments_data arguments.now))
+            self.old result self.new }
+    {
+        self.store.at(line);
+        let mut caller = Caller {
+            alloc: self.alloc,
+            store: self.store,
+            tree: self.tree,
+            out: self.out,
+        };
+        call(&mut caller, function, arguments)
+    }
+
+    // Refuses a name that no method of a receiver has.
+    pub fn method_at(&self, line: usize, whole: &Value, name: &str) -> Result<(), Stop>
+        ensures gives { Answers T.seen O.seen (λ u. u) (method_at line (data_of whole.now) name.now) self.now result self.now }
+        ensures quiet { (n : ℕ) → failures_after n result ≡ n }
+    {
+        if whole.is_disabler() {
+            return Ok(());
+        }
+        if whole.as_object().is_some() {
+            return self.left_out(line);
+        }
+        if has_method(whole, name) {
+            Ok(())
+        } else {
+            self.refuse(line, Refusal::UnknownFunction, name)
+        }
+    }
+
+    // A method of a receiver on its evaluated arguments.
+    pub fn method_called(
+        &self,
+        line: usize,
+        whole: &Value,
+        name: &str,
+        arguments: &Arguments,
+    ) -> Result<Value, Stop>
+        ensures gives { Answers T.seen O.seen data_of (method_called line (data_of whole.now) name.now (arguments_data arguments.now))
+            self.now result self.now }
+        ensures quiet { (n : ℕ) → failures_after n result ≡ n }
+    {
+        if whole.is_disabler() {
+            return Ok(disabler_method(self.alloc, name, arguments)?);
+        }
+        if gives_disabler(arguments) {
+            return Ok(Value::of_object(self.alloc, Object::Disabler)?);
+        }
+        self.method_value(line, whole, name, arguments)
+    }
+
+    // A method of a value that is no object, without a disabler among the arguments.
+    fn method_value(
+        &self,
+        line: usize,
+        whole: &Value,
+        name: &str,
+        arguments: &Arguments,
+    ) -> Result<Value, Stop>
+        ensures gives { Answers T.seen O.seen data_of (method_by false line (data_of whole.now) name.now (arguments_data arguments.now))
+            self.now result self.now }
+        ensures quiet { (n : ℕ) → failures_after n result ≡ n }
+    {
+        let fits = check(self.alloc, &any_values(), arguments)?;
+        self.fitted(line, fits)?;
+        let answer = method(self.alloc, whole, name, &arguments.positional)?;
+        self.answered(line, answer)
+    }
+}

@@ -1,0 +1,130 @@
+-- What the lines of a machine file say.
+use Rattle.std.specs.Prelude.{ℕ, suc, Bool, false, not, ◌&&◌, List, [], ◌∷◌, ◌++◌, Option, Some, None, Result, Ok, Err, codes}
+use Rattle.std.specs.Prelude.{if◌then◌else◌, bytes_eq}
+use Rattle.std.specs.List.{list_any}
+use Rattle.std.specs.Option.{option_map, option_to_list}
+use Rattle.lexer.specs.Bytes.{equals}
+use Rattle.machine_file.specs.declared.text.Blanks.TheVariants as blanks
+use Rattle.machine_file.specs.Texts.{Parts, trimmed, cut_first, cut_last}
+use Rattle.machine_file.specs.Lines.{Form, Nothing, Header, Pair, form_of}
+use Rattle.machine_file.specs.Values.{Value, Text, value_of}
+use Rattle.machine_file.specs.Sections.{kind_of, knows, cuts_last}
+use Rattle.machine_file.specs.declared.section.SectionKind.{SectionKind}
+use Rattle.machine_file.specs.declared.section.SectionKind.TheVariants as Kinds
+
+-- a key, its value, and the line that gives it
+pub record Entry : Type 0 where
+  pub key : List ℕ
+  pub value : Value
+  pub line : ℕ
+
+-- a section: its name and its entries, in the order of their lines
+pub record Section : Type 0 where
+  pub name : List ℕ
+  pub entries : List Entry
+
+-- a section that further lines may add to, and its line
+pub record Open : Type 0 where
+  pub name : List ℕ
+  pub kind : SectionKind
+  pub line : ℕ
+  pub entries : List Entry
+
+-- what the lines up to some place say: the sections that have ended, and the one that the next line belongs to
+pub record Said : Type 0 where
+  pub ended : List Section
+  pub open_section : Option Open
+
+abbrev pub nothing_said : Said
+nothing_said = record { ended = []; open_section = None }
+
+abbrev pub has_key : List ℕ → List Entry → Bool
+has_key key entries = list_any (λ e. bytes_eq key e.key) entries
+
+abbrev pub has_name : List ℕ → List Section → Bool
+has_name name sections = list_any (λ s. bytes_eq name s.name) sections
+
+-- a dependency that has no version
+abbrev pub lacks_version : SectionKind → List Entry → Bool
+lacks_version Kinds.Dependency entries = not (has_key (codes "version") entries)
+lacks_version _ entries = false
+
+-- a dependency without a version has the version `unknown`, at the line of its section
+abbrev pub default_entries : SectionKind → ℕ → List Entry → List Entry
+default_entries kind line entries =
+    if lacks_version kind entries then record { key = codes "version"; value = Text (codes "unknown"); line = line } ∷ [] else []
+
+-- a section at its end
+abbrev pub closed : Open → Section
+closed o = record { name = o.name; entries = o.entries ++ default_entries o.kind o.line o.entries }
+
+-- all sections, at the end of what was said
+abbrev pub sections_said : Said → List Section
+sections_said s = s.ended ++ option_to_list (option_map closed s.open_section)
+
+-- a section begins on this line; its name has to be one that there is, and new
+abbrev pub with_section : Said → ℕ → List ℕ → Option SectionKind → Option Said
+with_section s line name None = None
+with_section s line name (Some kind) =
+    if has_name name (sections_said s) then None
+    else Some (record {
+      ended = sections_said s;
+      open_section = Some (record { name = name; kind = kind; line = line; entries = [] });
+    })
+
+-- a key and its value, without blanks at their ends, as a section of this kind cuts them
+abbrev pub cut_pair : SectionKind → List ℕ → Option Parts
+cut_pair kind text =
+    option_map (λ parts. (trimmed blanks.All parts.0, trimmed blanks.All parts.1))
+    (if cuts_last kind then cut_last equals text else cut_first equals text)
+
+-- whether a section of this kind with these entries takes this value at this key: it knows the key and its value, and the key is new
+abbrev pub takes : SectionKind → List Entry → List ℕ → Value → Bool
+takes kind entries key v = knows kind key v && not (has_key key entries)
+
+-- the entries of a section of this kind, and one more
+abbrev pub with_value : SectionKind → List Entry → ℕ → List ℕ → Option Value → Option (List Entry)
+with_value kind entries line key None = None
+with_value kind entries line key (Some v) =
+    if takes kind entries key v then Some (entries ++ record { key = key; value = v; line = line } ∷ []) else None
+
+abbrev pub with_parts : SectionKind → List Entry → ℕ → Option Parts → Option (List Entry)
+with_parts kind entries line None = None
+with_parts kind entries line (Some parts) = with_value kind entries line parts.0 (value_of parts.1)
+
+-- the entries of a section of this kind, and the key and value that a line gives
+unfoldable pub with_pair : SectionKind → List Entry → ℕ → List ℕ → Option (List Entry)
+with_pair kind entries line text = with_parts kind entries line (cut_pair kind text)
+
+-- a key and its value on this line; a section has to be open
+abbrev pub in_section : Said → ℕ → List ℕ → Option Open → Option Said
+in_section s line text None = None
+in_section s line text (Some o) =
+    option_map (λ entries. record s { open_section = Some (record o { entries = entries }) }) (with_pair o.kind o.entries line text)
+
+abbrev pub after_form : Said → ℕ → Form → Option Said
+after_form s line Nothing = Some s
+after_form s line (Header name) = with_section s line name (kind_of name)
+after_form s line (Pair text) = in_section s line text s.open_section
+
+-- what is said after one more line, of this number and without blanks at its ends, if it may stand there
+unfoldable pub after : Said → ℕ → List ℕ → Option Said
+after s line text = after_form s line (form_of text)
+
+-- the rest of the lines, or the number of the first one that may not stand where it does
+abbrev pub go_on : (Said → Result Said ℕ) → ℕ → Option Said → Result Said ℕ
+go_on rest line None = Err line
+go_on rest line (Some s) = rest s
+
+-- what is said after these lines, which follow line number n
+unfoldable pub said_from : List (List ℕ) → ℕ → Said → Result Said ℕ
+said_from [] n s = Ok s
+said_from (l ∷ ls) n s = go_on (said_from ls (suc n)) (suc n) (after s (suc n) l)
+
+abbrev pub all_sections : Result Said ℕ → Result (List Section) ℕ
+all_sections (Ok s) = Ok (sections_said s)
+all_sections (Err line) = Err line
+
+-- the sections of a machine file of these lines, or the number of the first line up to which they begin no machine file
+unfoldable pub machine_of : List (List ℕ) → Result (List Section) ℕ
+machine_of ls = all_sections (said_from ls 0 nothing_said)

@@ -1,0 +1,12 @@
+pub mod Texts
+pub mod Lines
+pub mod Numbers
+pub mod Values
+pub mod Sections
+pub mod Fault
+pub mod Files
+pub mod Reads
+pub mod View
+pub mod Answers
+pub mod Lookups
+pub mod Readers

@@ -1,0 +1,25 @@
+//! Why bytes are no machine file.
+
+ghost use Rattle.std.specs.Prelude.{◌≡◌, IfOk};
+ghost use Rattle.faults.specs.View.{fault_view};
+ghost use Rattle.machine_file.specs.Fault.{told};
+
+use faults::{Fault, Refusal};
+use std::alloc::{AllocError, Global};
+
+/// What is wrong with a machine file, and the line, from 1: E1, where the bytes are no UTF-8, or E16, where the lines up to this
+/// one begin no machine file.
+#[derive(Clone, Copy)]
+pub struct MachineFault {
+    pub refusal: Refusal,
+    pub line: usize,
+}
+
+impl MachineFault {
+    /// The fault as a run tells it: its file is `<machine file>`.
+    pub fn told(self, alloc: Global) -> Result<Fault, AllocError>
+        ensures { IfOk result (λ fault. fault_view fault ≡ told self) }
+    {
+        Fault::plain(alloc, "<machine file>", self.line, self.refusal)
+    }
+}

@@ -1,0 +1,189 @@
+//! What a machine file says.
+
+ghost use Rattle.std.specs.Prelude.{◌≡◌, ◌==◌, [], IfOk, length, map, slice_get, string_bytes};
+ghost use Rattle.std.specs.Option.{option_map};
+ghost use Rattle.machine_file.specs.Lookups.{check_key};
+
+use crate::fault::MachineFault;
+use crate::reading::read_lines;
+use crate::value::MachineValue;
+use faults::Refusal;
+use lexer::newlines;
+use std::alloc::{AllocError, Global};
+use tables::{SipMap, new_map};
+
+/// What a key has: a value, and the line, from 1, that gives it.
+#[derive(Drop)]
+pub struct Entry {
+    pub value: MachineValue,
+    pub line: usize,
+}
+
+/// The keys of a section, in the order of their lines.
+#[derive(Drop)]
+pub struct Section {
+    pub(crate) entries: SipMap<String, Entry>,
+}
+
+/// What a machine file says, by section and key.
+#[derive(Drop)]
+pub struct Machine {
+    pub(crate) sections: SipMap<String, Section>,
+}
+
+impl Section {
+    ghost use Rattle.machine_file.specs.Lookups.{entry_at};
+    ghost use Rattle.machine_file.specs.View.{shown_in, entries_of, value_in};
+
+    /// How many keys the section has.
+    pub fn len(&self) -> usize
+        ensures { result ≡ length (entries_of self.now) }
+    {
+        self.entries.len()
+    }
+
+    /// Whether the section has no key.
+    pub fn is_empty(&self) -> bool
+        ensures { result ≡ (length (entries_of self.now) == 0) }
+    {
+        self.entries.is_empty()
+    }
+
+    /// The i-th key, in the order of lines, and what it has. A version that a dependency does not give stands last.
+    pub fn at(&self, i: usize) -> Option<(&str, &Entry)>
+        ensures { option_map shown_in result ≡ slice_get (entries_of self.now) i }
+    {
+        let (key, entry) = self.entries.get_index(i)?;
+        Some((key.as_str(), entry))
+    }
+
+    /// The value that the section has at a key. It takes no memory and never fails.
+    pub fn get(&self, key: &str) -> Option<&MachineValue>
+        ensures { option_map (λ v. value_in v.now) result ≡ option_map (λ e. e.value) (entry_at (entries_of self.now) key.now) }
+    {
+        match self.entries.get(key) {
+            Some(entry) => Some(&entry.value),
+            None => None,
+        }
+    }
+}
+
+impl Machine {
+    ghost use Rattle.std.specs.Prelude.{List, MatchResult};
+    ghost use Rattle.std.specs.Str.{IsUtf8};
+    ghost use Rattle.machine_file.specs.Answers.{Answers};
+    ghost use Rattle.machine_file.specs.Files.{Section as SectionSaid};
+    ghost use Rattle.machine_file.specs.Lines.{file_lines};
+    ghost use Rattle.machine_file.specs.Reads.{AreSections};
+    ghost use Rattle.machine_file.specs.Lookups.{entries_at, value_at, dependency_at, check_at};
+    ghost use Rattle.machine_file.specs.View.{value_in, entries_of, machine_in, shown_section_in};
+
+    /// What no file says: nothing.
+    pub fn empty(alloc: Global) -> Machine
+        ensures { machine_in result ≡ [] }
+    {
+        Machine {
+            sections: new_map(alloc),
+        }
+    }
+
+    /// What these bytes say, or the fault that they have: the Meson manual's page "Machine files", without sections of
+    /// constants and paths, and with sections of this project's own for what Meson asks the machine.
+    pub fn read(alloc: Global, bytes: &[u8]) -> Result<Result<Machine, MachineFault>, AllocError>
+        // The answer is what the lines say, or a fault at its line.
+        ensures answer { IfOk result (Answers bytes.now) }
+
+        // Where the lines are a machine file, its sections are the answer, so they are no other file's.
+        ensures only { (sections : List SectionSaid) → IsUtf8 bytes.now → AreSections (file_lines bytes.now) sections
+            → IfOk result (λ answer. MatchResult answer (λ machine. machine_in machine ≡ sections) (λ _. ⊥)) }
+    {
+        let text = match str::from_utf8(bytes) {
+            Ok(text) => text,
+            Err(error) => {
+                let refusal = Refusal::NotUtf8;
+                let line = newlines(&bytes[..error.valid_up_to()]) + 1;
+                return Ok(Err(MachineFault { refusal, line }));
+            }
+        };
+        match read_lines(alloc, text)? {
+            Ok(machine) => Ok(Ok(machine)),
+            Err(line) => {
+                let refusal = Refusal::MachineFile;
+                Ok(Err(MachineFault { refusal, line }))
+            }
+        }
+    }
+
+    /// How many sections there are.
+    pub fn len(&self) -> usize
+        ensures { result ≡ length (machine_in self.now) }
+    {
+        self.sections.len()
+    }
+
+    /// Whether there is no section.
+    pub fn is_empty(&self) -> bool
+        ensures { result ≡ (length (machine_in self.now) == 0) }
+    {
+        self.sections.is_empty()
+    }
+
+    /// The i-th section, in the order of lines, and its name.
+    pub fn at(&self, i: usize) -> Option<(&str, &Section)>
+        ensures { option_map shown_section_in result ≡ slice_get (machine_in self.now) i }
+    {
+        let (name, section) = self.sections.get_index(i)?;
+        Some((name.as_str(), section))
+    }
+
+    /// The section with this name, as `dependency zlib`.
+    pub fn section(&self, name: &str) -> Option<&Section>
+        ensures { option_map (λ s. entries_of s.now) result ≡ entries_at (machine_in self.now) name.now }
+    {
+        self.sections.get(name)
+    }
+
+    /// The value that a section has at a key. It takes no memory and never fails.
+    pub fn get(&self, section: &str, key: &str) -> Option<&MachineValue>
+        ensures { option_map (λ v. value_in v.now) result ≡ value_at (machine_in self.now) section.now key.now }
+    {
+        let section = self.section(section)?;
+        section.get(key)
+    }
+
+    /// What `[dependency NAME]` says of the dependency of this name, where the section is there.
+    pub fn dependency(&self, alloc: Global, name: &str) -> Result<Option<&Section>, AllocError>
+        ensures { IfOk result (λ s. option_map (λ section. entries_of section.now) s ≡ dependency_at (machine_in self.now) name.now) }
+    {
+        let mut section = String::from_str(alloc, "dependency ")?;
+        section.push_str(name)?;
+        Ok(self.section(section.as_str()))
+    }
+
+    /// What the compiler answers to a check, where the machine file says so: a boolean, or the integer of `sizeof` and
+    /// `alignment`.
+    pub fn check(
+        &self,
+        alloc: Global,
+        method: &str,
+        arguments: &[&str],
+    ) -> Result<Option<&MachineValue>, AllocError>
+        ensures { IfOk result (λ v. option_map (λ value. value_in value.now) v
+            ≡ check_at (machine_in self.now) method.now (map (λ a. a.now) arguments.now)) }
+    {
+        let key = check_key(alloc, method, arguments)?;
+        Ok(self.get("checks", key.as_str()))
+    }
+}
+
+// The key of a check: the method, and each argument behind a space.
+fn check_key(alloc: Global, method: &str, arguments: &[&str]) -> Result<String, AllocError>
+    ensures { IfOk result (λ key. string_bytes key ≡ check_key method.now (map (λ a. a.now) arguments.now)) }
+{
+    let mut key = String::from_str(alloc, method)?;
+    for argument in arguments {
+        key.push_str(" ")?;
+        key.push_str(argument)?;
+    }
+    Ok(key)
+}

@@ -1,0 +1,38 @@
+-- The methods of booleans: the type `bool` of the page "Reference manual".
+use Rattle.std.specs.Prelude.{ℕ, pos, Bool, List, [], ◌∷◌, Option, Some, None, ok_or, codes, bytes_eq, Result, Ok, Err}
+use Rattle.std.specs.Prelude.{if◌then◌else◌}
+use Rattle.data.specs.declared.refusal.Refusal.{Refusal}
+use Rattle.data.specs.declared.refusal.Refusal.TheVariants as refusal
+use Rattle.data.specs.Data.{Data, integer, text}
+use Rattle.methods.specs.declared.booleans.BooleanMethod.{BooleanMethod}
+use Rattle.methods.specs.declared.booleans.BooleanMethod.TheVariants.{ToInt, ToString}
+use Rattle.methods.specs.Steps.{◌>>=◌}
+use Rattle.methods.specs.Arguments.{no_arguments}
+
+-- the method of a name
+abbrev pub named : List ℕ → Option BooleanMethod
+named name =
+    if bytes_eq name (codes "to_int") then Some ToInt
+    else if bytes_eq name (codes "to_string") then Some ToString
+    else None
+
+-- 1 or 0
+abbrev pub to_int : Bool → List Data → Result Data Refusal
+to_int b arguments = do
+  _ ← no_arguments arguments
+  Ok (integer (if b then pos 1 else pos 0))
+
+-- `true` or `false`, or the first or second of two texts
+abbrev pub to_string : Bool → List Data → Result Data Refusal
+to_string b [] = Ok (text (if b then codes "true" else codes "false"))
+to_string b (text first ∷ text second ∷ []) = Ok (text (if b then first else second))
+to_string b arguments = Err refusal.Arguments
+
+abbrev pub call : BooleanMethod → Bool → List Data → Result Data Refusal
+call ToInt b arguments = to_int b arguments
+call ToString b arguments = to_string b arguments
+
+abbrev pub answer : Bool → List ℕ → List Data → Result Data Refusal
+answer b name arguments = do
+  method ← ok_or (named name) refusal.UnknownMethod
+  call method b arguments

@@ -1,0 +1,70 @@
+//! The methods of booleans: the type `bool` of the page "Reference manual".
+
+ghost use Rattle.std.specs.Prelude.{◌≡◌, map};
+ghost use Rattle.data.specs.View.{data_of};
+ghost use Rattle.methods.specs.Steps.{Gives};
+ghost use Rattle.methods.specs.Booleans.{named, to_int, to_string, answer};
+
+use crate::readers::none;
+use crate::stop::Stop;
+use data::{Refusal, Value};
+use std::alloc::Global;
+
+/// A method of booleans.
+#[derive(Clone, Copy)]
+pub enum BooleanMethod {
+    ToInt,
+    ToString,
+}
+
+impl BooleanMethod {
+    /// The method of a name.
+    pub fn named(name: &str) -> Option<BooleanMethod>
+        ensures { result ≡ named name.now }
+    {
+        match name {
+            "to_int" => Some(BooleanMethod::ToInt),
+            "to_string" => Some(BooleanMethod::ToString),
+            _ => None,
+        }
+    }
+}
+
+/// What the method with a name gives for a boolean.
+pub fn boolean_method(
+    alloc: Global,
+    boolean: bool,
+    name: &str,
+    arguments: &[Value],
+) -> Result<Value, Stop>
+    ensures { Gives (answer boolean name.now (map data_of arguments.now)) result }
+{
+    let method = BooleanMethod::named(name).ok_or(Refusal::UnknownMethod)?;
+    match method {
+        BooleanMethod::ToInt => to_int(boolean, arguments),
+        BooleanMethod::ToString => to_string(alloc, boolean, arguments),
+    }
+}
+
+fn to_int(boolean: bool, arguments: &[Value]) -> Result<Value, Stop>
+    ensures { Gives (to_int boolean (map data_of arguments.now)) result }
+{
+    none(arguments)?;
+    Ok(Value::Integer(if boolean { 1 } else { 0 }))
+}
+
+fn to_string(alloc: Global, boolean: bool, arguments: &[Value]) -> Result<Value, Stop>
+    ensures { Gives (to_string boolean (map data_of arguments.now)) result }
+{
+    match arguments {
+        [] => {
+            let word = if boolean { "true" } else { "false" };
+            Ok(Value::of_string(alloc, String::from_str(alloc, word)?)??)
+        }
+        [Value::Text(yes), Value::Text(no)] => {
+            let word = if boolean { yes } else { no };
+            Ok(Value::Text(word.clone()?))
+        }
+        _ => Err(Stop::Refused(Refusal::Arguments)),
+    }
+}

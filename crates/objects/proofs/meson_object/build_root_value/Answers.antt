@@ -1,0 +1,11 @@
+use Rattle.std.proofs.Common.{ap, ◌∙◌}
+use Rattle.data.specs.Data.{text}
+use Rattle.data.specs.Limits.{within}
+use Rattle.world.specs.Store.{world_of}
+use Rattle.objects.specs.Meson.{folder_below}
+use Rattle.objects.specs.Programs.{full_path}
+use Rattle.objects.proofs.Values.{answers_as}
+use Rattle.objects.proofs.meson_object.build_root_value.Goals as goal
+
+pub returns : goal.returns
+returns c = answers_as _ (ap (λ t. within (text t)) c.build_root.ensures) c.text_value.ensures

@@ -1,0 +1,30 @@
+-- The methods of a dependency: the type `dep` of the page "Reference manual".
+use Rattle.std.specs.Prelude.{ℕ, List, Option, Some, None, Result, Ok, Err, codes, bytes_eq, if◌then◌else◌}
+use Rattle.data.specs.Data.{Data, boolean, text}
+use Rattle.data.specs.Limits.{within}
+use Rattle.data.specs.declared.object.Dependency.{Dependency}
+use Rattle.data.specs.declared.refusal.Refusal.{Refusal}
+use Rattle.data.specs.declared.refusal.Refusal.TheVariants as refusal
+use Rattle.objects.specs.declared.dependencies.DependencyMethod.{DependencyMethod}
+use Rattle.objects.specs.declared.dependencies.DependencyMethod.TheVariants.{Found, Name, Version}
+
+-- the method of a name
+abbrev pub named : List ℕ → Option DependencyMethod
+named name =
+    if bytes_eq name (codes "found") then Some Found
+    else if bytes_eq name (codes "name") then Some Name
+    else if bytes_eq name (codes "version") then Some Version
+    else None
+
+-- the version, `unknown` where it is not found
+abbrev pub version_of : Dependency → Result Data Refusal
+version_of d = if d.is_found then Ok (text d.version) else within (text (codes "unknown"))
+
+abbrev pub answer_by : Option DependencyMethod → Dependency → Result Data Refusal
+answer_by None d = Err refusal.UnknownMethod
+answer_by (Some Found) d = Ok (boolean d.is_found)
+answer_by (Some Name) d = Ok (text d.name)
+answer_by (Some Version) d = version_of d
+
+abbrev pub answer : Dependency → List ℕ → Result Data Refusal
+answer d name = answer_by (named name) d

@@ -1,0 +1,53 @@
+-- The methods of the object `meson`: the page of its type in the manual.
+use Rattle.std.specs.Prelude.{ℕ, false, ◌==◌, List, [], length, Option, Some, None, Result, Ok, Err, codes, bytes_eq, if◌then◌else◌}
+use Rattle.arguments.specs.Arguments.{ArgumentsData}
+use Rattle.arguments.specs.Given.{text_at}
+use Rattle.data.specs.Data.{Data, boolean, object, text}
+use Rattle.data.specs.Limits.{within}
+use Rattle.data.specs.declared.object.Object.TheVariants as objects
+use Rattle.data.specs.declared.refusal.Refusal.{Refusal}
+use Rattle.data.specs.declared.refusal.Refusal.TheVariants as refusal
+use Rattle.operators.specs.Texts.{path_below}
+use Rattle.world.specs.World.{Facts}
+use Rattle.objects.specs.declared.meson_object.MesonMethod.{MesonMethod}
+use Rattle.objects.specs.declared.meson_object.MesonMethod.TheVariants as methods
+
+-- the method of a name
+abbrev pub named : List ℕ → Option MesonMethod
+named name =
+    if bytes_eq name (codes "backend") then Some methods.Backend
+    else if bytes_eq name (codes "build_root") then Some methods.BuildRoot
+    else if bytes_eq name (codes "current_build_dir") then Some methods.CurrentBuildDir
+    else if bytes_eq name (codes "current_source_dir") then Some methods.CurrentSourceDir
+    else if bytes_eq name (codes "get_compiler") then Some methods.GetCompiler
+    else if bytes_eq name (codes "is_cross_build") then Some methods.IsCrossBuild
+    else if bytes_eq name (codes "is_subproject") then Some methods.IsSubproject
+    else if bytes_eq name (codes "project_build_root") then Some methods.BuildRoot
+    else if bytes_eq name (codes "project_source_root") then Some methods.SourceRoot
+    else if bytes_eq name (codes "source_root") then Some methods.SourceRoot
+    else if bytes_eq name (codes "version") then Some methods.Version
+    else None
+
+-- a folder of the tree below a root; the root folder is the root itself
+abbrev pub folder_below : List ℕ → List ℕ → List ℕ
+folder_below root folder = if length folder == 0 then root else path_below root folder
+
+-- C is the only language
+abbrev pub compiler_of : List ℕ → Result Data Refusal
+compiler_of language = if bytes_eq language (codes "c") then Ok (object objects.Compiler) else Err refusal.Arguments
+
+-- what a method gives; one that gives a path is refused where that is too long for a text
+abbrev pub answer_by : Option MesonMethod → Facts → ArgumentsData → Result Data Refusal
+answer_by None f a = Err refusal.UnknownMethod
+answer_by (Some methods.Backend) f a = within (text (codes "ninja"))
+answer_by (Some methods.BuildRoot) f a = within (text f.settings.build_root)
+answer_by (Some methods.CurrentBuildDir) f a = within (text (folder_below f.settings.build_root f.folder))
+answer_by (Some methods.CurrentSourceDir) f a = within (text (folder_below f.settings.source_root f.folder))
+answer_by (Some methods.GetCompiler) f a = compiler_of (text_at 0 a)
+answer_by (Some methods.IsCrossBuild) f a = Ok (boolean false)
+answer_by (Some methods.IsSubproject) f a = Ok (boolean false)
+answer_by (Some methods.SourceRoot) f a = within (text f.settings.source_root)
+answer_by (Some methods.Version) f a = within (text (codes "1.3.0"))
+
+abbrev pub answer : Facts → List ℕ → ArgumentsData → Result Data Refusal
+answer f name a = answer_by (named name) f a

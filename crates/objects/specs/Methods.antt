@@ -1,0 +1,43 @@
+-- The methods of objects, by the kind of the receiver.
+use Rattle.std.specs.Prelude.{ℕ, Bool, false, List, Option, Some, is_some, Result, Err}
+use Rattle.arguments.specs.Arguments.{ArgumentsData}
+use Rattle.arguments.specs.Row.{checked}
+use Rattle.data.specs.Data.{Data}
+use Rattle.data.specs.declared.object.Object.{Object}
+use Rattle.data.specs.declared.object.Object.TheVariants as objects
+use Rattle.data.specs.declared.refusal.Refusal.{Refusal}
+use Rattle.data.specs.declared.refusal.Refusal.TheVariants as refusal
+use Rattle.world.specs.Deed.{Deed, give, read, ◌>>=◌, answered, fitting}
+use Rattle.world.specs.World.{Facts}
+use Rattle.objects.specs.Dependencies as dependencies
+use Rattle.objects.specs.Features as features
+use Rattle.objects.specs.Machines as machines
+use Rattle.objects.specs.Meson as meson
+use Rattle.objects.specs.Programs as programs
+use Rattle.objects.specs.Rows.{row_of}
+
+-- whether the kind of an object has a method of a name that is not left out
+abbrev pub has_method : Object → List ℕ → Bool
+has_method (objects.Feature f) name = is_some (features.named name)
+has_method (objects.Dependency d) name = is_some (dependencies.named name)
+has_method (objects.Program p) name = is_some (programs.named name)
+has_method (objects.Machine m) name = is_some (machines.named name)
+has_method objects.Meson name = is_some (meson.named name)
+has_method _ name = false
+
+-- what a method tells of its receiver and the facts of the run
+abbrev pub told_of : Facts → Object → List ℕ → ArgumentsData → Result Data Refusal
+told_of facts (objects.Feature f) name a = features.answer f name
+told_of facts (objects.Dependency d) name a = dependencies.answer d name
+told_of facts (objects.Program p) name a = programs.answer facts.settings.source_root p name
+told_of facts (objects.Machine m) name a = machines.answer m name
+told_of facts objects.Meson name a = meson.answer facts name a
+told_of facts _ name a = Err refusal.UnknownMethod
+
+-- a method of an object on its arguments, which its row looks at first: it gives a value
+unfoldable pub object_method : Object → List ℕ → ArgumentsData → Deed (Option Data)
+object_method o name a = do
+  _ ← fitting (checked (row_of o name) a)
+  facts ← read
+  d ← answered (told_of facts o name a)
+  give (Some d)

@@ -1,0 +1,41 @@
+-- The methods of a program: the type `external_program` of the page "Reference manual".
+use Rattle.std.specs.Prelude.{ℕ, Bool, true, false, List, [], ◌∷◌, Option, Some, None, Result, Ok, Err, codes, bytes_eq, if◌then◌else◌}
+use Rattle.data.specs.Data.{Data, boolean, text}
+use Rattle.data.specs.Limits.{within}
+use Rattle.data.specs.declared.object.Program.{Program}
+use Rattle.data.specs.declared.object.Program.TheVariants as programs
+use Rattle.data.specs.declared.refusal.Refusal.{Refusal}
+use Rattle.data.specs.declared.refusal.Refusal.TheVariants as refusal
+use Rattle.operators.specs.Texts.{path_below}
+use Rattle.objects.specs.declared.programs.ProgramMethod.{ProgramMethod}
+use Rattle.objects.specs.declared.programs.ProgramMethod.TheVariants.{Found, FullPath}
+
+-- the method of a name
+abbrev pub named : List ℕ → Option ProgramMethod
+named name =
+    if bytes_eq name (codes "found") then Some Found
+    else if bytes_eq name (codes "full_path") then Some FullPath
+    else if bytes_eq name (codes "path") then Some FullPath
+    else None
+
+abbrev pub is_found : Program → Bool
+is_found programs.NotFound = false
+is_found p = true
+
+abbrev pub first_word : List (List ℕ) → Result Data Refusal
+first_word [] = Err refusal.Arguments
+first_word (word ∷ words) = Ok (text word)
+
+-- the first word of the machine file, or the absolute path of a file below the source root; E9 where the program is not found
+abbrev pub full_path : List ℕ → Program → Result Data Refusal
+full_path source_root programs.NotFound = Err refusal.Arguments
+full_path source_root (programs.Words words) = first_word words
+full_path source_root (programs.File path) = within (text (path_below source_root path))
+
+abbrev pub answer_by : Option ProgramMethod → List ℕ → Program → Result Data Refusal
+answer_by None source_root p = Err refusal.UnknownMethod
+answer_by (Some Found) source_root p = Ok (boolean (is_found p))
+answer_by (Some FullPath) source_root p = full_path source_root p
+
+abbrev pub answer : List ℕ → Program → List ℕ → Result Data Refusal
+answer source_root p name = answer_by (named name) source_root p

@@ -1,0 +1,135 @@
+//! A method of an object on its arguments.
+ghost use Rattle.std.specs.Prelude.{◌≡◌, IfOk, option_map};
+ghost use Rattle.arguments.specs.Arguments.{arguments_data};
+ghost use Rattle.arguments.specs.Row.{checked};
+ghost use Rattle.arguments.specs.RowView.{row_data};
+ghost use Rattle.data.specs.Tables.{Answers};
+ghost use Rattle.data.specs.View.{data_of};
+ghost use Rattle.world.specs.Answering.{Carries};
+ghost use Rattle.world.specs.Caller.{state_of};
+ghost use Rattle.world.specs.Deed.{fitting};
+ghost use Rattle.objects.specs.Methods.{has_method, object_method, told_of};
+ghost use Rattle.objects.specs.Rows.{no_values, one_text, row_of};
+ghost use Rattle.world.specs.Store.{world_of};
+
+use crate::dependencies::{DependencyMethod, dependency_answer};
+use crate::features::{FeatureMethod, feature_answer};
+use crate::machines::{MachineMethod, machine_answer};
+use crate::meson_object::{MesonMethod, meson_answer};
+use crate::programs::{ProgramMethod, program_answer};
+use arguments::{Arguments, Kind, Row, check};
+use data::{Object, Refusal, Value};
+use ports::{Outputs, Tree};
+use std::alloc::{AllocError, Global};
+use world::{Caller, Stop, Store};
+
+/// Whether the kind of an object has a method of a name that is not left out. It takes no memory.
+pub fn has_object_method(object: &Object, name: &str) -> bool
+    ensures { result ≡ has_method object.now name.now }
+{
+    match object {
+        Object::Feature(_) => FeatureMethod::named(name).is_some(),
+        Object::Dependency(_) => DependencyMethod::named(name).is_some(),
+        Object::Program(_) => ProgramMethod::named(name).is_some(),
+        Object::Machine(_) => MachineMethod::named(name).is_some(),
+        Object::Meson => MesonMethod::named(name).is_some(),
+        _ => false,
+    }
+}
+
+// What a method tells of its receiver and the facts of the run.
+fn told_of(
+    alloc: Global,
+    store: &Store,
+    object: &Object,
+    name: &str,
+    arguments: &Arguments,
+) -> Result<Result<Value, Refusal>, AllocError>
+    ensures { IfOk result (λ r. Answers (told_of (world_of store.now).facts object.now name.now (arguments_data arguments.now)) r) }
+{
+    match object {
+        Object::Feature(feature) => Ok(feature_answer(*feature, name)),
+        Object::Dependency(dependency) => dependency_answer(alloc, dependency, name),
+        Object::Program(program) => program_answer(alloc, store, program, name),
+        Object::Machine(machine) => machine_answer(machine, name),
+        Object::Meson => meson_answer(alloc, store, name, arguments),
+        _ => Ok(Err(Refusal::UnknownMethod)),
+    }
+}
+
+// The row of a method that takes nothing.
+fn no_values() -> Row
+    ensures { row_data result ≡ no_values }
+{
+    Row {
+        positional: &[],
+        needed: 0,
+        others: None,
+        keywords: &[],
+        left_out: &["kwargs", "fallback", "deprecated"],
+    }
+}
+
+fn one_text() -> Row
+    ensures { row_data result ≡ one_text }
+{
+    Row {
+        positional: &[Kind::Text],
+        needed: 1,
+        others: None,
+        keywords: &[],
+        left_out: &["kwargs", "fallback", "deprecated"],
+    }
+}
+
+// The row of a method of `meson`.
+fn meson_row(name: &str) -> Row
+    ensures { row_data result ≡ row_of Object.Meson name.now }
+{
+    if name == "get_compiler" {
+        one_text()
+    } else {
+        no_values()
+    }
+}
+
+// What the method with a name takes.
+fn row_of(object: &Object, name: &str) -> Row
+    ensures { row_data result ≡ row_of object.now name.now }
+{
+    match object {
+        Object::Meson => meson_row(name),
+        _ => no_values(),
+    }
+}
+
+// Refuses arguments that the method does not take.
+fn fit<T: Tree, O: Outputs>(
+    caller: &Caller<'_, T, O>,
+    row: &Row,
+    arguments: &Arguments,
+) -> Result<(), Stop>
+    ensures { Carries (λ u. u) (fitting (checked (row_data row.now) (arguments_data arguments.now)))
+        (state_of T.seen O.seen caller.now) result (state_of T.seen O.seen caller.now) }
+{
+    let answer = check(caller.alloc, row, arguments)?;
+    caller.fitting(answer)
+}
+
+/// A method of an object on its arguments, which its row looks at first: it gives a value, or nothing. The name is one for which
+/// [`has_object_method`] is true; of any other it is E8.
+pub fn object_method<T: Tree, O: Outputs>(
+    caller: &Caller<'_, T, O>,
+    object: &Object,
+    name: &str,
+    arguments: &Arguments,
+) -> Result<Option<Value>, Stop>
+    ensures { Carries (option_map data_of) (object_method object.now name.now (arguments_data arguments.now))
+        (state_of T.seen O.seen caller.now) result (state_of T.seen O.seen caller.now) }
+{
+    let row = row_of(object, name);
+    fit(caller, &row, arguments)?;
+    let answer = told_of(caller.alloc, caller.store, object, name, arguments)?;
+    let value = caller.answered(answer)?;
+    Ok(Some(value))
+}

@@ -1,0 +1,16 @@
+//! The methods of objects: the pages "Reference manual" of their types.
+//!
+//! What a method does is a deed of `specs/`, and its code carries it out on a [`world::Caller`]. A name is looked up before the
+//! arguments are evaluated, by [`has_object_method`] and [`is_left_out_method`].
+#![tactic(auto)]
+
+mod calling;
+mod dependencies;
+mod features;
+mod left;
+mod machines;
+mod meson_object;
+mod programs;
+
+pub use calling::{has_object_method, object_method};
+pub use left::is_left_out_method;

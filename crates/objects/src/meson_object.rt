@@ -1,0 +1,151 @@
+//! The methods of the object `meson`: the page of its type in the manual.
+ghost use Rattle.std.specs.Prelude.{◌≡◌, IfOk, string_bytes};
+ghost use Rattle.arguments.specs.Arguments.{arguments_data};
+ghost use Rattle.data.specs.Data.{text};
+ghost use Rattle.data.specs.Limits.{within};
+ghost use Rattle.data.specs.Tables.{Answers};
+ghost use Rattle.objects.specs.Meson.{answer, compiler_of, folder_below, named};
+ghost use Rattle.world.specs.Store.{world_of};
+
+use arguments::Arguments;
+use data::{Object, Refusal, Value};
+use operators::path_below;
+use std::alloc::{AllocError, Global};
+use world::Store;
+
+/// A method of `meson`.
+#[derive(Clone, Copy)]
+pub enum MesonMethod {
+    Backend,
+    /// `build_root` and `project_build_root`.
+    BuildRoot,
+    CurrentBuildDir,
+    CurrentSourceDir,
+    GetCompiler,
+    IsCrossBuild,
+    IsSubproject,
+    /// `source_root` and `project_source_root`.
+    SourceRoot,
+    Version,
+}
+
+impl MesonMethod {
+    /// The method of a name.
+    pub fn named(name: &str) -> Option<MesonMethod>
+        ensures { result ≡ named name.now }
+    {
+        match name {
+            "backend" => Some(MesonMethod::Backend),
+            "build_root" => Some(MesonMethod::BuildRoot),
+            "current_build_dir" => Some(MesonMethod::CurrentBuildDir),
+            "current_source_dir" => Some(MesonMethod::CurrentSourceDir),
+            "get_compiler" => Some(MesonMethod::GetCompiler),
+            "is_cross_build" => Some(MesonMethod::IsCrossBuild),
+            "is_subproject" => Some(MesonMethod::IsSubproject),
+            "project_build_root" => Some(MesonMethod::BuildRoot),
+            "project_source_root" => Some(MesonMethod::SourceRoot),
+            "source_root" => Some(MesonMethod::SourceRoot),
+            "version" => Some(MesonMethod::Version),
+            _ => None,
+        }
+    }
+}
+
+/// The source root of the run.
+pub fn source_root(store: &Store) -> &str
+    ensures { result.now ≡ (world_of store.now).facts.settings.source_root }
+{
+    store.settings().source_root.as_str()
+}
+
+fn build_root(store: &Store) -> &str
+    ensures { result.now ≡ (world_of store.now).facts.settings.build_root }
+{
+    store.settings().build_root.as_str()
+}
+
+// A folder of the tree below a root.
+fn folder_below(alloc: Global, root: &str, folder: &str) -> Result<String, AllocError>
+    ensures { IfOk result (λ s. string_bytes s ≡ folder_below root.now folder.now) }
+{
+    if folder.is_empty() {
+        String::from_str(alloc, root)
+    } else {
+        path_below(alloc, root, folder)
+    }
+}
+
+fn text_value(alloc: Global, bytes: &str) -> Result<Result<Value, Refusal>, AllocError>
+    ensures { IfOk result (λ r. Answers (within (text bytes.now)) r) }
+{
+    Value::of_string(alloc, String::from_str(alloc, bytes)?)
+}
+
+fn build_root_value(alloc: Global, store: &Store) -> Result<Result<Value, Refusal>, AllocError>
+    ensures { IfOk result (λ r. Answers (within (text (world_of store.now).facts.settings.build_root)) r) }
+{
+    text_value(alloc, build_root(store))
+}
+
+fn source_root_value(alloc: Global, store: &Store) -> Result<Result<Value, Refusal>, AllocError>
+    ensures { IfOk result (λ r. Answers (within (text (world_of store.now).facts.settings.source_root)) r) }
+{
+    text_value(alloc, source_root(store))
+}
+
+// The present folder below the build root.
+fn build_folder(alloc: Global, store: &Store) -> Result<Result<Value, Refusal>, AllocError>
+    ensures { IfOk result (λ r. Answers
+        (within (text (folder_below (world_of store.now).facts.settings.build_root (world_of store.now).facts.folder))) r) }
+{
+    Value::of_string(
+        alloc,
+        folder_below(alloc, build_root(store), store.folder())?,
+    )
+}
+
+// The present folder below the source root.
+fn source_folder(alloc: Global, store: &Store) -> Result<Result<Value, Refusal>, AllocError>
+    ensures { IfOk result (λ r. Answers
+        (within (text (folder_below (world_of store.now).facts.settings.source_root (world_of store.now).facts.folder))) r) }
+{
+    Value::of_string(
+        alloc,
+        folder_below(alloc, source_root(store), store.folder())?,
+    )
+}
+
+fn compiler_of(alloc: Global, language: &str) -> Result<Result<Value, Refusal>, AllocError>
+    ensures { IfOk result (λ r. Answers (compiler_of language.now) r) }
+{
+    if language == "c" {
+        Ok(Ok(Value::of_object(alloc, Object::Compiler)?))
+    } else {
+        Ok(Err(Refusal::Arguments))
+    }
+}
+
+/// What the method with a name gives for `meson`: the roots and the present folders as absolute paths (E22 where one is too long),
+/// the compiler of C (E9 for another language), and what is always the same: no subproject, no cross build, the backend `ninja`
+/// and the version `1.3.0`.
+pub fn meson_answer(
+    alloc: Global,
+    store: &Store,
+    name: &str,
+    arguments: &Arguments,
+) -> Result<Result<Value, Refusal>, AllocError>
+    ensures { IfOk result (λ r. Answers (answer (world_of store.now).facts name.now (arguments_data arguments.now)) r) }
+{
+    match MesonMethod::named(name) {
+        Some(MesonMethod::Backend) => text_value(alloc, "ninja"),
+        Some(MesonMethod::BuildRoot) => build_root_value(alloc, store),
+        Some(MesonMethod::CurrentBuildDir) => build_folder(alloc, store),
+        Some(MesonMethod::CurrentSourceDir) => source_folder(alloc, store),
+        Some(MesonMethod::GetCompiler) => compiler_of(alloc, arguments.text_at(0)),
+        Some(MesonMethod::IsCrossBuild) => Ok(Ok(Value::Boolean(false))),
+        Some(MesonMethod::IsSubproject) => Ok(Ok(Value::Boolean(false))),
+        Some(MesonMethod::SourceRoot) => source_root_value(alloc, store),
+        Some(MesonMethod::Version) => text_value(alloc, "1.3.0"),
+        None => Ok(Err(Refusal::UnknownMethod)),
+    }
+}

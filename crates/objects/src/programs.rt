@@ -1,0 +1,92 @@
+//! The methods of a program: the type `external_program` of the page "Reference manual".
+ghost use Rattle.std.specs.Prelude.{◌≡◌, IfOk};
+ghost use Rattle.data.specs.Tables.{Answers};
+ghost use Rattle.objects.specs.Programs.{answer, first_word, full_path, is_found, named};
+ghost use Rattle.world.specs.Store.{world_of};
+
+use crate::meson_object::source_root;
+use data::{Program, Refusal, Text, Value};
+use operators::path_below;
+use std::alloc::{AllocError, Global};
+use world::Store;
+
+/// A method of programs.
+#[derive(Clone, Copy)]
+pub enum ProgramMethod {
+    Found,
+    /// `full_path` and `path`.
+    FullPath,
+}
+
+impl ProgramMethod {
+    /// The method of a name.
+    pub fn named(name: &str) -> Option<ProgramMethod>
+        ensures { result ≡ named name.now }
+    {
+        match name {
+            "found" => Some(ProgramMethod::Found),
+            "full_path" => Some(ProgramMethod::FullPath),
+            "path" => Some(ProgramMethod::FullPath),
+            _ => None,
+        }
+    }
+}
+
+fn is_found(program: &Program) -> bool
+    ensures { result ≡ is_found program.now }
+{
+    !matches!(program, Program::NotFound)
+}
+
+fn first_word(words: &[Text]) -> Result<Result<Value, Refusal>, AllocError>
+    ensures { IfOk result (λ r. Answers (first_word words.now) r) }
+{
+    match words {
+        [word, ..] => Ok(Ok(Value::Text(word.clone()?))),
+        [] => Ok(Err(Refusal::Arguments)),
+    }
+}
+
+fn full_path(
+    alloc: Global,
+    source_root: &str,
+    program: &Program,
+) -> Result<Result<Value, Refusal>, AllocError>
+    ensures { IfOk result (λ r. Answers (full_path source_root.now program.now) r) }
+{
+    match program {
+        Program::NotFound => Ok(Err(Refusal::Arguments)),
+        Program::Words(words) => first_word(words.as_slice()),
+        Program::File(path) => {
+            Value::of_string(alloc, path_below(alloc, source_root, path.as_str())?)
+        }
+    }
+}
+
+// The path of a program, where the source root is that of the run.
+fn path_of(
+    alloc: Global,
+    store: &Store,
+    program: &Program,
+) -> Result<Result<Value, Refusal>, AllocError>
+    ensures { IfOk result (λ r. Answers (full_path (world_of store.now).facts.settings.source_root program.now) r) }
+{
+    full_path(alloc, source_root(store), program)
+}
+
+/// What the method with a name gives for a program: `found`, and `full_path` or `path`, that are E9 where it is not found. They
+/// are the first word of the machine file, or the absolute path of a file below the source root, E22 where that is too long.
+pub fn program_answer(
+    alloc: Global,
+    store: &Store,
+    program: &Program,
+    name: &str,
+) -> Result<Result<Value, Refusal>, AllocError>
+    ensures { IfOk result (λ r. Answers (answer (world_of store.now).facts.settings.source_root program.now name.now) r) }
+{
+    match ProgramMethod::named(name) {
+        Some(ProgramMethod::Found) => Ok(Ok(Value::Boolean(is_found(program)))),
+        Some(ProgramMethod::FullPath) => path_of(alloc, store, program),
+        None => Ok(Err(Refusal::UnknownMethod)),
+    }
+}

@@ -1,0 +1,51 @@
+//! Sums of texts, and paths.
+
+ghost use Rattle.std.specs.Prelude.{◌≡◌, ◌++◌, IfOk, string_bytes};
+ghost use Rattle.data.specs.Data.{text as text_data};
+ghost use Rattle.data.specs.Limits.{within};
+ghost use Rattle.data.specs.Tables.{Answers};
+ghost use Rattle.operators.specs.Texts.{begins_with_slash, ends_with_slash, path_below};
+
+use data::{Refusal, Text, Value};
+use std::alloc::{AllocError, Global};
+
+/// One text and then another. It grows in place where nobody else holds it.
+pub fn concatenate(
+    alloc: Global,
+    first: Text,
+    second: &str,
+) -> Result<Result<Value, Refusal>, AllocError>
+    ensures { IfOk result (λ r. Answers (within (text_data (first ++ second.now))) r) }
+{
+    match first.append(alloc, second)? {
+        Ok(text) => Ok(Ok(Value::Text(text))),
+        Err(refusal) => Ok(Err(refusal)),
+    }
+}
+
+/// A path and one below it: the second alone where the first is empty or the second is absolute.
+pub fn path_below(alloc: Global, folder: &str, path: &str) -> Result<String, AllocError>
+    ensures { IfOk result (λ s. string_bytes s ≡ path_below folder.now path.now) }
+{
+    if folder.is_empty() || begins_with_slash(path) {
+        return String::from_str(alloc, path);
+    }
+    let mut text = String::from_str(alloc, folder)?;
+    if !ends_with_slash(folder) {
+        text.push('/')?;
+    }
+    text.push_str(path)?;
+    Ok(text)
+}
+
+fn begins_with_slash(text: &str) -> bool
+    ensures { result ≡ begins_with_slash text.now }
+{
+    matches!(text.as_bytes(), [b'/', ..])
+}
+
+fn ends_with_slash(text: &str) -> bool
+    ensures { result ≡ ends_with_slash text.now }
+{
+    matches!(text.as_bytes(), [.., b'/'])
+}

@@ -1,0 +1,7 @@
+use Rattle.option_file.specs.View.{options_in}
+use Rattle.options.proofs.FinalValues.{final_fit}
+use Rattle.options.proofs.laws.values_fit.Goals as goal
+
+pub returns : goal.returns
+returns c = λ defaults sections words settings e. final_fit (options_in c.args.declared.now) defaults sections words settings
+    c.args.declared.now.differ e

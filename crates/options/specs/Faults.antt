@@ -1,0 +1,23 @@
+-- A fault of an option's value, as a run tells it.
+use Rattle.std.specs.Prelude.{ℕ, List, codes}
+use Rattle.faults.specs.Faults.{FaultData, plain_fault}
+use Rattle.options.specs.declared.fault.Place.{Place}
+use Rattle.options.specs.declared.fault.Place.TheVariants.{Declared, Project, MachineFile, CommandLine}
+use Rattle.options.specs.declared.fault.OptionFault.{OptionFault}
+
+-- the file of a place, where the option file has this path
+abbrev pub file_of : List ℕ → Place → List ℕ
+file_of path (Declared line) = path
+file_of path Project = codes "meson.build"
+file_of path (MachineFile line) = codes "<machine file>"
+file_of path (CommandLine number) = codes "<command line>"
+
+-- the line of a place, where the call of `project` is on this line; of a word it is the number
+abbrev pub line_of : ℕ → Place → ℕ
+line_of call (Declared line) = line
+line_of call Project = call
+line_of call (MachineFile line) = line
+line_of call (CommandLine number) = number
+
+abbrev pub told_in : List ℕ → ℕ → OptionFault → FaultData
+told_in path call f = plain_fault (file_of path f.place) (line_of call f.place) f.refusal

@@ -1,0 +1,43 @@
+//! What holds of all final values: laws above [`resolve`](crate::resolve), each stated by the contract of a function that does
+//! nothing.
+
+ghost use Rattle.std.specs.Prelude.{◌≡◌, ◌++◌, ℕ, List, Ok, Some, true, false};
+ghost use Rattle.machine_file.specs.Files.{Section};
+ghost use Rattle.option_file.specs.View.{options_in as declared_in};
+ghost use Rattle.options.specs.Laws.{all_fit, names_in, built_in_names, declared_names, last_setting, is_auto};
+ghost use Rattle.options.specs.Resolves.{resolved, verdicts, value_named};
+ghost use Rattle.options.specs.Settings.{Setting as SettingSaid};
+ghost use Rattle.options.specs.Verdicts.{Default};
+
+use option_file::Declared;
+
+/// Each final value is a value of its option's type, and within its choices and bounds.
+pub fn values_fit(declared: &Declared)
+    ensures { (defaults : List Default) (sections : List Section) (words : List (List ℕ)) (settings : List SettingSaid)
+        → (resolved (declared_in declared.now) defaults sections words).outcome ≡ Ok settings
+        → all_fit (declared_in declared.now) settings ≡ true }
+{
+    let _declared = declared;
+}
+
+/// The options are those that every project has, in the order of their table, and then the declared ones, in the order of their
+/// declarations.
+pub fn names_are_in_order(declared: &Declared)
+    ensures { (defaults : List Default) (sections : List Section) (words : List (List ℕ)) (settings : List SettingSaid)
+        → (resolved (declared_in declared.now) defaults sections words).outcome ≡ Ok settings
+        → names_in settings ≡ built_in_names ++ declared_names (declared_in declared.now) }
+{
+    let _declared = declared;
+}
+
+/// Where `default_options`, the machine file or the words give an option a value, the last that does decides; but a feature
+/// that is left at `auto` is as `auto_features` says.
+pub fn last_place_decides(declared: &Declared)
+    ensures { (defaults : List Default) (sections : List Section) (words : List (List ℕ)) (settings : List SettingSaid)
+        → (resolved (declared_in declared.now) defaults sections words).outcome ≡ Ok settings
+        → (name : List ℕ) (last : SettingSaid)
+        → last_setting (verdicts (declared_in declared.now) defaults sections words) name ≡ Some last
+        → last.given ≡ true → is_auto last.value ≡ false → value_named settings name ≡ Some last.value }
+{
+    let _declared = declared;
+}

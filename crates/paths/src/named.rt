@@ -1,0 +1,177 @@
+//! The paths that texts of a definition file name.
+ghost use Rattle.std.specs.Prelude.{◌≡◌, ◌++◌, IfOk, map, None, Some, option_map, option_copied, string_bytes, codes, [], if◌then◌else◌};
+ghost use Rattle.std.specs.List.{join_with_byte};
+ghost use Rattle.paths.specs.Folder.{folder_of, strings_of};
+ghost use Rattle.paths.specs.Paths.{follow_part, follow_parts, folder_named, folder_path, folder_paths, from_root, named};
+ghost use Rattle.paths.specs.Paths.{parts_of, path_in, paths_behind, rest_after, tree_path, tree_paths};
+
+use std::alloc::{AllocError, Global};
+
+// What stands behind the source root and a slash.
+fn below_root<'a>(source_root: &str, text: &'a str) -> Option<&'a str>
+    ensures { option_copied result ≡ rest_after (source_root.now ++ codes "/") text.now }
+{
+    text.strip_prefix(source_root)?.strip_prefix("/")
+}
+
+/// The path of a name in a folder, whose path is empty where it is the root.
+pub fn path_in(alloc: Global, folder: &str, name: &str) -> Result<String, AllocError>
+    ensures { IfOk result (λ path. string_bytes path ≡ path_in folder.now name.now) }
+{
+    if folder == "" {
+        String::from_str(alloc, name)
+    } else {
+        format!(in alloc; "{folder}/{name}")
+    }
+}
+
+// A text of the folder as one that is relative to the root.
+#[tactic(auto, using(std::proofs::lemmas::Str::Pattern::starts_text))]
+fn from_root(
+    alloc: Global,
+    source_root: &str,
+    folder: &str,
+    text: &str,
+) -> Result<Option<String>, AllocError>
+    ensures { IfOk result (λ path. option_map string_bytes path ≡ from_root source_root.now folder.now text.now) }
+{
+    if text.starts_with("/") {
+        match below_root(source_root, text) {
+            Some(rest) => Ok(Some(String::from_str(alloc, rest)?)),
+            None => Ok(None),
+        }
+    } else {
+        Ok(Some(path_in(alloc, folder, text)?))
+    }
+}
+
+// Goes on by one part, unless it leads above the root.
+fn follow<'a>(folder: &mut Vec<&'a str>, part: &'a str) -> Result<bool, AllocError>
+    ensures { IfOk result (λ inside. follow_part (folder_of folder.old) part.now ≡ (if inside then Some (folder_of folder.new) else None)) }
+{
+    if part == "" || part == "." {
+        Ok(true)
+    } else if part == ".." {
+        Ok(folder.pop().is_some())
+    } else {
+        folder.push(part)?;
+        Ok(true)
+    }
+}
+
+// The parts of the path from the root, none where one leads above it.
+fn followed(alloc: Global, text: &str) -> Result<Option<Vec<&str>>, AllocError>
+    ensures { IfOk result (λ folder. option_map folder_of folder ≡ follow_parts [] (parts_of text.now)) }
+{
+    let mut folder = Vec::new(alloc);
+    for part in text.split('/') {
+        if !follow(&mut folder, part)? {
+            return Ok(None);
+        }
+    }
+    Ok(Some(folder))
+}
+
+// The parts with slashes between them.
+fn joined(alloc: Global, parts: &[&str]) -> Result<String, AllocError>
+    ensures { IfOk result (λ path. string_bytes path ≡ join_with_byte 47 (map (λ part. part.now) parts.now)) }
+{
+    let mut path = String::new(alloc);
+    for (i, part) in parts.iter().enumerate() {
+        if i > 0 {
+            path.push_str("/")?;
+        }
+        path.push_str(part)?;
+    }
+    Ok(path)
+}
+
+// The path of what a text names, the root's being empty, where the text is relative to the root.
+fn cleaned(alloc: Global, text: &str) -> Result<Option<String>, AllocError>
+    ensures { IfOk result (λ path. option_map string_bytes path ≡ folder_named (follow_parts [] (parts_of text.now))) }
+{
+    match followed(alloc, text)? {
+        Some(parts) => Ok(Some(joined(alloc, &parts)?)),
+        None => Ok(None),
+    }
+}
+
+// The same of what is not the root.
+fn cleaned_name(alloc: Global, text: &str) -> Result<Option<String>, AllocError>
+    ensures { IfOk result (λ path. option_map string_bytes path ≡ named (follow_parts [] (parts_of text.now))) }
+{
+    match followed(alloc, text)? {
+        Some(parts) if !parts.is_empty() => Ok(Some(joined(alloc, &parts)?)),
+        _ => Ok(None),
+    }
+}
+
+/// The path of the folder that a text names in a definition file of a folder, the root's being empty, with slashes between its parts
+/// and without `.` and `..`. None where the text is an absolute path that is not below the source root or leads above the root.
+pub fn folder_path(
+    alloc: Global,
+    source_root: &str,
+    folder: &str,
+    text: &str,
+) -> Result<Option<String>, AllocError>
+    ensures { IfOk result (λ path. option_map string_bytes path ≡ folder_path source_root.now folder.now text.now) }
+{
+    match from_root(alloc, source_root, folder, text)? {
+        Some(text) => cleaned(alloc, text.as_str()),
+        None => Ok(None),
+    }
+}
+
+/// The path in the tree of the file that a text names in a definition file of a folder. None where `folder_path` answers none, and
+/// where the text names the root itself.
+pub fn tree_path(
+    alloc: Global,
+    source_root: &str,
+    folder: &str,
+    text: &str,
+) -> Result<Option<String>, AllocError>
+    ensures { IfOk result (λ path. option_map string_bytes path ≡ tree_path source_root.now folder.now text.now) }
+{
+    match from_root(alloc, source_root, folder, text)? {
+        Some(text) => cleaned_name(alloc, text.as_str()),
+        None => Ok(None),
+    }
+}
+
+/// The paths of the files that texts name in a definition file of a folder, in order. None where `tree_path` answers none of one.
+pub fn tree_paths(
+    alloc: Global,
+    source_root: &str,
+    folder: &str,
+    texts: &[&str],
+) -> Result<Option<Vec<String>>, AllocError>
+    ensures { IfOk result (λ paths. option_map strings_of paths ≡ tree_paths source_root.now folder.now (map (λ t. t.now) texts.now)) }
+{
+    let mut paths = Vec::new(alloc);
+    for text in texts {
+        match tree_path(alloc, source_root, folder, text)? {
+            Some(path) => paths.push(path)?,
+            None => return Ok(None),
+        }
+    }
+    Ok(Some(paths))
+}
+
+/// The paths of the folders that texts name in a definition file of a folder, in order. None where `folder_path` answers none of one.
+pub fn folder_paths(
+    alloc: Global,
+    source_root: &str,
+    folder: &str,
+    texts: &[&str],
+) -> Result<Option<Vec<String>>, AllocError>
+    ensures { IfOk result (λ paths. option_map strings_of paths ≡ folder_paths source_root.now folder.now (map (λ t. t.now) texts.now)) }
+{
+    let mut paths = Vec::new(alloc);
+    for text in texts {
+        match folder_path(alloc, source_root, folder, text)? {
+            Some(path) => paths.push(path)?,
+            None => return Ok(None),
+        }
+    }
+    Ok(Some(paths))
+}

@@ -1,0 +1,4 @@
+pub mod NameTexts
+pub mod Numbers
+pub mod Steps
+pub mod Places

@@ -1,0 +1,107 @@
+-- What a target is answered.
+use Rattle.std.proofs.Common.{◌≡◌, ℕ, ◌≤◌, Bool, true, false, List, [], ◌∷◌, ◌++◌, map, Result, Ok, Err, refl, sym, ap, ◌∙◌, arith, bytes_eq, ◌+◌}
+use Rattle.std.specs.Prelude.{◌&&◌, ◌||◌, not, if◌then◌else◌}
+use Rattle.std.specs.List.{list_all}
+use Rattle.edge.specs.Texts.{Path, holds}
+use Rattle.edge.specs.Data.{EdgeData}
+use Rattle.edge.specs.Holding.{are_writable}
+use Rattle.targets.specs.Data.{SurroundingsData, SourceData, Tree, Built, Made, TargetData}
+use Rattle.targets.specs.Files.{default_paths}
+use Rattle.targets.specs.Libraries.{LinkedData, linked, linked_of, libraries_in}
+use Rattle.edges.specs.Edges.{edges_of, target_edges, all_edges}
+use Rattle.project.specs.Laws.{outputs_of, times, all_made, all_inside}
+use Rattle.project.specs.World.{WorldData, reserved, made_of, taken_of, known_of, is_made_in}
+use Rattle.project.specs.Whole.{targets_in, IsWhole, IsNext}
+use Rattle.project.specs.Adding.{sources_of, is_made_source, is_present, target_fits, is_fit, edges_with, place_answer, target_answer, is_within}
+use Rattle.project.specs.declared.refusal.Refusal.{Refusal}
+use Rattle.project.specs.declared.refusal.Refusal.TheVariants.{Arguments, Missing, Unholdable}
+use Rattle.project.proofs.PathLists.{times-append, times_absent}
+use Rattle.project.proofs.EdgeOrder.{holds_append}
+use Rattle.project.proofs.NextMade.{next_made}
+use Rattle.project.proofs.NextInside.{next_inside}
+
+-- ---- what is made
+
+held_or_not : (p : Path) (xs : List Path) → holds p xs ≡ true → 1 ≤ times p xs
+held_or_not p [] h = absurd cc
+held_or_not p (x ∷ xs) h = here (bytes_eq p x) (holds p xs) (times p xs) h (held_or_not p xs)
+  where
+    here : (b c : Bool) (n : ℕ) → (b || c) ≡ true → (c ≡ true → 1 ≤ n) → 1 ≤ (if b then 1 else 0) + n
+    here true c n h f = omega arith
+    here false c n h f = let k = f h in omega arith
+
+by_cases : (r m : Bool) → (r ≡ true → m ≡ true → ⊥) → ((r || m) && not r) ≡ m
+by_cases true true f = absurd (f refl refl)
+by_cases true false f = refl
+by_cases false true f = refl
+by_cases false false f = refl
+
+pub made_is : (s : SurroundingsData) (ls : List LinkedData) (outputs present kept : List Path) → IsWhole s ls outputs present kept → (p : Path) → is_made_in kept p ≡ holds p (made_of s (targets_in ls) outputs)
+made_is s ls outputs present kept w p =
+    let made = made_of s (targets_in ls) outputs in
+    ap (λ b. b && not (holds p reserved)) (w.paths p ∙ holds_append p reserved made)
+    ∙ by_cases (holds p reserved) (holds p made)
+    (λ a b. let h = held_or_not p reserved a in let k = held_or_not p made b in let t = times-append p reserved made in let o = w.once p in omega arith)
+
+list_all-same : {X : Type 0} (p q : X → Bool) → ((x : X) → p x ≡ q x) → (xs : List X) → list_all p xs ≡ list_all q xs
+list_all-same p q f [] = refl
+list_all-same p q f (x ∷ xs) = ap (λ b. b && list_all p xs) (f x) ∙ ap (λ b. q x && b) (list_all-same p q f xs)
+
+source-same : (p q : Path → Bool) → ((x : Path) → p x ≡ q x) → (x : SourceData) → is_made_source p x ≡ is_made_source q x
+source-same p q f (Tree path) = refl
+source-same p q f (Built path) = f path
+source-same p q f (Made paths) = list_all-same p q f paths
+
+pub sources-same : (p q : Path → Bool) → ((x : Path) → p x ≡ q x) → (xs : List SourceData) → list_all (is_made_source p) xs ≡ list_all (is_made_source q) xs
+sources-same p q f xs = list_all-same (is_made_source p) (is_made_source q) (source-same p q f) xs
+
+-- ---- the first refusal
+
+pub answer_missing : (w : WorldData) (t : TargetData) → is_fit w t ≡ true → list_all (is_present w.present) (sources_of t) ≡ false → target_answer w t ≡ Err Missing
+answer_missing w t a b =
+    let placed = place_answer w (outputs_of (edges_with w t)) (is_within t) in
+    let held = if are_writable (edges_with w t) then placed else Err Unholdable in
+    ap (λ x. if x then (if list_all (is_present w.present) (sources_of t) then held else Err Missing) else Err Arguments) a
+    ∙ ap (λ x. if x then held else Err Missing) b
+
+pub answer_unholdable : (w : WorldData) (t : TargetData) → is_fit w t ≡ true → list_all (is_present w.present) (sources_of t) ≡ true → are_writable (edges_with w t) ≡ false → target_answer w t ≡ Err Unholdable
+answer_unholdable w t a b d =
+    let placed = place_answer w (outputs_of (edges_with w t)) (is_within t) in
+    let held = if are_writable (edges_with w t) then placed else Err Unholdable in
+    ap (λ x. if x then (if list_all (is_present w.present) (sources_of t) then held else Err Missing) else Err Arguments) a
+    ∙ ap (λ x. if x then held else Err Missing) b
+    ∙ ap (λ x. if x then placed else Err Unholdable) d
+
+pub answer_placed : (w : WorldData) (t : TargetData) → is_fit w t ≡ true → list_all (is_present w.present) (sources_of t) ≡ true → are_writable (edges_with w t) ≡ true
+    → target_answer w t ≡ place_answer w (outputs_of (edges_with w t)) (is_within t)
+answer_placed w t a b d =
+    let placed = place_answer w (outputs_of (edges_with w t)) (is_within t) in
+    let held = if are_writable (edges_with w t) then placed else Err Unholdable in
+    ap (λ x. if x then (if list_all (is_present w.present) (sources_of t) then held else Err Missing) else Err Arguments) a
+    ∙ ap (λ x. if x then held else Err Missing) b
+    ∙ ap (λ x. if x then placed else Err Unholdable) d
+
+-- ---- a target that fits
+
+split_and : (a b : Bool) → (a && b) ≡ true → (a ≡ true) × (b ≡ true)
+split_and true b e = (refl, e)
+split_and false b e = absurd cc
+
+module _ (w : WorldData) (t : TargetData) (ns : List ℕ) (es : List EdgeData) (a : ns ≡ libraries_in (linked_of w.targets) t) (e : es ≡ target_edges w.surroundings (linked_of w.targets) ns t) where
+  pub edges_are : es ≡ edges_with w t
+  edges_are = e ∙ ap (λ n. target_edges w.surroundings (linked_of w.targets) n t) a
+
+  pub next_ready : (qs ps : List Path) → qs ≡ default_paths t → ps ≡ outputs_of es → are_writable es ≡ true → is_fit w t ≡ true → list_all (is_present w.present) (sources_of t) ≡ true
+      → IsNext w.surroundings w.targets w.outputs w.present (record { target = t; libraries = ns; paths = qs }) ps
+  next_ready qs ps q p wr fit there =
+      let s = w.surroundings in
+      let h = split_and (target_fits (linked_of w.targets) t) (list_all (is_made_source (λ q. holds q (made_of s w.targets w.outputs))) (sources_of t)) fit in
+      let known = known_of s w.outputs w.present ++ outputs_of (all_edges s w.targets) in
+      let swap = ap (λ n. target_edges s (linked_of w.targets) n t) a in
+      record {
+        libraries = ap (λ n. record { target = t; libraries = n; paths = qs }) a ∙ ap (λ x. record { target = t; libraries = libraries_in (linked_of w.targets) t; paths = x }) q;
+        paths_are = p ∙ ap outputs_of e;
+        made = ap (all_made known) swap ∙ next_made s w.targets w.outputs w.present t h.1 there;
+        inside = ap (λ x. all_inside (outputs_of x)) swap ∙ next_inside s (linked_of w.targets) t h.0;
+        writable = ap are_writable (sym e) ∙ wr;
+      }

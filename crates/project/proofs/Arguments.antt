@@ -1,0 +1,62 @@
+-- Arguments of the project change nothing of custom targets.
+use Rattle.std.proofs.Common.{◌≡◌, ℕ, ◌≤◌, Bool, true, false, List, [], ◌∷◌, ◌++◌, map, Result, Ok, Err, refl, sym, ap, ◌∙◌, subst}
+use Rattle.std.specs.List.{list_any}
+use Rattle.edge.specs.Texts.{Path, Text, holds}
+use Rattle.edge.specs.Data.{EdgeData}
+use Rattle.edge.specs.Holding.{are_writable}
+use Rattle.targets.specs.Data.{SurroundingsData, TargetData, Build, Custom}
+use Rattle.targets.specs.Libraries.{LinkedData, linked}
+use Rattle.edges.specs.Edges.{edges_of, edges_after, all_edges}
+use Rattle.project.specs.Laws.{outputs_of, times, all_made, all_inside}
+use Rattle.project.specs.World.{reserved, known_of}
+use Rattle.project.specs.Whole.{targets_in, IsWhole}
+use Rattle.project.specs.Adding.{is_build, arguments_answer, after_answer}
+use Rattle.project.specs.World.{WorldData}
+use Rattle.project.specs.declared.refusal.Refusal.{Refusal}
+use Rattle.project.specs.declared.refusal.Refusal.TheVariants.{Late, Unholdable}
+use Rattle.std.specs.Prelude.{if◌then◌else◌}
+use Rattle.std.specs.List.{list_all}
+use Rattle.edge.specs.Holding.{value_held}
+use Rattle.edge.proofs.TextLists.{list_any-map}
+use Rattle.targets.specs.View.{target_view, linked_view}
+use Rattle.targets.specs.declared.linking.Linked.{Linked}
+
+abbrev pub with_words : SurroundingsData → (arguments link_arguments : List Text) → SurroundingsData
+with_words s arguments link_arguments = record { facts = s.facts; arguments = arguments; link_arguments = link_arguments }
+
+edges_same : (s : SurroundingsData) (cs bs : List Text) (ts : List TargetData) (earlier : List LinkedData) → list_any is_build ts ≡ false → edges_after (with_words s cs bs) earlier ts ≡ edges_after s earlier ts
+edges_same s cs bs [] earlier e = refl
+edges_same s cs bs (Build t ∷ ts) earlier e = absurd cc
+edges_same s cs bs (Custom t ∷ ts) earlier e = ap (λ es. edges_of s earlier (linked earlier (Custom t)) ++ es) (edges_same s cs bs ts (earlier ++ linked earlier (Custom t) ∷ []) e)
+
+pub whole_with_words : (s : SurroundingsData) (ls : List LinkedData) (outputs present kept : List Path) (cs bs : List Text) → IsWhole s ls outputs present kept → list_any is_build (targets_in ls) ≡ false
+    → IsWhole (with_words s cs bs) ls outputs present kept
+whole_with_words s ls outputs present kept cs bs w e =
+    let same = edges_same s cs bs (targets_in ls) [] e in
+    record {
+      libraries = w.libraries;
+      paths = λ p. w.paths p ∙ ap (λ es. holds p (reserved ++ (outputs_of es ++ outputs))) (sym same);
+      once = λ p. let P : List EdgeData → Type 0 = λ es. times p (reserved ++ (outputs_of es ++ outputs)) ≤ 1 in subst P (sym same) (w.once p);
+      made = ap (all_made (known_of s outputs present)) same ∙ w.made;
+      inside = ap (λ es. all_inside (outputs_of es)) same ∙ w.inside;
+      outputs_inside = w.outputs_inside;
+      writable = ap are_writable same ∙ w.writable;
+    }
+
+-- ---- what is answered
+
+pub answer_late : (w : WorldData) (words : List Text) → list_all value_held words ≡ true → list_any is_build w.targets ≡ true → arguments_answer w words ≡ Err Late
+answer_late w words a b = ap (λ x. if x then (if list_any is_build w.targets then Err Late else Ok tt) else Err Unholdable) a ∙ ap (λ x. if x then Err Late else Ok tt) b
+
+pub answer_words : (w : WorldData) (words : List Text) → list_all value_held words ≡ true → list_any is_build w.targets ≡ false → arguments_answer w words ≡ Ok tt
+answer_words w words a b = ap (λ x. if x then (if list_any is_build w.targets then Err Late else Ok tt) else Err Unholdable) a ∙ ap (λ x. if x then Err Late else Ok tt) b
+
+pub after_unit : (r : Result (Unit {0}) Refusal) (then_ before : WorldData) → r ≡ Ok tt → after_answer r then_ before ≡ then_
+after_unit r then_ before e = ap (λ x. after_answer x then_ before) e
+
+pub after_refusal : (r : Result (Unit {0}) Refusal) (why : Refusal) (then_ before : WorldData) → r ≡ Err why → after_answer r then_ before ≡ before
+after_refusal r why then_ before e = ap (λ x. after_answer x then_ before) e
+
+-- whether one of the targets is a build target, as the code asks it
+pub some_is : (xs : List Linked) → list_any is_build (targets_in (map linked_view xs)) ≡ list_any (λ l. is_build (target_view l.target)) xs
+some_is xs = list_any-map is_build (λ (l : LinkedData). l.target) (map linked_view xs) ∙ list_any-map (λ (l : LinkedData). is_build l.target) linked_view xs

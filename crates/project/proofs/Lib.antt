@@ -1,0 +1,11 @@
+pub mod PathLists
+pub mod SourceTests
+pub mod EdgeOrder
+pub mod NextMade
+pub mod NextInside
+pub mod Placing
+pub mod Answering
+pub mod NoCycle
+pub mod Reading
+pub mod Arguments
+pub mod InOrder

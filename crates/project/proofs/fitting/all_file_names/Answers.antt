@@ -1,0 +1,7 @@
+use Rattle.std.proofs.Common.{sym, ◌∙◌}
+use Rattle.edge.proofs.TextLists.{texts-list_all}
+use Rattle.project.specs.Adding.{is_file_name}
+use Rattle.project.proofs.fitting.all_file_names.Goals as goal
+
+pub returns : goal.returns
+returns c = c.are_file_names.ensures ∙ sym (texts-list_all is_file_name c.args.names.now)

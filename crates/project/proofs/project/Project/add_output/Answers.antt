@@ -1,0 +1,15 @@
+use Rattle.std.proofs.Common.{sym, ap, ◌∙◌, string_bytes}
+use Rattle.std.specs.Prelude.{not}
+use Rattle.edge.specs.Texts.{Path}
+use Rattle.edge.specs.Paths.{is_upward}
+use Rattle.project.specs.Adding.{is_folder, is_file_name}
+use Rattle.project.proofs.EdgeOrder.{split_and}
+use Rattle.project.proofs.NextInside.{named_inside}
+use Rattle.project.proofs.project.Project.add_output.Goals as goal
+
+pub place_output-requires : goal.place_output-requires
+place_output-requires c =
+    let folder = c.args.folder.now in
+    let name = c.args.name.now in
+    let h = split_and (is_folder folder) (is_file_name name) (sym c.output_fits-fits.ensures ∙ c.if-not-fits.false) in
+    ap (λ (p : Path). not (is_upward p)) c.in_ok-path.ensures ∙ named_inside folder name h.0 h.1

@@ -1,0 +1,135 @@
+use Rattle.std.proofs.Common.{◌≡◌, true, false, map, OnOk, sym, ap, ◌∙◌, subst}
+use Rattle.std.specs.List.{list_all}
+use Rattle.std.proofs.lemmas.Result.{IfOk-weaker}
+use Rattle.edge.specs.Texts.{Path, texts}
+use Rattle.edge.specs.Data.{EdgeData}
+use Rattle.edge.specs.View.{edge_view}
+use Rattle.edge.specs.Holding.{are_writable}
+use Rattle.targets.specs.Data.{TargetData}
+use Rattle.targets.specs.Libraries.{LinkedData, linked_of, libraries_in}
+use Rattle.targets.specs.View.{surroundings_view, linked_view, target_view}
+use Rattle.edges.specs.Edges.{target_edges}
+use Rattle.project.specs.Laws.{outputs_of}
+use Rattle.project.specs.World.{WorldData}
+use Rattle.project.specs.Whole.{IsWhole, IsNext}
+use Rattle.project.specs.Adding.{sources_of, is_present, is_fit, edges_with, is_within, place_answer, target_answer, with_target, after_answer}
+use Rattle.project.specs.declared.refusal.Refusal.TheVariants.{Missing, Unholdable}
+use Rattle.project.proofs.Answering.{answer_missing, answer_unholdable, answer_placed, edges_are, next_ready}
+use Rattle.project.proofs.project.Project.add_target.Goals as goal
+
+pub returns-then-not-present-clause-answer : goal.returns-then-not-present-clause-answer
+returns-then-not-present-clause-answer c =
+    let w = c.args.self.now in
+    let t = target_view c.args.target in
+    let fit : is_fit w t ≡ true = sym c.in_ok-fits.ensures ∙ c.if-not-fits.false in
+    let there : list_all (is_present w.present) (sources_of t) ≡ false =
+    ap (λ (x : WorldData). list_all (is_present x.present) (sources_of t)) (sym c.self.view_is) ∙ sym c.has_present_sources-present.ensures ∙ c.if-not-present.true in
+    sym (answer_missing w t fit there)
+
+pub returns-then-not-present-clause-ok : goal.returns-then-not-present-clause-ok
+returns-then-not-present-clause-ok c =
+    let w = c.args.self.now in
+    let t = target_view c.args.target in
+    let fit : is_fit w t ≡ true = sym c.in_ok-fits.ensures ∙ c.if-not-fits.false in
+    let there : list_all (is_present w.present) (sources_of t) ≡ false =
+    ap (λ (x : WorldData). list_all (is_present x.present) (sources_of t)) (sym c.self.view_is) ∙ sym c.has_present_sources-present.ensures ∙ c.if-not-present.true in
+    sym (ap (λ r. after_answer r (with_target w t) w) (answer_missing w t fit there))
+
+pub returns-then-not-writable-clause-answer : goal.returns-then-not-writable-clause-answer
+returns-then-not-writable-clause-answer c =
+    let w = c.args.self.now in
+    let t = target_view c.args.target in
+    let fit : is_fit w t ≡ true = sym c.in_ok-fits.ensures ∙ c.if-not-fits.false in
+    let there : list_all (is_present w.present) (sources_of t) ≡ true =
+    ap (λ (x : WorldData). list_all (is_present x.present) (sources_of t)) (sym c.self.view_is) ∙ sym c.has_present_sources-present.ensures ∙ c.if-not-present.false in
+    let all : map linked_view c.deref.result.now ≡ linked_of w.targets =
+    ap (map linked_view) c.deref.ensures.value ∙ c.self.invariant.libraries ∙ ap (λ (x : WorldData). linked_of x.targets) c.self.view_is in
+    let ns = c.in_ok-libraries.libraries.items in
+    let libs : ns ≡ libraries_in (linked_of w.targets) t = c.in_ok-libraries.ensures ∙ ap (λ x. libraries_in x t) all in
+    let es = map edge_view c.in_ok-edges.edges.items in
+    let made : es ≡ target_edges w.surroundings (linked_of w.targets) ns t =
+    c.in_ok-edges.ensures ∙ ap (λ x. target_edges w.surroundings (linked_of w.targets) x t) c.deref-2.ensures.value in
+    let held : are_writable es ≡ false = ap (λ x. are_writable (map edge_view x)) (sym c.deref-3.ensures.value) ∙ sym c.are_writable-writable.ensures ∙ c.if-not-writable.true in
+    sym (answer_unholdable w t fit there (ap are_writable (sym (edges_are w t ns es libs made)) ∙ held))
+
+pub returns-then-not-writable-clause-ok : goal.returns-then-not-writable-clause-ok
+returns-then-not-writable-clause-ok c =
+    let w = c.args.self.now in
+    let t = target_view c.args.target in
+    let fit : is_fit w t ≡ true = sym c.in_ok-fits.ensures ∙ c.if-not-fits.false in
+    let there : list_all (is_present w.present) (sources_of t) ≡ true =
+    ap (λ (x : WorldData). list_all (is_present x.present) (sources_of t)) (sym c.self.view_is) ∙ sym c.has_present_sources-present.ensures ∙ c.if-not-present.false in
+    let all : map linked_view c.deref.result.now ≡ linked_of w.targets =
+    ap (map linked_view) c.deref.ensures.value ∙ c.self.invariant.libraries ∙ ap (λ (x : WorldData). linked_of x.targets) c.self.view_is in
+    let ns = c.in_ok-libraries.libraries.items in
+    let libs : ns ≡ libraries_in (linked_of w.targets) t = c.in_ok-libraries.ensures ∙ ap (λ x. libraries_in x t) all in
+    let es = map edge_view c.in_ok-edges.edges.items in
+    let made : es ≡ target_edges w.surroundings (linked_of w.targets) ns t =
+    c.in_ok-edges.ensures ∙ ap (λ x. target_edges w.surroundings (linked_of w.targets) x t) c.deref-2.ensures.value in
+    let held : are_writable es ≡ false = ap (λ x. are_writable (map edge_view x)) (sym c.deref-3.ensures.value) ∙ sym c.are_writable-writable.ensures ∙ c.if-not-writable.true in
+    sym (ap (λ r. after_answer r (with_target w t) w) (answer_unholdable w t fit there (ap are_writable (sym (edges_are w t ns es libs made)) ∙ held)))
+
+pub place-requires : goal.place-requires
+place-requires c =
+    let w = c.args.self.now in
+    let t = target_view c.args.target in
+    let fit : is_fit w t ≡ true = sym c.in_ok-fits.ensures ∙ c.if-not-fits.false in
+    let there : list_all (is_present w.present) (sources_of t) ≡ true =
+    ap (λ (x : WorldData). list_all (is_present x.present) (sources_of t)) (sym c.self.view_is) ∙ sym c.has_present_sources-present.ensures ∙ c.if-not-present.false in
+    let all : map linked_view c.deref.result.now ≡ linked_of w.targets =
+    ap (map linked_view) c.deref.ensures.value ∙ c.self.invariant.libraries ∙ ap (λ (x : WorldData). linked_of x.targets) c.self.view_is in
+    let ns = c.in_ok-libraries.libraries.items in
+    let libs : ns ≡ libraries_in (linked_of w.targets) t = c.in_ok-libraries.ensures ∙ ap (λ x. libraries_in x t) all in
+    let es = map edge_view c.in_ok-edges.edges.items in
+    let made : es ≡ target_edges w.surroundings (linked_of w.targets) ns t =
+    c.in_ok-edges.ensures ∙ ap (λ x. target_edges w.surroundings (linked_of w.targets) x t) c.deref-2.ensures.value in
+    let held : are_writable es ≡ true = ap (λ x. are_writable (map edge_view x)) (sym c.deref-3.ensures.value) ∙ sym c.are_writable-writable.ensures ∙ c.if-not-writable.false in
+    let paths : texts c.deref-5.result.now ≡ outputs_of es =
+    ap texts c.deref-5.ensures.value ∙ c.in_ok-paths.ensures ∙ ap (λ x. outputs_of (map edge_view x)) c.deref-4.ensures.value in
+    next_ready w t ns es libs made (texts c.in_ok-named.named.items) (texts c.deref-5.result.now) c.in_ok-named.ensures paths held fit there
+
+pub returns-clause-answer : goal.returns-clause-answer
+returns-clause-answer c =
+    let w = c.args.self.now in
+    let t = target_view c.args.target in
+    let fit : is_fit w t ≡ true = sym c.in_ok-fits.ensures ∙ c.if-not-fits.false in
+    let there : list_all (is_present w.present) (sources_of t) ≡ true =
+    ap (λ (x : WorldData). list_all (is_present x.present) (sources_of t)) (sym c.self.view_is) ∙ sym c.has_present_sources-present.ensures ∙ c.if-not-present.false in
+    let all : map linked_view c.deref.result.now ≡ linked_of w.targets =
+    ap (map linked_view) c.deref.ensures.value ∙ c.self.invariant.libraries ∙ ap (λ (x : WorldData). linked_of x.targets) c.self.view_is in
+    let ns = c.in_ok-libraries.libraries.items in
+    let libs : ns ≡ libraries_in (linked_of w.targets) t = c.in_ok-libraries.ensures ∙ ap (λ x. libraries_in x t) all in
+    let es = map edge_view c.in_ok-edges.edges.items in
+    let made : es ≡ target_edges w.surroundings (linked_of w.targets) ns t =
+    c.in_ok-edges.ensures ∙ ap (λ x. target_edges w.surroundings (linked_of w.targets) x t) c.deref-2.ensures.value in
+    let held : are_writable es ≡ true = ap (λ x. are_writable (map edge_view x)) (sym c.deref-3.ensures.value) ∙ sym c.are_writable-writable.ensures ∙ c.if-not-writable.false in
+    let paths : texts c.deref-5.result.now ≡ outputs_of es =
+    ap texts c.deref-5.ensures.value ∙ c.in_ok-paths.ensures ∙ ap (λ x. outputs_of (map edge_view x)) c.deref-4.ensures.value in
+    let is : place_answer w (texts c.deref-5.result.now) c.is_within-within.result ≡ target_answer w t =
+    ap (λ p. place_answer w p c.is_within-within.result) (paths ∙ ap outputs_of (edges_are w t ns es libs made))
+    ∙ ap (λ b. place_answer w (outputs_of (edges_with w t)) b) c.is_within-within.ensures
+    ∙ sym (answer_placed w t fit there (ap are_writable (sym (edges_are w t ns es libs made)) ∙ held)) in
+    IfOk-weaker c.place.result (λ r. r ≡ place_answer w (texts c.deref-5.result.now) c.is_within-within.result) (λ r. r ≡ target_answer w t) (λ r e. e ∙ is) c.place.ensures.answer
+
+pub returns-clause-ok : goal.returns-clause-ok
+returns-clause-ok c =
+    let w = c.args.self.now in
+    let t = target_view c.args.target in
+    let fit : is_fit w t ≡ true = sym c.in_ok-fits.ensures ∙ c.if-not-fits.false in
+    let there : list_all (is_present w.present) (sources_of t) ≡ true =
+    ap (λ (x : WorldData). list_all (is_present x.present) (sources_of t)) (sym c.self.view_is) ∙ sym c.has_present_sources-present.ensures ∙ c.if-not-present.false in
+    let all : map linked_view c.deref.result.now ≡ linked_of w.targets =
+    ap (map linked_view) c.deref.ensures.value ∙ c.self.invariant.libraries ∙ ap (λ (x : WorldData). linked_of x.targets) c.self.view_is in
+    let ns = c.in_ok-libraries.libraries.items in
+    let libs : ns ≡ libraries_in (linked_of w.targets) t = c.in_ok-libraries.ensures ∙ ap (λ x. libraries_in x t) all in
+    let es = map edge_view c.in_ok-edges.edges.items in
+    let made : es ≡ target_edges w.surroundings (linked_of w.targets) ns t =
+    c.in_ok-edges.ensures ∙ ap (λ x. target_edges w.surroundings (linked_of w.targets) x t) c.deref-2.ensures.value in
+    let held : are_writable es ≡ true = ap (λ x. are_writable (map edge_view x)) (sym c.deref-3.ensures.value) ∙ sym c.are_writable-writable.ensures ∙ c.if-not-writable.false in
+    let paths : texts c.deref-5.result.now ≡ outputs_of es =
+    ap texts c.deref-5.ensures.value ∙ c.in_ok-paths.ensures ∙ ap (λ x. outputs_of (map edge_view x)) c.deref-4.ensures.value in
+    let is : place_answer w (texts c.deref-5.result.now) c.is_within-within.result ≡ target_answer w t =
+    ap (λ p. place_answer w p c.is_within-within.result) (paths ∙ ap outputs_of (edges_are w t ns es libs made))
+    ∙ ap (λ b. place_answer w (outputs_of (edges_with w t)) b) c.is_within-within.ensures
+    ∙ sym (answer_placed w t fit there (ap are_writable (sym (edges_are w t ns es libs made)) ∙ held)) in
+    subst (λ r. OnOk c.place.result (c.place.new.self ≡ after_answer r (with_target w t) w)) is c.place.ensures.ok

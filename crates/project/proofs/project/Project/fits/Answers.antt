@@ -1,0 +1,24 @@
+use Rattle.std.proofs.Common.{Bool, map, sym, ap, ◌∙◌}
+use Rattle.std.specs.Prelude.{◌&&◌}
+use Rattle.std.specs.List.{list_all}
+use Rattle.edge.specs.Texts.{Path, texts, holds}
+use Rattle.targets.specs.View.{surroundings_view, linked_view, target_view}
+use Rattle.project.specs.World.{WorldData, is_made_in, made_in, made_of}
+use Rattle.project.specs.NotesView.{notes_view}
+use Rattle.project.specs.Whole.{targets_in}
+use Rattle.project.specs.Adding.{sources_of, is_made_source}
+use Rattle.project.proofs.Answering.{made_is, sources-same}
+use Rattle.project.proofs.project.Project.fits.Goals as goal
+
+pub returns-then-fits : goal.returns-then-fits
+returns-then-fits c =
+    let s = surroundings_view c.self.inside.surroundings in
+    let ls = map linked_view c.self.inside.linked.items in
+    let outputs = texts c.self.inside.outputs.items in
+    let kept = texts c.self.inside.taken.keys in
+    let t = target_view c.args.target.now in
+    let w = c.args.self.now in
+    c.has_made_sources.ensures
+    ∙ sources-same (is_made_in kept) (λ p. holds p (made_of s (targets_in ls) outputs)) (made_is s ls outputs (notes_view c.self.inside.notes).present kept c.self.invariant) (sources_of t)
+    ∙ ap (λ (x : WorldData). list_all (is_made_source (λ p. holds p (made_in x))) (sources_of t)) c.self.view_is
+    ∙ ap (λ (b : Bool). b && list_all (is_made_source (λ p. holds p (made_in w))) (sources_of t)) (sym c.if-fits.true ∙ c.in_ok-fits.ensures)

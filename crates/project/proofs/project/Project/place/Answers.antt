@@ -1,0 +1,169 @@
+use Rattle.std.proofs.Common.{◌≡◌, ℕ, true, false, List, [], ◌∷◌, ◌++◌, length, map, Ok, Err, sym, ap, ◌∙◌, subst, rules, arith}
+use Rattle.std.proofs.lemmas.Grind.{common_steps}
+use Rattle.std.proofs.lemmas.List.{map-append, length-map}
+use Rattle.edge.specs.Texts.{Path, texts}
+use Rattle.targets.specs.Data.{TargetData}
+use Rattle.targets.specs.Libraries.{LinkedData}
+use Rattle.targets.specs.View.{surroundings_view, linked_view, target_view}
+use Rattle.project.specs.Laws.{all_new}
+use Rattle.project.specs.World.{WorldData, taken_in}
+use Rattle.project.specs.View.{world_of}
+use Rattle.project.specs.NotesView.{notes_view}
+use Rattle.project.specs.Whole.{IsWhole, IsNext}
+use Rattle.project.specs.Adding.{place_answer, with_target}
+use Rattle.project.specs.declared.refusal.Refusal.TheVariants.{Limit, Duplicate}
+use Rattle.project.proofs.Placing.{whole_next, whole_same, free_is, place_ok, place_long, place_twice, placed_kept, placed_back, placed_twice, after_ok, after_err, world_with}
+use Rattle.project.proofs.project.Project.place.Goals as goal
+
+pub invariant_of-self-then-within : goal.invariant_of-self-then-within
+invariant_of-self-then-within c =
+    let s = surroundings_view c.self.inside.surroundings in
+    let ls = map linked_view c.self.inside.linked.items in
+    let outputs = texts c.self.inside.outputs.items in
+    let notes = notes_view c.self.inside.notes in
+    let kept = texts c.self.inside.taken.keys in
+    let now = texts c.claim.new.paths.keys in
+    let l = linked_view c.args.one in
+    let ps = texts c.args.paths.now in
+    let next = subst (λ (x : WorldData). IsNext x.surroundings x.targets x.outputs x.present l ps) (sym c.self.view_is) c.requires in
+    let pushed : map linked_view c.push.new.self.items ≡ ls ++ l ∷ [] = ap (map linked_view) c.in_ok-push.ensures.items ∙ map-append linked_view c.self.inside.linked.items (c.args.one ∷ []) in
+    subst (λ (x : List LinkedData). IsWhole s x outputs notes.present now) (sym pushed)
+    (whole_next s ls outputs notes.present kept now l ps c.self.invariant next (sym c.in-Ok-true.ensures.tested ∙ c.in-Ok-true.field-0-test)
+    (placed_kept kept ps now c.in-Ok-true.field-0 c.args.within c.in-Ok-true.ensures.added c.in-Ok-true.field-0-test c.if-within.true))
+
+pub invariant_of-self-else-within : goal.invariant_of-self-else-within
+invariant_of-self-else-within c =
+    let s = surroundings_view c.self.inside.surroundings in
+    let ls = map linked_view c.self.inside.linked.items in
+    let outputs = texts c.self.inside.outputs.items in
+    let notes = notes_view c.self.inside.notes in
+    let kept = texts c.self.inside.taken.keys in
+    let now = texts c.claim.new.paths.keys in
+    let l = linked_view c.args.one in
+    let ps = texts c.args.paths.now in
+    let back : map linked_view c.truncate.new.self.items ≡ ls =
+    let is : c.truncate.new.self.items ≡ c.self.inside.linked.items = grind (arith, common_steps) in ap (map linked_view) is in
+    whole_same s ls (map linked_view c.truncate.new.self.items) outputs notes.present kept now c.self.invariant back
+    (placed_back kept ps now c.in-Ok-true.field-0 c.args.within c.in-Ok-true.ensures.added c.in-Ok-true.field-0-test c.if-within.false)
+
+pub invariant_of-self-in-Ok-false : goal.invariant_of-self-in-Ok-false
+invariant_of-self-in-Ok-false c =
+    let s = surroundings_view c.self.inside.surroundings in
+    let ls = map linked_view c.self.inside.linked.items in
+    let outputs = texts c.self.inside.outputs.items in
+    let notes = notes_view c.self.inside.notes in
+    let kept = texts c.self.inside.taken.keys in
+    let now = texts c.claim.new.paths.keys in
+    let l = linked_view c.args.one in
+    let ps = texts c.args.paths.now in
+    let back : map linked_view c.truncate-in-Ok-false.new.self.items ≡ ls =
+    let is : c.truncate-in-Ok-false.new.self.items ≡ c.self.inside.linked.items = grind (arith, common_steps) in ap (map linked_view) is in
+    whole_same s ls (map linked_view c.truncate-in-Ok-false.new.self.items) outputs notes.present kept now c.self.invariant back
+    (placed_twice kept ps now c.in-Ok-false.field-0 c.args.within c.in-Ok-false.ensures.added c.in-Ok-false.field-0-test)
+
+pub invariant_of-self-in-Err : goal.invariant_of-self-in-Err
+invariant_of-self-in-Err c =
+    let s = surroundings_view c.self.inside.surroundings in
+    let ls = map linked_view c.self.inside.linked.items in
+    let outputs = texts c.self.inside.outputs.items in
+    let notes = notes_view c.self.inside.notes in
+    let kept = texts c.self.inside.taken.keys in
+    let now = texts c.claim.new.paths.keys in
+    let back : map linked_view c.truncate-in-Err.new.self.items ≡ ls =
+    let is : c.truncate-in-Err.new.self.items ≡ c.self.inside.linked.items = grind (arith, common_steps) in ap (map linked_view) is in
+    whole_same s ls (map linked_view c.truncate-in-Err.new.self.items) outputs notes.present kept now c.self.invariant back (ap texts c.in-Err.ensures.err)
+
+pub returns-then-within-clause-answer : goal.returns-then-within-clause-answer
+returns-then-within-clause-answer c =
+    let s = surroundings_view c.self.inside.surroundings in
+    let ls = map linked_view c.self.inside.linked.items in
+    let outputs = texts c.self.inside.outputs.items in
+    let notes = notes_view c.self.inside.notes in
+    let kept = texts c.self.inside.taken.keys in
+    let l = linked_view c.args.one in
+    let ps = texts c.args.paths.now in
+    let w = c.args.self.now in
+    let free : all_new (taken_in w) ps ≡ true =
+    ap (λ (x : WorldData). all_new (taken_in x) ps) (sym c.self.view_is) ∙ free_is s ls outputs notes.present kept ps true c.self.invariant (sym c.in-Ok-true.field-0-test ∙ c.in-Ok-true.ensures.tested) in
+    let count : c.len-number.result ≡ length w.targets =
+    let n : c.len-number.result ≡ length c.self.inside.linked.items = search rules in
+    n ∙ sym (length-map c.self.inside.linked.items linked_view) ∙ sym (length-map ls (λ (k : LinkedData). k.target)) ∙ ap (λ (x : WorldData). length x.targets) c.self.view_is in
+    ap Ok count ∙ sym (place_ok w ps c.args.within free c.if-within.true)
+
+pub returns-then-within-clause-ok : goal.returns-then-within-clause-ok
+returns-then-within-clause-ok c =
+    let s = surroundings_view c.self.inside.surroundings in
+    let ls = map linked_view c.self.inside.linked.items in
+    let outputs = texts c.self.inside.outputs.items in
+    let notes = notes_view c.self.inside.notes in
+    let kept = texts c.self.inside.taken.keys in
+    let l = linked_view c.args.one in
+    let ps = texts c.args.paths.now in
+    let w = c.args.self.now in
+    let free : all_new (taken_in w) ps ≡ true =
+    ap (λ (x : WorldData). all_new (taken_in x) ps) (sym c.self.view_is) ∙ free_is s ls outputs notes.present kept ps true c.self.invariant (sym c.in-Ok-true.field-0-test ∙ c.in-Ok-true.ensures.tested) in
+    let pushed : map linked_view c.push.new.self.items ≡ ls ++ l ∷ [] = ap (map linked_view) c.in_ok-push.ensures.items ∙ map-append linked_view c.self.inside.linked.items (c.args.one ∷ []) in
+    ap (λ x. world_of s x outputs notes) pushed ∙ world_with s ls outputs notes l w c.self.view_is
+    ∙ sym (after_ok (place_answer w ps c.args.within) (length w.targets) (with_target w l.target) w (place_ok w ps c.args.within free c.if-within.true))
+
+pub returns-else-within-clause-answer : goal.returns-else-within-clause-answer
+returns-else-within-clause-answer c =
+    let s = surroundings_view c.self.inside.surroundings in
+    let ls = map linked_view c.self.inside.linked.items in
+    let outputs = texts c.self.inside.outputs.items in
+    let notes = notes_view c.self.inside.notes in
+    let kept = texts c.self.inside.taken.keys in
+    let l = linked_view c.args.one in
+    let ps = texts c.args.paths.now in
+    let w = c.args.self.now in
+    let free : all_new (taken_in w) ps ≡ true =
+    ap (λ (x : WorldData). all_new (taken_in x) ps) (sym c.self.view_is) ∙ free_is s ls outputs notes.present kept ps true c.self.invariant (sym c.in-Ok-true.field-0-test ∙ c.in-Ok-true.ensures.tested) in
+    sym (place_long w ps c.args.within free c.if-within.false)
+
+pub returns-else-within-clause-ok : goal.returns-else-within-clause-ok
+returns-else-within-clause-ok c =
+    let s = surroundings_view c.self.inside.surroundings in
+    let ls = map linked_view c.self.inside.linked.items in
+    let outputs = texts c.self.inside.outputs.items in
+    let notes = notes_view c.self.inside.notes in
+    let kept = texts c.self.inside.taken.keys in
+    let l = linked_view c.args.one in
+    let ps = texts c.args.paths.now in
+    let w = c.args.self.now in
+    let free : all_new (taken_in w) ps ≡ true =
+    ap (λ (x : WorldData). all_new (taken_in x) ps) (sym c.self.view_is) ∙ free_is s ls outputs notes.present kept ps true c.self.invariant (sym c.in-Ok-true.field-0-test ∙ c.in-Ok-true.ensures.tested) in
+    let back : map linked_view c.truncate.new.self.items ≡ ls =
+    let is : c.truncate.new.self.items ≡ c.self.inside.linked.items = grind (arith, common_steps) in ap (map linked_view) is in
+    ap (λ x. world_of s x outputs notes) back ∙ c.self.view_is
+    ∙ sym (after_err (place_answer w ps c.args.within) Limit (with_target w l.target) w (place_long w ps c.args.within free c.if-within.false))
+
+pub returns-in-Ok-false-clause-answer : goal.returns-in-Ok-false-clause-answer
+returns-in-Ok-false-clause-answer c =
+    let s = surroundings_view c.self.inside.surroundings in
+    let ls = map linked_view c.self.inside.linked.items in
+    let outputs = texts c.self.inside.outputs.items in
+    let notes = notes_view c.self.inside.notes in
+    let kept = texts c.self.inside.taken.keys in
+    let l = linked_view c.args.one in
+    let ps = texts c.args.paths.now in
+    let w = c.args.self.now in
+    let free : all_new (taken_in w) ps ≡ false =
+    ap (λ (x : WorldData). all_new (taken_in x) ps) (sym c.self.view_is) ∙ free_is s ls outputs notes.present kept ps false c.self.invariant (sym c.in-Ok-false.field-0-test ∙ c.in-Ok-false.ensures.tested) in
+    sym (place_twice w ps c.args.within free)
+
+pub returns-in-Ok-false-clause-ok : goal.returns-in-Ok-false-clause-ok
+returns-in-Ok-false-clause-ok c =
+    let s = surroundings_view c.self.inside.surroundings in
+    let ls = map linked_view c.self.inside.linked.items in
+    let outputs = texts c.self.inside.outputs.items in
+    let notes = notes_view c.self.inside.notes in
+    let kept = texts c.self.inside.taken.keys in
+    let l = linked_view c.args.one in
+    let ps = texts c.args.paths.now in
+    let w = c.args.self.now in
+    let free : all_new (taken_in w) ps ≡ false =
+    ap (λ (x : WorldData). all_new (taken_in x) ps) (sym c.self.view_is) ∙ free_is s ls outputs notes.present kept ps false c.self.invariant (sym c.in-Ok-false.field-0-test ∙ c.in-Ok-false.ensures.tested) in
+    let back : map linked_view c.truncate-in-Ok-false.new.self.items ≡ ls =
+    let is : c.truncate-in-Ok-false.new.self.items ≡ c.self.inside.linked.items = grind (arith, common_steps) in ap (map linked_view) is in
+    ap (λ x. world_of s x outputs notes) back ∙ c.self.view_is
+    ∙ sym (after_err (place_answer w ps c.args.within) Duplicate (with_target w l.target) w (place_twice w ps c.args.within free))

@@ -1,0 +1,6 @@
+pub mod Laws
+pub mod World
+pub mod Adding
+pub mod View
+pub mod NotesView
+pub mod Whole

@@ -1,0 +1,61 @@
+-- `declare_dependency`: a dependency with those that it depends on.
+use Rattle.std.specs.Prelude.{Bool, ◌&&◌, nat_le, List, [], ◌∷◌, ◌++◌, length, Result, Ok, Err, if◌then◌else◌}
+use Rattle.data.specs.Data.{Data, boolean, integer, text, list, dictionary, object, Items, no_items, item}
+use Rattle.data.specs.declared.object.Dependency.{Dependency}
+use Rattle.data.specs.declared.object.Object.{Object}
+use Rattle.data.specs.declared.object.Object.TheVariants as objects
+use Rattle.data.specs.declared.refusal.Refusal.{Refusal}
+use Rattle.data.specs.declared.refusal.Refusal.TheVariants as refusal
+use Rattle.limits.specs.Limits.{items}
+
+abbrev pub if_dependency : Object → List Dependency
+if_dependency (objects.Dependency d) = d ∷ []
+if_dependency _ = []
+
+-- the dependencies in a value, in order, with all lists opened
+abbrev mutual
+  pub dependencies_in : Data → List Dependency
+  dependencies_in (object o) = if_dependency o
+  dependencies_in (list ds) = dependencies_of ds
+  dependencies_in (boolean b) = []
+  dependencies_in (integer z) = []
+  dependencies_in (text t) = []
+  dependencies_in (dictionary es) = []
+
+  pub dependencies_of : Items → List Dependency
+  dependencies_of no_items = []
+  dependencies_of (item d ds) = dependencies_in d ++ dependencies_of ds
+
+-- no list has too many items
+abbrev pub is_within : Dependency → Bool
+is_within d =
+    nat_le (length d.include_directories) items && (nat_le (length d.compile_args) items
+    && (nat_le (length d.link_args) items && (nat_le (length d.link_with) items && nat_le (length d.sources) items)))
+
+abbrev pub with_all_lists : Dependency → Dependency → Dependency
+with_all_lists d other = record {
+  is_found = d.is_found;
+  name = d.name;
+  version = d.version;
+  include_directories = d.include_directories ++ other.include_directories;
+  compile_args = d.compile_args ++ other.compile_args;
+  link_args = d.link_args ++ other.link_args;
+  link_with = d.link_with ++ other.link_with;
+  sources = d.sources ++ other.sources;
+}
+
+-- with the lists of another behind its own, where that is found
+abbrev pub with_lists : Dependency → Dependency → Dependency
+with_lists d other = if other.is_found then with_all_lists d other else d
+
+-- with the lists of others, in order
+abbrev pub with_all : Dependency → List Dependency → Dependency
+with_all d [] = d
+with_all d (o ∷ os) = with_all (with_lists d o) os
+
+-- the same within the limits, or the refusal
+abbrev pub within_limits : Dependency → Result Dependency Refusal
+within_limits d = if is_within d then Ok d else Err refusal.Limit
+
+abbrev pub joined : Dependency → List Dependency → Result Dependency Refusal
+joined d others = within_limits (with_all d others)

@@ -1,0 +1,7 @@
+pub mod Fitting
+pub mod FittingView
+pub mod Found
+pub mod Installs
+pub mod Joined
+pub mod Requirement
+pub mod Testing

@@ -1,0 +1,8 @@
+pub mod Folders
+pub mod Libraries
+pub mod Opened
+pub mod Sources
+pub mod SourcesView
+pub mod Values
+pub mod ValuesView
+pub mod Versions

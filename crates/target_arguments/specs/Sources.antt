@@ -1,0 +1,44 @@
+-- What sources a call names: texts that are paths of the tree, files, custom targets and their outputs.
+use Rattle.std.specs.Prelude.{ℕ, true, false, List, [], ◌∷◌, ◌++◌, Option, Some, None, option_map}
+use Rattle.data.specs.Data.{Data, text, object}
+use Rattle.data.specs.declared.object.Object.{Object}
+use Rattle.data.specs.declared.object.Object.TheVariants as objects
+use Rattle.paths.specs.Paths.{tree_path}
+
+pub data NamedData : Type 0 where
+  -- a file of the tree
+  tree : (path : List ℕ) → NamedData
+  -- a file that is built while the definition files are read
+  built : (path : List ℕ) → NamedData
+  -- all outputs of the custom target with a number
+  outputs : (target : ℕ) → NamedData
+  -- one of them
+  output : (target place : ℕ) → NamedData
+
+abbrev pub of_object : Object → Option NamedData
+of_object (objects.File path true) = Some (built path)
+of_object (objects.File path false) = Some (tree path)
+of_object (objects.CustomTarget number count) = Some (outputs number)
+of_object (objects.CustomOutput target place) = Some (output target place)
+of_object _ = None
+
+-- the source that a value names in a definition file of a folder; none where the value is of another kind, or a text that names no file
+-- of the tree
+abbrev pub source_of : List ℕ → List ℕ → Data → Option NamedData
+source_of source_root folder (text t) = option_map tree (tree_path source_root folder t)
+source_of source_root folder (object o) = of_object o
+source_of source_root folder _ = None
+
+abbrev pub with_source : Option NamedData → (NamedData → Option (List NamedData)) → Option (List NamedData)
+with_source None next = None
+with_source (Some s) next = next s
+
+-- sources, and behind them those that values name, none where one value names none
+abbrev pub sources_behind : List ℕ → List ℕ → List NamedData → List Data → Option (List NamedData)
+sources_behind source_root folder ss [] = Some ss
+sources_behind source_root folder ss (d ∷ ds) =
+    with_source (source_of source_root folder d) (λ s. sources_behind source_root folder (ss ++ s ∷ []) ds)
+
+-- the sources that values name, all of them, or none where the call is refused (E9)
+abbrev pub sources_of : List ℕ → List ℕ → List Data → Option (List NamedData)
+sources_of source_root folder ds = sources_behind source_root folder [] ds

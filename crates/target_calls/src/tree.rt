@@ -1,0 +1,93 @@
+//! `files` and `include_directories`.
+ghost use Rattle.std.specs.Prelude.{◌≡◌, map, option_map, string_bytes};
+ghost use Rattle.data.specs.View.{data_of};
+ghost use Rattle.arguments.specs.Arguments.{arguments_data};
+ghost use Rattle.paths.specs.Folder.{strings_of};
+ghost use Rattle.world.specs.Answering.{Carries, HasRoom};
+ghost use Rattle.world.specs.Caller.{state_of};
+ghost use Rattle.target_calls.specs.Files.{all_required, files, include_directories, named_files, named_folders};
+
+use arguments::Arguments;
+use data::Value;
+use faults::Refusal;
+use paths::{folder_paths, tree_paths};
+use ports::{Outputs, Tree};
+use target_arguments::{directories_at, files_at};
+use world::{Caller, Stop};
+
+// The paths of the files that texts name.
+fn named_files<T: Tree, O: Outputs>(
+    caller: &Caller<'_, T, O>,
+    texts: &[&str],
+) -> Result<Vec<String>, Stop>
+    ensures { Carries strings_of (named_files (map (λ t. t.now) texts.now))
+        (state_of T.seen O.seen caller.now) result (state_of T.seen O.seen caller.now) }
+{
+    let source_root = caller.store.settings().source_root.as_str();
+    let paths = tree_paths(caller.alloc, source_root, caller.store.folder(), texts)?;
+    match paths {
+        Some(paths) => Ok(paths),
+        None => caller.refuse(Refusal::Arguments, ""),
+    }
+}
+
+// The paths of the folders that texts name.
+fn named_folders<T: Tree, O: Outputs>(
+    caller: &Caller<'_, T, O>,
+    texts: &[&str],
+) -> Result<Vec<String>, Stop>
+    ensures { Carries strings_of (named_folders (map (λ t. t.now) texts.now))
+        (state_of T.seen O.seen caller.now) result (state_of T.seen O.seen caller.now) }
+{
+    let source_root = caller.store.settings().source_root.as_str();
+    let paths = folder_paths(caller.alloc, source_root, caller.store.folder(), texts)?;
+    match paths {
+        Some(paths) => Ok(paths),
+        None => caller.refuse(Refusal::Arguments, ""),
+    }
+}
+
+// Refuses the call unless each of the files is there.
+fn require_all<T: Tree, O: Outputs>(
+    caller: &mut Caller<'_, T, O>,
+    paths: &[String],
+) -> Result<(), Stop>
+    requires { HasRoom (state_of T.seen O.seen caller.old) }
+    ensures { Carries (λ u. u) (all_required (map string_bytes paths.now))
+        (state_of T.seen O.seen caller.old) result (state_of T.seen O.seen caller.new) }
+{
+    for path in paths {
+        caller.require_file(path.as_str())?;
+    }
+    Ok(())
+}
+
+/// `files(texts..)`
+pub fn files<T: Tree, O: Outputs>(
+    caller: &mut Caller<'_, T, O>,
+    arguments: &Arguments,
+) -> Result<Option<Value>, Stop>
+    requires { HasRoom (state_of T.seen O.seen caller.old) }
+    ensures { Carries (option_map data_of) (files (arguments_data arguments.now))
+        (state_of T.seen O.seen caller.old) result (state_of T.seen O.seen caller.new) }
+{
+    let texts = arguments.all_texts(caller.alloc)?;
+    let paths = named_files(caller, &texts)?;
+    require_all(caller, &paths)?;
+    let list = caller.answered(files_at(caller.alloc, &paths)?)?;
+    Ok(Some(list))
+}
+
+/// `include_directories(texts..)`
+pub fn include_directories<T: Tree, O: Outputs>(
+    caller: &Caller<'_, T, O>,
+    arguments: &Arguments,
+) -> Result<Option<Value>, Stop>
+    ensures { Carries (option_map data_of) (include_directories (arguments_data arguments.now))
+        (state_of T.seen O.seen caller.now) result (state_of T.seen O.seen caller.now) }
+{
+    let texts = arguments.all_texts(caller.alloc)?;
+    let paths = named_folders(caller, &texts)?;
+    let directories = caller.answered(directories_at(caller.alloc, &paths)?)?;
+    Ok(Some(directories))
+}

@@ -1,0 +1,71 @@
+-- Of inputs with equal paths the first is kept.
+use Rattle.std.proofs.Common.{◌≡◌, Bool, true, false, List, [], ◌∷◌, ◌++◌, map, string_bytes, String, refl, sym, ap, ◌∙◌}
+use Rattle.std.specs.Prelude.{not, if◌then◌else◌, string_eq}
+use Rattle.std.specs.List.{list_any}
+use Rattle.std.specs.Global.{Global}
+use Rattle.std.proofs.lemmas.List.{map-append}
+use Rattle.indexmap.specs.IndexSet.{insert_key}
+use Rattle.edge.specs.Texts.{Path, texts, holds}
+use Rattle.edge.proofs.TextLists.{holds-texts, texts-insert_key}
+use Rattle.targets.specs.Sources.{InputData, put_input, put_inputs}
+use Rattle.targets.specs.Inputs.{input_view}
+use Rattle.targets.specs.declared.sources.Input.{Input}
+
+put_inputs-push : (kept is : List InputData) (i : InputData) → put_inputs kept (is ++ i ∷ []) ≡ put_input (put_inputs kept is) i
+put_inputs-push kept [] i = refl
+put_inputs-push kept (x ∷ is) i = put_inputs-push (put_input kept x) is i
+
+abbrev paths : List InputData → List Path
+paths is = map (λ (i : InputData). i.path) is
+
+not_true : (a b : Bool) → a ≡ not b → a ≡ true → b ≡ false
+not_true a true e h = absurd cc
+not_true a false e h = refl
+
+not_false : (a b : Bool) → a ≡ not b → a ≡ false → b ≡ true
+not_false a true e h = refl
+not_false a false e h = absurd cc
+
+-- whether the path was seen, as the list says
+was_seen : (keys : List (String Global)) (kept : List InputData) (k : String Global) (p : Path) → texts keys ≡ paths kept → string_bytes k ≡ p
+    → list_any (string_eq k) keys ≡ holds p (paths kept)
+was_seen keys kept k p seen same = holds-texts k keys ∙ ap (λ q. holds q (texts keys)) same ∙ ap (holds p) seen
+
+module _ (all kept : List Input) (keys now : List (String Global)) (item : Input) (k : String Global) (added : Bool) (so_far : map input_view kept ≡ put_inputs [] (map input_view all))
+    (seen : texts keys ≡ paths (map input_view kept)) (same : string_bytes k ≡ string_bytes item.path) (was : added ≡ not (list_any (string_eq k) keys)) (is : now ≡ insert_key string_eq keys k) where
+  more : put_inputs [] (map input_view (all ++ item ∷ [])) ≡ put_input (map input_view kept) (input_view item)
+  more =
+      ap (put_inputs []) (map-append input_view all (item ∷ []))
+      ∙ put_inputs-push [] (map input_view all) (input_view item)
+      ∙ ap (λ l. put_input l (input_view item)) (sym so_far)
+
+  abbrev old : List InputData
+  old = map input_view kept
+
+  in_old : list_any (string_eq k) keys ≡ holds (string_bytes item.path) (paths old)
+  in_old = was_seen keys old k (string_bytes item.path) seen same
+
+  now_is : texts now ≡ (if holds (string_bytes item.path) (paths old) then texts keys else texts keys ++ string_bytes item.path ∷ [])
+  now_is =
+      ap texts is ∙ texts-insert_key keys k
+      ∙ ap (λ b. if b then texts keys else texts keys ++ string_bytes k ∷ []) (sym (holds-texts k keys) ∙ in_old)
+      ∙ ap (λ p. if holds (string_bytes item.path) (paths old) then texts keys else texts keys ++ p ∷ []) same
+
+  pub kept-present : added ≡ false → map input_view kept ≡ put_inputs [] (map input_view (all ++ item ∷ []))
+  kept-present none =
+      sym (more ∙ ap (λ b. if b then old else old ++ input_view item ∷ []) (sym in_old ∙ not_false added (list_any (string_eq k) keys) was none))
+
+  pub seen-present : added ≡ false → texts now ≡ paths (map input_view kept)
+  seen-present none =
+      now_is ∙ ap (λ b. if b then texts keys else texts keys ++ string_bytes item.path ∷ []) (sym in_old ∙ not_false added (list_any (string_eq k) keys) was none) ∙ seen
+
+  pub kept-new : (new : List Input) → new ≡ kept ++ item ∷ [] → added ≡ true → map input_view new ≡ put_inputs [] (map input_view (all ++ item ∷ []))
+  kept-new new e one =
+      ap (map input_view) e ∙ map-append input_view kept (item ∷ [])
+      ∙ sym (more ∙ ap (λ b. if b then old else old ++ input_view item ∷ []) (sym in_old ∙ not_true added (list_any (string_eq k) keys) was one))
+
+  pub seen-new : (new : List Input) → new ≡ kept ++ item ∷ [] → added ≡ true → texts now ≡ paths (map input_view new)
+  seen-new new e one =
+      now_is ∙ ap (λ b. if b then texts keys else texts keys ++ string_bytes item.path ∷ []) (sym in_old ∙ not_true added (list_any (string_eq k) keys) was one)
+      ∙ ap (λ l. l ++ string_bytes item.path ∷ []) seen
+      ∙ sym (ap (λ l. paths (map input_view l)) e ∙ ap paths (map-append input_view kept (item ∷ [])) ∙ map-append (λ (i : InputData). i.path) old (input_view item ∷ []))

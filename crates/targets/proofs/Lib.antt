@@ -1,0 +1,4 @@
+pub mod ListLemmas
+pub mod InputLists
+pub mod KeptLast
+pub mod FirstNumber

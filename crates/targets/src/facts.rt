@@ -1,0 +1,73 @@
+/// What edges take from the options.
+#[derive(Drop)]
+pub struct Flags {
+    /// `warning_level`, 0 to 3.
+    pub warning_level: usize,
+    /// `werror`.
+    pub is_werror: bool,
+    /// `c_std`, `none` where no standard is asked for.
+    pub c_std: String,
+    /// `optimization`, `plain` where no word says it.
+    pub optimization: String,
+    /// `debug`.
+    pub is_debug: bool,
+    pub c_args: Vec<String>,
+    pub c_link_args: Vec<String>,
+}
+
+/// The type of an option (the manual's page "Build options").
+#[derive(Clone, Copy, Debug, PartialEq, Eq)]
+pub enum OptionType {
+    String,
+    Boolean,
+    Combo,
+    Integer,
+    Array,
+    Feature,
+}
+
+/// The value of an option.
+#[derive(Drop)]
+pub enum OptionValue {
+    Text(String),
+    Boolean(bool),
+    Integer(i64),
+    Texts(Vec<String>),
+}
+
+/// An option as it is listed.
+#[derive(Drop)]
+pub struct OptionEntry {
+    pub name: String,
+    pub kind: OptionType,
+    pub value: OptionValue,
+}
+
+/// What `project`, the options and the machine file say of a project.
+#[derive(Drop)]
+pub struct Facts {
+    pub name: String,
+    pub version: String,
+    pub license: Vec<String>,
+    /// How many folders the build folder lies below the source root, at least one.
+    pub depth: usize,
+    /// An absolute path.
+    pub source_root: String,
+    /// An absolute path.
+    pub build_root: String,
+    /// The words of the compiler.
+    pub compiler: Vec<String>,
+    /// The words of the archiver.
+    pub archiver: Vec<String>,
+    pub flags: Flags,
+    /// Every option: built in as listed, then declared.
+    pub options: Vec<OptionEntry>,
+}
+
+/// What edges take from the project: its facts, and the words of `add_project_arguments` and `add_project_link_arguments`.
+#[derive(Drop)]
+pub struct Surroundings {
+    pub facts: Facts,
+    pub arguments: Vec<String>,
+    pub link_arguments: Vec<String>,
+}

@@ -1,0 +1,194 @@
+//! The files that a target makes.
+ghost use Rattle.std.specs.Prelude.{◌≡◌, ◌++◌, ◌∷◌, [], map, IfOk, codes, string_bytes, option_map};
+ghost use Rattle.edge.specs.Texts.{texts};
+ghost use Rattle.edge.specs.Paths.{object_path};
+ghost use Rattle.targets.specs.Files.{path_in, first_number, so_number, file_number, numbered_so, so_name, file_name, file_path};
+ghost use Rattle.targets.specs.Files.{numbered_names, link_names, link_paths, output_paths, depfile_path, default_paths};
+ghost use Rattle.targets.specs.Inputs.{input_view};
+ghost use Rattle.targets.specs.View.{build_view, custom_view, target_view};
+
+use crate::sources::Input;
+use crate::target::{BuildTarget, CustomTarget, Kind, Target};
+use edge::{object_path, push_copies};
+use std::alloc::{AllocError, Global};
+
+/// The path of a file of the folder.
+pub fn path_in(alloc: Global, folder: &str, name: &str) -> Result<String, AllocError>
+    ensures { IfOk result (λ s. string_bytes s ≡ path_in folder.now name.now) }
+{
+    if folder.is_empty() {
+        String::from_str(alloc, name)
+    } else {
+        format!(in alloc; "{folder}/{name}")
+    }
+}
+
+// `1` of `1.2.3`.
+fn first_number(version: &str) -> &str
+    ensures { result.now ≡ first_number version.now }
+{
+    match version.split_once('.') {
+        Some((number, _)) => number,
+        None => version,
+    }
+}
+
+// `soversion`, or the first number of `version`.
+fn so_number(target: &BuildTarget) -> Option<&str>
+    ensures { option_map (λ s. s.now) result
+        ≡ so_number (option_map string_bytes target.now.version) (option_map string_bytes target.now.soversion) }
+{
+    match &target.soversion {
+        Some(number) => Some(number.as_str()),
+        None => match &target.version {
+            Some(version) => Some(first_number(version)),
+            None => None,
+        },
+    }
+}
+
+// `version`, or `soversion`.
+fn file_number(target: &BuildTarget) -> Option<&str>
+    ensures { option_map (λ s. s.now) result
+        ≡ file_number (option_map string_bytes target.now.version) (option_map string_bytes target.now.soversion) }
+{
+    match &target.version {
+        Some(version) => Some(version.as_str()),
+        None => match &target.soversion {
+            Some(number) => Some(number.as_str()),
+            None => None,
+        },
+    }
+}
+
+// `libNAME.so`, and the number behind it.
+fn numbered(alloc: Global, name: &str, number: Option<&str>) -> Result<String, AllocError>
+    ensures { IfOk result (λ s. string_bytes s ≡ numbered_so name.now (option_map (λ n. n.now) number.entry)) }
+{
+    match number {
+        None => format!(in alloc; "lib{name}.so"),
+        Some(number) => format!(in alloc; "lib{name}.so.{number}"),
+    }
+}
+
+/// The name by which a shared library is found when a program starts: `libNAME.so.S`, or `libNAME.so`.
+pub fn so_name(alloc: Global, target: &BuildTarget) -> Result<String, AllocError>
+    ensures { IfOk result (λ s. string_bytes s ≡ so_name (build_view target.now)) }
+{
+    numbered(alloc, &target.name, so_number(target))
+}
+
+/// The name of the target's file.
+pub fn file_name(alloc: Global, target: &BuildTarget) -> Result<String, AllocError>
+    ensures { IfOk result (λ s. string_bytes s ≡ file_name (build_view target.now)) }
+{
+    let name = target.name.as_str();
+    match target.kind {
+        Kind::Executable => String::from_str(alloc, name),
+        Kind::StaticLibrary => format!(in alloc; "lib{name}.a"),
+        Kind::SharedLibrary => numbered(alloc, name, file_number(target)),
+    }
+}
+
+/// The path of the target's file.
+pub fn file_path(alloc: Global, target: &BuildTarget) -> Result<String, AllocError>
+    ensures { IfOk result (λ s. string_bytes s ≡ file_path (build_view target.now)) }
+{
+    let name = file_name(alloc, target)?;
+    path_in(alloc, &target.folder, &name)
+}
+
+// The names that lead to a shared library with a number.
+fn numbered_names(alloc: Global, target: &BuildTarget) -> Result<Vec<String>, AllocError>
+    ensures { IfOk result (λ v. texts v.items
+        ≡ numbered_names (so_number (option_map string_bytes target.now.version) (option_map string_bytes target.now.soversion))
+        (build_view target.now)) }
+{
+    let mut names = Vec::new(alloc);
+    if so_number(target).is_some() {
+        let by_number = so_name(alloc, target)?;
+        let file = file_name(alloc, target)?;
+        if by_number != file {
+            names.push(by_number)?;
+        }
+        names.push(numbered(alloc, &target.name, None)?)?;
+    }
+    Ok(names)
+}
+
+/// The names of the symbolic links that lead to the target's file.
+pub fn link_names(alloc: Global, target: &BuildTarget) -> Result<Vec<String>, AllocError>
+    ensures { IfOk result (λ v. texts v.items ≡ link_names (build_view target.now)) }
+{
+    match target.kind {
+        Kind::Executable | Kind::StaticLibrary => Ok(Vec::new(alloc)),
+        Kind::SharedLibrary => numbered_names(alloc, target),
+    }
+}
+
+// The paths of files of a folder.
+fn paths_in(alloc: Global, folder: &str, names: &[String]) -> Result<Vec<String>, AllocError>
+    ensures { IfOk result (λ v. texts v.items ≡ map (path_in folder.now) (texts names.now)) }
+{
+    let mut paths = Vec::new(alloc);
+    for name in names {
+        paths.push(path_in(alloc, folder, name)?)?;
+    }
+    Ok(paths)
+}
+
+/// The paths of the symbolic links that lead to the target's file.
+pub fn link_paths(alloc: Global, target: &BuildTarget) -> Result<Vec<String>, AllocError>
+    ensures { IfOk result (λ v. texts v.items ≡ link_paths (build_view target.now)) }
+{
+    let names = link_names(alloc, target)?;
+    paths_in(alloc, &target.folder, &names)
+}
+
+/// The objects of the inputs, of the target whose file this is.
+pub fn objects(alloc: Global, file: &str, inputs: &[Input]) -> Result<Vec<String>, AllocError>
+    ensures { IfOk result (λ v. texts v.items ≡ map (λ i. object_path file.now i.name) (map input_view inputs.now)) }
+{
+    let mut objects = Vec::new(alloc);
+    for input in inputs {
+        objects.push(object_path(alloc, file, &input.name)?)?;
+    }
+    Ok(objects)
+}
+
+// The file of a build target and the links that lead to it.
+fn build_paths(alloc: Global, target: &BuildTarget) -> Result<Vec<String>, AllocError>
+    ensures { IfOk result (λ v. texts v.items ≡ file_path (build_view target.now) ∷ link_paths (build_view target.now)) }
+{
+    let mut paths = Vec::new(alloc);
+    paths.push(file_path(alloc, target)?)?;
+    push_copies(&mut paths, &link_paths(alloc, target)?)?;
+    Ok(paths)
+}
+
+/// The outputs of a custom target.
+pub fn output_paths(alloc: Global, target: &CustomTarget) -> Result<Vec<String>, AllocError>
+    ensures { IfOk result (λ v. texts v.items ≡ output_paths (custom_view target.now)) }
+{
+    paths_in(alloc, &target.folder, &target.outputs)
+}
+
+/// Where the command of a custom target writes what it has read.
+pub fn depfile_path(alloc: Global, target: &CustomTarget) -> Result<Option<String>, AllocError>
+    ensures { IfOk result (λ path. option_map string_bytes path ≡ depfile_path (custom_view target.now)) }
+{
+    match &target.depfile {
+        None => Ok(None),
+        Some(name) => Ok(Some(path_in(alloc, &target.folder, name)?)),
+    }
+}
+
+/// What the target is asked for, as the edge `all` names it: its outputs and the symbolic links.
+pub fn default_paths(alloc: Global, target: &Target) -> Result<Vec<String>, AllocError>
+    ensures { IfOk result (λ v. texts v.items ≡ default_paths (target_view target.now)) }
+{
+    match target {
+        Target::Build(target) => build_paths(alloc, target),
+        Target::Custom(target) => output_paths(alloc, target),
+    }
+}

@@ -1,0 +1,17 @@
+//! A project's targets as they are declared, the files that they make, and the libraries that they link.
+#![tactic(auto)]
+
+mod facts;
+mod files;
+mod linking;
+mod sources;
+mod target;
+
+pub use facts::{Facts, Flags, OptionEntry, OptionType, OptionValue, Surroundings};
+pub use files::{
+    default_paths, depfile_path, file_name, file_path, link_names, link_paths, objects,
+    output_paths, path_in, so_name,
+};
+pub use linking::{Linked, build_target_at, is_library_at, libraries, links_libraries};
+pub use sources::{Input, compiled, generated, has_foreign_source, is_c, source_paths};
+pub use target::{BuildTarget, CustomTarget, Kind, Lists, Source, Target};

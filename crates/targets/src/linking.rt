@@ -1,0 +1,157 @@
+//! The libraries that a target links.
+ghost use Rattle.std.specs.Prelude.{◌≡◌, ◌∷◌, [], map, flat_map, ◌++◌, IfOk, slice_get, option_map, ◌&&◌};
+ghost use Rattle.std.specs.List.{list_all};
+ghost use Rattle.targets.specs.Libraries.{last_kept, with_its_own, libraries_of, libraries_in, build_of, build_at, is_library_at};
+ghost use Rattle.targets.specs.Libraries.{is_static_target, links_libraries};
+ghost use Rattle.targets.specs.View.{linked_view, target_view, build_view};
+
+use crate::target::{BuildTarget, Target};
+use std::alloc::{AllocError, Global};
+use tables::new_set;
+
+/// A target with what is made of it once.
+#[derive(Drop)]
+pub struct Linked {
+    pub target: Target,
+    /// The libraries that it links, by their numbers: those that it names, those of its dependencies, and behind a static library its
+    /// own. Of equal ones the last is kept.
+    pub libraries: Vec<usize>,
+    /// What it is asked for, as the edge `all` names it: its outputs and the symbolic links.
+    pub paths: Vec<String>,
+}
+
+fn build_of(target: &Target) -> Option<&BuildTarget>
+    ensures { option_map (λ t. build_view t.now) result ≡ build_of (target_view target.now) }
+{
+    match target {
+        Target::Build(target) => Some(target),
+        Target::Custom(_) => None,
+    }
+}
+
+/// The build target with a number, or none where that is a custom target or no target at all.
+pub fn build_target_at(earlier: &[Linked], number: usize) -> Option<&BuildTarget>
+    ensures { option_map (λ t. build_view t.now) result ≡ build_at (map linked_view earlier.now) number }
+{
+    match earlier.get(number) {
+        Some(linked) => build_of(&linked.target),
+        None => None,
+    }
+}
+
+/// Whether the number is that of a library.
+pub fn is_library_at(earlier: &[Linked], number: usize) -> bool
+    ensures { result ≡ is_library_at (map linked_view earlier.now) number }
+{
+    match build_target_at(earlier, number) {
+        Some(target) => target.kind.is_library(),
+        None => false,
+    }
+}
+
+fn is_static_target(target: &Target) -> bool
+    ensures { result ≡ is_static_target (target_view target.now) }
+{
+    match target {
+        Target::Build(target) => target.kind.is_static(),
+        Target::Custom(_) => false,
+    }
+}
+
+// Of equal numbers the last is kept.
+fn keep_last(alloc: Global, mut numbers: Vec<usize>) -> Result<Vec<usize>, AllocError>
+    ensures { IfOk result (λ v. v.items ≡ last_kept numbers.items) }
+{
+    let mut kept = new_set(alloc);
+    while let Some(number) = numbers.pop() {
+        kept.insert(number)?;
+    }
+    kept.as_slice().iter().rev().copied().collect(alloc)
+}
+
+// A library, and where it is static its own libraries.
+fn bring(all: &mut Vec<usize>, earlier: &[Linked], number: usize) -> Result<(), AllocError>
+    ensures { IfOk result (λ _. all.new.items ≡ all.old.items ++ with_its_own (map linked_view earlier.now) number) }
+{
+    all.push(number)?;
+    if let Some(linked) = earlier.get(number) {
+        if is_static_target(&linked.target) {
+            all.extend_from_slice(&linked.libraries)?;
+        }
+    }
+    Ok(())
+}
+
+fn bring_all(all: &mut Vec<usize>, earlier: &[Linked], numbers: &[usize]) -> Result<(), AllocError>
+    ensures { IfOk result (λ _. all.new.items ≡ all.old.items ++ flat_map (with_its_own (map linked_view earlier.now)) numbers.now) }
+{
+    for number in numbers {
+        bring(all, earlier, *number)?;
+    }
+    Ok(())
+}
+
+// The libraries that the target and its dependencies name, each with its own.
+fn all_libraries(
+    alloc: Global,
+    earlier: &[Linked],
+    target: &BuildTarget,
+) -> Result<Vec<usize>, AllocError>
+    ensures { IfOk result (λ v. v.items ≡ flat_map (with_its_own (map linked_view earlier.now)) target.now.own.link_with.items
+        ++ flat_map (λ l. flat_map (with_its_own (map linked_view earlier.now)) l.value.link_with.items) target.now.dependencies.items) }
+{
+    let mut all = Vec::new(alloc);
+    bring_all(&mut all, earlier, &target.own.link_with)?;
+    for lists in &target.dependencies {
+        bring_all(&mut all, earlier, &lists.link_with)?;
+    }
+    Ok(all)
+}
+
+// The libraries of a build target that stands behind these.
+fn libraries_of(
+    alloc: Global,
+    earlier: &[Linked],
+    target: &BuildTarget,
+) -> Result<Vec<usize>, AllocError>
+    ensures { IfOk result (λ v. v.items ≡ libraries_of (map linked_view earlier.now) (build_view target.now)) }
+{
+    keep_last(alloc, all_libraries(alloc, earlier, target)?)
+}
+
+/// The libraries of a target that stands behind these: of a custom target none.
+pub fn libraries(
+    alloc: Global,
+    earlier: &[Linked],
+    target: &Target,
+) -> Result<Vec<usize>, AllocError>
+    ensures { IfOk result (λ v. v.items ≡ libraries_in (map linked_view earlier.now) (target_view target.now)) }
+{
+    match target {
+        Target::Build(target) => libraries_of(alloc, earlier, target),
+        Target::Custom(_) => Ok(Vec::new(alloc)),
+    }
+}
+
+fn are_libraries(earlier: &[Linked], numbers: &[usize]) -> bool
+    ensures { result ≡ list_all (is_library_at (map linked_view earlier.now)) numbers.now }
+{
+    numbers.iter().all(|number| is_library_at(earlier, *number))
+}
+
+fn dependencies_link_libraries(earlier: &[Linked], target: &BuildTarget) -> bool
+    ensures { result ≡ list_all (λ l. list_all
+        (is_library_at (map linked_view earlier.now)) l.value.link_with.items) target.now.dependencies.items }
+{
+    target
+        .dependencies
+        .iter()
+        .all(|lists| are_libraries(earlier, &lists.link_with))
+}
+
+/// Whether the target and its dependencies link earlier libraries alone.
+pub fn links_libraries(earlier: &[Linked], target: &BuildTarget) -> bool
+    ensures { result ≡ links_libraries (map linked_view earlier.now) (build_view target.now) }
+{
+    are_libraries(earlier, &target.own.link_with) && dependencies_link_libraries(earlier, target)
+}

@@ -1,0 +1,12 @@
+pub mod Answering
+pub mod Costs
+mod Counts
+pub mod Follow
+pub mod Holding
+pub mod Leading
+pub mod Look
+pub mod Marks
+pub mod Numbers
+pub mod Running
+mod Setting
+pub mod Tells

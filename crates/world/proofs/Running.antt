@@ -1,0 +1,1 @@
+-- Calls of an evaluation, against their plans.

@@ -1,0 +1,8 @@
+use Rattle.world.proofs.Answering.{need_yes, need_no}
+use Rattle.world.proofs.caller.Caller.need.Goals as goal
+
+pub returns-then-is_so : goal.returns-then-is_so
+returns-then-is_so g c = need_yes _ _ _ c.if-is_so.true
+
+pub returns-else-is_so : goal.returns-else-is_so
+returns-else-is_so g c = need_no _ _ _ c.if-is_so.false c.refuse.ensures

@@ -1,0 +1,14 @@
+use Rattle.std.proofs.Common.{Some, ap, ◌∙◌}
+use Rattle.data.specs.View.{data_of}
+use Rattle.world.specs.Store.{changing, world_of}
+use Rattle.world.specs.World.{with_variable}
+use Rattle.world.proofs.Setting.{variables_set, world_with}
+use Rattle.world.proofs.store.Store.set.Goals as goal
+
+pub returns-clause-world : goal.returns-clause-world
+returns-clause-world c =
+    let s = c.self.inside in
+    world_with _ c.put.new.self _ c.args.name.now (Some (data_of c.args.value))
+    (variables_set s.names c.put.new.self s.slots.items c.reach.new.slots.items c.args.name.now c.in_ok-number.number (Some c.args.value)
+    c.in_ok-number.ensures.names c.in_ok-number.ensures.number c.in_ok-reach.ensures.same c.in_ok-reach.ensures.room)
+    ∙ ap (λ k. changing (with_variable c.args.name.now (Some (data_of c.args.value))) (world_of k)) c.self.view_is

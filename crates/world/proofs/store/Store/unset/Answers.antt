@@ -1,0 +1,14 @@
+use Rattle.std.proofs.Common.{◌≡◌, None, get_or, [], ap, sym, ◌∙◌}
+use Rattle.std.specs.Prelude.{option_and_then}
+use Rattle.code.specs.Names.{number_in}
+use Rattle.code.proofs.NameLists.{name_at}
+use Rattle.world.specs.Store.{changing, slot_value, world_of}
+use Rattle.world.specs.World.{with_variable}
+use Rattle.world.proofs.Setting.{world_lost}
+use Rattle.world.proofs.store.Store.unset.Goals as goal
+
+pub returns-in-Some-clause-world : goal.returns-in-Some-clause-world
+returns-in-Some-clause-world c =
+    let at = name_at c.args.name.now c.self.inside.names c.in-Some.number (sym c.number_of.ensures ∙ c.in-Some.is) in
+    c.take-value.ensures.world ∙ ap (λ k. changing (with_variable (get_or k.names c.in-Some.number []) None) (world_of c.args.self.now)) (sym c.self.view_is)
+    ∙ ap (λ name. changing (with_variable name None) (world_of c.args.self.now)) at.1

@@ -1,0 +1,74 @@
+-- What the answer of a call says of its deed or its plan, in a world and over devices.
+use Rattle.std.specs.Prelude.{◌≡◌, ℕ, ◌+◌, ◌<◌, ◌≤◌, ◌^◌, List, [], Result, Ok, Err}
+use Rattle.ports.specs.Outputs.{OutputState}
+use Rattle.ports.specs.Tree.{TreeState, Stays}
+use Rattle.data.specs.declared.refusal.Refusal.{Refusal as OperationRefusal}
+use Rattle.faults.specs.Faults.{FaultData}
+use Rattle.world.specs.Operation.{of_operation}
+use Rattle.world.specs.World.{World, fault_here}
+use Rattle.world.specs.Run.{Run, Act}
+use Rattle.world.specs.Trace.{Seen, seen}
+use Rattle.world.specs.Gives.{Gives, Holds, Continues, IsRefusal, failures_after}
+use Rattle.world.specs.Deed.{Files, Deed, perform}
+use Rattle.faults.specs.declared.refusal.Refusal.{Refusal}
+use Rattle.world.specs.declared.stop.Stop.{Stop}
+
+-- the world, the table of names, what the devices are seen as, and the names of the references by which all of these are held
+pub record State : Type 0 where
+  pub world : World
+  pub names : List (List ℕ)
+  pub tree : TreeState
+  pub out : OutputState
+  pub lent : ℕ × ℕ × ℕ
+
+-- what marks are told to, where the counter is at `n`
+abbrev pub seen_at : State → ℕ → Seen
+seen_at s n = seen s.out n s.names
+
+-- a device that fails can still count it
+pub record HasRoom (s : State) : Type 0 where
+  pub tree : s.tree.failures + 1 < 2 ^ 64
+  pub out : s.out.failures + 1 < 2 ^ 64
+
+-- one of the devices failed once more where the answer says so, and else none did
+pub record Fails {B : Type 0} (old : State) (result : Result B Stop) (new : State) : Type 0 where
+  pub tree : old.tree.failures ≤ new.tree.failures
+  pub out : old.out.failures ≤ new.out.failures
+  pub sum : new.tree.failures + new.out.failures ≡ failures_after (old.tree.failures + old.out.failures) result
+
+-- the call ended as the deed does in this state, or after a beginning of what it tells
+pub record Carries {A B : Type 0} (view : B → A) (deed : Deed A) (old : State) (result : Result B Stop) (new : State) : Type 0 where
+  pub gives : (files : Files) (n : ℕ) → Holds old.tree files
+      → Gives view (perform files deed old.world) result new.world (seen_at old n) (seen_at new n)
+  pub stays : Stays old.tree new.tree
+  pub device : Fails old result new
+  pub same : new.lent ≡ old.lent
+
+-- what was done of a deed, and what is left of it
+pub record Leads {A : Type 0} (whole : Deed A) (old : State) (rest : Deed A) (now : State) : Type 0 where
+  pub gives : (files : Files) (n : ℕ) → Holds old.tree files
+      → Continues (perform files whole old.world) (perform files rest now.world) (seen_at old n) (seen_at now n)
+  pub stays : Stays old.tree now.tree
+  pub tree : old.tree.failures ≡ now.tree.failures
+  pub out : old.out.failures ≡ now.out.failures
+  pub same : now.lent ≡ old.lent
+
+-- the answer is this refusal, unless no memory was left to tell it
+abbrev pub Refuses : {B : Type 0} → FaultData → Result B Stop → Type 0
+Refuses f (Ok x) = ⊥
+Refuses f (Err s) = IsRefusal s f
+
+-- an operation's answer is handed on, or its refusal
+abbrev pub IsAnswered : {B : Type 0} → World → Result B OperationRefusal → Result B Stop → Type 0
+IsAnswered w (Ok x) result = result ≡ Ok x
+IsAnswered w (Err refusal) result = Refuses (fault_here w (of_operation refusal) []) result
+
+-- what a test of arguments answers is handed on, or its refusal
+abbrev pub IsFitting : {B : Type 0} → World → Result B Refusal → Result B Stop → Type 0
+IsFitting w (Ok x) result = result ≡ Ok x
+IsFitting w (Err refusal) result = Refuses (fault_here w refusal []) result
+
+-- an operation answers what is given, seen so
+abbrev pub Views : {A B R : Type 0} → (B → A) → Result A R → Result B R → Type 0
+Views view given (Ok x) = given ≡ Ok (view x)
+Views view given (Err refusal) = given ≡ Err refusal

@@ -1,0 +1,37 @@
+-- How many rules a run ends, where each folder is entered once and the file of each has a price.
+use Rattle.std.specs.Prelude.{ℕ, ◌+◌, ◌≤◌, Bool, true, false, List, [], ◌∷◌, ◌++◌, codes, if◌then◌else◌}
+use Rattle.std.specs.List.{list_any}
+use Rattle.std.specs.Str.{bytes_eq}
+use Rattle.world.specs.Trace.{ends_of}
+use Rattle.world.specs.World.{World}
+use Rattle.world.specs.Run.{Run, Act, marks_of, world_after}
+use Rattle.world.specs.Deed.{Files}
+
+-- a name in a folder; the root's is empty
+abbrev pub path_in : List ℕ → List ℕ → List ℕ
+path_in folder name = if bytes_eq folder [] then name else folder ++ (codes "/" ++ name)
+
+-- the definition file of a folder
+abbrev pub definition_file : List ℕ → List ℕ
+definition_file folder = path_in folder (codes "meson.build")
+
+-- whether this is the definition file of one of these folders
+abbrev pub is_opened : List (List ℕ) → List ℕ → Bool
+is_opened folders path = list_any (λ folder. bytes_eq (definition_file folder) path) folders
+
+abbrev pub unless : Bool → ℕ → ℕ
+unless true n = 0
+unless false n = n
+
+-- what the files that were not opened may still cost
+abbrev pub unopened : (List ℕ × List ℕ → ℕ) → Files → List (List ℕ) → ℕ
+unopened price [] folders = 0
+unopened price (file ∷ files) folders = unless (is_opened folders file.0) (price file) + unopened price files folders
+
+-- the rules that a run ends, and what may still be opened after it
+abbrev pub spent : {A : Type 0} → (List ℕ × List ℕ → ℕ) → Files → Run A → ℕ
+spent price files run = ends_of (marks_of run) + unopened price files (world_after run).entered
+
+-- an act ends at most so many rules, and pays for each file that it opens
+pub record Costs {A : Type 0} (price : List ℕ × List ℕ → ℕ) (files : Files) (cost : ℕ) (act : Act A) : Type 0 where
+  pub within : (w : World) → spent price files (act w) ≤ cost + unopened price files w.entered

@@ -1,0 +1,77 @@
+-- Deeds: what a function does with its evaluated arguments. A deed ends no rule and enters no folder, and it asks the tree of files by
+-- `ask` alone.
+use Rattle.std.specs.Prelude.{ℕ, Bool, true, false, List, [], map, Option, Result, Ok, Err, is_some}
+use Rattle.ports.specs.Outputs.{Step, logs}
+use Rattle.ports.specs.Tree.{file_at}
+use Rattle.data.specs.declared.refusal.Refusal.{Refusal as OperationRefusal}
+use Rattle.faults.specs.Faults.{FaultData}
+use Rattle.world.specs.Operation.{of_operation}
+use Rattle.world.specs.Trace.{Told}
+use Rattle.world.specs.World.{Facts, looking, with_facts, fault_here}
+use Rattle.world.specs.Run.{Act, ran, Done, pure, fails, follow}
+use Rattle.faults.specs.declared.refusal.Refusal.{Refusal}
+use Rattle.faults.specs.declared.refusal.Refusal.TheVariants as refusals
+
+-- the files of the tree, by their paths
+abbrev pub Files : Type 0
+Files = List (List ℕ × List ℕ)
+
+pub data Deed : Type 0 → Type 1 where
+  -- the answer
+  give : {A : Type 0} → A → Deed A
+  -- a refusal at the present place, of this name, path or text
+  refuse : {A : Type 0} → Refusal → List ℕ → Deed A
+  -- steps for the outputs
+  tell : List Step → Deed (Unit {0})
+  -- the bytes of the file at this path, which counts as looked at
+  ask : List ℕ → Deed (Option (List ℕ))
+  read : Deed Facts
+  change : (Facts → Facts) → Deed (Unit {0})
+  then : {A B : Type 0} → Deed A → (A → Deed B) → Deed B
+
+infixl 10 ◌>>=◌
+abbrev pub ◌>>=◌ : {A B : Type 0} → Deed A → (A → Deed B) → Deed B
+first >>= next = then first next
+
+-- the act that a deed is
+abbrev pub perform : {A : Type 0} → Files → Deed A → Act A
+perform files (give a) w = pure a w
+perform files (refuse refusal detail) w = fails (fault_here w refusal detail) w
+perform files (tell steps) w = ran (Done tt) w (map Told steps)
+perform files (ask path) w = ran (Done (file_at files path)) (looking w path) []
+perform files read w = pure w.facts w
+perform files (change f) w = ran (Done tt) (with_facts w (f w.facts)) []
+perform files (then first next) w = follow (perform files first w) (λ a. perform files (next a))
+
+-- ---- small deeds
+
+-- bytes for the log
+unfoldable pub say : List ℕ → Deed (Unit {0})
+say bytes = tell (logs bytes)
+
+-- what an operation on values answers, or its refusal
+unfoldable pub answered : {A : Type 0} → Result A OperationRefusal → Deed A
+answered (Ok a) = give a
+answered (Err refusal) = refuse (of_operation refusal) []
+
+-- what a test of arguments answers, or its refusal
+unfoldable pub fitting : {A : Type 0} → Result A Refusal → Deed A
+fitting (Ok a) = give a
+fitting (Err refusal) = refuse refusal []
+
+-- refused unless it is true
+unfoldable pub need : Bool → Refusal → List ℕ → Deed (Unit {0})
+need true refusal detail = give tt
+need false refusal detail = refuse refusal detail
+
+-- whether a file is there
+unfoldable pub there : List ℕ → Deed Bool
+there path = do
+  bytes ← ask path
+  give (is_some bytes)
+
+-- a file that has to be there
+unfoldable pub required : List ℕ → Deed (Unit {0})
+required path = do
+  found ← there path
+  need found refusals.FileMissing path

@@ -1,0 +1,16 @@
+pub mod Answering
+pub mod Caller
+pub mod Costs
+pub mod Counts
+pub mod Deed
+pub mod Gives
+pub mod Look
+pub mod Plan
+pub mod Operation
+pub mod Run
+pub mod Settings
+pub mod SettingsView
+pub mod Start
+pub mod Store
+pub mod Trace
+pub mod World

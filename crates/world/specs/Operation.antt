@@ -1,0 +1,16 @@
+-- The numbers and words of refusals.
+use Rattle.std.specs.Prelude.{ℕ, List, codes}
+use Rattle.data.specs.declared.refusal.Refusal.{Refusal as OperationRefusal}
+use Rattle.data.specs.declared.refusal.Refusal.TheVariants as operation
+use Rattle.faults.specs.declared.refusal.Refusal.{Refusal}
+use Rattle.faults.specs.declared.refusal.Refusal.TheVariants as refusals
+
+-- the refusal that an operation on values is
+abbrev pub of_operation : OperationRefusal → Refusal
+of_operation operation.Type = refusals.Type
+of_operation operation.Range = refusals.Range
+of_operation operation.UnknownMethod = refusals.UnknownFunction
+of_operation operation.Arguments = refusals.Arguments
+of_operation operation.Absent = refusals.Absent
+of_operation operation.Duplicate = refusals.Duplicate
+of_operation operation.Limit = refusals.Limit

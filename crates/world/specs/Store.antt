@@ -1,0 +1,49 @@
+-- What a store is seen as, and the world that it keeps.
+use Rattle.std.specs.Prelude.{ℕ, Bool, List, Option, None, option_map, option_and_then, slice_index_or}
+use Rattle.build.specs.Data.{ProjectData}
+use Rattle.code.specs.Names.{number_in}
+use Rattle.data.specs.Data.{Data}
+use Rattle.data.specs.View.{data_of}
+use Rattle.data.specs.declared.value.Value.{Value}
+use Rattle.world.specs.Settings.{SettingsData}
+use Rattle.world.specs.World.{World, Facts, with_facts}
+
+-- the world with the table of names, and the value of each variable in the slot of its name's number
+pub record Kept : Type 0 where
+  pub file : List ℕ
+  pub folder : List ℕ
+  pub line : ℕ
+  pub settings : SettingsData
+  pub names : List (List ℕ)
+  pub slots : List (Option Value)
+  pub is_begun : Bool
+  pub project : ProjectData
+  pub entered : List (List ℕ)
+  pub looked : List (List ℕ)
+
+-- the value in a slot
+abbrev pub slot_value : List (Option Value) → ℕ → Option Data
+slot_value slots number = option_map data_of (slice_index_or slots number None)
+
+-- the variables by their names
+abbrev pub kept_variables : List (List ℕ) → List (Option Value) → List ℕ → Option Data
+kept_variables names slots name = option_and_then (slot_value slots) (number_in name names)
+
+abbrev pub world_of : Kept → World
+world_of k = record {
+  facts = record {
+    file = k.file;
+    folder = k.folder;
+    line = k.line;
+    settings = k.settings;
+    variables = kept_variables k.names k.slots;
+    is_begun = k.is_begun;
+    project = k.project;
+  };
+  entered = k.entered;
+  looked = k.looked;
+}
+
+-- the facts change
+abbrev pub changing : (Facts → Facts) → World → World
+changing f w = with_facts w (f w.facts)

@@ -1,0 +1,103 @@
+//! What the code of a function works on: the world of a run and its devices.
+ghost use Rattle.std.specs.Prelude.{◌≡◌, IfOk};
+ghost use Rattle.world.specs.Answering.{Carries, HasRoom, IsAnswered, IsFitting, Refuses};
+ghost use Rattle.world.specs.Deed.{need, required, say, there};
+ghost use Rattle.faults.specs.View.{fault_view};
+ghost use Rattle.world.specs.Store.{world_of};
+ghost use Rattle.world.specs.World.{fault_here};
+
+use crate::operation::of_operation;
+use crate::stop::Stop;
+use crate::store::Store;
+use faults::{Fault, Refusal};
+use ports::{Outputs, Tree, log_all};
+use std::alloc::{AllocError, Global};
+
+/// What a call works on.
+#[derive(Drop)]
+pub struct Caller<'a, T, O> {
+    pub alloc: Global,
+    pub store: &'a mut Store,
+    pub tree: &'a mut T,
+    pub out: &'a mut O,
+}
+
+impl<'a, T: Tree, O: Outputs> Caller<'a, T, O> {
+    ghost use Rattle.world.specs.Caller.{state_of};
+
+    fn fault(&self, refusal: Refusal, detail: &str) -> Result<Fault, AllocError>
+        ensures { IfOk result (λ f. fault_view f ≡ fault_here (world_of self.now.store.now) refusal detail.now) }
+    {
+        let (file, line) = (self.store.file(), self.store.line());
+        Fault::new(self.alloc, file, line, refusal, detail)
+    }
+
+    /// Refuses the call, for this name, path or text.
+    pub fn refuse<A>(&self, refusal: Refusal, detail: &str) -> Result<A, Stop>
+        ensures { Refuses (fault_here (world_of self.now.store.now) refusal detail.now) result }
+    {
+        match self.fault(refusal, detail) {
+            Ok(fault) => Err(Stop::Refused(fault)),
+            Err(_) => Err(Stop::Memory),
+        }
+    }
+
+    /// What an operation on values answered, or the stop of its refusal.
+    pub fn answered<A>(&self, answer: Result<A, data::Refusal>) -> Result<A, Stop>
+        ensures { IsAnswered (world_of self.now.store.now) answer result }
+    {
+        match answer {
+            Ok(value) => Ok(value),
+            Err(refusal) => self.refuse(of_operation(refusal), ""),
+        }
+    }
+
+    /// What a test of arguments answered, or the stop of its refusal.
+    pub fn fitting<A>(&self, answer: Result<A, Refusal>) -> Result<A, Stop>
+        ensures { IsFitting (world_of self.now.store.now) answer result }
+    {
+        match answer {
+            Ok(value) => Ok(value),
+            Err(refusal) => self.refuse(refusal, ""),
+        }
+    }
+
+    /// Refuses the call unless it is true.
+    pub fn need(&self, is_so: bool, refusal: Refusal, detail: &str) -> Result<(), Stop>
+        ensures { Carries (λ u. u) (need is_so refusal detail.now) (state_of T.seen O.seen self.now) result (state_of T.seen O.seen self.now) }
+    {
+        if is_so {
+            Ok(())
+        } else {
+            self.refuse(refusal, detail)
+        }
+    }
+
+    /// Whether a file is at this path, which counts as looked at.
+    pub fn is_there(&mut self, path: &str) -> Result<bool, Stop>
+        requires { HasRoom (state_of T.seen O.seen self.old) }
+        ensures { Carries (λ b. b) (there path.now) (state_of T.seen O.seen self.old) result (state_of T.seen O.seen self.new) }
+    {
+        self.store.note_look(self.alloc, path)?;
+        let size = self.tree.size(path)?;
+        Ok(size.is_some())
+    }
+
+    /// Refuses the call unless a file is at this path.
+    pub fn require_file(&mut self, path: &str) -> Result<(), Stop>
+        requires { HasRoom (state_of T.seen O.seen self.old) }
+        ensures { Carries (λ u. u) (required path.now) (state_of T.seen O.seen self.old) result (state_of T.seen O.seen self.new) }
+    {
+        let found = self.is_there(path)?;
+        self.need(found, Refusal::FileMissing, path)
+    }
+
+    /// Logs bytes.
+    pub fn say(&mut self, text: &str) -> Result<(), Stop>
+        requires { HasRoom (state_of T.seen O.seen self.old) }
+        ensures { Carries (λ u. u) (say text.now) (state_of T.seen O.seen self.old) result (state_of T.seen O.seen self.new) }
+    {
+        log_all(self.out, text.as_bytes())?;
+        Ok(())
+    }
+}

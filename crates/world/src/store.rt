@@ -1,0 +1,344 @@
+//! What a run keeps: its world.
+ghost use Rattle.std.specs.Prelude.{◌≡◌, ◌≢◌, ◌<◌, ◌≤◌, ◌+◌, ◌==◌, ℕ, List, IfOk, OnOk, OnErr, is_ok, not, None, Some, false, true, length, map, max, option_map, slice_index_or, string_bytes, [], bytes_eq};
+ghost use Rattle.std.specs.List.{list_any};
+ghost use Rattle.build.specs.Outputs.{is_free, with_target};
+ghost use Rattle.build.specs.View.{target_view};
+ghost use Rattle.code.specs.Code.{code_tree};
+ghost use Rattle.code.specs.Draft.{Begins as IsFront};
+ghost use Rattle.data.specs.View.{data_of};
+ghost use Rattle.grammar.specs.Tree.{file_of};
+ghost use Rattle.world.specs.SettingsView.{settings_view};
+ghost use Rattle.world.specs.Start.{first_world};
+ghost use Rattle.world.specs.Store.{changing, slot_value, world_of};
+ghost use Rattle.world.specs.World.{entering, looking, with_line, with_place, with_project, with_variable};
+
+use crate::settings::Settings;
+use build::{Duplicate, Project, Target};
+use code::{Code, Names, flatten};
+use data::Value;
+use grammar::tree::File;
+use std::alloc::{AllocError, Global};
+use std::marker::Model;
+use std::mem;
+
+/// A place in the definition files.
+#[derive(Drop, Debug)]
+pub struct Place {
+    /// The definition file.
+    pub file: String,
+    /// The folder that it is of; the root's is empty.
+    pub folder: String,
+    /// The line, from 1.
+    pub line: usize,
+}
+
+/// The world of a run. The value of each variable is in the slot of its name's number.
+#[derive(Drop)]
+pub struct Store {
+    place: Place,
+    settings: Settings,
+    names: Names,
+    slots: Vec<Option<Value>>,
+    is_begun: bool,
+    project: Project,
+    entered: Names,
+    looked: Vec<String>,
+}
+
+impl Model for Store {
+    ghost use Rattle.std.specs.Prelude.{◌≤◌, length, map, string_bytes};
+    ghost use Rattle.world.specs.SettingsView.{settings_view};
+    ghost use Rattle.world.specs.Store.{Kept};
+
+    ghost Value = { Kept };
+
+    ghost use Rattle.data.specs.contracts.value.Value as value_row;
+    ghost use Rattle.std.specs.Coded.{codes};
+
+    ghost coded = { Prim.hlevel (codes, value_row.the_row.coded) };
+
+    ghost view = { λ s. record {
+      file = string_bytes s.place.file;
+      folder = string_bytes s.place.folder;
+      line = s.place.line;
+      settings = settings_view s.settings;
+      names = s.names;
+      slots = s.slots.items;
+      is_begun = s.is_begun;
+      project = s.project;
+      entered = s.entered;
+      looked = map string_bytes s.looked.items;
+    } };
+
+    ghost invariant = { λ s. length s.slots.items ≤ length s.names };
+}
+
+// Makes room for a variable.
+fn reach(slots: &mut Vec<Option<Value>>, number: usize) -> Result<(), AllocError>
+    ensures same { (i : ℕ) → slice_index_or slots.new.items i None ≡ slice_index_or slots.old.items i None }
+    ensures room { OnOk result (number < length slots.new.items) }
+    ensures few { length slots.new.items ≤ max (length slots.old.items) (number + 1) }
+{
+    while slots.len() <= number {
+        slots.push(None)?;
+    }
+    Ok(())
+}
+
+// The value in a slot, shared.
+fn slot(slots: &[Option<Value>], number: usize) -> Result<Option<Value>, AllocError>
+    ensures { IfOk result (λ v. option_map data_of v ≡ slot_value slots.now number) }
+{
+    match slots.get(number) {
+        Some(Some(value)) => Ok(Some(value.clone()?)),
+        _ => Ok(None),
+    }
+}
+
+// Takes the value out of a slot, where there is one.
+fn taken(slots: &mut Vec<Option<Value>>, number: usize) -> Option<Value>
+    ensures value { option_map data_of result ≡ slot_value slots.old.items number }
+    ensures same { (i : ℕ) → i ≢ number → slice_index_or slots.new.items i None ≡ slice_index_or slots.old.items i None }
+    ensures none { slice_index_or slots.new.items number None ≡ None }
+    ensures length { length slots.new.items ≡ length slots.old.items }
+{
+    if number < slots.len() {
+        mem::replace(&mut slots[number], None)
+    } else {
+        None
+    }
+}
+
+impl Store {
+    /// The world in which a run begins.
+    pub fn new(alloc: Global, settings: Settings) -> Result<Store, AllocError>
+        ensures world { IfOk result (λ s. world_of s ≡ first_world (settings_view settings)) }
+        ensures names { IfOk result (λ s. s.names ≡ []) }
+    {
+        let project = Project::new(alloc, settings.depth)?;
+        Ok(Store {
+            place: Place {
+                file: String::from_str(alloc, "meson.build")?,
+                folder: String::new(alloc),
+                line: 1,
+            },
+            settings,
+            names: Names::new(alloc),
+            slots: Vec::new(alloc),
+            is_begun: false,
+            project,
+            entered: Names::new(alloc),
+            looked: Vec::new(alloc),
+        })
+    }
+
+    // ---- the place
+
+    /// The present definition file.
+    pub fn file(&self) -> &str
+        ensures { result.now ≡ self.now.file }
+    {
+        self.place.file.as_str()
+    }
+
+    /// The folder of the present definition file; the root's is empty.
+    pub fn folder(&self) -> &str
+        ensures { result.now ≡ self.now.folder }
+    {
+        self.place.folder.as_str()
+    }
+
+    /// The line of the present call.
+    pub fn line(&self) -> usize
+        ensures { result ≡ self.now.line }
+    {
+        self.place.line
+    }
+
+    /// What is done next is done at this line.
+    pub fn at(&mut self, line: usize)
+        ensures world { world_of self.new ≡ changing (with_line line) (world_of self.old) }
+        ensures names { self.new.names ≡ self.old.names }
+    {
+        self.place.line = line;
+    }
+
+    /// What is done next is done at this place. Gives the place before.
+    pub fn go(&mut self, place: Place) -> Place
+        ensures moved { world_of self.new ≡ changing (with_place (string_bytes place.file) (string_bytes place.folder) place.line) (world_of self.old) }
+        ensures names { self.new.names ≡ self.old.names }
+        ensures file { string_bytes result.file ≡ self.old.file }
+        ensures folder { string_bytes result.folder ≡ self.old.folder }
+        ensures line { result.line ≡ self.old.line }
+    {
+        mem::replace(&mut self.place, place)
+    }
+
+    /// What a user sets.
+    pub fn settings(&self) -> &Settings
+        ensures { settings_view result.now ≡ self.now.settings }
+    {
+        &self.settings
+    }
+
+    // ---- variables
+
+    /// The code of a file, whose names are put into the table.
+    pub fn flatten(&mut self, alloc: Global, file: &File<'_>) -> Result<Code, AllocError>
+        ensures tree { IfOk result (λ code. code_tree self.new.names code ≡ file_of file.now) }
+        ensures count { IfOk result (λ code. code.names ≡ length self.new.names) }
+        ensures names { IsFront self.old.names self.new.names }
+        ensures world { world_of self.new ≡ world_of self.old }
+    {
+        flatten(alloc, file, &mut self.names)
+    }
+
+    /// The value of the variable of a number, which is that of a name.
+    pub fn value(&self, number: usize) -> Result<Option<Value>, AllocError>
+        ensures { IfOk result (λ v. number < length self.now.names → option_map data_of v
+            ≡ (world_of self.now).facts.variables (slice_index_or self.now.names number [])) }
+    {
+        if number >= self.names.len() {
+            return Ok(None);
+        }
+        slot(&self.slots, number)
+    }
+
+    /// The name with a number.
+    pub fn name(&self, number: usize) -> &str
+        ensures { number < length self.now.names → result.now ≡ slice_index_or self.now.names number [] }
+    {
+        self.names.name(number).unwrap_or("")
+    }
+
+    /// The value of the variable of a name.
+    pub fn find(&self, name: &str) -> Result<Option<Value>, AllocError>
+        ensures { IfOk result (λ v. option_map data_of v ≡ (world_of self.now).facts.variables name.now) }
+    {
+        match self.names.number_of(name) {
+            Some(number) => slot(&self.slots, number),
+            None => Ok(None),
+        }
+    }
+
+    /// The variable of a name, which may be new, takes a value.
+    pub fn set(&mut self, name: &str, value: Value) -> Result<(), AllocError>
+        ensures names { IsFront self.old.names self.new.names }
+        ensures world { OnOk result (world_of self.new ≡ changing (with_variable name.now (Some (data_of value))) (world_of self.old)) }
+    {
+        let number = self.names.put(name)?;
+        reach(&mut self.slots, number)?;
+        self.slots[number] = Some(value);
+        Ok(())
+    }
+
+    /// The variable of a number takes a value.
+    pub fn set_number(&mut self, number: usize, value: Value) -> Result<(), AllocError>
+        requires { number < length self.old.names }
+        ensures names { self.new.names ≡ self.old.names }
+        ensures world { OnOk result (world_of self.new ≡ changing (with_variable (slice_index_or self.old.names number []) (Some (data_of value))) (world_of self.old)) }
+    {
+        let _distinct = self.names.len();
+        reach(&mut self.slots, number)?;
+        self.slots[number] = Some(value);
+        Ok(())
+    }
+
+    /// Takes the value of the variable of a number out of it, which then has none.
+    pub fn take(&mut self, number: usize) -> Option<Value>
+        requires { number < length self.old.names }
+        ensures value { option_map data_of result ≡ (world_of self.old).facts.variables (slice_index_or self.old.names number []) }
+        ensures world { world_of self.new ≡ changing (with_variable (slice_index_or self.old.names number []) None) (world_of self.old) }
+        ensures names { self.new.names ≡ self.old.names }
+    {
+        let _distinct = self.names.len();
+        taken(&mut self.slots, number)
+    }
+
+    /// The variable of a name has no value any more.
+    pub fn unset(&mut self, name: &str)
+        ensures world { world_of self.new ≡ changing (with_variable name.now None) (world_of self.old) }
+        ensures names { self.new.names ≡ self.old.names }
+    {
+        if let Some(number) = self.names.number_of(name) {
+            let _value = self.take(number);
+        }
+    }
+
+    // ---- the project
+
+    /// The project so far.
+    pub fn project(&self) -> &Project
+        ensures { result.now ≡ self.now.project }
+    {
+        &self.project
+    }
+
+    /// The project, once the run is over.
+    pub fn into_project(self) -> Project
+        ensures { result ≡ self.project }
+    {
+        self.project
+    }
+
+    /// Whether `project` was called.
+    pub fn is_begun(&self) -> bool
+        ensures { result ≡ self.now.is_begun }
+    {
+        self.is_begun
+    }
+
+    /// Notes that `project` was called.
+    pub fn begin(&mut self)
+        ensures world { world_of self.new ≡ changing (with_project true self.old.project) (world_of self.old) }
+        ensures names { self.new.names ≡ self.old.names }
+    {
+        self.is_begun = true;
+    }
+
+    /// Declares a target, unless a path that it makes is taken.
+    pub fn add_target(&mut self, target: Target) -> Result<Result<(), Duplicate>, AllocError>
+        ensures answer { IfOk result (λ answer. is_ok answer ≡ is_free self.old.project (target_view target)) }
+        ensures added { IfOk result (λ answer. OnOk answer (world_of self.new ≡ changing (with_project self.old.is_begun (with_target self.old.project (target_view target))) (world_of self.old))) }
+        ensures refused { IfOk result (λ answer. OnErr answer (self.new ≡ self.old)) }
+        ensures names { self.new.names ≡ self.old.names }
+    {
+        self.project.add_target(target)
+    }
+
+    // ---- folders and paths
+
+    /// Whether a folder was entered.
+    pub fn is_entered(&self, folder: &str) -> bool
+        ensures { result ≡ list_any (bytes_eq folder.now) self.now.entered }
+    {
+        self.entered.number_of(folder).is_some()
+    }
+
+    /// How many folders were entered.
+    pub fn entered(&self) -> usize
+        ensures { result ≡ length self.now.entered }
+    {
+        self.entered.len()
+    }
+
+    /// Notes that a folder is entered, which was not before.
+    pub fn enter(&mut self, folder: &str) -> Result<(), AllocError>
+        requires { list_any (bytes_eq folder.now) self.old.entered ≡ false }
+        ensures world { OnOk result (world_of self.new ≡ entering (world_of self.old) folder.now) }
+        ensures names { self.new.names ≡ self.old.names }
+    {
+        self.entered.put(folder)?;
+        Ok(())
+    }
+
+    /// Notes that a path is looked at.
+    pub fn note_look(&mut self, alloc: Global, path: &str) -> Result<(), AllocError>
+        ensures world { OnOk result (world_of self.new ≡ looking (world_of self.old) path.now) }
+        ensures names { self.new.names ≡ self.old.names }
+    {
+        let path = String::from_str(alloc, path)?;
+        self.looked.push(path)?;
+        Ok(())
+    }
+}

@@ -1,0 +1,251 @@
+"""What a case must come to, and where what came differs."""
+import difflib
+import json
+import re
+
+from form import FormError, HOLE, fault_of, written_out
+
+# The words of each fault, behind its number.
+WORDS = {
+    1: "not UTF-8", 2: "token", 3: "grammar", 4: "nesting over 64", 5: "undefined name", 6: "type in operator or condition",
+    7: "number range or zero divisor", 8: "unknown function or method", 9: "arguments", 10: "index or key", 11: "duplicate",
+    12: "subdir refused", 13: "project call", 14: "file missing", 15: "option", 16: "machine file", 17: "required thing not found",
+    18: None, 19: "template", 20: "frozen configuration data", 21: "a name Ninja can't hold", 22: "limit", 23: "left out by name",
+    24: "arguments added after a target",
+}
+
+# The faults that name what they are of.
+NAMED = {5, 8, 14, 17}
+
+# What the program says where a device failed, and where memory ran out.
+SAID = {2: b"meson: device fault\n", 3: b"meson: out of memory\n"}
+
+FAULT_LINE = re.compile(rb"[^\n]+:[0-9]+: ERROR: E([0-9]+) [^\n]*\n")
+
+DOCUMENT = "meson-info/introspect.json"
+
+# What stands behind the name of an output that is begun and not ended.
+UNENDED = ".new~"
+
+
+class Expected:
+    """What a run must come to: its status, log and complaints, and parts of its outputs."""
+
+    def __init__(self):
+        self.status = 0
+        self.log, self.log_parts = b"", []
+        self.complaint, self.complaint_parts = None, []
+        # Each a name, how it is compared, and a text.
+        self.outputs = []
+        self.absent = []
+        self.edges, self.no_edges = [], []
+        self.values = []
+        self.looks = None
+        self.says = False
+
+    def take(self, word, text, content, names, where):
+        """Takes one directive; 'where' is the place of a fault that is given without one."""
+        out = lambda text: written_out(text, names)
+        line = out(text.replace("¶", "\n"))
+        short = fault_of(f"{word} {text}")
+        if short:
+            self.refuse(self.fault_line(short, where, out))
+        elif word == "fault":
+            self.refuse(line)
+        elif word == "ok":
+            self.says = True
+        elif word == "status":
+            self.status, self.says = int(text), True
+            if self.status in SAID and self.complaint is None:
+                self.complaint = SAID[self.status]
+        elif word in ("log", "complaint"):
+            self.take_stream(word, text, line, out(content))
+        elif word == "out":
+            self.take_output(text, content, out)
+        elif word == "no":
+            self.take_none(text, out)
+        elif word == "edge":
+            self.says = True
+            self.edges.append((line, [it.strip() for it in out(content).split(b"\n") if it.strip()]))
+        elif word == "json":
+            path, equals, value = text.partition(" = ")
+            if not equals:
+                raise FormError(f"'json {text}' has no ' = '")
+            self.says = True
+            self.values.append((path.strip(), json.loads(out(value))))
+        elif word == "has":
+            self.outputs.append(("build.ninja", "has", line))
+        elif word == "lacks":
+            self.outputs.append(("build.ninja", "lacks", line))
+        elif word == "looks":
+            self.looks = {out(it).decode() for it in text.split()}
+        else:
+            raise FormError(f"'{word}' says nothing of what comes")
+
+    def refuse(self, line):
+        self.status, self.complaint, self.says = 1, line + b"\n", True
+
+    def fault_line(self, short, where, out):
+        number, place, rest = int(short[1]), short[2] or where, short[3]
+        if number not in WORDS or not place:
+            raise FormError(f"'{short[0]}' is no fault, or has no place")
+        words = WORDS[number] if WORDS[number] is not None else rest
+        if number in NAMED or (rest and WORDS[number] is not None):
+            words = f"{words}: {rest}"
+        if words is None or (number in NAMED and rest is None):
+            raise FormError(f"'{short[0]}' has to say what stands behind its words")
+        place = place if ":" in place else f"meson.build:{place}"
+        return out(f"{place}: ERROR: E{number} {words}".replace("¶", "\n"))
+
+    def take_stream(self, word, text, line, content):
+        self.says = True
+        parts = self.log_parts if word == "log" else self.complaint_parts
+        if text.startswith("has "):
+            parts.append(line[4:])
+            if word == "log":
+                self.log = None
+            return
+        whole = line + b"\n" if text else content
+        if word == "log":
+            self.log = whole
+        else:
+            self.complaint = whole
+
+    def take_output(self, text, content, out):
+        path, _, how = text.rpartition(" ")
+        if how not in ("has", "lacks", "begins", "ends"):
+            path, how = text, "is"
+        self.outputs.append((out(path).decode(), how, out(content)))
+        self.says = True
+
+    def take_none(self, text, out):
+        kind, _, what = text.partition(" ")
+        if kind == "out":
+            self.absent.append(out(what).decode())
+        elif kind == "edge":
+            self.no_edges.append(out(what))
+        else:
+            raise FormError(f"'no {text}' is 'no out NAME' or 'no edge TEXT'")
+
+    def differences(self, came):
+        """What differs, each a text of some lines; none where all is as it must be."""
+        found = [] if came.status == self.status else [f"status: {self.status} must come, and {came.status} came"]
+        found += differing("log", self.log, came.log)
+        found += [f"the log has no\n{shown(it)}\nit is\n{shown(came.log)}" for it in self.log_parts if it not in came.log]
+        complaint = b"" if self.complaint is None and self.status == 0 else self.complaint
+        found += differing("complaint", complaint, came.complaint)
+        found += [f"the complaint has no\n{shown(it)}\nit is\n{shown(came.complaint)}" for it in self.complaint_parts if it not in came.complaint]
+        for path, how, text in self.outputs:
+            unended = came.outputs.get(path + UNENDED) if came.status != 0 else None
+            found += self.output_differs(path, how, text, came.outputs.get(path, unended))
+        absent = self.absent + ["build.ninja"] * (self.status != 0 and not any(it[0] == "build.ninja" for it in self.outputs))
+        found += [f"there is an output {it}" for it in absent if it in came.outputs]
+        found += self.edges_differ(came.outputs.get("build.ninja", b""))
+        found += self.values_differ(came.outputs.get(DOCUMENT))
+        if self.looks is not None and came.looks is not None and self.looks != came.looks:
+            found.append(f"looked at: {sorted(self.looks)} must come, and {sorted(came.looks)} came")
+        return found
+
+    @staticmethod
+    def output_differs(path, how, text, bytes_):
+        if bytes_ is None:
+            return [f"there is no output {path}"]
+        if how == "is":
+            return differing(path, text, bytes_)
+        holds = {"has": text in bytes_, "lacks": text not in bytes_, "begins": bytes_.startswith(text), "ends": bytes_.endswith(text)}[how]
+        if not holds and how in ("begins", "ends"):
+            lines, count = bytes_.split(b"\n"), len(text.split(b"\n"))
+            part = b"\n".join(lines[:count] if how == "begins" else lines[-count:])
+            return differing(f"how {path} {how}", text, part) or [f"{path} {how} otherwise: {shown(part)}"]
+        word = {"has": "has not", "lacks": "has"}.get(how)
+        return [] if holds else [f"{path} {word}\n{shown(text)}\nit is\n{shown(bytes_)}"]
+
+    def edges_differ(self, text):
+        paragraphs = [[line.strip() for line in it.split(b"\n") if line.strip()] for it in text.split(b"\n\n")]
+        found = []
+        for first, lines in self.edges:
+            fits = [it for it in paragraphs if it and it[0] == first]
+            if not fits:
+                near = difflib.get_close_matches(shown(first), [shown(it[0]) for it in paragraphs if it], 1, 0.3)
+                found.append(f"there is no edge\n{shown(first)}" + (f"\nthe nearest is\n{near[0]}" if near else ""))
+            for line in lines if fits else ():
+                if line not in fits[0]:
+                    found.append(f"the edge '{shown(first)}' has no line\n{shown(line)}\nit is\n{shown(chr(10).encode().join(fits[0]))}")
+        found += [f"there is an edge that begins with {shown(it)}" for it in self.no_edges if any(p and p[0].startswith(it) for p in paragraphs)]
+        return found
+
+    def values_differ(self, text):
+        if not self.values:
+            return []
+        if text is None:
+            return [f"there is no output {DOCUMENT}"]
+        document, found = json.loads(text), []
+        for path, value in self.values:
+            has = document
+            try:
+                for step in re.findall(r"[^.\[\]]+", path):
+                    has = has[int(step)] if isinstance(has, list) else has[step]
+            except (KeyError, IndexError, ValueError):
+                found.append(f"the document has no {path}")
+                continue
+            if has != value:
+                found.append(f"{path}: {json.dumps(value)} must come, and {json.dumps(has)} came")
+        return found
+
+
+def shown(text):
+    """A text as it is shown: what can't be read by its number, long parts left out."""
+    text = text.decode("utf-8", "backslashreplace")
+    text = "".join(c if c.isprintable() or c == "\n" else f"«x {c.encode('utf-8', 'replace').hex(' ')}»" for c in text)
+    return text if len(text) < 4000 else f"{text[:2000]}\n[..]\n{text[-1500:]}"
+
+
+def differing(name, wanted, came):
+    """What differs between two texts: short ones one above the other, others line by line."""
+    if wanted is None or wanted == came:
+        return []
+    wanted, came = shown(wanted).removesuffix("\n").split("\n"), shown(came).removesuffix("\n").split("\n")
+    if wanted == came:
+        return [f"{name}: only one of the texts ends with a newline"]
+    if len(wanted) <= 3 and len(came) <= 3:
+        inside = lambda lines: "\n".join(f"  {line}" if line else "  (nothing)" for line in lines)
+        return [f"{name}: this must come\n{inside(wanted)}\nand this came\n{inside(came)}"]
+    lines = list(difflib.unified_diff(wanted, came, lineterm="", n=2))[2:]
+    return [f"{name}: '-' must come, '+' came\n" + "\n".join(line for line in lines if not line.startswith("@@"))]
+
+
+def row_place(items, columns, names):
+    """The place of the first hole of a table, as a fault tells it."""
+    word = 0
+    for it in items:
+        word += it.word == "word"
+        if it.word == "word" and HOLE.search(it.text):
+            return f"<command line>:{word}"
+        at = HOLE.search(it.content)
+        if at:
+            head = b"\n" * (it.word == "L2") + written_out(filled(it.content[: at.start()], columns), names)
+            file = {"L2": "meson.build", "machine": "<machine file>"}.get(it.word) or written_out(filled(it.text, columns), names).decode()
+            return f"{file}:{head.count(bytes([10])) + 1}"
+    return None
+
+
+def filled(text, columns):
+    """A text of a table with a row's columns in its holes, and no newline behind its mark «end»."""
+    text = HOLE.sub(lambda it: columns[int(it[1] or 1) - 1], text) if columns else text
+    return text.removesuffix("«end»\n")
+
+
+def result_parts(case):
+    """The directives that a row's result stands for: a word and the rest of its line."""
+    parts = re.split(r" & (?=(?:ok$|E\d+(?:$| at |: )|(?:log|fault|status|complaint|has|lacks|json|out|no|edge|looks) ))", case.result)
+    made = []
+    for number, part in enumerate(parts):
+        word = part.partition(" ")[0]
+        known = fault_of(part) or word in ("ok", "log", "fault", "status", "complaint", "has", "lacks", "json", "no", "edge", "looks")
+        if case.prints and number == 0 and not fault_of(part):
+            made.append(("log", f"Message: {part}"))
+        elif known:
+            made.append((word, part[len(word) + 1 :]))
+        else:
+            raise FormError(f"'{part}' says nothing of what comes")
+    return made

@@ -1,0 +1,298 @@
+"""Runs a case in a folder of its own, and the same case cut, over fewer files, in pieces, and with each call failing once."""
+import dataclasses
+import json
+import os
+import shutil
+import struct
+import subprocess
+import tempfile
+
+from form import FormError, written_out
+from judge import DOCUMENT, FAULT_LINE, SAID, UNENDED, Expected, filled, result_parts, row_place, shown
+
+# The most seconds that one run may take.
+MOST_SECONDS = 60
+
+# The most calls of one kind of which each is made to fail.
+MOST_CALLS = 20_000
+
+# The directives that ask for further runs.
+MODES = {"cut", "fail", "pieces"}
+
+
+@dataclasses.dataclass
+class Came:
+    """What came of a run: its status, what it said, its outputs by their names, and what it looked at, where that was traced."""
+
+    status: int
+    log: bytes
+    complaint: bytes
+    outputs: dict
+    looks: set = None
+    # The outputs that were begun, in their order; the call that failed, and whether a run may go on after that.
+    begun: tuple = ()
+    failed: str = ""
+    may_go_on: bool = False
+    counts: tuple = (0, 0)
+
+
+class Room:
+    """A folder with the sources of one case, made anew for each run."""
+
+    def __init__(self, case, folder, program, library):
+        self.folder, self.program, self.library = folder, program, library
+        self.root = os.path.join(folder, "s")
+        self.names = {"root": self.root}
+        self.files, self.folders, self.words, self.command = {}, [], [], None
+        self.machine, self.build, self.inside = None, "build", ""
+        self.expected = Expected()
+        where = row_place(case.items, case.columns, self.names) if case.columns else None
+        for it in case.items:
+            self.take(it, filled(it.text, case.columns), filled(it.content, case.columns), where)
+        for word, text in result_parts(case) if case.columns else ():
+            self.expected.take(word, text, "", self.names, where)
+        if not self.expected.says and not case.columns:
+            raise FormError("it does not say what must come: 'ok', a fault, a status, a log or an output")
+
+    def take(self, item, text, content, where):
+        out = lambda text: written_out(text, self.names)
+        path = lambda text: os.fsdecode(out(text))
+        word = item.word
+        if word == "L2":
+            self.files["meson.build"] = b"project('p','c')\n" + out(content)
+        elif word == "file":
+            self.take_file(text, content)
+        elif word == "files":
+            self.files.update((path(it), b"") for it in text.split())
+        elif word == "folder":
+            self.folders.append(path(text))
+        elif word == "in":
+            self.inside = path(text)
+            self.folders.append(self.inside)
+        elif word == "machine":
+            self.machine = out(content)
+        elif word == "word":
+            self.words.append(b"-D" + out(text.replace("¶", "\n")))
+        elif word == "build":
+            self.build = path(text)
+        elif word == "command":
+            self.command = out(content).split(b"\n")[:-1] if content else out(text).split()
+        elif word not in MODES:
+            self.expected.take(word, text, content, self.names, where)
+
+    def take_file(self, text, content):
+        path, _, span = text.partition(" for i in ")
+        numbers = [{}]
+        if span:
+            first, _, last = span.partition("..")
+            numbers = [{"i": it} for it in range(int(first), int(last) + 1)]
+        for it in numbers:
+            names = {**self.names, **it}
+            self.files[os.fsdecode(written_out(path, names))] = written_out(content, names)
+
+    def line(self):
+        if self.command is not None:
+            return self.command
+        line = [b"setup", *self.words]
+        if self.machine is not None:
+            line += [b"--native-file", os.path.join(self.folder, "machine").encode()]
+        return [*line, os.fsencode(self.build)]
+
+    def fill(self, files):
+        """Makes the folder with these files, and nothing else."""
+        shutil.rmtree(self.root, ignore_errors=True)
+        os.makedirs(self.root)
+        for path in self.folders:
+            os.makedirs(os.path.join(self.root, path), exist_ok=True)
+        for path, data in files.items():
+            whole = os.path.join(self.root, path)
+            if "/" in path:
+                os.makedirs(os.path.dirname(whole), exist_ok=True)
+            with open(whole, "wb") as file:
+                file.write(data)
+        if self.machine is not None:
+            with open(os.path.join(self.folder, "machine"), "wb") as file:
+                file.write(self.machine)
+
+    def run(self, files=None, traced=False, **faults):
+        """Runs the program over the case's files, or over these; 'faults' are what faults.c is to do."""
+        self.fill(self.files if files is None else files)
+        environment = {"PATH": os.environ.get("PATH", ""), "LC_ALL": "C"}
+        trace, counts = os.path.join(self.folder, "trace"), os.path.join(self.folder, "counts")
+        if traced or faults:
+            with open(trace, "wb"), open(counts, "wb") as file:
+                file.write(bytes(16))
+            environment.update({f"FAULTS_{name.upper()}": str(value) for name, value in faults.items()})
+            environment.update(LD_PRELOAD=self.library, FAULTS_TRACE=trace, FAULTS_COUNTS=counts)
+        ran = subprocess.run(
+            [b"meson", *self.line()], executable=self.program, cwd=os.path.join(self.root, self.inside), env=environment, stdin=subprocess.DEVNULL,
+            stdout=subprocess.PIPE, stderr=subprocess.PIPE, timeout=MOST_SECONDS,
+        )
+        came = Came(ran.returncode, ran.stdout, ran.stderr, self.outputs())
+        if traced or faults:
+            self.read_trace(came, trace, counts)
+        return came
+
+    def outputs(self):
+        """The files below the folder of the build, by their paths there."""
+        found, top = {}, os.path.join(self.root, self.inside, self.build)
+        for folder, _, names in os.walk(top):
+            for name in names:
+                path = os.path.join(folder, name)
+                with open(path, "rb") as file:
+                    found[os.path.relpath(path, top)] = file.read()
+        return found
+
+    def is_of_build(self, path):
+        """Whether a path is the folder of the build, one above it, or something below it."""
+        path, build = path + "/", os.path.normpath(self.build) + "/"
+        return path.startswith(build) or build.startswith(path)
+
+    def read_trace(self, came, trace, counts):
+        with open(trace, "rb") as file:
+            lines = [line.partition(" ")[::2] for line in os.fsdecode(file.read()).split("\n") if line]
+        below = [os.path.join(self.root, self.inside, path).removeprefix(self.root + "/") for _, path in lines]
+        looks = [path for (word, _), path in zip(lines, below) if word == "look"]
+        came.looks = {path for path in looks if not path.startswith("/") and not self.is_of_build(path)}
+        made = [path.removeprefix(f"{self.build}/") for (word, _), path in zip(lines, below) if word == "make"]
+        came.begun = tuple(dict.fromkeys(path.removesuffix(UNENDED) for path in made))
+        words = [word for word, _ in lines]
+        if "fail" in words:
+            at = words.index("fail")
+            came.failed = lines[at][1]
+            came.may_go_on = self.may_go_on(came.failed, list(zip(words, below)), at)
+        with open(counts, "rb") as file:
+            came.counts = struct.unpack("=2Q", file.read(16))
+
+    def may_go_on(self, failed, steps, at):
+        """Whether a run may end as if the call of this name, the step at this place, had not failed."""
+        # Nobody is told that a file could not be closed, since what it holds was written before, nor that a folder could not be made
+        # which is there.
+        if failed in ("close", "mkdir"):
+            return True
+        # The words of the command line are read with less memory where there is less.
+        is_memory = failed in ("malloc", "realloc", "aligned_alloc", "posix_memalign")
+        if is_memory and not any(word == "look" for word, _ in steps[:at]):
+            return True
+        # An output that can't be compared with the old one takes its place.
+        near = steps[at + 1 : at + 2] if is_memory else steps[at - 1 : at] if failed in ("open", "statx") else []
+        return any(word == "end" or (word == "look" and self.is_of_build(path)) for word, path in near)
+
+
+def parts_of(case, jobs):
+    """The parts in which a case is run: the run itself, and each further run that it asks for, the long ones in so many shares."""
+    parts = [("", "", 0, 1)]
+    for it in case.items:
+        if it.word == "cut":
+            parts += [(f"cut {it.text}", it.text, share, jobs) for share in range(jobs)]
+        elif it.word == "pieces":
+            parts += [(f"in pieces of {piece}", piece, 0, 1) for piece in it.text.split()]
+        elif it.word == "fail":
+            kinds = it.text.split() or ["memory", "device"]
+            parts += [(f"each call of {kind} fails", kind, share, jobs) for kind in kinds for share in range(jobs)]
+    return parts
+
+
+def run_case(case, part, program, library):
+    """Runs a part of a case. The answer is its label and what differs: nothing where it is right."""
+    label, text, share, shares = part
+    with tempfile.TemporaryDirectory(prefix="c") as folder:
+        try:
+            room = Room(case, folder, program, library)
+            if not label:
+                return label, as_it_is(room)
+            if label.startswith("cut"):
+                return label, cut(room, text, share, shares)
+            whole = room.run(traced=True)
+            if room.expected.differences(whole):
+                return label, ["the case itself is not right"]
+            return label, in_pieces(room, whole, int(text)) if label.startswith("in") else each_fails(room, whole, text, share, shares)
+        except (FormError, ValueError) as error:
+            return label, [f"the form of the case: {error}"]
+        except subprocess.TimeoutExpired:
+            return label, [f"the program has not ended within {MOST_SECONDS} seconds"]
+        except OSError as error:
+            return label, [f"it can't be run: {error}"]
+
+
+def as_it_is(room):
+    came = room.run(traced=room.expected.looks is not None)
+    found = room.expected.differences(came)
+    if not found and came.status == 0 and DOCUMENT in came.outputs:
+        found = over_present(room, came)
+    return found
+
+
+def cut(room, path, share, shares):
+    """Each front of a file gives status 0, or a fault line and status 1."""
+    data = room.files[path]
+    for end in range(share, len(data) + 1, shares):
+        came = room.run({**room.files, path: data[:end]})
+        is_fault = came.status == 1 and FAULT_LINE.fullmatch(came.complaint)
+        if not is_fault and (came.status != 0 or came.complaint):
+            return [f"cut at byte {end}: status {came.status}, and it said\n{shown(came.complaint)}"]
+    return []
+
+
+def over_present(room, whole):
+    """The same comes over a tree that holds only the files that the document lists as present, and nothing else is looked at."""
+    files = json.loads(whole.outputs[DOCUMENT])["buildsystem_files"]
+    came = room.run({it: room.files.get(it, b"") for it in files["present"]}, traced=True)
+    found = []
+    if (came.status, came.log, came.complaint, came.outputs) != (whole.status, whole.log, whole.complaint, whole.outputs):
+        found.append(f"over the files that are listed as present, {files['present']}, another run came: status {came.status}, and it said\n{shown(came.complaint)}")
+    more = sorted(came.looks - {*files["present"], *files["absent"]})
+    return found + ([f"looked at, and not listed: {more}"] if more else [])
+
+
+def in_pieces(room, whole, piece):
+    """The same comes where each read and write moves at most so many bytes."""
+    came = room.run(piece=piece)
+    same = (came.status, came.log, came.complaint, came.outputs) == (whole.status, whole.log, whole.complaint, whole.outputs)
+    return [] if same else [f"another run came: status {came.status}, and it said\n{shown(came.complaint)}"]
+
+
+def each_fails(room, whole, kind, share, shares):
+    """Whichever call of a kind fails, a beginning of the whole run comes, with the status of that kind."""
+    calls = whole.counts[kind == "device"]
+    if not 0 < calls <= MOST_CALLS:
+        return [f"the run makes {calls} calls of {kind}"]
+    for number in range(1 + share, calls + 1, shares):
+        came = room.run(kind=kind, at=number)
+        why = differs_from_failing(came, whole, kind)
+        if why:
+            return [f"call {number} of {calls} ({came.failed or 'which did not come'}) fails: {why}"]
+    return []
+
+
+def differs_from_failing(came, whole, kind):
+    """Why what came is not what a run comes to in which a call of this kind fails, if it is not."""
+    same = (came.status, came.log, came.complaint, came.outputs) == (whole.status, whole.log, whole.complaint, whole.outputs)
+    if same and came.may_go_on:
+        return None
+    # Want of memory in a call of a device is a device fault.
+    statuses = (3, 2) if kind == "memory" else (2,)
+    if came.status not in statuses:
+        return f"status {' or '.join(map(str, statuses))} must come, and {came.status} came"
+    if not whole.log.startswith(came.log):
+        return f"the log is no beginning of the whole one:\n{shown(came.log)}"
+    said = came.complaint.removesuffix(SAID[came.status])
+    if said == came.complaint or not whole.complaint.startswith(said):
+        return f"it complained:\n{shown(came.complaint)}"
+    return why_no_beginning(begun_outputs(came), begun_outputs(whole), whole.begun)
+
+
+def begun_outputs(came):
+    """What was written of each output, in its place or beside it."""
+    return {name.removesuffix(UNENDED): text for name, text in came.outputs.items()}
+
+
+def why_no_beginning(came, whole, order):
+    """Why the outputs are no beginning of those of the whole run, which were begun in this order, if they are not."""
+    for name, text in came.items():
+        if name not in order or not whole[name].startswith(text):
+            return f"the output {name} is no beginning of the whole one:\n{shown(text)}"
+    begun = [it for it in order if it in came]
+    if begun != list(order[: len(begun)]) or any(came[it] != whole[it] for it in begun[:-1]):
+        return f"outputs are left out, or not whole before the last: {begun}"
+    return None
