@@ -40,8 +40,13 @@ row_of functions.Project = record {
   keywords = [];
   left_out = codes "version" ∷ codes "license" ∷ codes "default_options" ∷ codes "meson_version" ∷ common_left_out;
 }
-row_of functions.Range = record { positional = Integer ∷ Integer ∷ Integer ∷ []; needed = 1;
-    others = None; keywords = []; left_out = common_left_out }
+row_of functions.Range = record {
+  positional = Integer ∷ Integer ∷ Integer ∷ [];
+  needed = 1;
+  others = None;
+  keywords = [];
+  left_out = common_left_out;
+}
 row_of functions.SetVariable = record { positional = Text ∷ Any ∷ []; needed = 2; others = None; keywords = []; left_out = common_left_out }
 row_of functions.Subdir = record {
   positional = Text ∷ [];
