@@ -46,3 +46,7 @@ statements_by table c = statement_trees table (expressions_by table c) c.stateme
 -- the trees of some statements
 abbrev pub block_by : List (List ℕ) → Code → List ℕ → Statements
 block_by table c numbers = statements (map (statement_at (statements_by table c)) numbers)
+
+-- the statements of a file
+abbrev pub file_by : List (List ℕ) → Code → Statements
+file_by table c = block_by table c (statements_of c blocks.File)

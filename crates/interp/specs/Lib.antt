@@ -2,6 +2,7 @@ pub mod Acting
 pub mod Blocks
 pub mod Conditions
 pub mod Cost
+pub mod Evaluated
 pub mod Evaluates
 pub mod Evaluation
 pub mod Expressions

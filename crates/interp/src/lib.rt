@@ -5,6 +5,7 @@ mod acting;
 mod assign;
 mod block;
 mod conditions;
+mod evaluation;
 mod evaluator;
 mod expressions;
 mod flow;
@@ -14,6 +15,8 @@ mod literals;
 mod loops;
 mod meaning;
 mod names;
+mod open;
 
+pub use evaluation::evaluate;
 pub use evaluator::Evaluator;
 pub use law::{depends_on_looked, steps_within_cost};
