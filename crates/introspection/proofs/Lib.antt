@@ -2,3 +2,4 @@ pub mod Lists
 pub mod Shape
 pub mod WholeShape
 pub mod Text
+mod Examples
