@@ -7,14 +7,14 @@ use Rattle.ports.specs.declared.fault.DeviceFault.{DeviceFault}
 use Rattle.ports.proofs.Sending.{sends_then}
 use Rattle.faults.specs.Faults.{FaultData, fault_line}
 use Rattle.project.specs.World.{WorldData}
-use Rattle.build_file.specs.BuildFile.{build_steps, ending_of}
+use Rattle.build_file.specs.BuildFile.{ending_of}
 use Rattle.build_file.specs.declared.stop.WriteStop.{WriteStop}
 use Rattle.build_file.specs.declared.stop.WriteStop.TheVariants as stops
-use Rattle.conclusion.specs.Concluding.{Whole, Agrees, done_with, faulted_with, told_before, failed_devices, status_of_fault, status_of_outputs}
+use Rattle.conclusion.specs.Concluding.{Whole, Agrees, done_with, faulted_with, outputs_steps, told_before, failed_devices, status_of_fault, status_of_outputs}
 use Rattle.conclusion.specs.declared.concluding.Status.{Status}
 
 -- the outputs of a project
-pub agrees_outputs : (w : WorldData) (r : Result (Unit {0}) WriteStop) {old new : OutputState} → Makes old (build_steps w) (ending_of r) new → Agrees (done_with w) (status_of_outputs r) old new
+pub agrees_outputs : (w : WorldData) (r : Result (Unit {0}) WriteStop) {old new : OutputState} → Makes old (outputs_steps w) (ending_of r) new → Agrees (done_with w) (status_of_outputs r) old new
 agrees_outputs w (Ok x) m = record { status = λ h. refl; events = m.sends }
 agrees_outputs w (Err stops.Device) m = record { status = λ h. absurd (false≢true h); events = m.sends }
 agrees_outputs w (Err stops.Memory) m = record { status = λ h. absurd (false≢true h); events = m.sends }

@@ -7,6 +7,7 @@ use Rattle.project.specs.World.{WorldData}
 use Rattle.build_file.specs.BuildFile.{build_steps}
 use Rattle.build_file.specs.declared.stop.WriteStop.{WriteStop}
 use Rattle.build_file.specs.declared.stop.WriteStop.TheVariants as stops
+use Rattle.conclusion.specs.Document.{document_steps}
 use Rattle.conclusion.specs.declared.concluding.Status.{Status}
 use Rattle.conclusion.specs.declared.concluding.Status.TheVariants as statuses
 
@@ -15,9 +16,13 @@ pub record Whole : Type 0 where
   pub steps : List Step
   pub status : Status
 
--- all outputs of a project
+-- the outputs of a project: `build.ninja`, then the introspection document
+abbrev pub outputs_steps : WorldData → List Step
+outputs_steps w = build_steps w ++ document_steps w
+
+-- all of them
 abbrev pub done_with : WorldData → Whole
-done_with w = record { steps = build_steps w; status = statuses.Done }
+done_with w = record { steps = outputs_steps w; status = statuses.Done }
 
 -- the line of a fault
 abbrev pub faulted_with : FaultData → Whole

@@ -1,2 +1,3 @@
 pub mod FaultSteps
+pub mod Document
 pub mod Concluding

@@ -1,9 +1,13 @@
 //! The end of a run, and its status.
 ghost use Rattle.std.specs.Prelude.{◌≡◌, ◌+◌};
 ghost use Rattle.ports.specs.Endings.{HasRoom, ended};
+ghost use Rattle.ports.specs.Outputs.{Makes};
 ghost use Rattle.faults.specs.View.{fault_view};
-ghost use Rattle.conclusion.specs.Concluding.{Agrees, done_with, failed_devices, faulted_with, status_of_fault, status_of_outputs};
+ghost use Rattle.build_file.specs.BuildFile.{ending_of};
+ghost use Rattle.conclusion.specs.Concluding.{Agrees, done_with, failed_devices, faulted_with, outputs_steps, status_of_fault};
+ghost use Rattle.conclusion.specs.Concluding.{status_of_outputs};
 
+use crate::document::write_document;
 use crate::fault::write_fault;
 use build_file::{WriteStop, write_build_file};
 use faults::Fault;
@@ -43,7 +47,15 @@ fn status_of_fault(answer: Result<(), DeviceFault>) -> Status
     }
 }
 
-/// Writes the outputs of a project whose definitions are evaluated.
+fn write_outputs<O: Outputs>(alloc: Global, project: &Project, out: &mut O) -> Result<(), WriteStop>
+    requires { HasRoom (O.seen out.old).failures }
+    ensures { Makes (O.seen out.old) (outputs_steps project.now) (ending_of result) (O.seen out.new) }
+{
+    write_build_file(alloc, project, out)?;
+    write_document(alloc, project, out)
+}
+
+/// Writes the outputs of a project whose definitions are evaluated: `build.ninja`, then the introspection document.
 ///
 /// Status `Done` is answered where the outputs took all of it. With `Device` or `Memory` they took a beginning.
 pub fn conclude<O: Outputs>(alloc: Global, project: &Project, out: &mut O) -> Status
@@ -51,7 +63,7 @@ pub fn conclude<O: Outputs>(alloc: Global, project: &Project, out: &mut O) -> St
     ensures agrees { Agrees (done_with project.now) result (O.seen out.old) (O.seen out.new) }
     ensures device { (O.seen out.new).failures ≡ (O.seen out.old).failures + failed_devices result }
 {
-    let answer = write_build_file(alloc, project, out);
+    let answer = write_outputs(alloc, project, out);
     status_of_outputs(answer)
 }
 

@@ -2,7 +2,9 @@
 #![tactic(auto)]
 
 mod concluding;
+mod document;
 mod fault;
 
 pub use concluding::{Status, conclude, refuse};
+pub use document::write_document;
 pub use fault::write_fault;

@@ -1,0 +1,5 @@
+pub mod Lists
+pub mod Shape
+pub mod WholeShape
+pub mod Text
+mod Examples
