@@ -6,10 +6,9 @@ use Rattle.std.proofs.lemmas.Grind.{flat_map-append}
 use Rattle.ports.specs.Endings.{Whole, Failed}
 use Rattle.ports.specs.Outputs.{OutputState, Step, Makes, Writes}
 use Rattle.ports.proofs.Sending.{makes_stop, writes_then, writes_cut, writes_none}
-use Rattle.meson.specs.Gives.{ending_of}
-use Rattle.meson.specs.Reading.{IsNoFault}
-use Rattle.meson.specs.declared.stop.Stop.{Stop}
-use Rattle.meson.specs.declared.stop.Stop.TheVariants as stops
+use Rattle.world.specs.declared.stop.Stop.{Stop}
+use Rattle.world.specs.declared.stop.Stop.TheVariants as stops
+use Rattle.meson.specs.Stopping.{IsNoFault, ending_of}
 
 -- at the exit of a `?` on a device
 pub writes_device : {B : Type 0} {old new : OutputState} {run : List Step} (r : Result B Stop) → IsErrAnd r (λ e. e ≡ stops.Device) → Writes old run Failed new → Writes old run (ending_of r) new
