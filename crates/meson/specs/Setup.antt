@@ -21,7 +21,7 @@ use Rattle.meson.specs.declared.running.Status.{Status}
 use Rattle.meson.specs.declared.running.Status.TheVariants as statuses
 
 -- the evaluation of these files, settings and bytes of a machine file, from its first world on
-abbrev pub evaluated : Files → SettingsData → List ℕ → Run (Unit {0})
+unfoldable pub evaluated : Files → SettingsData → List ℕ → Run (Unit {0})
 evaluated files s machine = carry files (evaluation machine) (first_world s)
 
 -- the output `build.ninja`, whole

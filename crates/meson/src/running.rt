@@ -36,7 +36,7 @@ pub enum Status {
 }
 
 // What a run is given beside its devices: the settings, and the bytes of a machine file.
-#[derive(Clone, Copy)]
+#[derive(Drop)]
 struct Inputs<'a> {
     settings: &'a Settings,
     machine: &'a [u8],
@@ -136,21 +136,22 @@ fn write_build_file<O: Outputs>(alloc: Global, project: &Project, out: &mut O) -
 fn configure<T: Tree, O: Outputs, L: Ledger>(
     alloc: Global,
     tree: &mut T,
-    inputs: Inputs<'_>,
+    inputs: &Inputs<'_>,
     out: &mut O,
     steps: &mut Steps<L>,
 ) -> Result<(), Stop>
     requires tree { HasRoom (T.seen tree.old).failures }
     requires out { HasRoom (O.seen out.old).failures }
     ensures run { (files : Files) → Holds (T.seen tree.old) files
-        → Configures (evaluated files (settings_view inputs.settings.now) inputs.machine.now) result (O.seen out.old) (O.seen out.new) }
+        → Configures (evaluated files (settings_view inputs.now.settings.now) inputs.now.machine.now) result (O.seen out.old) (O.seen out.new) }
     ensures failures { (T.seen tree.new).failures + (O.seen out.new).failures
         ≡ failures_after ((T.seen tree.old).failures + (O.seen out.old).failures) result }
     ensures room { IfErr result (λ stop. OnRefusal stop ((O.seen out.new).failures ≡ (O.seen out.old).failures)) }
 {
     let settings = inputs.settings.copy(alloc)?;
     let store = evaluate(alloc, tree, settings, inputs.machine, out, steps)?;
-    write_build_file(alloc, store.project(), out)
+    let project = store.into_project();
+    write_build_file(alloc, &project, out)
 }
 
 // The status of a run that came to this answer. Of a refusal the line is written first.
@@ -173,7 +174,7 @@ fn settle<O: Outputs>(answer: Result<(), Stop>, out: &mut O) -> Status
 fn run_with<T: Tree, O: Outputs, L: Ledger>(
     alloc: Global,
     tree: &mut T,
-    inputs: Inputs<'_>,
+    inputs: &Inputs<'_>,
     out: &mut O,
     blank: Blank,
 ) -> Status
@@ -183,7 +184,7 @@ fn run_with<T: Tree, O: Outputs, L: Ledger>(
     requires parts { blank.parts ≡ L.parts }
     requires some { 0 < blank.parts }
     ensures run { (files : Files) → Holds (T.seen tree.old) files
-        → Agrees (run_of files (settings_view inputs.settings.now) inputs.machine.now) result (O.seen out.old) (O.seen out.new) }
+        → Agrees (run_of files (settings_view inputs.now.settings.now) inputs.now.machine.now) result (O.seen out.old) (O.seen out.new) }
     ensures device { (T.seen tree.new).failures + (O.seen out.new).failures
         ≡ (T.seen tree.old).failures + (O.seen out.old).failures + failed_devices result }
 {
@@ -216,5 +217,5 @@ pub fn setup<T: Tree, O: Outputs>(
         ≡ (T.seen tree.old).failures + (O.seen out.old).failures + failed_devices result }
 {
     let inputs = Inputs { settings, machine };
-    run_with::<T, O, Brand>(alloc, tree, inputs, out, Blank::new(1))
+    run_with::<T, O, Brand>(alloc, tree, &inputs, out, Blank::new(1))
 }
