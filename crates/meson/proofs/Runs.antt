@@ -3,7 +3,6 @@ use Rattle.std.proofs.Common.{◌≡◌, true, false, List, ◌++◌, Result, Ok
 use Rattle.ports.specs.Endings.{is_whole}
 use Rattle.ports.specs.Outputs.{OutputState, Step, Sends, faults}
 use Rattle.ports.proofs.Sending.{sends_then, sends_part, sends_stop, sends_none}
-use Rattle.build.specs.Data.{ProjectData}
 use Rattle.std.proofs.lemmas.Bool.{false≢true}
 use Rattle.faults.specs.Faults.{FaultData, fault_line}
 use Rattle.faults.specs.View.{fault_view}
