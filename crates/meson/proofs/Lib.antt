@@ -1,12 +1,4 @@
 pub mod FaultLines
-pub mod Marks
-pub mod Follow
-pub mod Items
-pub mod Tests
-pub mod Holding
-pub mod PathTexts
-pub mod Reading
 pub mod BuildFile
-pub mod Runs
-pub mod Trees
 pub mod Stopping
+pub mod Runs

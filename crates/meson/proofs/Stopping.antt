@@ -1,15 +1,16 @@
 -- Where a call that writes stops.
-use Rattle.std.proofs.Common.{◌≡◌, ℕ, ◌+◌, ◌<◌, List, ◌++◌, length, take, drop, get_or, take-append-drop, Result, Ok, Err, IsErrAnd, refl, sym, subst}
+use Rattle.std.proofs.Common.{◌≡◌, ℕ, ◌+◌, ◌<◌, List, ◌++◌, length, take, drop, get_or, take-append-drop, Result, Ok, Err, IfErr, IsErrAnd, refl, sym, subst, arith}
 use Rattle.std.specs.List.{flat_map}
 use Rattle.std.proofs.lemmas.List.{drop_more}
 use Rattle.std.proofs.lemmas.Grind.{flat_map-append}
-use Rattle.ports.specs.Endings.{Whole, Failed}
+use Rattle.ports.specs.Endings.{Whole, Failed, failures_after as counted_after}
 use Rattle.ports.specs.Outputs.{OutputState, Step, Makes, Writes}
 use Rattle.ports.proofs.Sending.{makes_stop, writes_then, writes_cut, writes_none}
-use Rattle.meson.specs.Gives.{ending_of}
-use Rattle.meson.specs.Reading.{IsNoFault}
-use Rattle.meson.specs.declared.stop.Stop.{Stop}
-use Rattle.meson.specs.declared.stop.Stop.TheVariants as stops
+use Rattle.world.specs.Gives.{failures_after}
+use Rattle.world.specs.declared.stop.Stop.{Stop}
+use Rattle.world.specs.declared.stop.Stop.TheVariants as stops
+use Rattle.meson.specs.Setup.{OnRefusal}
+use Rattle.meson.specs.Stopping.{IsNoFault, ending_of}
 
 -- at the exit of a `?` on a device
 pub writes_device : {B : Type 0} {old new : OutputState} {run : List Step} (r : Result B Stop) → IsErrAnd r (λ e. e ≡ stops.Device) → Writes old run Failed new → Writes old run (ending_of r) new
@@ -46,3 +47,19 @@ pub writes_until_stop : {X B : Type 0} (f : X → List Step) {old mid new : Outp
     → Writes mid (f x) (ending_of {B = Unit {0}} (Err s)) new → Writes old (flat_map f xs) (ending_of r) new
 writes_until_stop f xs i x r s w le is e n t =
     rw (← take-append-drop i xs, flat_map-append, drop_more xs i x le, ← is) (writes_then w (writes_ends r s (flat_map f (drop (i + 1) xs)) e n t))
+
+-- The failures of two devices, of which the second is written to: `t` and `o` before a call that counted none of them, `u` and `p` after
+-- it, and `q` of the second in the end.
+pub failures_written : {B : Type 0} (r : Result B Stop) (t o u p q : ℕ) → u + p ≡ t + o → IsNoFault r
+    → q ≡ counted_after p (ending_of r) → u + q ≡ failures_after (t + o) r
+failures_written (Ok x) t o u p q same n e = omega (arith, same, e)
+failures_written (Err (stops.Refused fault)) t o u p q same n e = absurd n
+failures_written (Err stops.Device) t o u p q same n e = omega (arith, same, e)
+failures_written (Err stops.Memory) t o u p q same n e = omega (arith, same, e)
+
+-- what comes to no fault owes nothing where it is one
+pub owes_nothing : {B : Type 0} (P : Type 0) (r : Result B Stop) → IsNoFault r → IfErr r (λ stop. OnRefusal stop P)
+owes_nothing P (Ok x) n = tt
+owes_nothing P (Err (stops.Refused fault)) n = absurd n
+owes_nothing P (Err stops.Device) n = tt
+owes_nothing P (Err stops.Memory) n = tt

@@ -1,15 +1,4 @@
-pub mod Trace
-pub mod Data
 pub mod FaultSteps
-pub mod Run
-pub mod Gives
-pub mod Settings
-pub mod Paths
-pub mod Folder
-pub mod Names
-pub mod ValueView
-pub mod Evaluation
-pub mod Store
-pub mod SettingsView
-pub mod Reading
+pub mod Stopping
 pub mod Setup
+pub mod Laws

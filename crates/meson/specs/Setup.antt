@@ -1,24 +1,28 @@
 -- One run: what the outputs are asked to take, and how the run ends.
-use Rattle.std.specs.Prelude.{◌≡◌, ℕ, Bool, true, false, IsTrue, List, [], ◌++◌, None, Result, Ok, Err, codes}
+use Rattle.std.specs.Prelude.{◌≡◌, ℕ, Bool, true, false, IsTrue, List, ◌++◌, Result, Ok, Err, codes}
 use Rattle.ports.specs.Endings as endings
 use Rattle.ports.specs.Outputs.{OutputState, Step, Sends, Writes, opening, closing, puts, faults}
 use Rattle.build.specs.Data.{TargetData, ProjectData}
 use Rattle.build.specs.Edges.{edges_of, default_outputs}
 use Rattle.first_ninja.specs.Writing.{build_file, edges_text, head_text, tail_text}
 use Rattle.faults.specs.Faults.{fault_line}
-use Rattle.meson.specs.Settings.{SettingsData}
-use Rattle.meson.specs.Trace.{steps_of}
-use Rattle.meson.specs.Run.{World, Run, ran, Done, Faulted, marks_of, outcome_of}
-use Rattle.meson.specs.Evaluation.{Files, evaluation}
 use Rattle.faults.specs.View.{fault_view}
-use Rattle.meson.specs.declared.stop.Stop.{Stop}
-use Rattle.meson.specs.declared.stop.Stop.TheVariants as stops
+use Rattle.world.specs.Deed.{Files}
+use Rattle.world.specs.Plan.{carry}
+use Rattle.world.specs.Run.{Run, ran, Done, Faulted, marks_of, outcome_of}
+use Rattle.world.specs.Settings.{SettingsData}
+use Rattle.world.specs.Start.{first_world}
+use Rattle.world.specs.Trace.{steps_of}
+use Rattle.world.specs.World.{World}
+use Rattle.world.specs.declared.stop.Stop.{Stop}
+use Rattle.world.specs.declared.stop.Stop.TheVariants as stops
+use Rattle.interp.specs.Evaluation.{evaluation}
 use Rattle.meson.specs.declared.running.Status.{Status}
 use Rattle.meson.specs.declared.running.Status.TheVariants as statuses
 
--- before the first statement: no variable, no target, nothing looked at
-abbrev pub first_world : SettingsData → World
-first_world s = record { variables = λ _. None; project = record { depth = s.depth; targets = [] }; looked = [] }
+-- the evaluation of these files, settings and bytes of a machine file, from its first world on
+unfoldable pub evaluated : Files → SettingsData → List ℕ → Run (Unit {0})
+evaluated files s machine = carry files (evaluation machine) (first_world s)
 
 -- the output `build.ninja`, whole
 abbrev pub build_steps : ProjectData → List Step
@@ -42,14 +46,14 @@ pub record Whole : Type 0 where
   pub steps : List Step
   pub status : Status
 
--- all outputs on success; on a fault what was told before it, and its line
+-- what was told by the evaluation, and then all outputs on success, or the line of its fault
 abbrev pub whole_of : Run (Unit {0}) → Whole
-whole_of (ran (Done x) w ms) = record { steps = steps_of ms ++ build_steps w.project; status = statuses.Done }
+whole_of (ran (Done x) w ms) = record { steps = steps_of ms ++ build_steps w.facts.project; status = statuses.Done }
 whole_of (ran (Faulted f) w ms) = record { steps = steps_of ms ++ faults (fault_line f); status = statuses.Fault }
 
 -- the run of these files, settings and bytes of a machine file
 abbrev pub run_of : Files → SettingsData → List ℕ → Whole
-run_of files s machine = whole_of (evaluation files s machine (first_world s))
+run_of files s machine = whole_of (evaluated files s machine)
 
 -- the exit status of a program that ends so
 abbrev pub exit_status : Status → ℕ
@@ -79,7 +83,7 @@ failed_devices statuses.Memory = 0
 
 -- what a configuration came to: the outputs took what the run tells and the file, or a beginning of these; a refusal is the run's
 abbrev pub Configures : Run (Unit {0}) → Result (Unit {0}) Stop → OutputState → OutputState → Type 0
-Configures run (Ok x) old new = (w : World) × (run ≡ ran (Done tt) w (marks_of run)) × Sends old new (steps_of (marks_of run) ++ build_steps w.project) true
+Configures run (Ok x) old new = (w : World) × (run ≡ ran (Done tt) w (marks_of run)) × Sends old new (steps_of (marks_of run) ++ build_steps w.facts.project) true
 Configures run (Err (stops.Refused fault)) old new = (outcome_of run ≡ Faulted (fault_view fault)) × Sends old new (steps_of (marks_of run)) true
 Configures run (Err stops.Device) old new = Sends old new (whole_of run).steps false
 Configures run (Err stops.Memory) old new = Sends old new (whole_of run).steps false

@@ -4,13 +4,13 @@ ghost use Rattle.command.specs.CommandLine.{IsRefused, IsTaken};
 ghost use Rattle.meson.specs.Setup.{exit_status};
 
 use crate::running::{Status, setup};
-use crate::settings::Settings;
 use command::{Line, LineFault, command_line};
 use ports::{DiskOutputs, DiskTree};
 use std::alloc::{AllocError, Global};
 use std::io::{ErrorKind, Write};
 use std::rt::Files;
 use std::{fs, io};
+use world::Settings;
 
 // The exit status for words that are no command line.
 const BAD_LINE: u8 = 4;

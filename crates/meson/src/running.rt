@@ -5,24 +5,22 @@ ghost use Rattle.ports.specs.Endings.{HasRoom, ended};
 ghost use Rattle.ports.specs.Outputs.{IsOpen, Makes, Writes, puts};
 ghost use Rattle.build.specs.View.{edge_view, target_view};
 ghost use Rattle.first_ninja.specs.Writing.{edge_text};
-ghost use Rattle.meson.specs.Evaluation.{Files, evaluation};
-ghost use Rattle.meson.specs.Gives.{Holds, ending_of, failures_after};
-ghost use Rattle.meson.specs.Reading.{IsNoFault};
-ghost use Rattle.meson.specs.SettingsView.{settings_view};
-ghost use Rattle.meson.specs.Setup.{Agrees, Configures, OnRefusal, Settles, build_steps, failed_devices, first_world, head_steps, parts_steps, run_of, tail_steps, target_steps};
+ghost use Rattle.world.specs.Deed.{Files};
+ghost use Rattle.world.specs.Gives.{Holds, failures_after};
+ghost use Rattle.world.specs.SettingsView.{settings_view};
+ghost use Rattle.meson.specs.Setup.{Agrees, Configures, OnRefusal, Settles, evaluated, failed_devices, run_of};
+ghost use Rattle.meson.specs.Setup.{build_steps, head_steps, parts_steps, tail_steps, target_steps};
+ghost use Rattle.meson.specs.Stopping.{IsNoFault, ending_of};
 
-use crate::definitions::evaluate;
 use crate::fault::write_fault;
-use crate::settings::Settings;
-use crate::steps::{Steps, new_steps};
-use crate::stop::Stop;
-use crate::store::{new_store, project};
 use build::{Edge, Project, Target, edges};
 use first_ninja::{write_edge, write_head, write_tail};
+use interp::evaluate;
 use ports::{DeviceFault, Outputs, Tree};
 use std::alloc::Global;
 use std::marker::Brand;
 use std::sync::ledger::{Blank, Ledger};
+use world::{Settings, Steps, Stop, new_steps};
 
 /// How a run ended.
 #[derive(Clone, Copy, Debug, PartialEq, Eq)]
@@ -35,6 +33,13 @@ pub enum Status {
     Device,
     /// No memory was left.
     Memory,
+}
+
+// What a run is given beside its devices: the settings, and the bytes of a machine file.
+#[derive(Drop)]
+struct Inputs<'a> {
+    settings: &'a Settings,
+    machine: &'a [u8],
 }
 
 #[tactic(auto, using(ports::proofs::Sending::sending))]
@@ -131,22 +136,22 @@ fn write_build_file<O: Outputs>(alloc: Global, project: &Project, out: &mut O) -
 fn configure<T: Tree, O: Outputs, L: Ledger>(
     alloc: Global,
     tree: &mut T,
-    settings: &Settings,
-    machine: &[u8],
+    inputs: &Inputs<'_>,
     out: &mut O,
     steps: &mut Steps<L>,
 ) -> Result<(), Stop>
     requires tree { HasRoom (T.seen tree.old).failures }
     requires out { HasRoom (O.seen out.old).failures }
-    ensures run { let s = settings_view settings.now in (files : Files) → Holds (T.seen tree.old) files
-        → Configures (evaluation files s machine.now (first_world s)) result (O.seen out.old) (O.seen out.new) }
+    ensures run { (files : Files) → Holds (T.seen tree.old) files
+        → Configures (evaluated files (settings_view inputs.now.settings.now) inputs.now.machine.now) result (O.seen out.old) (O.seen out.new) }
     ensures failures { (T.seen tree.new).failures + (O.seen out.new).failures
         ≡ failures_after ((T.seen tree.old).failures + (O.seen out.old).failures) result }
     ensures room { IfErr result (λ stop. OnRefusal stop ((O.seen out.new).failures ≡ (O.seen out.old).failures)) }
 {
-    let mut store = new_store(alloc, settings.depth)?;
-    evaluate(alloc, settings, machine, &mut store, tree, steps)?;
-    write_build_file(alloc, project(&store), out)
+    let settings = inputs.settings.copy(alloc)?;
+    let store = evaluate(alloc, tree, settings, inputs.machine, out, steps)?;
+    let project = store.into_project();
+    write_build_file(alloc, &project, out)
 }
 
 // The status of a run that came to this answer. Of a refusal the line is written first.
@@ -165,11 +170,11 @@ fn settle<O: Outputs>(answer: Result<(), Stop>, out: &mut O) -> Status
     }
 }
 
+// A run whose rules are counted on this ledger.
 fn run_with<T: Tree, O: Outputs, L: Ledger>(
     alloc: Global,
     tree: &mut T,
-    settings: &Settings,
-    machine: &[u8],
+    inputs: &Inputs<'_>,
     out: &mut O,
     blank: Blank,
 ) -> Status
@@ -179,12 +184,12 @@ fn run_with<T: Tree, O: Outputs, L: Ledger>(
     requires parts { blank.parts ≡ L.parts }
     requires some { 0 < blank.parts }
     ensures run { (files : Files) → Holds (T.seen tree.old) files
-        → Agrees (run_of files (settings_view settings.now) machine.now) result (O.seen out.old) (O.seen out.new) }
+        → Agrees (run_of files (settings_view inputs.now.settings.now) inputs.now.machine.now) result (O.seen out.old) (O.seen out.new) }
     ensures device { (T.seen tree.new).failures + (O.seen out.new).failures
         ≡ (T.seen tree.old).failures + (O.seen out.old).failures + failed_devices result }
 {
     let mut steps = new_steps::<L>(blank);
-    let answer = configure(alloc, tree, settings, machine, out, &mut steps);
+    let answer = configure(alloc, tree, inputs, out, &mut steps);
     settle(answer, out)
 }
 
@@ -211,5 +216,6 @@ pub fn setup<T: Tree, O: Outputs>(
     ensures device { (T.seen tree.new).failures + (O.seen out.new).failures
         ≡ (T.seen tree.old).failures + (O.seen out.old).failures + failed_devices result }
 {
-    run_with::<T, O, Brand>(alloc, tree, settings, machine, out, Blank::new(1))
+    let inputs = Inputs { settings, machine };
+    run_with::<T, O, Brand>(alloc, tree, &inputs, out, Blank::new(1))
 }

@@ -1,7 +1,0 @@
--- Settings without where they lie in memory.
-use Rattle.std.specs.Prelude.{map, string_bytes}
-use Rattle.meson.specs.Settings.{SettingsData}
-use Rattle.meson.specs.declared.settings.Settings.{Settings}
-
-abbrev pub settings_view : Settings → SettingsData
-settings_view s = record { words = map string_bytes s.words.items; depth = s.depth; source_root = string_bytes s.source_root; build_root = string_bytes s.build_root }

@@ -1,0 +1,19 @@
+-- How a call that writes outputs may stop.
+use Rattle.std.specs.Prelude.{Result, Ok, Err}
+use Rattle.ports.specs.Endings.{Ending, Whole, Failed, Short}
+use Rattle.world.specs.declared.stop.Stop.{Stop}
+use Rattle.world.specs.declared.stop.Stop.TheVariants as stops
+
+-- it comes to a value, or stops by a device or for want of memory
+abbrev pub IsNoFault : {B : Type 0} → Result B Stop → Type 0
+IsNoFault (Ok x) = Unit {0}
+IsNoFault (Err (stops.Refused fault)) = ⊥
+IsNoFault (Err stops.Device) = Unit {0}
+IsNoFault (Err stops.Memory) = Unit {0}
+
+-- how it ended; a fault leaves all of its run
+abbrev pub ending_of : {B : Type 0} → Result B Stop → Ending
+ending_of (Ok x) = Whole
+ending_of (Err (stops.Refused fault)) = Whole
+ending_of (Err stops.Device) = Failed
+ending_of (Err stops.Memory) = Short

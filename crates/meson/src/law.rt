@@ -1,0 +1,9 @@
+//! What holds of every run.
+ghost use Rattle.meson.specs.Laws.{DependsOnLooked};
+
+/// Of any two trees of files that agree on the paths looked at by the run of the first, both runs are equal.
+pub fn depends_on_looked()
+    ensures { DependsOnLooked }
+{
+    interp::depends_on_looked();
+}
