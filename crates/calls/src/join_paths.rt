@@ -47,7 +47,7 @@ fn below(mut path: String, text: &str) -> Result<Result<String, Refusal>, AllocE
     if ends_with_slash(path.as_str()) {
         return lengthened(path, text);
     }
-    path.push('/')?;
+    path.push_str("/")?;
     lengthened(path, text)
 }
 

@@ -1,6 +1,7 @@
 //! `range`: a list of integers.
-ghost use Rattle.std.specs.Prelude.{◌≡◌, ◌<◌, ◌≤◌, ◌-◌, ◌^◌, IfOk, option_map};
+ghost use Rattle.std.specs.Prelude.{◌≡◌, ◌<◌, ◌≤◌, ◌-◌, ◌^◌, IfOk, option_map, pos};
 ghost use Rattle.arguments.specs.Arguments.{arguments_data};
+ghost use Rattle.data.specs.Data.{integer as integer_data};
 ghost use Rattle.data.specs.Tables.{Answers};
 ghost use Rattle.data.specs.View.{data_of, items_of};
 ghost use Rattle.world.specs.Answering.{Carries};
@@ -27,6 +28,14 @@ fn how_many(start: u128, stop: u128, step: u128) -> u128
     (stop - start + (step - 1)) / step
 }
 
+// The value of a number.
+fn integer(number: u128) -> Value
+    requires { number < 2 ^ 127 }
+    ensures { data_of result ≡ integer_data (pos number) }
+{
+    Value::Integer(number as i128)
+}
+
 // Those integers.
 fn integers(alloc: Global, start: u128, stop: u128, step: u128) -> Result<Vec<Value>, AllocError>
     requires stop { stop < 2 ^ 127 }
@@ -37,7 +46,7 @@ fn integers(alloc: Global, start: u128, stop: u128, step: u128) -> Result<Vec<Va
     let mut integers = Vec::new(alloc);
     let mut next = start;
     while next < stop {
-        integers.push(Value::Integer(next as i128))?;
+        integers.push(integer(next))?;
         next += step;
     }
     Ok(integers)

@@ -43,13 +43,13 @@ pub returns-in-SubdirDone : goal.returns-in-SubdirDone
 returns-in-SubdirDone g c = carries_as (ap (λ f. does f (arguments_data c.args.arguments.now)) (sym c.in-SubdirDone.is)) (carries_give refl)
 
 pub returns-in-Executable : goal.returns-in-Executable
-returns-in-Executable g c = carries_as (ap (λ f. does f (arguments_data c.args.arguments.now)) (sym c.in-Executable.is)) (carries_refuse c.refuse.ensures)
+returns-in-Executable g c = carries_as (ap (λ f. does f (arguments_data c.args.arguments.now)) (sym c.in-Executable.is)) c.executable.ensures
 
 pub returns-in-JoinPaths : goal.returns-in-JoinPaths
-returns-in-JoinPaths g c = carries_as (ap (λ f. does f (arguments_data c.args.arguments.now)) (sym c.in-JoinPaths.is)) (carries_refuse c.refuse-in-JoinPaths.ensures)
+returns-in-JoinPaths g c = carries_as (ap (λ f. does f (arguments_data c.args.arguments.now)) (sym c.in-JoinPaths.is)) c.join_paths.ensures
 
 pub returns-in-Range : goal.returns-in-Range
-returns-in-Range g c = carries_as (ap (λ f. does f (arguments_data c.args.arguments.now)) (sym c.in-Range.is)) (carries_refuse c.refuse-in-Range.ensures)
+returns-in-Range g c = carries_as (ap (λ f. does f (arguments_data c.args.arguments.now)) (sym c.in-Range.is)) c.range.ensures
 
 pub returns-in-Subdir : goal.returns-in-Subdir
-returns-in-Subdir g c = carries_as (ap (λ f. does f (arguments_data c.args.arguments.now)) (sym c.in-Subdir.is)) (carries_refuse c.refuse-in-Subdir.ensures)
+returns-in-Subdir g c = carries_as (ap (λ f. does f (arguments_data c.args.arguments.now)) (sym c.in-Subdir.is)) (carries_refuse c.refuse.ensures)
