@@ -1,11 +1,11 @@
 -- How many integers there are, by steps.
 use Rattle.std.proofs.Common.{◌≡◌, ℕ, zero, suc, ◌+◌, ◌-◌, ◌<◌, ◌≤◌, ◌/◌, ◌*◌, Bool, true, false, refl, sym, ap, ◌∙◌, arith}
-use Rattle.std.specs.Prelude.{nat_le, ℤ, pos, Ok, Err, ◌&&◌, if◌then◌else◌}
+use Rattle.std.specs.Prelude.{nat_le, pos, Ok, Err, ◌&&◌, if◌then◌else◌}
 use Rattle.std.proofs.Math.Nat.{mul-add-div_right}
 use Rattle.std.proofs.lemmas.Bool.Decides.{nat_tests}
 use Rattle.std.proofs.lemmas.Nat.{div-mul-add}
 use Rattle.calls.specs.Range.{how_many, integers_from}
-use Rattle.data.specs.Data.{Items, item, no_items, integer, count}
+use Rattle.data.specs.Data.{item, no_items, integer, count}
 use Rattle.data.specs.Data.{list}
 use Rattle.data.specs.Limits.{within}
 use Rattle.data.specs.Weight.{items_weight, items_depth}

@@ -1,8 +1,7 @@
 -- The functions of the page "Reference manual", on evaluated arguments.
-use Rattle.std.specs.Prelude.{Bool, true, false, not, ◌&&◌, [], Option, Some, None}
+use Rattle.std.specs.Prelude.{Bool, true, false, not, ◌&&◌, [], Option, None}
 use Rattle.data.specs.Data.{Data}
 use Rattle.faults.specs.declared.refusal.Refusal.TheVariants as refusals
-use Rattle.operators.specs.Operations.{disabler}
 use Rattle.arguments.specs.Arguments.{ArgumentsData}
 use Rattle.arguments.specs.Disablers.{gives_disabler}
 use Rattle.arguments.specs.Row.{checked}

@@ -107,10 +107,7 @@ fn require_first<T: Tree, O: Outputs>(caller: &Caller<'_, T, O>) -> Result<(), S
 }
 
 // Refuses a target of which Ninja can't hold all that would be written.
-fn require_held<T: Tree, O: Outputs>(
-    caller: &Caller<'_, T, O>,
-    target: &Target,
-) -> Result<(), Stop>
+fn require_held<T: Tree, O: Outputs>(caller: &Caller<'_, T, O>, target: &Target) -> Result<(), Stop>
     ensures { Carries (λ u. u) (held (target_view target.now)) (state_of T.seen O.seen caller.now) result (state_of T.seen O.seen caller.now) }
 {
     let edges = edges(caller.alloc, caller.store.project().depth(), target)?;
@@ -119,10 +116,7 @@ fn require_held<T: Tree, O: Outputs>(
 }
 
 // Declares a target, unless a path that it makes is taken.
-fn declare<T: Tree, O: Outputs>(
-    caller: &mut Caller<'_, T, O>,
-    target: Target,
-) -> Result<(), Stop>
+fn declare<T: Tree, O: Outputs>(caller: &mut Caller<'_, T, O>, target: Target) -> Result<(), Stop>
     ensures { Carries (λ u. u) (declared (target_view target)) (state_of T.seen O.seen caller.old) result
         (state_of T.seen O.seen caller.new) }
 {

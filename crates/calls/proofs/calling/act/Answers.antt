@@ -1,9 +1,7 @@
-use Rattle.std.proofs.Common.{ap, refl, sym, ◌∙◌}
+use Rattle.std.proofs.Common.{ap, refl, sym}
 use Rattle.arguments.specs.Arguments.{arguments_data}
-use Rattle.arguments.specs.Row.{checked}
-use Rattle.calls.specs.Functions.{call, does}
-use Rattle.calls.proofs.Values.{views_same}
-use Rattle.world.proofs.Answering.{carries_as, carries_then, carries_stop, carries_give, carries_refuse, carries_fitting}
+use Rattle.calls.specs.Functions.{does}
+use Rattle.world.proofs.Answering.{carries_as, carries_give, carries_refuse}
 use Rattle.calls.proofs.calling.act.Goals as goal
 
 pub returns-in-Assert : goal.returns-in-Assert

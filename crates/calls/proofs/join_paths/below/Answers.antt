@@ -1,4 +1,4 @@
-use Rattle.std.proofs.Common.{◌≡◌, ◌++◌, IfOk, string_bytes, sym, ap, subst, ◌∙◌}
+use Rattle.std.proofs.Common.{◌≡◌, IfOk, string_bytes, sym, ap, subst, ◌∙◌}
 use Rattle.data.specs.Limits.{within_bytes}
 use Rattle.data.specs.Tables.{string_in}
 use Rattle.operators.specs.Texts.{ends_with_slash}
