@@ -1,2 +1,4 @@
+pub mod Counting
 pub mod Gaps
+pub mod Joining
 pub mod Values

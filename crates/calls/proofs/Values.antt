@@ -1,13 +1,19 @@
 -- Values and texts that calls answer.
-use Rattle.std.proofs.Common.{◌≡◌, ℕ, List, Option, Some, None, option_map, is_some, Result, Ok, Err, String, Global, string_bytes, refl, sym, ap, ◌∙◌}
+use Rattle.std.proofs.Common.{◌≡◌, ℕ, Bool, false, List, Option, Some, None, option_map, is_some, Result, Ok, Err, IsErrAnd, String, Global, string_bytes, refl, sym, ap, subst, ◌∙◌}
+use Rattle.ports.specs.Outputs.{OutputState}
+use Rattle.ports.specs.Tree.{TreeState}
 use Rattle.data.specs.View.{data_of}
 use Rattle.data.specs.declared.refusal.Refusal.{Refusal as OperationRefusal}
 use Rattle.data.specs.declared.value.Value.{Value}
 use Rattle.data.specs.Tables.{string_in}
-use Rattle.world.specs.Answering.{State, Carries, IsAnswered, Views}
-use Rattle.world.specs.Deed.{answered}
+use Rattle.faults.specs.declared.refusal.Refusal.{Refusal}
+use Rattle.world.specs.Answering.{State, Carries, IsAnswered, Refuses, Views}
+use Rattle.world.specs.Deed.{Deed, answered, need, then}
+use Rattle.world.specs.World.{World, fault_here}
 use Rattle.world.specs.declared.stop.Stop.{Stop}
-use Rattle.world.proofs.Answering.{carries_answered}
+use Rattle.world.specs.declared.stop.Stop.TheVariants as stops
+use Rattle.world.proofs.Answering.{carries_answered, carries_lost, carries_stop, need_no}
+use Rattle.world.proofs.Marks.{same_front}
 
 pub is_some-data : (o : Option Value) → is_some (option_map data_of o) ≡ is_some o
 is_some-data None = refl
@@ -25,3 +31,18 @@ two f {a = a} {c = c} {b = b} p q = ap (λ x. f x b) p ∙ ap (f c) q
 pub views_same : {A R : Type 0} (given answer : Result A R) → answer ≡ given → Views (λ a. a) given answer
 views_same given (Ok x) e = sym e
 views_same given (Err r) e = sym e
+
+-- what is not so is refused, whatever was to be done next
+pub carries_denied : {B D : Type 0} {view : D → B} (b : Bool) (refusal : Refusal) (detail : List ℕ) {next : Unit {0} → Deed B} {s : State}
+    (result : Result D Stop) → b ≡ false → Refuses (fault_here s.world refusal detail) result → Carries view (then (need b refusal detail) next) s result s
+carries_denied b refusal detail (Ok x) is r = absurd r
+carries_denied b refusal detail (Err e) is r = carries_stop {view = λ (u : Unit {0}). u} (need_no b refusal detail is r) refl
+
+-- want of memory, where the world may have changed and no name is new
+pub carries_wanted : {A B : Type 0} {view : B → A} {d : Deed A} {w w1 : World} {names names1 : List (List ℕ)} {tree : TreeState} {out : OutputState}
+    {lent : ℕ × ℕ × ℕ} {result : Result B Stop} → IsErrAnd result (λ e. e ≡ stops.Memory) → names1 ≡ names
+    → Carries view d (record { world = w; names = names; tree = tree; out = out; lent = lent }) result
+    (record { world = w1; names = names1; tree = tree; out = out; lent = lent })
+carries_wanted {view = view} {d = d} {w = w} {w1 = w1} {names = names} {tree = tree} {out = out} {lent = lent} {result = result} is same =
+    subst (λ ns. Carries view d (record { world = w; names = names; tree = tree; out = out; lent = lent }) result
+    (record { world = w1; names = ns; tree = tree; out = out; lent = lent })) (sym same) (carries_lost is (same_front names))

@@ -1,15 +1,17 @@
 -- The functions of the page "Reference manual", on evaluated arguments.
-use Rattle.std.specs.Prelude.{Bool, true, false, not, ◌&&◌, [], Option, Some, None}
+use Rattle.std.specs.Prelude.{Bool, true, false, not, ◌&&◌, [], Option, None}
 use Rattle.data.specs.Data.{Data}
 use Rattle.faults.specs.declared.refusal.Refusal.TheVariants as refusals
-use Rattle.operators.specs.Operations.{disabler}
 use Rattle.arguments.specs.Arguments.{ArgumentsData}
 use Rattle.arguments.specs.Disablers.{gives_disabler}
 use Rattle.arguments.specs.Row.{checked}
 use Rattle.world.specs.Deed.{Deed, give, refuse, ◌>>=◌, fitting}
-use Rattle.calls.specs.Lists.{give_disabler, tell_disabler}
+use Rattle.calls.specs.Disablers.{give_disabler, tell_disabler}
+use Rattle.calls.specs.JoinPaths.{join_paths}
 use Rattle.calls.specs.Messages.{message, warning, error, assert}
+use Rattle.calls.specs.Executable.{executable}
 use Rattle.calls.specs.Project.{project}
+use Rattle.calls.specs.Range.{range}
 use Rattle.calls.specs.Rows.{row_of}
 use Rattle.calls.specs.Variables.{set_variable, get_variable, is_variable, unset_variable}
 use Rattle.calls.specs.declared.function.Function.{Function}
@@ -20,14 +22,14 @@ abbrev pub does : Function → ArgumentsData → Deed (Option Data)
 does functions.Assert a = assert a
 does functions.Disabler a = give_disabler
 does functions.Error a = error a
-does functions.Executable a = refuse refusals.LeftOut []
+does functions.Executable a = executable a
 does functions.GetVariable a = get_variable a
 does functions.IsDisabler a = tell_disabler a
 does functions.IsVariable a = is_variable a
-does functions.JoinPaths a = refuse refusals.LeftOut []
+does functions.JoinPaths a = join_paths a
 does functions.Message a = message a
 does functions.Project a = project a
-does functions.Range a = refuse refusals.LeftOut []
+does functions.Range a = range a
 does functions.SetVariable a = set_variable a
 -- as a part of an expression; a statement enters the folder
 does functions.Subdir a = refuse refusals.LeftOut []

@@ -1,8 +1,11 @@
+pub mod Disablers
+pub mod Executable
 pub mod Functions
-pub mod Lists
+pub mod JoinPaths
 pub mod Messages
 pub mod Names
 pub mod Paths
 pub mod Project
+pub mod Range
 pub mod Rows
 pub mod Variables

@@ -1,5 +1,5 @@
--- Path texts, and the paths of the tree that they name.
-use Rattle.std.specs.Prelude.{ℕ, Bool, not, ◌&&◌, List, [], ◌∷◌, ◌++◌, ◌==◌, ◌||◌, nat_eq, Option, Some, None, if◌then◌else◌, codes, length, drop, reverse}
+-- The folders that texts of a definition file name.
+use Rattle.std.specs.Prelude.{ℕ, Bool, not, ◌&&◌, List, [], ◌∷◌, ◌==◌, ◌||◌, nat_eq, Option, Some, None, if◌then◌else◌, codes, reverse}
 use Rattle.std.specs.List.{list_any, starts_with, slice_split, join_with_byte}
 use Rattle.std.specs.Str.{bytes_eq}
 use Rattle.world.specs.Costs.{path_in}
@@ -27,37 +27,13 @@ abbrev pub follow_parts : List (List ℕ) → List (List ℕ) → Option (List (
 follow_parts folder [] = Some folder
 follow_parts folder (part ∷ parts) = and_then (follow_part folder part) (λ next. follow_parts next parts)
 
--- the path of a thing in the tree, with slashes between its parts; the root itself has none
-abbrev pub named : Option (List (List ℕ)) → Option (List ℕ)
-named None = None
-named (Some []) = None
-named (Some (part ∷ folder)) = Some (join_with_byte 47 (reverse (part ∷ folder)))
-
--- the same, where the root is the empty path
+-- the path of a folder in the tree, with slashes between its parts; the root is the empty path
 abbrev pub folder_named : Option (List (List ℕ)) → Option (List ℕ)
 folder_named None = None
 folder_named (Some folder) = Some (join_with_byte 47 (reverse folder))
 
--- what stands behind a beginning
-abbrev pub rest_after : List ℕ → List ℕ → Option (List ℕ)
-rest_after front text = if starts_with nat_eq text front then Some (drop (length front) text) else None
-
 abbrev pub is_absolute : List ℕ → Bool
 is_absolute text = starts_with nat_eq text (codes "/")
-
--- A text in a definition file of a folder as one that is relative to the root: what is absolute has to begin with the source root and a
--- slash.
-abbrev pub from_root : List ℕ → List ℕ → List ℕ → Option (List ℕ)
-from_root source_root folder text = if is_absolute text then rest_after (source_root ++ codes "/") text else Some (path_in folder text)
-
-abbrev pub in_root : Option (List ℕ) → Option (List ℕ)
-in_root None = None
-in_root (Some text) = named (follow_parts [] (parts_of text))
-
--- The path in the tree that a text in a definition file of a folder names. None where it is an absolute path that is not below the
--- source root, leads above the root or names the root itself.
-abbrev pub tree_path : List ℕ → List ℕ → List ℕ → Option (List ℕ)
-tree_path source_root folder text = in_root (from_root source_root folder text)
 
 -- a path that leads to no folder above
 abbrev pub leads_down : List ℕ → Bool

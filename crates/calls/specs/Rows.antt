@@ -1,5 +1,6 @@
 -- The rows of the functions: what each takes.
 use Rattle.std.specs.Prelude.{ℕ, List, [], ◌∷◌, Some, None, codes}
+use Rattle.arguments.specs.declared.row.Kind.{Kind}
 use Rattle.arguments.specs.declared.row.Kind.TheVariants.{Any, Boolean, Integer, Text, Texts, Dependencies}
 use Rattle.arguments.specs.Row.{RowData, optional}
 use Rattle.calls.specs.declared.function.Function.{Function}
@@ -13,14 +14,29 @@ common_left_out = codes "kwargs" ∷ codes "fallback" ∷ codes "deprecated" ∷
 abbrev pub any_values : RowData
 any_values = record { positional = []; needed = 0; others = Some Any; keywords = []; left_out = common_left_out }
 
-abbrev pub no_values : RowData
-no_values = record { positional = []; needed = 0; others = None; keywords = []; left_out = common_left_out }
+-- values of these kinds, of which so many are needed, and no keyword
+abbrev pub values : List Kind → ℕ → RowData
+values kinds needed = record { positional = kinds; needed = needed; others = None; keywords = []; left_out = common_left_out }
 
-abbrev pub row_of : Function → RowData
-row_of functions.Assert = record { positional = Boolean ∷ Text ∷ []; needed = 1; others = None; keywords = []; left_out = common_left_out }
-row_of functions.Disabler = no_values
-row_of functions.Error = any_values
-row_of functions.Executable = record {
+-- one text at least, and no keyword
+abbrev pub some_texts : RowData
+some_texts = record { positional = []; needed = 1; others = Some Text; keywords = []; left_out = common_left_out }
+
+-- ---- the project and its targets
+
+-- a name and languages; the keywords are left out so far
+abbrev pub project_row : RowData
+project_row = record {
+  positional = Text ∷ [];
+  needed = 1;
+  others = Some Texts;
+  keywords = [];
+  left_out = codes "version" ∷ codes "license" ∷ codes "default_options" ∷ codes "meson_version" ∷ common_left_out;
+}
+
+-- a name and sources; the keywords are left out so far
+abbrev pub executable_row : RowData
+executable_row = record {
   positional = Text ∷ [];
   needed = 1;
   others = Some Texts;
@@ -28,33 +44,35 @@ row_of functions.Executable = record {
   left_out = codes "sources" ∷ codes "include_directories" ∷ codes "c_args" ∷ codes "link_args" ∷ codes "link_with" ∷ codes "dependencies"
       ∷ codes "install" ∷ codes "install_dir" ∷ codes "build_by_default" ∷ common_left_out;
 }
-row_of functions.GetVariable = record { positional = Text ∷ Any ∷ []; needed = 1; others = None; keywords = []; left_out = common_left_out }
-row_of functions.IsDisabler = record { positional = Any ∷ []; needed = 1; others = None; keywords = []; left_out = common_left_out }
-row_of functions.IsVariable = record { positional = Text ∷ []; needed = 1; others = None; keywords = []; left_out = common_left_out }
-row_of functions.JoinPaths = record { positional = []; needed = 0; others = Some Text; keywords = []; left_out = common_left_out }
-row_of functions.Message = any_values
-row_of functions.Project = record {
-  positional = Text ∷ [];
-  needed = 1;
-  others = Some Texts;
-  keywords = [];
-  left_out = codes "version" ∷ codes "license" ∷ codes "default_options" ∷ codes "meson_version" ∷ common_left_out;
-}
-row_of functions.Range = record {
-  positional = Integer ∷ Integer ∷ Integer ∷ [];
-  needed = 1;
-  others = None;
-  keywords = [];
-  left_out = common_left_out;
-}
-row_of functions.SetVariable = record { positional = Text ∷ Any ∷ []; needed = 2; others = None; keywords = []; left_out = common_left_out }
-row_of functions.Subdir = record {
+
+-- ---- folders
+
+-- a folder, and the dependencies without which it is passed over
+abbrev pub subdir_row : RowData
+subdir_row = record {
   positional = Text ∷ [];
   needed = 1;
   others = None;
   keywords = optional (codes "if_found") Dependencies ∷ [];
   left_out = common_left_out;
 }
-row_of functions.SubdirDone = no_values
-row_of functions.UnsetVariable = record { positional = Text ∷ []; needed = 1; others = None; keywords = []; left_out = common_left_out }
+
+-- ---- all functions
+
+abbrev pub row_of : Function → RowData
+row_of functions.Assert = values (Boolean ∷ Text ∷ []) 1
+row_of functions.Disabler = values [] 0
+row_of functions.Error = any_values
+row_of functions.Executable = executable_row
+row_of functions.GetVariable = values (Text ∷ Any ∷ []) 1
+row_of functions.IsDisabler = values (Any ∷ []) 1
+row_of functions.IsVariable = values (Text ∷ []) 1
+row_of functions.JoinPaths = some_texts
+row_of functions.Message = any_values
+row_of functions.Project = project_row
+row_of functions.Range = values (Integer ∷ Integer ∷ Integer ∷ []) 1
+row_of functions.SetVariable = values (Text ∷ Any ∷ []) 2
+row_of functions.Subdir = subdir_row
+row_of functions.SubdirDone = values [] 0
+row_of functions.UnsetVariable = values (Text ∷ []) 1
 row_of functions.Warning = any_values

@@ -1,5 +1,5 @@
 -- The functions that name a variable by a text.
-use Rattle.std.specs.Prelude.{ℕ, Bool, true, not, ◌||◌, ◌&&◌, List, [], Option, Some, None, is_some}
+use Rattle.std.specs.Prelude.{ℕ, Bool, not, ◌||◌, ◌&&◌, List, [], Option, Some, None, is_some}
 use Rattle.data.specs.Data.{Data, boolean}
 use Rattle.faults.specs.declared.refusal.Refusal.TheVariants as refusals
 use Rattle.arguments.specs.Arguments.{ArgumentsData}

@@ -9,10 +9,13 @@ ghost use Rattle.world.specs.Deed.{fitting};
 ghost use Rattle.calls.specs.Functions.{call, does, is_turned_off, takes_disablers};
 ghost use Rattle.calls.specs.Rows.{row_of};
 
+use crate::disablers::{disabler, is_disabler};
+use crate::executable::executable;
 use crate::function::Function;
-use crate::lists::{disabler, is_disabler};
+use crate::join_paths::join_paths;
 use crate::messages::{assert, error, message, warning};
 use crate::project::project;
+use crate::range::range;
 use crate::rows::row;
 use crate::variables::{get_variable, is_variable, set_variable, unset_variable};
 use arguments::{Arguments, check, gives_disabler};
@@ -69,18 +72,18 @@ fn act<T: Tree, O: Outputs>(
         Function::Assert => assert(caller, arguments),
         Function::Disabler => disabler(caller),
         Function::Error => error(caller, arguments),
+        Function::Executable => executable(caller, arguments),
         Function::GetVariable => get_variable(caller, arguments),
         Function::IsDisabler => is_disabler(caller, arguments),
         Function::IsVariable => is_variable(caller, arguments),
+        Function::JoinPaths => join_paths(caller, arguments),
         Function::Message => message(caller, arguments),
         Function::Project => project(caller, arguments),
+        Function::Range => range(caller, arguments),
         Function::SetVariable => set_variable(caller, arguments),
         Function::SubdirDone => Ok(None),
         Function::UnsetVariable => unset_variable(caller, arguments),
         Function::Warning => warning(caller, arguments),
-        Function::Executable => caller.refuse(Refusal::LeftOut, ""),
-        Function::JoinPaths => caller.refuse(Refusal::LeftOut, ""),
-        Function::Range => caller.refuse(Refusal::LeftOut, ""),
         Function::Subdir => caller.refuse(Refusal::LeftOut, ""),
     }
 }

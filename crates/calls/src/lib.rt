@@ -4,11 +4,14 @@
 #![tactic(auto)]
 
 mod calling;
+mod disablers;
+mod executable;
 mod function;
-mod lists;
+mod join_paths;
 mod messages;
 mod names;
 mod project;
+mod range;
 mod rows;
 mod variables;
 

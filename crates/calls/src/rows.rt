@@ -1,7 +1,7 @@
 //! The rows of the functions: what each takes.
 ghost use Rattle.std.specs.Prelude.{◌≡◌};
 ghost use Rattle.arguments.specs.RowView.{row_data};
-ghost use Rattle.calls.specs.Rows.{row_of};
+ghost use Rattle.calls.specs.Rows.{executable_row, project_row, row_of, some_texts, subdir_row, values};
 
 use crate::function::Function;
 use arguments::{Keyword, Kind, Row};
@@ -17,105 +17,18 @@ pub fn row(function: Function) -> Row
     ensures { row_data result ≡ row_of function }
 {
     match function {
-        Function::Assert => Row {
-            positional: &[Kind::Boolean, Kind::Text],
-            needed: 1,
-            others: None,
-            keywords: &[],
-            left_out: &["kwargs", "fallback", "deprecated"],
-        },
-        Function::Disabler | Function::SubdirDone => Row {
-            positional: &[],
-            needed: 0,
-            others: None,
-            keywords: &[],
-            left_out: &["kwargs", "fallback", "deprecated"],
-        },
+        Function::Assert => values(&[Kind::Boolean, Kind::Text], 1),
+        Function::Disabler | Function::SubdirDone => values(&[], 0),
         Function::Error | Function::Message | Function::Warning => any_values(),
-        Function::Executable => Row {
-            positional: &[Kind::Text],
-            needed: 1,
-            others: Some(Kind::Texts),
-            keywords: &[],
-            left_out: &[
-                "sources",
-                "include_directories",
-                "c_args",
-                "link_args",
-                "link_with",
-                "dependencies",
-                "install",
-                "install_dir",
-                "build_by_default",
-                "kwargs",
-                "fallback",
-                "deprecated",
-            ],
-        },
-        Function::GetVariable => Row {
-            positional: &[Kind::Text, Kind::Any],
-            needed: 1,
-            others: None,
-            keywords: &[],
-            left_out: &["kwargs", "fallback", "deprecated"],
-        },
-        Function::IsDisabler => Row {
-            positional: &[Kind::Any],
-            needed: 1,
-            others: None,
-            keywords: &[],
-            left_out: &["kwargs", "fallback", "deprecated"],
-        },
-        Function::IsVariable | Function::UnsetVariable => Row {
-            positional: &[Kind::Text],
-            needed: 1,
-            others: None,
-            keywords: &[],
-            left_out: &["kwargs", "fallback", "deprecated"],
-        },
-        Function::JoinPaths => Row {
-            positional: &[],
-            needed: 0,
-            others: Some(Kind::Text),
-            keywords: &[],
-            left_out: &["kwargs", "fallback", "deprecated"],
-        },
-        Function::Project => Row {
-            positional: &[Kind::Text],
-            needed: 1,
-            others: Some(Kind::Texts),
-            keywords: &[],
-            left_out: &[
-                "version",
-                "license",
-                "default_options",
-                "meson_version",
-                "kwargs",
-                "fallback",
-                "deprecated",
-            ],
-        },
-        Function::Range => Row {
-            positional: &[Kind::Integer, Kind::Integer, Kind::Integer],
-            needed: 1,
-            others: None,
-            keywords: &[],
-            left_out: &["kwargs", "fallback", "deprecated"],
-        },
-        Function::SetVariable => Row {
-            positional: &[Kind::Text, Kind::Any],
-            needed: 2,
-            others: None,
-            keywords: &[],
-            left_out: &["kwargs", "fallback", "deprecated"],
-        },
-        Function::Subdir => Row {
-            positional: &[Kind::Text],
-            needed: 1,
-            others: None,
-            keywords: &SUBDIR,
-            left_out: &["kwargs", "fallback", "deprecated"],
-        },
+        Function::Executable => executable_row(),
+        Function::GetVariable => values(&[Kind::Text, Kind::Any], 1),
+        Function::IsDisabler => values(&[Kind::Any], 1),
+        Function::IsVariable | Function::UnsetVariable => values(&[Kind::Text], 1),
+        Function::JoinPaths => some_texts(),
+        Function::Project => project_row(),
+        Function::Range => values(&[Kind::Integer, Kind::Integer, Kind::Integer], 1),
+        Function::SetVariable => values(&[Kind::Text, Kind::Any], 2),
+        Function::Subdir => subdir_row(),
     }
 }
 
@@ -128,6 +41,96 @@ pub fn any_values() -> Row
         needed: 0,
         others: Some(Kind::Any),
         keywords: &[],
+        left_out: &["kwargs", "fallback", "deprecated"],
+    }
+}
+
+// Values of these kinds, of which so many are needed, and no keyword.
+fn values(positional: &'static [Kind], needed: usize) -> Row
+    ensures { row_data result ≡ values positional.now needed }
+{
+    Row {
+        positional,
+        needed,
+        others: None,
+        keywords: &[],
+        left_out: &["kwargs", "fallback", "deprecated"],
+    }
+}
+
+// One text at least, and no keyword.
+fn some_texts() -> Row
+    ensures { row_data result ≡ some_texts }
+{
+    Row {
+        positional: &[],
+        needed: 1,
+        others: Some(Kind::Text),
+        keywords: &[],
+        left_out: &["kwargs", "fallback", "deprecated"],
+    }
+}
+
+// ---- the project and its targets
+
+// A name and languages; the keywords are left out so far.
+fn project_row() -> Row
+    ensures { row_data result ≡ project_row }
+{
+    Row {
+        positional: &[Kind::Text],
+        needed: 1,
+        others: Some(Kind::Texts),
+        keywords: &[],
+        left_out: &[
+            "version",
+            "license",
+            "default_options",
+            "meson_version",
+            "kwargs",
+            "fallback",
+            "deprecated",
+        ],
+    }
+}
+
+// A name and sources; the keywords are left out so far.
+fn executable_row() -> Row
+    ensures { row_data result ≡ executable_row }
+{
+    Row {
+        positional: &[Kind::Text],
+        needed: 1,
+        others: Some(Kind::Texts),
+        keywords: &[],
+        left_out: &[
+            "sources",
+            "include_directories",
+            "c_args",
+            "link_args",
+            "link_with",
+            "dependencies",
+            "install",
+            "install_dir",
+            "build_by_default",
+            "kwargs",
+            "fallback",
+            "deprecated",
+        ],
+    }
+}
+
+// ---- folders
+
+// A folder, and the dependencies without which it is passed over.
+fn subdir_row() -> Row
+    ensures { row_data result ≡ subdir_row }
+{
+    Row {
+        positional: &[Kind::Text],
+        needed: 1,
+        others: None,
+        keywords: &SUBDIR,
         left_out: &["kwargs", "fallback", "deprecated"],
     }
 }

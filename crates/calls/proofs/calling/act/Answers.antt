@@ -1,9 +1,7 @@
-use Rattle.std.proofs.Common.{ap, refl, sym, ◌∙◌}
+use Rattle.std.proofs.Common.{ap, refl, sym}
 use Rattle.arguments.specs.Arguments.{arguments_data}
-use Rattle.arguments.specs.Row.{checked}
-use Rattle.calls.specs.Functions.{call, does}
-use Rattle.calls.proofs.Values.{views_same}
-use Rattle.world.proofs.Answering.{carries_as, carries_then, carries_stop, carries_give, carries_refuse, carries_fitting}
+use Rattle.calls.specs.Functions.{does}
+use Rattle.world.proofs.Answering.{carries_as, carries_give, carries_refuse}
 use Rattle.calls.proofs.calling.act.Goals as goal
 
 pub returns-in-Assert : goal.returns-in-Assert
@@ -43,13 +41,13 @@ pub returns-in-SubdirDone : goal.returns-in-SubdirDone
 returns-in-SubdirDone g c = carries_as (ap (λ f. does f (arguments_data c.args.arguments.now)) (sym c.in-SubdirDone.is)) (carries_give refl)
 
 pub returns-in-Executable : goal.returns-in-Executable
-returns-in-Executable g c = carries_as (ap (λ f. does f (arguments_data c.args.arguments.now)) (sym c.in-Executable.is)) (carries_refuse c.refuse.ensures)
+returns-in-Executable g c = carries_as (ap (λ f. does f (arguments_data c.args.arguments.now)) (sym c.in-Executable.is)) c.executable.ensures
 
 pub returns-in-JoinPaths : goal.returns-in-JoinPaths
-returns-in-JoinPaths g c = carries_as (ap (λ f. does f (arguments_data c.args.arguments.now)) (sym c.in-JoinPaths.is)) (carries_refuse c.refuse-in-JoinPaths.ensures)
+returns-in-JoinPaths g c = carries_as (ap (λ f. does f (arguments_data c.args.arguments.now)) (sym c.in-JoinPaths.is)) c.join_paths.ensures
 
 pub returns-in-Range : goal.returns-in-Range
-returns-in-Range g c = carries_as (ap (λ f. does f (arguments_data c.args.arguments.now)) (sym c.in-Range.is)) (carries_refuse c.refuse-in-Range.ensures)
+returns-in-Range g c = carries_as (ap (λ f. does f (arguments_data c.args.arguments.now)) (sym c.in-Range.is)) c.range.ensures
 
 pub returns-in-Subdir : goal.returns-in-Subdir
-returns-in-Subdir g c = carries_as (ap (λ f. does f (arguments_data c.args.arguments.now)) (sym c.in-Subdir.is)) (carries_refuse c.refuse-in-Subdir.ensures)
+returns-in-Subdir g c = carries_as (ap (λ f. does f (arguments_data c.args.arguments.now)) (sym c.in-Subdir.is)) (carries_refuse c.refuse.ensures)

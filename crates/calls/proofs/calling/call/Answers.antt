@@ -1,9 +1,5 @@
-use Rattle.std.proofs.Common.{ap, refl, sym, ◌∙◌}
-use Rattle.arguments.specs.Arguments.{arguments_data}
-use Rattle.arguments.specs.Row.{checked}
-use Rattle.calls.specs.Functions.{call, does}
-use Rattle.calls.proofs.Values.{views_same}
-use Rattle.world.proofs.Answering.{carries_as, carries_then, carries_stop, carries_give, carries_refuse, carries_fitting}
+use Rattle.calls.specs.Functions.{call}
+use Rattle.world.proofs.Answering.{carries_then, carries_stop}
 use Rattle.calls.proofs.calling.call.Goals as goal
 
 pub returns-in_err-fit : goal.returns-in_err-fit

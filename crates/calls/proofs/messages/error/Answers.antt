@@ -1,10 +1,10 @@
-use Rattle.std.proofs.Common.{[], ◌++◌, map, codes, ap, refl, sym, ◌∙◌}
+use Rattle.std.proofs.Common.{map, ap}
 use Rattle.data.specs.View.{data_of}
 use Rattle.faults.specs.declared.refusal.Refusal.TheVariants as refusals
-use Rattle.world.specs.Deed.{answered, refuse, say}
-use Rattle.calls.specs.Messages.{logged, message, warning, error, printed_all}
+use Rattle.world.specs.Deed.{answered, refuse}
+use Rattle.calls.specs.Messages.{error, printed_all}
 use Rattle.calls.proofs.Values.{carries_text}
-use Rattle.world.proofs.Answering.{carries_as, carries_then, carries_stop, carries_none, carries_give, carries_refuse}
+use Rattle.world.proofs.Answering.{carries_as, carries_then, carries_stop, carries_none, carries_refuse}
 use Rattle.calls.proofs.messages.error.Goals as goal
 
 pub returns-in_err-printed_all : goal.returns-in_err-printed_all

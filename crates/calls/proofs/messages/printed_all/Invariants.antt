@@ -1,4 +1,4 @@
-use Rattle.std.proofs.Common.{◌≡◌, ℕ, zero, suc, List, [], map, drop, string_bytes, codes}
+use Rattle.std.proofs.Common.{◌≡◌, map, drop, string_bytes}
 use Rattle.data.specs.View.{data_of}
 use Rattle.calls.specs.Messages.{printed_behind, printed_all}
 use Rattle.calls.proofs.Gaps.{gap_at}

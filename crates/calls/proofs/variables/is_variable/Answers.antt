@@ -1,14 +1,13 @@
-use Rattle.std.proofs.Common.{[], Option, Some, None, Bor, option_map, is_some, ap, refl, sym, ◌∙◌}
-use Rattle.std.specs.Prelude.{not, ◌||◌}
+use Rattle.std.proofs.Common.{[], Some, is_some, ap, ◌∙◌}
+use Rattle.std.specs.Prelude.{◌||◌}
 use Rattle.data.specs.Data.{boolean}
 use Rattle.faults.specs.declared.refusal.Refusal.TheVariants as refusals
-use Rattle.world.specs.Deed.{need, change}
+use Rattle.world.specs.Deed.{need}
 use Rattle.world.specs.Store.{world_of}
-use Rattle.world.specs.World.{with_variable}
 use Rattle.calls.specs.Names.{is_name, is_predefined}
-use Rattle.calls.specs.Variables.{set_variable, get_variable, is_variable, unset_variable, is_settable, set_to, value_or}
+use Rattle.calls.specs.Variables.{is_variable}
 use Rattle.calls.proofs.Values.{two}
-use Rattle.world.proofs.Answering.{carries_as, carries_then, carries_stop, carries_none, carries_read, carries_change, carries_give}
+use Rattle.world.proofs.Answering.{carries_as, carries_then, carries_stop, carries_none, carries_read, carries_give}
 use Rattle.calls.proofs.variables.is_variable.Goals as goal
 
 pub returns-in_err-need : goal.returns-in_err-need

@@ -4,7 +4,7 @@ ghost use Rattle.data.specs.View.{data_of};
 ghost use Rattle.arguments.specs.Arguments.{arguments_data};
 ghost use Rattle.world.specs.Answering.{Carries};
 ghost use Rattle.world.specs.Caller.{state_of};
-ghost use Rattle.calls.specs.Lists.{give_disabler, tell_disabler};
+ghost use Rattle.calls.specs.Disablers.{give_disabler, tell_disabler};
 
 use arguments::Arguments;
 use data::{Object, Value};

@@ -1,11 +1,11 @@
-use Rattle.std.proofs.Common.{Bor, Option, Some, None, option_map, false, ap, refl, sym, ◌∙◌}
+use Rattle.std.proofs.Common.{Bor, Some, option_map, false, ap, sym, ◌∙◌}
 use Rattle.std.specs.Prelude.{unwrap_or}
 use Rattle.data.specs.Data.{boolean, is_disabler}
 use Rattle.data.specs.View.{data_of}
 use Rattle.data.specs.declared.value.Value.{Value}
-use Rattle.calls.specs.Lists.{give_disabler, tell_disabler}
-use Rattle.world.proofs.Answering.{carries_none, carries_give}
-use Rattle.calls.proofs.lists.is_disabler.Goals as goal
+use Rattle.calls.specs.Disablers.{tell_disabler}
+use Rattle.world.proofs.Answering.{carries_give}
+use Rattle.calls.proofs.disablers.is_disabler.Goals as goal
 
 pub returns-in-Some : goal.returns-in-Some
 unfolding tell_disabler

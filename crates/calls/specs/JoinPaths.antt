@@ -1,0 +1,19 @@
+-- `join_paths`: one path of many.
+use Rattle.std.specs.Prelude.{ℕ, List, [], ◌∷◌, Option, Some}
+use Rattle.data.specs.Data.{Data, text}
+use Rattle.data.specs.Limits.{within}
+use Rattle.operators.specs.Texts.{path_below}
+use Rattle.arguments.specs.Arguments.{ArgumentsData}
+use Rattle.arguments.specs.Flat.{flat_all}
+use Rattle.world.specs.Deed.{Deed, give, ◌>>=◌, answered}
+
+-- each path below the one before it, as the operator `/` has it
+abbrev pub path_of : List ℕ → List (List ℕ) → List ℕ
+path_of path [] = path
+path_of path (t ∷ ts) = path_of (path_below path t) ts
+
+-- `join_paths(texts..)`
+unfoldable pub join_paths : ArgumentsData → Deed (Option Data)
+join_paths a = do
+  d ← answered (within (text (path_of [] (flat_all a.positional))))
+  give (Some d)
