@@ -44,7 +44,7 @@ pub fn strings(alloc: Global, items: &[String]) -> Result<Value, AllocError>
     list_of(alloc, items)
 }
 
-/// The object of these keys with their values.
+/// The object of these keys with their values. It stands for `json!`, since no proof is found where that has six members.
 pub fn object_of(alloc: Global, parts: Vec<(&str, Value)>) -> Result<Value, AllocError>
     ensures { IfOk result (λ v. view v ≡ fields (map field_view parts.entry.items)) }
 {
