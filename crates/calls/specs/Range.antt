@@ -1,5 +1,6 @@
 -- `range`: a list of integers.
-use Rattle.std.specs.Prelude.{ℕ, zero, suc, ◌+◌, ◌-◌, ◌/◌, ℤ, pos, List, [], ◌∷◌, Option, Some, Result, Err, nat_le, option_and_then, unwrap_or, if◌then◌else◌}
+use Rattle.std.specs.Prelude.{ℕ, zero, suc, ◌+◌, ◌-◌, ◌/◌, nat_le, ℤ, pos, List, [], ◌∷◌}
+use Rattle.std.specs.Prelude.{Option, Some, option_and_then, unwrap_or, Result, Err, if◌then◌else◌}
 use Rattle.data.specs.Data.{Data, integer, list, Items, no_items, item, integer_in}
 use Rattle.data.specs.Limits.{within}
 use Rattle.data.specs.declared.refusal.Refusal.{Refusal}

@@ -108,7 +108,8 @@ fn require_first<T: Tree, O: Outputs>(caller: &Caller<'_, T, O>) -> Result<(), S
 
 // Refuses a target of which Ninja can't hold all that would be written.
 fn require_held<T: Tree, O: Outputs>(caller: &Caller<'_, T, O>, target: &Target) -> Result<(), Stop>
-    ensures { Carries (λ u. u) (held (target_view target.now)) (state_of T.seen O.seen caller.now) result (state_of T.seen O.seen caller.now) }
+    ensures { Carries (λ u. u) (held (target_view target.now)) (state_of T.seen O.seen caller.now) result
+        (state_of T.seen O.seen caller.now) }
 {
     let edges = edges(caller.alloc, caller.store.project().depth(), target)?;
     let is_held = can_hold_edges(&edges);

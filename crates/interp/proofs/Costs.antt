@@ -23,6 +23,7 @@ use Rattle.operators.specs.Logic.{left_answer, right_answer}
 use Rattle.operators.specs.Index.{index_answer}
 use Rattle.operators.specs.Literal.{literal_answer}
 use Rattle.methods.specs.Methods.{answer as method_answer, has_name}
+use Rattle.texts.specs.Segments.{Segment, text as between, place}
 use Rattle.arguments.specs.Arguments.{ArgumentsData, no_arguments, with_argument}
 use Rattle.arguments.specs.Disablers.{gives_disabler}
 use Rattle.calls.specs.Functions.{is_turned_off}
@@ -42,7 +43,7 @@ use Rattle.world.proofs.Costs.{Takes, more as more_in, free as free_in, none as 
 use Rattle.interp.specs.declared.meaning.Meaning.{Meaning}
 use Rattle.interp.specs.declared.meaning.Meaning.TheVariants.{Combines, Connects}
 use Rattle.interp.specs.Cost.{value_cost, values_cost, entries_cost, arguments_cost, links_cost, link_cost, chain_cost, statement_cost, branches_cost, statements_cost, parsed_cost, file_cost, tree_cost, is_definition_file}
-use Rattle.interp.specs.Expressions.{known, variable, variable_by, set_variable, number, literal_value, meaning_of, unless_decided, combined, unchosen, chosen, needed, known_function, refused_name, function_at, may_come_first, allowed, function_inside, called_by, called, fitted, method_at_by, method_at, method_by, method_called_by, method_called, known_method, method_of, value_of, values_of, entries_of, arguments_of, links_of, link_of, chain_of}
+use Rattle.interp.specs.Expressions.{known, variable, variable_by, set_variable, is_plain, printed_plain, part_text, filled, number, literal_value, meaning_of, unless_decided, combined, unchosen, chosen, needed, known_function, refused_name, function_at, may_come_first, allowed, function_inside, called_by, called, fitted, method_at_by, method_at, method_by, method_called_by, method_called, known_method, method_of, value_of, values_of, entries_of, arguments_of, links_of, link_of, chain_of}
 use Rattle.interp.specs.declared.flow.Flow.{Flow}
 use Rattle.interp.specs.declared.flow.Flow.TheVariants.{Next, Continued, Broken, Finished}
 use Rattle.interp.specs.declared.conditions.Choice.{Choice}
@@ -103,14 +104,26 @@ module _ (files : Files) where
   variable-cost : (line : ℕ) (name : List ℕ) → Takes file_cost files 0 (variable line name)
   variable-cost line name = variable_by-cost (is_predefined name) line name
 
+  printed_plain-cost : (line : ℕ) (b : Bool) (d : Data) → Takes file_cost files 0 (printed_plain line b d)
+  printed_plain-cost line true d = answered-cost line _
+  printed_plain-cost line false d = refuse-cost line refusals.Type []
+
+  part_text-cost : (line : ℕ) (s : Segment) → Takes file_cost files 0 (part_text line s)
+  part_text-cost line (between t) = free _
+  part_text-cost line (place name) = first (variable-cost line name) (λ d. printed_plain-cost line (is_plain d) d)
+
+  filled-cost : (line : ℕ) (made : List ℕ) (ss : List Segment) → Takes file_cost files 0 (filled line made ss)
+  filled-cost line made [] = answered-cost line _
+  filled-cost line made (s ∷ ss) = first (part_text-cost line s) (λ t. filled-cost line (made ++ t) ss)
+
   literal-cost : (line : ℕ) (literal : Literal) (t : List ℕ) → Takes file_cost files 0 (literal_value line literal t)
   literal-cost line literals.True t = free _
   literal-cost line literals.False t = free _
   literal-cost line literals.Number t = answered-cost line _
   literal-cost line literals.String t = answered-cost line _
   literal-cost line literals.RawString t = answered-cost line _
-  literal-cost line literals.FormatString t = refuse-cost line refusals.LeftOut []
-  literal-cost line literals.RawFormatString t = refuse-cost line refusals.LeftOut []
+  literal-cost line literals.FormatString t = filled-cost line [] _
+  literal-cost line literals.RawFormatString t = filled-cost line [] _
 
   unless_decided-cost : {right : Plan Data} {c : ℕ} (line : ℕ) (o : Option Data) → Takes file_cost files c right → Takes file_cost files c (unless_decided line o right)
   unless_decided-cost line (Some d) p = free _

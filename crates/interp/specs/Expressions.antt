@@ -18,6 +18,9 @@ use Rattle.data.specs.Data.{Data, boolean, integer, text, list, dictionary, obje
 use Rattle.data.specs.Limits.{within}
 use Rattle.faults.specs.declared.refusal.Refusal.{Refusal}
 use Rattle.faults.specs.declared.refusal.Refusal.TheVariants as refusals
+use Rattle.printing.specs.Printed.{printed}
+use Rattle.texts.specs.declared.placed.Places.TheVariants as places
+use Rattle.texts.specs.Segments.{Segment, text as between, place, segments}
 use Rattle.operators.specs.declared.operator.Unary.{Unary}
 use Rattle.operators.specs.declared.operator.Unary.TheVariants.{Not, Negate}
 use Rattle.operators.specs.declared.operator.Binary.TheVariants as binaries
@@ -40,7 +43,7 @@ use Rattle.world.specs.Plan.{Plan, deed, ruled, ◌>>=◌, give, at, refuse, ans
 use Rattle.interp.specs.declared.meaning.Meaning.{Meaning}
 use Rattle.interp.specs.declared.meaning.Meaning.TheVariants.{Combines, Connects}
 
--- ---- names and literals
+-- ---- names
 
 -- what is not there yet
 abbrev pub left_out : {A : Type 0} → ℕ → Plan A
@@ -64,19 +67,56 @@ variable_by false line name = set_variable line name
 abbrev pub variable : ℕ → List ℕ → Plan Data
 variable line name = variable_by (is_predefined name) line name
 
+-- ---- f-strings
+
+-- what may stand in an f-string: a boolean, an integer or a text
+abbrev pub is_plain : Data → Bool
+is_plain (boolean b) = true
+is_plain (integer z) = true
+is_plain (text t) = true
+is_plain _ = false
+
+abbrev pub printed_plain : ℕ → Bool → Data → Plan (List ℕ)
+printed_plain line true d = answered line (printed d)
+printed_plain line false d = refuse line refusals.Type []
+
+-- a place of an f-string: what the variable is printed as
+abbrev pub at_place : ℕ → List ℕ → Plan (List ℕ)
+at_place line name = do
+  d ← variable line name
+  printed_plain line (is_plain d) d
+
+-- a part of an f-string: what stands between places is as it is
+abbrev pub part_text : ℕ → Segment → Plan (List ℕ)
+part_text line (between t) = give t
+part_text line (place name) = at_place line name
+
+-- the text so far, and behind it what the parts give that are left
+abbrev pub filled : ℕ → List ℕ → List Segment → Plan Data
+filled line made [] = answered line (within (text made))
+filled line made (s ∷ ss) = do
+  t ← part_text line s
+  filled line (made ++ t) ss
+
+-- An f-string after its escapes: its places `@name@` are filled from the left, and what fills them is not looked at again.
+abbrev pub format_string : ℕ → List ℕ → Plan Data
+format_string line t = filled line [] (segments places.Names t)
+
+-- ---- literals
+
 -- a number, where it is in the range of integers
 abbrev pub number : ℕ → Result Data OperationRefusal
 number n = if nat_lt n (2 ^ 127) then Ok (integer (pos n)) else Err operation.Range
 
--- A literal: `true`, a number, or a string with or without escapes.
+-- A literal: `true`, a number, or a string with or without escapes, which may be an f-string.
 abbrev pub literal_value : ℕ → Literal → List ℕ → Plan Data
 literal_value line literals.True t = give (boolean true)
 literal_value line literals.False t = give (boolean false)
 literal_value line literals.Number t = answered line (number (magnitude t))
 literal_value line literals.String t = answered line (within (text (text_of kinds.String t)))
 literal_value line literals.RawString t = answered line (within (text (text_of kinds.RawString t)))
-literal_value line literals.FormatString t = left_out line
-literal_value line literals.RawFormatString t = left_out line
+literal_value line literals.FormatString t = format_string line (text_of kinds.FormatString t)
+literal_value line literals.RawFormatString t = format_string line (text_of kinds.RawFormatString t)
 
 -- ---- operators
 

@@ -9,6 +9,7 @@ mod evaluation;
 mod evaluator;
 mod expressions;
 mod flow;
+mod format_strings;
 mod law;
 mod list;
 mod literals;

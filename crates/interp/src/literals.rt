@@ -62,8 +62,8 @@ impl<'a, T: Tree, O: Outputs, L: Ledger> Evaluator<'a, T, O, L> {
             Literal::Number => self.answered(line, number(text)),
             Literal::String => self.string(line, Kind::String, text),
             Literal::RawString => self.string(line, Kind::RawString, text),
-            Literal::FormatString => self.left_out(line),
-            Literal::RawFormatString => self.left_out(line),
+            Literal::FormatString => self.format_string(line, Kind::FormatString, text),
+            Literal::RawFormatString => self.format_string(line, Kind::RawFormatString, text),
         }
     }
 }

@@ -4,7 +4,7 @@ ghost use Rattle.arguments.specs.Arguments.{arguments_data};
 ghost use Rattle.calls.specs.Functions.{is_turned_off};
 ghost use Rattle.data.specs.View.{data_of};
 ghost use Rattle.world.specs.Gives.{failures_after};
-ghost use Rattle.interp.specs.Expressions.{called, called_by, disabler_method, function_at, function_inside, may_come_first, method_at, method_by, method_called, variable};
+ghost use Rattle.interp.specs.Expressions.{called, called_by, disabler_method, function_at, function_inside, known, may_come_first, method_at, method_by, method_called, variable};
 
 use crate::evaluator::Evaluator;
 use arguments::{Arguments, check, gives_disabler};
@@ -60,6 +60,26 @@ impl<'a, T: Tree, O: Outputs, L: Ledger> Evaluator<'a, T, O, L> {
             return self.left_out(line);
         }
         let value = self.store.value(number)?;
+        self.known(line, name, value)
+    }
+
+    // The value of the variable of a name.
+    pub fn named(&self, line: usize, name: &str) -> Result<Value, Stop>
+        ensures gives { Answers T.seen O.seen data_of (variable line name.now) self.now result self.now }
+        ensures quiet { (n : ℕ) → failures_after n result ≡ n }
+    {
+        if is_predefined(name) {
+            return self.left_out(line);
+        }
+        let value = self.store.find(name)?;
+        self.known(line, name, value)
+    }
+
+    // The value of a variable that has one.
+    fn known(&self, line: usize, name: &str, value: Option<Value>) -> Result<Value, Stop>
+        ensures gives { Answers T.seen O.seen data_of (known line name.now (option_map data_of value)) self.now result self.now }
+        ensures quiet { (n : ℕ) → failures_after n result ≡ n }
+    {
         match value {
             Some(value) => Ok(value),
             None => self.refuse(line, Refusal::UndefinedName, name),

@@ -14,6 +14,7 @@ returns-in_err-edges g c = carries_none c.from_residual.ensures.1
 pub returns : goal.returns
 unfolding held
 returns g c =
-    let depth = c.depth.ensures ∙ ap (λ p. p.depth) c.project.ensures in
-    let edges = ap (map edge_view) c.deref.ensures.value ∙ c.in_ok-edges.ensures ∙ ap (λ d. edges_of d (target_view c.args.target.now)) depth in
-    carries_read (carries_as (ap (λ b. need b refusals.NinjaName []) (c.can_hold_edges-is_held.ensures ∙ ap edges_held edges)) c.need.ensures)
+    let target = target_view c.args.target.now in
+    carries_read (carries_as (ap (λ b. need b refusals.NinjaName []) (c.can_hold_edges-is_held.ensures
+    ∙ ap (λ es. edges_held (map edge_view es)) c.deref.ensures.value ∙ ap edges_held c.in_ok-edges.ensures
+    ∙ ap (λ d. edges_held (edges_of d target)) c.depth.ensures ∙ ap (λ p. edges_held (edges_of p.depth target)) c.project.ensures)) c.need.ensures)

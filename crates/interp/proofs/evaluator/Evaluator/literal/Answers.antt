@@ -1,6 +1,6 @@
 use Rattle.std.proofs.Common.{ap, refl, sym}
 use Rattle.interp.specs.Expressions.{literal_value}
-use Rattle.interp.proofs.Evaluating.{given_as, given_give, given_refuse}
+use Rattle.interp.proofs.Evaluating.{given_as, given_give}
 use Rattle.interp.proofs.evaluator.Evaluator.literal.Goals as goal
 
 pub returns-in-True-clause-gives : goal.returns-in-True-clause-gives
@@ -10,7 +10,7 @@ pub returns-in-False-clause-gives : goal.returns-in-False-clause-gives
 returns-in-False-clause-gives g c = λ files h. given_as (ap (λ l. literal_value c.args.line l c.args.text.now) (sym c.in-False.is)) (given_give h refl)
 
 pub returns-in-FormatString-clause-gives : goal.returns-in-FormatString-clause-gives
-returns-in-FormatString-clause-gives g c = λ files h. given_as (ap (λ l. literal_value c.args.line l c.args.text.now) (sym c.in-FormatString.is)) (given_refuse h c.left_out.ensures)
+returns-in-FormatString-clause-gives g c = λ files h. given_as (ap (λ l. literal_value c.args.line l c.args.text.now) (sym c.in-FormatString.is)) (c.format_string.ensures.gives files h)
 
 pub returns-in-RawFormatString-clause-gives : goal.returns-in-RawFormatString-clause-gives
-returns-in-RawFormatString-clause-gives g c = λ files h. given_as (ap (λ l. literal_value c.args.line l c.args.text.now) (sym c.in-RawFormatString.is)) (given_refuse h c.left_out-in-RawFormatString.ensures)
+returns-in-RawFormatString-clause-gives g c = λ files h. given_as (ap (λ l. literal_value c.args.line l c.args.text.now) (sym c.in-RawFormatString.is)) (c.format_string-in-RawFormatString.ensures.gives files h)
