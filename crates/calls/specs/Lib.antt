@@ -2,7 +2,6 @@ pub mod Functions
 pub mod Lists
 pub mod Messages
 pub mod Names
-pub mod Paths
 pub mod Project
 pub mod Rows
 pub mod Variables

@@ -15,7 +15,7 @@ use Rattle.arguments.specs.Given.{text_at}
 use Rattle.arguments.specs.Given.{texts_from}
 use Rattle.world.specs.World.{Facts, with_place, with_project}
 use Rattle.world.specs.Deed.{Deed, give, refuse, read, change, ◌>>=◌, need, there, required, fitting}
-use Rattle.calls.specs.Paths.{tree_path}
+use Rattle.paths.specs.Paths.{tree_path}
 
 -- what stands behind the name
 abbrev pub texts_behind : ArgumentsData → List (List ℕ)

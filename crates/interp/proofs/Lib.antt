@@ -4,6 +4,7 @@ mod Costs
 pub mod Evaluating
 mod Pairs
 mod Paths
+mod Pieces
 pub mod Reading
 mod Values
 mod Walking

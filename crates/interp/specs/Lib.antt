@@ -10,5 +10,6 @@ pub mod Files
 pub mod Folders
 pub mod Laws
 pub mod Parts
+pub mod Reading
 pub mod Rounds
 pub mod Statements

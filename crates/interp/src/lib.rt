@@ -16,6 +16,7 @@ mod loops;
 mod meaning;
 mod names;
 mod open;
+mod reading;
 mod running;
 
 pub use evaluation::evaluate;
