@@ -1,4 +1,5 @@
 pub mod Acting
+pub mod Beginnings
 pub mod Blocks
 pub mod Conditions
 pub mod Cost

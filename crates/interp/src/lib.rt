@@ -3,6 +3,7 @@
 
 mod acting;
 mod assign;
+mod beginning;
 mod block;
 mod conditions;
 mod evaluation;
@@ -16,7 +17,7 @@ mod loops;
 mod meaning;
 mod names;
 mod open;
-mod reading;
+mod read;
 mod running;
 
 pub use evaluation::evaluate;

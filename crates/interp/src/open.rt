@@ -3,21 +3,23 @@ ghost use Rattle.std.specs.Prelude.{◌≡◌, ℕ, List, IfOk, Some, [], false,
 ghost use Rattle.std.specs.List.{list_any};
 ghost use Rattle.std.specs.Str.{is_utf8};
 ghost use Rattle.grammar.specs.Parsed.{parsed};
+ghost use Rattle.grammar.specs.Tree.{file_of, statements};
 ghost use Rattle.ports.specs.Tree.{file_at};
 ghost use Rattle.world.specs.Costs.{definition_file};
 ghost use Rattle.world.specs.Deed.{Files};
 ghost use Rattle.world.specs.Gives.{Holds, failures_after};
-ghost use Rattle.world.specs.Plan.{deed};
+ghost use Rattle.world.specs.Plan.{deed, give};
 ghost use Rattle.interp.specs.Blocks.{file_by};
 ghost use Rattle.interp.specs.Files.{spelled, spelled_by, tree_or_fault};
 ghost use Rattle.interp.specs.Folders.{fresh, fresh_by, opened, opened_by};
 
 use crate::evaluator::Evaluator;
-use crate::reading::{line_at, read_file, refusal_of};
+use crate::read::{line_at, read_file, refusal_of};
 use code::Code;
 use faults::Refusal;
 use grammar::fault::SyntaxError;
 use grammar::parse;
+use grammar::tree::File;
 use paths::{folder_below, path_in};
 use ports::{Outputs, Tree};
 use std::str;
@@ -74,9 +76,10 @@ impl<'a, T: Tree, O: Outputs, L: Ledger> Evaluator<'a, T, O, L> {
     {
         let file = path_in(self.alloc, folder, "meson.build")?;
         self.store.note_look(self.alloc, &file)?;
+        let line = self.store.line();
         match self.tree.size(&file)? {
             Some(size) => self.enter(folder, file, size),
-            None => self.refuse(self.store.line(), Refusal::FileMissing, &file),
+            None => self.refuse(line, Refusal::FileMissing, &file),
         }
     }
 
@@ -114,8 +117,9 @@ impl<'a, T: Tree, O: Outputs, L: Ledger> Evaluator<'a, T, O, L> {
             → Given (file_by self.new.store.now.names) files (deed (spelled bytes)) (stand_of T.seen O.seen self.old)
             result (stand_of T.seen O.seen self.new) }
     {
+        let line = self.store.line();
         if size > MOST_BYTES {
-            return self.refuse(self.store.line(), Refusal::Limit, "");
+            return self.refuse(line, Refusal::Limit, "");
         }
         let bytes = read_file(self.alloc, self.tree, self.store.file(), size as usize)?;
         self.code_of(&bytes)
@@ -138,6 +142,18 @@ impl<'a, T: Tree, O: Outputs, L: Ledger> Evaluator<'a, T, O, L> {
         }
     }
 
+    // The code of a file.
+    fn flatten(&mut self, file: &File<'_>) -> Result<Code, Stop>
+        ensures same { Same self.old self.new }
+        ensures device { Fails T.seen O.seen self.old result self.new }
+        ensures known { IfOk result (λ code. code.names ≡ length self.new.store.now.names) }
+        ensures gives { Answers T.seen O.seen (file_by self.new.store.now.names) (give (statements (file_of file.now)))
+            self.old result self.new }
+    {
+        let code = self.store.flatten(self.alloc, file)?;
+        Ok(code)
+    }
+
     // The code that a text of the present definition file spells.
     fn code_of_text(&mut self, text: &str) -> Result<Code, Stop>
         ensures same { Same self.old self.new }
@@ -147,7 +163,7 @@ impl<'a, T: Tree, O: Outputs, L: Ledger> Evaluator<'a, T, O, L> {
             self.old result self.new }
     {
         match parse(self.alloc, text) {
-            Ok(file) => Ok(self.store.flatten(self.alloc, &file)?),
+            Ok(file) => self.flatten(&file),
             Err(SyntaxError::Memory) => Err(Stop::Memory),
             Err(SyntaxError::Fault(fault)) => self.refuse(fault.line, refusal_of(fault.kind), ""),
         }

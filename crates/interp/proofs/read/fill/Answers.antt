@@ -3,7 +3,7 @@ use Rattle.std.proofs.lemmas.Grind.{common_steps}
 use Rattle.ports.specs.Tree.{bytes_at}
 use Rattle.world.proofs.Holding.{stays_on}
 use Rattle.interp.proofs.Pieces.{read_more}
-use Rattle.interp.proofs.reading.fill.Goals as goal
+use Rattle.interp.proofs.read.fill.Goals as goal
 
 pub loop-at-preserved : goal.loop-at-preserved
 loop-at-preserved g c =

@@ -1,7 +1,7 @@
 use Rattle.std.proofs.Common.{◌≡◌, ℕ, ◌-◌, ◌≤◌, List, length, take}
 use Rattle.ports.specs.Tree.{bytes_at, Stays}
 use Rattle.world.specs.Gives.{Holds}
-use Rattle.interp.proofs.reading.fill.Given as goal
+use Rattle.interp.proofs.read.fill.Given as goal
 
 abbrev pub invariant-loop-at : goal.invariant-loop-at
 invariant-loop-at g l = record {
