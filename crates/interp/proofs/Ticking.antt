@@ -1,48 +1,59 @@
 -- How a whole evaluation has ticked.
 use Rattle.std.proofs.Common.{◌≡◌, ℕ, ◌+◌, ◌≤◌, List, [], ◌++◌, length, Result, Ok, Err, IsErrAnd, refl, sym, ap, subst, arith}
-use Rattle.ports.specs.Outputs.{OutputState}
 use Rattle.world.specs.Counts.{EndsKeepUp, TicksAll, below, counts_from}
-use Rattle.world.specs.Gives.{Gives}
-use Rattle.world.specs.Run.{Run, marks_of}
+use Rattle.world.specs.Gives.{Ends, Gives}
+use Rattle.world.specs.Run.{Run, Done, marks_of}
 use Rattle.world.specs.Store.{Kept, world_of}
 use Rattle.world.specs.Trace.{Adds, Begins, Mark, Seen, ends_of, seen, steps_of}
 use Rattle.world.specs.World.{World}
 use Rattle.world.specs.declared.stop.Stop.{Stop}
 use Rattle.world.specs.declared.stop.Stop.TheVariants as stops
 use Rattle.world.proofs.Marks.{ends_of-append, none_added, same_front}
-use Rattle.interp.specs.Evaluated.{Evaluated, Ticked, TickedSome}
+use Rattle.interp.specs.Evaluated.{Evaluated, FailsOnce, Ticked, TickedSome}
+use Rattle.ports.specs.Outputs.{OutputState}
+use Rattle.ports.specs.Tree.{TreeState}
 
 -- ---- without the names
 
-adds_unnamed : {marks : List Mark} {out out1 : OutputState} {n n1 : ℕ} {names names1 : List (List ℕ)} → Adds (seen out n names) marks (seen out1 n1 names1) → Adds (seen out n []) marks (seen out1 n1 [])
-adds_unnamed a = record { sent = a.sent; ticks = a.ticks; names = same_front [] }
+abbrev pub unnamed : Seen → Seen
+unnamed s = seen s.out s.ticks []
 
-begins_unnamed : {marks : List Mark} {out out1 : OutputState} {n n1 : ℕ} {names names1 : List (List ℕ)} → Begins marks (seen out n names) (seen out1 n1 names1) → Begins marks (seen out n []) (seen out1 n1 [])
-begins_unnamed b = record { made = b.made; left = b.left; all = b.all; written = adds_unnamed b.written }
+adds_unnamed : (marks : List Mark) (old new : Seen) → Adds old marks new → Adds (unnamed old) marks (unnamed new)
+adds_unnamed marks old new a = record { sent = a.sent; ticks = a.ticks; names = same_front [] }
+
+begins_unnamed : (marks : List Mark) (old new : Seen) → Begins marks old new → Begins marks (unnamed old) (unnamed new)
+begins_unnamed marks old new b = record { made = b.made; left = b.left; all = b.all; written = adds_unnamed b.made old new b.written }
 
 -- the evaluation ended
-pub evaluated_done : {run : Run (Unit {0})} {k : Kept} {out out1 : OutputState} {n n1 : ℕ} {names names1 : List (List ℕ)}
-    → Gives (λ (u : Unit {0}). u) run (Ok tt) (world_of k) (seen out n names) (seen out1 n1 names1) → Evaluated run (Ok k) (seen out n []) (seen out1 n1 [])
-evaluated_done g = record { is = g.is; written = adds_unnamed g.written }
+pub evaluated_done : (run : Run (Unit {0})) (k : Kept) (old new : Seen) → Ends run (Done tt) (world_of k) old new → Evaluated run (Ok k) (unnamed old) (unnamed new)
+evaluated_done run k old new g = record { is = g.is; written = adds_unnamed (marks_of run) old new g.written }
 
-stopped : {run : Run (Unit {0})} {w : World} {out out1 : OutputState} {n n1 : ℕ} {names names1 : List (List ℕ)} (e : Stop)
-    → Gives {A = Unit {0}} {B = Unit {0}} (λ u. u) run (Err e) w (seen out n names) (seen out1 n1 names1) → Evaluated run (Err e) (seen out n []) (seen out1 n1 [])
-stopped (stops.Refused fault) g = record { is = g.is; written = adds_unnamed g.written }
-stopped stops.Device g = begins_unnamed g
-stopped stops.Memory g = begins_unnamed g
+stopped : (run : Run (Unit {0})) (e : Stop) (w : World) (old new : Seen) → Gives {A = Unit {0}} {B = Unit {0}} (λ u. u) run (Err e) w old new → Evaluated run (Err e) (unnamed old) (unnamed new)
+stopped run (stops.Refused fault) w old new g = record { is = g.is; written = adds_unnamed (marks_of run) old new g.written }
+stopped run stops.Device w old new g = begins_unnamed (marks_of run) old new g
+stopped run stops.Memory w old new g = begins_unnamed (marks_of run) old new g
 
 -- it stopped
-pub evaluated_stop : {run : Run (Unit {0})} {w : World} {out out1 : OutputState} {n n1 : ℕ} {names names1 : List (List ℕ)} (e : Stop) (result : Result Kept Stop)
-    → IsErrAnd result (λ s. s ≡ e) → Gives {A = Unit {0}} {B = Unit {0}} (λ u. u) run (Err e) w (seen out n names) (seen out1 n1 names1)
-    → Evaluated run result (seen out n []) (seen out1 n1 [])
-evaluated_stop e (Ok k) is g = absurd is
-evaluated_stop {run = run} {out = out} {out1 = out1} {n = n} {n1 = n1} e (Err s) is g =
-    subst (λ d. Evaluated run (Err d) (seen out n []) (seen out1 n1 [])) (sym is) (stopped e g)
+pub evaluated_stop : (run : Run (Unit {0})) (e : Stop) (result : Result Kept Stop) (w : World) (old new : Seen)
+    → IsErrAnd result (λ s. s ≡ e) → Gives {A = Unit {0}} {B = Unit {0}} (λ u. u) run (Err e) w old new → Evaluated run result (unnamed old) (unnamed new)
+evaluated_stop run e (Ok k) w old new is g = absurd is
+evaluated_stop run e (Err s) w old new is g = subst (λ d. Evaluated run (Err d) (unnamed old) (unnamed new)) (sym is) (stopped run e w old new g)
 
 -- no memory was left before it began
 pub evaluated_none : (run : Run (Unit {0})) (old : Seen) (result : Result Kept Stop) → IsErrAnd result (λ s. s ≡ stops.Memory) → Evaluated run result old old
 evaluated_none run old (Ok k) is = absurd is
 evaluated_none run old (Err s) is = subst (λ d. Evaluated run (Err d) old old) (sym is) (record { made = []; left = marks_of run; all = refl; written = none_added old })
+
+-- the devices fail as the stop that is handed on says
+fails_by : (e : Stop) (tree tree1 : TreeState) (out out1 : OutputState) → FailsOnce {B = Unit {0}} tree out (Err e) tree1 out1 → FailsOnce {B = Kept} tree out (Err e) tree1 out1
+fails_by (stops.Refused fault) tree tree1 out out1 f = record { of_tree = f.of_tree; of_out = f.of_out; sum = f.sum }
+fails_by stops.Device tree tree1 out out1 f = record { of_tree = f.of_tree; of_out = f.of_out; sum = f.sum }
+fails_by stops.Memory tree tree1 out out1 f = record { of_tree = f.of_tree; of_out = f.of_out; sum = f.sum }
+
+pub fails_stop : (e : Stop) (result : Result Kept Stop) (tree tree1 : TreeState) (out out1 : OutputState) → IsErrAnd result (λ s. s ≡ e)
+    → FailsOnce {B = Unit {0}} tree out (Err e) tree1 out1 → FailsOnce {B = Kept} tree out result tree1 out1
+fails_stop e (Ok k) tree tree1 out out1 is f = absurd is
+fails_stop e (Err s) tree tree1 out out1 is f = subst (λ d. FailsOnce {B = Kept} tree out (Err d) tree1 out1) (sym is) (fails_by e tree tree1 out out1 f)
 
 -- ---- ticks
 

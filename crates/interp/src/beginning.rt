@@ -3,9 +3,9 @@ ghost use Rattle.std.specs.Prelude.{◌≡◌, ◌<◌, ℕ, List, length};
 ghost use Rattle.code.specs.Nodes.{tree_of};
 ghost use Rattle.code.specs.Statements.{statement_at};
 ghost use Rattle.grammar.specs.ExpressionTree.{ExpressionTree};
-ghost use Rattle.interp.specs.Beginnings.{begun_at};
+ghost use Rattle.interp.specs.Beginnings.{line_before, other_line};
 ghost use Rattle.interp.specs.Blocks.{file_by, statements_by};
-ghost use Rattle.interp.specs.Evaluation.{begins, begins_all};
+ghost use Rattle.interp.specs.Evaluation.{is_project};
 
 use code::Code;
 use code::node::{Node, StatementNode};
@@ -13,7 +13,7 @@ use code::node::{Node, StatementNode};
 // Whether an expression is a call of `project`.
 fn is_project(node: &Node) -> bool
     ensures { (names : List (List ℕ)) (ts : List ExpressionTree)
-        → result ≡ Rattle.interp.specs.Evaluation.is_project (tree_of names ts node.now) }
+        → result ≡ is_project (tree_of names ts node.now) }
 {
     match node {
         Node::Call { name, .. } => name.as_str() == "project",
@@ -22,9 +22,9 @@ fn is_project(node: &Node) -> bool
 }
 
 // The line of a statement that is no call of `project`.
-fn line_of_other(code: &Code, number: usize) -> Option<usize>
+fn other_line(code: &Code, number: usize) -> Option<usize>
     requires { number < length code.now.statements.items }
-    ensures { (names : List (List ℕ)) → begins (statement_at (statements_by names code.now) number) ≡ begun_at result }
+    ensures { (names : List (List ℕ)) → result ≡ other_line (statement_at (statements_by names code.now) number) }
 {
     match &code.statements[number] {
         StatementNode::Expression { value, line } => {
@@ -45,10 +45,10 @@ fn line_of_other(code: &Code, number: usize) -> Option<usize>
 
 /// The line of what stands where the file should begin with a call of `project`, none where it does.
 pub fn line_before_project(code: &Code) -> Option<usize>
-    ensures { (names : List (List ℕ)) → begins_all (file_by names code.now) ≡ begun_at result }
+    ensures { (names : List (List ℕ)) → result ≡ line_before (file_by names code.now) }
 {
     match code.body.first() {
-        Some(number) => line_of_other(code, *number),
+        Some(number) => other_line(code, *number),
         None => Some(1),
     }
 }

@@ -4,10 +4,11 @@ ghost use Rattle.faults.specs.Faults.{plain_fault};
 ghost use Rattle.ports.specs.Endings.{HasRoom};
 ghost use Rattle.world.specs.Answering.{Refuses};
 ghost use Rattle.world.specs.Deed.{Files};
-ghost use Rattle.world.specs.Gives.{Holds};
+ghost use Rattle.world.specs.Gives.{Gives, Holds};
 ghost use Rattle.world.specs.Plan.{carry, ruled};
 ghost use Rattle.world.specs.SettingsView.{settings_view};
 ghost use Rattle.world.specs.Start.{first_world};
+ghost use Rattle.world.specs.Store.{world_of};
 ghost use Rattle.world.specs.Trace.{seen};
 ghost use Rattle.interp.specs.Beginnings.{definitions};
 ghost use Rattle.interp.specs.Blocks.{file_by};
@@ -26,7 +27,7 @@ use std::sync::ledger::Ledger;
 use world::{Settings, Steps, Stop, Store, ended, ends_keep_up};
 
 // Refuses a machine file.
-fn refuse_machine_file(alloc: Global) -> Result<(), Stop>
+fn refuse_machine_file<A>(alloc: Global) -> Result<A, Stop>
     ensures { Refuses (plain_fault (codes "<machine file>") 1 Refusal.MachineFile) result }
 {
     match Fault::plain(alloc, "<machine file>", 1, Refusal::MachineFile) {
@@ -37,6 +38,32 @@ fn refuse_machine_file(alloc: Global) -> Result<(), Stop>
 
 impl<'a, T: Tree, O: Outputs, L: Ledger> Evaluator<'a, T, O, L> {
     ghost use Rattle.interp.specs.Evaluates.{Answers, Fails, HasRoom as HasRooms, Same};
+
+    // An evaluator over what is lent.
+    fn new(
+        alloc: Global,
+        store: &'a mut Store,
+        tree: &'a mut T,
+        out: &'a mut O,
+        steps: &'a mut Steps<L>,
+    ) -> Self
+        ensures store_name { result.store.ghost_name ≡ store.entry.ghost_name }
+        ensures tree_name { result.tree.ghost_name ≡ tree.entry.ghost_name }
+        ensures out_name { result.out.ghost_name ≡ out.entry.ghost_name }
+        ensures steps_name { result.steps.ghost_name ≡ steps.entry.ghost_name }
+        ensures store { result.store.now ≡ store.old }
+        ensures tree { result.tree.now ≡ tree.old }
+        ensures out { result.out.now ≡ out.old }
+        ensures steps { result.steps.now ≡ steps.old }
+    {
+        Evaluator {
+            alloc,
+            store,
+            tree,
+            out,
+            steps,
+        }
+    }
 
     // The statements of the root file, of which the first has to be a call of `project`.
     fn root_statements(&mut self, code: Code) -> Result<Flow, Stop>
@@ -76,21 +103,26 @@ impl<'a, T: Tree, O: Outputs, L: Ledger> Evaluator<'a, T, O, L> {
         self.root(code)?;
         Ok(())
     }
+}
 
-    // The machine file, and then the root file.
-    fn evaluate(&mut self, machine: &[u8]) -> Result<(), Stop>
-        requires new { self.old.store.now.entered ≡ [] }
-        requires room { HasRooms T.seen O.seen self.old }
-        ensures same { Same self.old self.new }
-        ensures device { Fails T.seen O.seen self.old result self.new }
-        ensures gives { Answers T.seen O.seen (λ u. u) (evaluation machine.now) self.old result self.new }
-    {
-        if machine.is_empty() {
-            self.definitions()
-        } else {
-            refuse_machine_file(self.alloc)
-        }
-    }
+// The root file, in the world that a store keeps.
+fn definitions<T: Tree, O: Outputs, L: Ledger>(
+    alloc: Global,
+    store: &mut Store,
+    tree: &mut T,
+    out: &mut O,
+    steps: &mut Steps<L>,
+) -> Result<(), Stop>
+    requires new { store.old.entered ≡ [] }
+    requires tree { HasRoom (T.seen tree.old).failures }
+    requires out { HasRoom (O.seen out.old).failures }
+    ensures device { FailsOnce (T.seen tree.old) (O.seen out.old) result (T.seen tree.new) (O.seen out.new) }
+    ensures gives { (files : Files) → Holds (T.seen tree.old) files
+        → Gives (λ u. u) (carry files definitions (world_of store.old)) result (world_of store.new)
+        (seen (O.seen out.old) steps.old store.old.names) (seen (O.seen out.new) steps.new store.new.names) }
+{
+    let mut evaluator = Evaluator::new(alloc, store, tree, out, steps);
+    evaluator.definitions()
 }
 
 /// Evaluates the definitions of a tree, from its root file on, and gives the world after them.
@@ -113,14 +145,10 @@ pub fn evaluate<T: Tree, O: Outputs, L: Ledger>(
     ensures device { FailsOnce (T.seen tree.old) (O.seen out.old) result (T.seen tree.new) (O.seen out.new) }
 {
     ends_keep_up();
+    if !machine.is_empty() {
+        return refuse_machine_file(alloc);
+    }
     let mut store = Store::new(alloc, settings)?;
-    let mut evaluator = Evaluator {
-        alloc,
-        store: &mut store,
-        tree,
-        out,
-        steps,
-    };
-    evaluator.evaluate(machine)?;
+    definitions(alloc, &mut store, tree, out, steps)?;
     Ok(store)
 }

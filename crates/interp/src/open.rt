@@ -78,13 +78,13 @@ impl<'a, T: Tree, O: Outputs, L: Ledger> Evaluator<'a, T, O, L> {
         self.store.note_look(self.alloc, &file)?;
         let line = self.store.line();
         match self.tree.size(&file)? {
-            Some(size) => self.enter(folder, file, size),
+            Some(size) => self.enter_folder(folder, file, size),
             None => self.refuse(line, Refusal::FileMissing, &file),
         }
     }
 
     // Enters a folder whose definition file has so many bytes, and gives the code of these.
-    fn enter(&mut self, folder: &str, file: String, size: u64) -> Result<Code, Stop>
+    fn enter_folder(&mut self, folder: &str, file: String, size: u64) -> Result<Code, Stop>
         requires new { list_any (bytes_eq folder.now) self.old.store.now.entered ≡ false }
         requires room { HasRoom T.seen O.seen self.old }
         requires file { string_bytes file ≡ definition_file folder.now }

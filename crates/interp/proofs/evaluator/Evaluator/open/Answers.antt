@@ -32,7 +32,7 @@ returns-in-Some-clause-gives g c = λ files h.
     c.in_ok-size.ensures.size h.steady ∙ ap (λ fs. option_map length (file_at fs c.deref-2.result.now)) h.files ∙ ap (λ p. option_map length (file_at files p)) (c.deref-2.ensures ∙ c.in_ok-file.ensures) in
     let there = some_length (file_at files path) c.in-Some.size (sym c.in-Some.is ∙ sized) in
     given_ask looked c.in_ok-note_look.ensures.names
-    (given_as (ap (opened_by c.args.folder.now) (sym there.1)) (c.enter.ensures.gives files there.0 (holds_later c.in_ok-size.ensures.asks.stays h) there.1 there.2))
+    (given_as (ap (opened_by c.args.folder.now) (sym there.1)) (c.enter_folder.ensures.gives files there.0 (holds_later c.in_ok-size.ensures.asks.stays h) there.1 there.2))
 
 pub returns-in-None-clause-gives : goal.returns-in-None-clause-gives
 returns-in-None-clause-gives g c = λ files h.
