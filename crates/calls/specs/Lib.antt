@@ -4,7 +4,6 @@ pub mod Functions
 pub mod JoinPaths
 pub mod Messages
 pub mod Names
-pub mod Paths
 pub mod Project
 pub mod Range
 pub mod Rows

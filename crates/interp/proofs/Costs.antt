@@ -28,7 +28,7 @@ use Rattle.arguments.specs.Arguments.{ArgumentsData, no_arguments, with_argument
 use Rattle.arguments.specs.Disablers.{gives_disabler}
 use Rattle.calls.specs.Functions.{is_turned_off}
 use Rattle.calls.specs.Names.{function_named, is_left_out, is_predefined}
-use Rattle.calls.specs.Paths.{folder_below}
+use Rattle.paths.specs.Paths.{folder_below}
 use Rattle.calls.specs.declared.function.Function.{Function}
 use Rattle.calls.specs.declared.function.Function.TheVariants as functions
 use Rattle.world.specs.Trace.{ends_of}

@@ -1,12 +1,13 @@
 -- What a whole evaluation comes to.
-use Rattle.std.specs.Prelude.{◌≡◌, ◌+◌, ◌≤◌, Result, Ok, Err}
-use Rattle.ports.specs.Outputs.{OutputState}
+use Rattle.std.specs.Prelude.{◌≡◌, ℕ, ◌+◌, ◌≤◌, List, ◌++◌, length, true, Result, Ok, Err}
+use Rattle.ports.specs.Outputs.{OutputState, Sends}
 use Rattle.ports.specs.Tree.{TreeState}
 use Rattle.faults.specs.View.{fault_view}
+use Rattle.world.specs.Counts.{TicksAll, below, counts_from}
 use Rattle.world.specs.Gives.{Ends, Faults, failures_after}
 use Rattle.world.specs.Run.{Run, Done, Faulted, marks_of}
 use Rattle.world.specs.Store.{Kept, world_of}
-use Rattle.world.specs.Trace.{Begins, Seen}
+use Rattle.world.specs.Trace.{Begins, Mark, Seen, steps_of}
 use Rattle.world.specs.declared.stop.Stop.{Stop}
 use Rattle.world.specs.declared.stop.Stop.TheVariants as stops
 
@@ -16,6 +17,22 @@ Evaluated run (Ok store) old new = Ends run (Done tt) (world_of store) old new
 Evaluated run (Err (stops.Refused fault)) old new = Faults run (Faulted (fault_view fault)) old new
 Evaluated run (Err stops.Device) old new = Begins (marks_of run) old new
 Evaluated run (Err stops.Memory) old new = Begins (marks_of run) old new
+
+-- A run that stopped: it ticked at most the cost, and for each rule that ended before the last of the steps that the outputs took.
+pub record TickedSome (marks : List Mark) (cost : ℕ) (old new : Seen) : Type 0 where
+  pub made : List Mark
+  pub left : List Mark
+  pub all : marks ≡ made ++ left
+  pub sent : Sends old.out new.out (steps_of made) true
+  pub most : new.ticks ≤ old.ticks + cost
+  pub least : old.ticks + below (length (steps_of made)) (counts_from 0 marks) ≤ new.ticks
+
+-- how an evaluation has ticked that ended so
+abbrev pub Ticked : {A B : Type 0} → Run A → ℕ → Result B Stop → Seen → Seen → Type 0
+Ticked run cost (Ok x) old new = TicksAll (marks_of run) cost old.ticks new.ticks
+Ticked run cost (Err (stops.Refused fault)) old new = TicksAll (marks_of run) cost old.ticks new.ticks
+Ticked run cost (Err stops.Device) old new = TickedSome (marks_of run) cost old new
+Ticked run cost (Err stops.Memory) old new = TickedSome (marks_of run) cost old new
 
 -- one of the devices has failed once more where the answer says so, and else none has
 pub record FailsOnce {B : Type 0} (tree : TreeState) (out : OutputState) (result : Result B Stop) (tree_now : TreeState) (out_now : OutputState) : Type 0 where

@@ -3,7 +3,7 @@ use Rattle.std.specs.Prelude.{ℕ, zero, suc, List, [], length, nat_lt, not, byt
 use Rattle.std.specs.List.{list_any}
 use Rattle.grammar.specs.Tree.{Statements}
 use Rattle.faults.specs.declared.refusal.Refusal.TheVariants as refusals
-use Rattle.calls.specs.Paths.{folder_below}
+use Rattle.paths.specs.Paths.{folder_below}
 use Rattle.world.specs.Costs.{definition_file}
 use Rattle.world.specs.World.{Facts, with_place}
 use Rattle.world.specs.Deed.{refuse, ask, read, change, need}

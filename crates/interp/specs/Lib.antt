@@ -1,4 +1,5 @@
 pub mod Acting
+pub mod Beginnings
 pub mod Blocks
 pub mod Conditions
 pub mod Cost
@@ -10,5 +11,6 @@ pub mod Files
 pub mod Folders
 pub mod Laws
 pub mod Parts
+pub mod Reading
 pub mod Rounds
 pub mod Statements

@@ -3,6 +3,7 @@
 
 mod acting;
 mod assign;
+mod beginning;
 mod block;
 mod conditions;
 mod evaluation;
@@ -17,6 +18,7 @@ mod loops;
 mod meaning;
 mod names;
 mod open;
+mod read;
 mod running;
 
 pub use evaluation::evaluate;

@@ -6,7 +6,7 @@ use Rattle.std.proofs.lemmas.Bool.Decides.{Decides-eqb}
 use Rattle.std.proofs.lemmas.List.{append_cancel_left, at_drop_more, map-append, take_more, reverse-reverse, length-reverse, length-map, length-take}
 use Rattle.std.proofs.lemmas.List.Prefix.{front_rest}
 use Rattle.std.proofs.lemmas.Slice.Eq.{starts_is}
-use Rattle.paths.specs.Paths.{rest_after, and_then, follow_part, follow_parts, folder_named, named, parts_of}
+use Rattle.paths.specs.Paths.{rest_after, and_then, follow_part, follow_parts, named}
 
 cond_yes : {A : Type 0} (b : Bool) (x y : A) → b ≡ true → cond b x y ≡ x
 cond_yes true x y e = refl

@@ -6,4 +6,4 @@
 
 mod named;
 
-pub use named::{folder_path, folder_paths, path_in, tree_path, tree_paths};
+pub use named::{folder_below, folder_path, folder_paths, path_in, tree_path, tree_paths};

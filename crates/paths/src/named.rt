@@ -2,7 +2,7 @@
 ghost use Rattle.std.specs.Prelude.{◌≡◌, ◌++◌, IfOk, map, None, Some, option_map, option_copied, string_bytes, codes, [], if◌then◌else◌};
 ghost use Rattle.std.specs.List.{join_with_byte};
 ghost use Rattle.paths.specs.Folder.{folder_of, strings_of};
-ghost use Rattle.paths.specs.Paths.{follow_part, follow_parts, folder_named, folder_path, folder_paths, from_root, named};
+ghost use Rattle.paths.specs.Paths.{follow_part, follow_parts, folder_below, folder_named, folder_path, folder_paths, from_root, is_below, leads_down, named};
 ghost use Rattle.paths.specs.Paths.{parts_of, path_in, paths_behind, rest_after, tree_path, tree_paths};
 
 use std::alloc::{AllocError, Global};
@@ -119,6 +119,32 @@ pub fn folder_path(
     match from_root(alloc, source_root, folder, text)? {
         Some(text) => cleaned(alloc, text.as_str()),
         None => Ok(None),
+    }
+}
+
+// Whether a path leads to no folder above.
+fn leads_down(text: &str) -> bool
+    ensures { result ≡ leads_down text.now }
+{
+    !text.split('/').any(|part| ".." == part)
+}
+
+// Whether a text may name a folder below the one that it is read in.
+fn is_below(text: &str) -> bool
+    ensures { result ≡ is_below text.now }
+{
+    text != "" && !text.starts_with("/") && leads_down(text)
+}
+
+/// The path of the folder below a folder that a text names. None where the text is empty, absolute or has a part `..`.
+pub fn folder_below(alloc: Global, folder: &str, text: &str) -> Result<Option<String>, AllocError>
+    ensures { IfOk result (λ path. option_map string_bytes path ≡ folder_below folder.now text.now) }
+{
+    if is_below(text) {
+        let path = path_in(alloc, folder, text)?;
+        cleaned(alloc, path.as_str())
+    } else {
+        Ok(None)
     }
 }
 

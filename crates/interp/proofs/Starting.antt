@@ -1,0 +1,115 @@
+-- How an evaluation begins.
+use Rattle.std.proofs.Common.{◌≡◌, ◌==◌, ℕ, ◌<◌, Bool, true, false, List, [], ◌∷◌, length, get_or, IsTrue, Option, Some, None, Result, Ok, Err, IsErrAnd, refl, sym, ap, subst, ◌∙◌, arith}
+use Rattle.std.specs.Prelude.{codes, slice_get}
+use Rattle.code.specs.Nodes.{tree_at, tree_of}
+use Rattle.code.specs.Statements.{statement_at, statement_tree, statement_within}
+use Rattle.code.specs.declared.code.Code.{Code}
+use Rattle.code.specs.declared.node.Node.{Node}
+use Rattle.code.specs.declared.node.StatementNode.{StatementNode}
+use Rattle.code.specs.declared.node.StatementNode.TheVariants as flat
+use Rattle.code.proofs.CallerLemmas.{node_opens, statement_opens, statement_parts_before}
+use Rattle.code.proofs.Trees.{less}
+use Rattle.interp.specs.Blocks.{expressions_by, statements_by}
+use Rattle.std.proofs.lemmas.Bool.{false≢true, eqb-true}
+use Rattle.faults.specs.Faults.{plain_fault}
+use Rattle.faults.specs.declared.refusal.Refusal.TheVariants as refusals
+use Rattle.calls.specs.Project.{refuse_at}
+use Rattle.world.specs.Answering.{Refuses}
+use Rattle.world.specs.Deed.{Files}
+use Rattle.ports.specs.Outputs.{OutputState}
+use Rattle.world.specs.Store.{Kept, world_of}
+use Rattle.interp.specs.Evaluated.{Evaluated}
+use Rattle.interp.proofs.Ticking.{evaluated_done, evaluated_stop, unnamed}
+use Rattle.world.specs.Gives.{Ends, Gives}
+use Rattle.world.specs.Run.{Done}
+use Rattle.world.specs.Plan.{carry}
+use Rattle.world.specs.Trace.{Seen, seen}
+use Rattle.world.specs.World.{World, with_facts, with_place}
+use Rattle.world.specs.declared.stop.Stop.{Stop}
+use Rattle.world.proofs.Follow.{after-nil, begun, refused_later}
+use Rattle.grammar.specs.Tree.{StatementTree, AssignTree, AppendTree, ValueTree, BreakTree, ContinueTree, IfTree, ForeachTree, Statements, NoStatement, MoreStatements}
+use Rattle.interp.specs.Beginnings.{begun_at, definitions, line_before, line_unless, other_line}
+use Rattle.interp.specs.Evaluation.{begins, begins_all, begun_by, evaluation, is_project, no_machine_file}
+use Rattle.interp.proofs.Blocks.{number_below}
+use Rattle.interp.specs.declared.block.Block.TheVariants as blocks
+
+-- the tree of a statement that is there
+pub statement_is : (names : List (List ℕ)) (c : Code) (i : ℕ) (x n : StatementNode) → i < length c.statements.items → x ≡ get_or c.statements.items i x → x ≡ n
+    → statement_at (statements_by names c) i ≡ statement_tree names (expressions_by names c) (statements_by names c) n
+statement_is names c i x n l at is =
+    statement_opens names (expressions_by names c) c.names (length c.nodes.items) c.statements.items i x c.placed l
+    ∙ ap (statement_tree names (expressions_by names c) (statements_by names c)) (sym at ∙ is)
+
+-- the expression of a statement is there
+pub value_there : (c : Code) (i : ℕ) (x : StatementNode) (value line : ℕ) → i < length c.statements.items → x ≡ get_or c.statements.items i x → x ≡ flat.Expression value line
+    → value < length c.nodes.items
+value_there c i x value line l at is =
+    less value (length c.nodes.items)
+    (subst (λ n. IsTrue (statement_within c.names (length c.nodes.items) i n)) (sym at ∙ is) (statement_parts_before c.names (length c.nodes.items) c.statements.items i x c.placed l))
+
+-- whether an expression that is a statement is a call of `project`
+pub value_line : (names : List (List ℕ)) (c : Code) (value line : ℕ) (n : Node) (b : Bool) → value < length c.nodes.items → n ≡ get_or c.nodes.items value n
+    → b ≡ is_project (tree_of names (expressions_by names c) n) → line_unless line b ≡ line_unless line (is_project (tree_at (expressions_by names c) value))
+value_line names c value line n b l at is =
+    ap (line_unless line) is ∙ ap (λ m. line_unless line (is_project (tree_of names (expressions_by names c) m))) at
+    ∙ sym (ap (λ t. line_unless line (is_project t)) (node_opens names c.names c.nodes.items value n c.ordered l))
+
+begun_as : (line : ℕ) (b : Bool) → begun_by line b ≡ begun_at (line_unless line b)
+begun_as line true = refl
+begun_as line false = refl
+
+begins_as : (s : StatementTree) → begins s ≡ begun_at (other_line s)
+begins_as (ValueTree e line) = begun_as line (is_project e)
+begins_as (AssignTree name line value) = refl
+begins_as (AppendTree name line value) = refl
+begins_as (BreakTree line) = refl
+begins_as (ContinueTree line) = refl
+begins_as (IfTree line branches otherwise) = refl
+begins_as (ForeachTree line first second items items_line body) = refl
+
+-- how a file begins
+pub begins_at : (ss : Statements) (o : Option ℕ) → o ≡ line_before ss → begun_at o ≡ begins_all ss
+begins_at NoStatement o is = ap begun_at is
+begins_at (MoreStatements s ss) o is = ap begun_at is ∙ sym (begins_as s)
+
+-- the first statement of a file is there
+pub first_below : (c : Code) (number : ℕ) (rest : List ℕ) → c.body.items ≡ number ∷ rest → number < length c.statements.items
+first_below c number rest is = number_below c blocks.File (number ∷ rest) 0 0 (sym is) (omega arith)
+
+-- an empty machine file does nothing
+pub no_machine : (files : Files) (machine : List ℕ) (w : World) (b : Bool) → b ≡ (length machine == 0) → b ≡ true → carry files definitions w ≡ carry files (evaluation machine) w
+unfolding no_machine_file
+no_machine files [] w b e t = sym (after-nil (carry files definitions w))
+no_machine files (x ∷ xs) w b e t = let none : length (x ∷ xs) ≡ 0 = eqb-true (length (x ∷ xs)) 0 (sym e ∙ t) in absurd (omega (arith, none))
+
+-- and any other is refused
+pub machine_refused : (files : Files) (machine : List ℕ) (w : World) (b : Bool) (result : Result Kept Stop) (out : OutputState) (n : ℕ) → b ≡ (length machine == 0) → b ≡ false
+    → Refuses (plain_fault (codes "<machine file>") 1 refusals.MachineFile) result → Evaluated (carry files (evaluation machine) w) result (seen out n []) (seen out n [])
+unfolding no_machine_file refuse_at
+machine_refused files [] w b result out n e f is = absurd (false≢true (sym f ∙ e))
+machine_refused files (x ∷ xs) w b (Ok k) out n e f is = absurd is
+machine_refused files (x ∷ xs) w b (Err s) out n e f is =
+    evaluated_stop (carry files (evaluation (x ∷ xs)) w) s (Err s) w (seen out n []) (seen out n []) refl
+    (refused_later (λ (u : Unit {0}). u) (plain_fault (codes "<machine file>") 1 refusals.MachineFile) s (with_facts w (with_place (codes "<machine file>") [] 1 w.facts)) w (seen out n [])
+    (begun (carry files (evaluation (x ∷ xs)) w) (seen out n [])) is)
+
+-- the root file without a machine file is the whole evaluation
+pub whole_done : (files : Files) (machine : List ℕ) (w v : World) (b : Bool) (k : Kept) (old new : Seen) → b ≡ (length machine == 0) → b ≡ true → w ≡ v
+    → Ends (carry files definitions w) (Done tt) (world_of k) old new → Evaluated (carry files (evaluation machine) v) (Ok k) (unnamed old) (unnamed new)
+whole_done files machine w v b k old new e t is g =
+    evaluated_done (carry files (evaluation machine) v) k old new
+    (subst (λ u. Ends (carry files (evaluation machine) u) (Done tt) (world_of k) old new) is
+    (subst (λ r. Ends r (Done tt) (world_of k) old new) (no_machine files machine w b e t) g))
+
+pub whole_stopped : (files : Files) (machine : List ℕ) (w v u : World) (b : Bool) (s : Stop) (result : Result Kept Stop) (old new : Seen) → b ≡ (length machine == 0) → b ≡ true → w ≡ v
+    → IsErrAnd result (λ r. r ≡ s) → Gives {A = Unit {0}} {B = Unit {0}} (λ r. r) (carry files definitions w) (Err s) u old new
+    → Evaluated (carry files (evaluation machine) v) result (unnamed old) (unnamed new)
+whole_stopped files machine w v u b s result old new e t is stop g =
+    evaluated_stop (carry files (evaluation machine) v) s result u old new stop
+    (subst (λ x. Gives {A = Unit {0}} {B = Unit {0}} (λ r. r) (carry files (evaluation machine) x) (Err s) u old new) is
+    (subst (λ x. Gives {A = Unit {0}} {B = Unit {0}} (λ r. r) x (Err s) u old new) (no_machine files machine w b e t) g))
+
+-- the first number of a list
+pub first_is : (xs : List ℕ) (n : ℕ) → Some n ≡ slice_get xs 0 → (rest : List ℕ) × (xs ≡ n ∷ rest)
+first_is [] n e = absurd (let h : Some n ≡ None = e in cc)
+first_is (x ∷ xs) n e = (xs, let h : Some n ≡ Some x = e in cc)

@@ -1,0 +1,14 @@
+use Rattle.std.proofs.Common.{◌≡◌, rules, subst, sym}
+use Rattle.world.specs.Gives.{Holds}
+use Rattle.interp.proofs.evaluation.definitions.Goals as goal
+
+pub returns-clause-gives : goal.returns-clause-gives
+returns-clause-gives g c = λ files h.
+    let held : Holds (g.T.Tree.seen c.new-evaluator.result.tree.now) files = subst (λ t. Holds (g.T.Tree.seen t) files) (sym c.new-evaluator.ensures.tree) h in
+    let given = (c.definitions.ensures.gives files held).gives in
+    ?
+
+pub returns-clause-device : goal.returns-clause-device
+returns-clause-device g c =
+    let failed = c.definitions.ensures.device in
+    record { of_tree = search rules; of_out = search rules; sum = search rules }

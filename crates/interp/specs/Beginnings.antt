@@ -1,0 +1,38 @@
+-- How an evaluation begins.
+use Rattle.std.specs.Prelude.{ℕ, Bool, true, false, [], Option, Some, None}
+use Rattle.grammar.specs.Tree.{StatementTree, AssignTree, AppendTree, ValueTree, BreakTree, ContinueTree, IfTree, ForeachTree, Statements, NoStatement, MoreStatements}
+use Rattle.faults.specs.declared.refusal.Refusal.TheVariants as refusals
+use Rattle.world.specs.Plan.{Plan, ruled, ◌>>=◌, give, refuse}
+use Rattle.interp.specs.Evaluation.{is_project, root}
+use Rattle.interp.specs.Folders.{opened}
+
+-- the line of a statement that is no call of `project`
+abbrev pub line_unless : ℕ → Bool → Option ℕ
+line_unless line true = None
+line_unless line false = Some line
+
+abbrev pub other_line : StatementTree → Option ℕ
+other_line (ValueTree e line) = line_unless line (is_project e)
+other_line (AssignTree name line value) = Some line
+other_line (AppendTree name line value) = Some line
+other_line (BreakTree line) = Some line
+other_line (ContinueTree line) = Some line
+other_line (IfTree line branches otherwise) = Some line
+other_line (ForeachTree line first second items items_line body) = Some line
+
+-- the line of what stands where a call of `project` should begin a file, none where one does
+abbrev pub line_before : Statements → Option ℕ
+line_before NoStatement = Some 1
+line_before (MoreStatements s ss) = other_line s
+
+-- by that line
+abbrev pub begun_at : Option ℕ → Plan (Unit {0})
+begun_at None = give tt
+begun_at (Some line) = refuse line refusals.ProjectCall []
+
+-- an evaluation without its machine file
+abbrev pub definitions : Plan (Unit {0})
+definitions = do
+  body ← opened []
+  _ ← ruled (root body)
+  give tt

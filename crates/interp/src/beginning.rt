@@ -1,0 +1,54 @@
+//! The first statement of the root file.
+ghost use Rattle.std.specs.Prelude.{◌≡◌, ◌<◌, ℕ, List, length};
+ghost use Rattle.code.specs.Nodes.{tree_of};
+ghost use Rattle.code.specs.Statements.{statement_at};
+ghost use Rattle.grammar.specs.ExpressionTree.{ExpressionTree};
+ghost use Rattle.interp.specs.Beginnings.{line_before, other_line};
+ghost use Rattle.interp.specs.Blocks.{file_by, statements_by};
+ghost use Rattle.interp.specs.Evaluation.{is_project};
+
+use code::Code;
+use code::node::{Node, StatementNode};
+
+// Whether an expression is a call of `project`.
+fn is_project(node: &Node) -> bool
+    ensures { (names : List (List ℕ)) (ts : List ExpressionTree)
+        → result ≡ is_project (tree_of names ts node.now) }
+{
+    match node {
+        Node::Call { name, .. } => name.as_str() == "project",
+        _ => false,
+    }
+}
+
+// The line of a statement that is no call of `project`.
+fn other_line(code: &Code, number: usize) -> Option<usize>
+    requires { number < length code.now.statements.items }
+    ensures { (names : List (List ℕ)) → result ≡ other_line (statement_at (statements_by names code.now) number) }
+{
+    match &code.statements[number] {
+        StatementNode::Expression { value, line } => {
+            if is_project(&code.nodes[*value]) {
+                None
+            } else {
+                Some(*line)
+            }
+        }
+        StatementNode::Assign { line, .. } => Some(*line),
+        StatementNode::Append { line, .. } => Some(*line),
+        StatementNode::Break { line } => Some(*line),
+        StatementNode::Continue { line } => Some(*line),
+        StatementNode::If { line, .. } => Some(*line),
+        StatementNode::Foreach { line, .. } => Some(*line),
+    }
+}
+
+/// The line of what stands where the file should begin with a call of `project`, none where it does.
+pub fn line_before_project(code: &Code) -> Option<usize>
+    ensures { (names : List (List ℕ)) → result ≡ line_before (file_by names code.now) }
+{
+    match code.body.first() {
+        Some(number) => other_line(code, *number),
+        None => Some(1),
+    }
+}
