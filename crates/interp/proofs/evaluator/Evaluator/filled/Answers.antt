@@ -1,4 +1,4 @@
-use Rattle.std.proofs.Common.{[], ◌++◌, Ok, string_bytes, ap, ◌∙◌}
+use Rattle.std.proofs.Common.{[], ◌++◌, Ok, map, string_bytes, ap, ◌∙◌}
 use Rattle.data.specs.Limits.{within_bytes}
 use Rattle.texts.specs.Segments.{segment_data}
 use Rattle.interp.specs.Expressions.{filled}
@@ -12,7 +12,7 @@ pub returns-in_err-text-clause-gives : goal.returns-in_err-text-clause-gives
 returns-in_err-text-clause-gives g c = λ files h.
     let so_far = c.loop-part.invariant in
     let next = next_item segment_data c.args.parts.now c.loop-part.part-index _ c.loop-part-test.true in
-    led_end (led_as (ap (filled c.args.line so_far.text) next) (so_far.led files h))
+    led_end {whole = filled c.args.line [] (map segment_data c.args.parts.now)} (led_as (ap (filled c.args.line so_far.text) next) (so_far.led files h))
     (given_stop (c.in_err-text.ensures.gives files h) c.from_residual.ensures.1)
 
 pub loop-part-preserved : goal.loop-part-preserved
@@ -30,5 +30,5 @@ pub returns-clause-gives : goal.returns-clause-gives
 returns-clause-gives g c = λ files h.
     let so_far = c.loop-part.invariant in
     let none = no_item segment_data c.args.parts.now c.loop-part.part-index c.loop-part-test.false in
-    led_end (led_as (ap (filled c.args.line so_far.text) none) (so_far.led files h))
+    led_end {whole = filled c.args.line [] (map segment_data c.args.parts.now)} (led_as (ap (filled c.args.line so_far.text) none) (so_far.led files h))
     (c.answered.ensures.gives _ (c.in_ok-answer.ensures so_far.text so_far.short) files (so_far.led files h).holds)

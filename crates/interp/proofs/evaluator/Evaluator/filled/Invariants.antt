@@ -1,4 +1,4 @@
-use Rattle.std.proofs.Common.{[], drop, map}
+use Rattle.std.proofs.Common.{drop, map}
 use Rattle.data.specs.Tables.{string_in}
 use Rattle.texts.specs.Segments.{segment_data}
 use Rattle.interp.specs.Evaluates.{stand_of}

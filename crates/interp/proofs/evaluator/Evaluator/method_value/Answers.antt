@@ -1,15 +1,8 @@
-use Rattle.std.proofs.Common.{ℕ, List, [], Option, Some, None, option_map, true, false, is_some, get_or, ap, refl, sym, ◌∙◌}
-use Rattle.std.specs.Prelude.{◌||◌}
+use Rattle.std.proofs.Common.{ap, ◌∙◌}
 use Rattle.arguments.specs.Arguments.{arguments_data}
 use Rattle.arguments.specs.Row.{checked}
-use Rattle.data.specs.Data.{object_in}
-use Rattle.data.specs.View.{data_of}
-use Rattle.methods.specs.Methods.{has_name}
-use Rattle.calls.specs.Names.{is_predefined}
-use Rattle.world.specs.Store.{kept_variables}
-use Rattle.interp.specs.Expressions.{allowed, called_by, fitted, function_at, known, known_function, known_method, method_at_by, method_by, method_called_by, refused_name, set_variable, variable, variable_by}
-use Rattle.data.specs.Data.{is_disabler}
-use Rattle.interp.proofs.Evaluating.{given_as, given_change, given_deed, given_give, given_none, given_read, given_refuse, given_refused, given_stop, given_then}
+use Rattle.interp.specs.Expressions.{fitted}
+use Rattle.interp.proofs.Evaluating.{given_as, given_none, given_stop}
 use Rattle.interp.proofs.evaluator.Evaluator.method_value.Goals as goal
 
 pub returns-in_err-fits-clause-gives : goal.returns-in_err-fits-clause-gives

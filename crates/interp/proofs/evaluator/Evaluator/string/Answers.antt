@@ -1,4 +1,3 @@
-use Rattle.std.proofs.Common.{ap, refl, sym}
 use Rattle.interp.proofs.Evaluating.{given_none}
 use Rattle.interp.proofs.evaluator.Evaluator.string.Goals as goal
 
