@@ -5,5 +5,7 @@ pub mod Evaluating
 mod Pairs
 mod Paths
 pub mod Reading
+pub mod Spelling
+pub mod Stack
 mod Values
 mod Walking
