@@ -1,20 +1,23 @@
 -- What the statements of code spell, by the table of names as it was when the code was made.
-use Rattle.std.proofs.Common.{◌≡◌, ℕ, zero, suc, ◌+◌, ◌-◌, ◌<◌, ◌≤◌, List, [], ◌∷◌, drop, length, length-drop, get_or, map, IsTrue, Option, Some, None, option_map, refl, sym, ap, subst, ◌∙◌, arith}
+use Rattle.std.proofs.Common.{◌≡◌, ℕ, zero, suc, ◌+◌, ◌-◌, ◌<◌, ◌≤◌, List, [], ◌∷◌, drop, length, length-append, length-drop, get_or, map, IsTrue, Option, Some, None, option_map, refl, sym, ap, subst, ◌∙◌, arith}
 use Rattle.std.specs.Prelude.{nat_lt}
+use Rattle.code.specs.Draft.{Begins as IsFront}
 use Rattle.code.specs.Statements.{branch_at, name_at, second_within, statement_at, statement_tree, statement_within}
 use Rattle.code.specs.declared.code.Code.{Code}
 use Rattle.code.specs.declared.node.BranchNode.{BranchNode}
 use Rattle.code.specs.declared.node.StatementNode.{StatementNode}
 use Rattle.code.specs.declared.node.StatementNode.TheVariants as flat
 use Rattle.code.proofs.CallerLemmas.{statement_opens, statement_parts_before}
-use Rattle.code.proofs.Trees.{is_less}
+use Rattle.code.proofs.Trees.{at_front, is_less}
 use Rattle.grammar.specs.ExpressionTree.{ExpressionTree}
 use Rattle.grammar.specs.Tree.{StatementTree, Statements, branches, statements}
 use Rattle.world.specs.Plan.{Plan}
 use Rattle.interp.specs.Blocks.{block_by, branch_or, expressions_by, node_at, statements_by}
 use Rattle.interp.specs.Evaluates.{Reads}
 use Rattle.interp.specs.Frames.{Made, part_done}
-use Rattle.interp.specs.Statements.{do_all}
+use Rattle.interp.specs.Rounds.{RoundAt, round_data}
+use Rattle.interp.specs.Statements.{Round, bound, do_all}
+use Rattle.interp.specs.declared.loops.Round.{Round as Declared}
 use Rattle.interp.specs.declared.flow.Flow.{Flow}
 use Rattle.interp.proofs.Reading.{name_of}
 
@@ -85,3 +88,24 @@ pub part_behind : (into : List ℕ → Plan Flow) (ts : List ExpressionTree) (ss
 part_behind into ts ss otherwise [] k l = refl
 part_behind into ts ss otherwise (x ∷ bs) zero l = absurd (omega arith)
 part_behind into ts ss otherwise (x ∷ bs) (suc k) l = part_behind into ts ss otherwise bs k (omega arith)
+
+-- a name that was there is there, and is the same
+pub name_kept : {old new : List (List ℕ)} (h : IsFront old new) (number : ℕ) → number < length old → (number < length new) × (name_at new number ≡ name_at old number)
+name_kept {old = old} {new = new} h number l =
+    let e : length new ≡ length old + length h.more = ap length h.is ∙ length-append old h.more in
+    (omega (arith, l, e), ap (λ ns. name_at ns number) h.is ∙ at_front old h.more number [] l)
+
+-- ---- rounds
+
+pub round_is : (xs : List Round) (at : ℕ) (o : Option Declared) (r : Declared) → o ≡ Some r → RoundAt xs at o → drop at xs ≡ round_data r ∷ drop (at + 1) xs
+round_is xs at o r is h = let P : Option Declared → Type 0 = λ p. RoundAt xs at p in subst P is h
+
+pub round_none : (xs : List Round) (at : ℕ) (o : Option Declared) → o ≡ None → RoundAt xs at o → drop at xs ≡ []
+round_none xs at o is h = let P : Option Declared → Type 0 = λ p. RoundAt xs at p in subst P is h
+
+-- the variables of a round by the names as they were
+pub bound_as : {c : Code} {names table : List (List ℕ)} (m : Made c names table) (line first : ℕ) (second : Option ℕ) (r : Round) → IsTrue (nat_lt first c.names) → IsTrue (second_within c.names second)
+    → bound line (name_at names first) (option_map (name_at names) second) r ≡ bound line (name_at table first) (option_map (name_at table) second) r
+bound_as {names = names} {table = table} m line first second r h k =
+    ap (λ (n : List ℕ). bound line n (option_map (name_at names) second) r) (named m first h).1
+    ∙ ap (λ (o : Option (List ℕ)). bound line (name_at table first) o r) (second_named m second k).1

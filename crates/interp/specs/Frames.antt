@@ -103,11 +103,15 @@ Means names (frames.Loop l) rest = MeansLoop names l rest
 Means names frames.End rest = rest ≡ End
 Means names (frames.Left place) rest = rest ≡ Left (string_bytes place.file) (string_bytes place.folder) place.line
 
-abbrev pub Stacked : List (List ℕ) → List Frame → List Rest → Type 0
-Stacked names [] [] = Unit {0}
-Stacked names (f ∷ fs) (r ∷ rs) = Means names f r × Stacked names fs rs
-Stacked names [] (r ∷ rs) = ⊥
-Stacked names (f ∷ fs) [] = ⊥
+abbrev pub EachMeans : List (List ℕ) → List Frame → List Rest → Type 0
+EachMeans names [] [] = Unit {0}
+EachMeans names (f ∷ fs) (r ∷ rs) = Means names f r × EachMeans names fs rs
+EachMeans names [] (r ∷ rs) = ⊥
+EachMeans names (f ∷ fs) [] = ⊥
+
+-- what a stack means, frame by frame
+pub record Stacked (names : List (List ℕ)) (fs : List Frame) (rs : List Rest) : Type 0 where
+  pub each : EachMeans names fs rs
 
 -- ---- faults
 
@@ -144,15 +148,21 @@ pub record Moved (files : Files) (whole : Plan Flow) (old : Stand) (flow : Flow)
   pub stacked : Stacked now.names fs rests
   pub leads : Leads files whole old (behind_all rests (give flow)) now
 
+abbrev pub MovesTo : Files → Plan Flow → Stand → Result Flow Stop → List Frame → Stand → Type 0
+MovesTo files whole old (Ok flow) fs now = Moved files whole old flow fs now
+MovesTo files whole old (Err stop) fs now = Given {B = Flow} (λ f. f) files whole old (Err stop) (ticked (unwound stop fs) now)
+
 -- so it is, or the whole plan stopped, once the rules on the stack have ended
-abbrev pub Moves : Files → Plan Flow → Stand → Result Flow Stop → List Frame → Stand → Type 0
-Moves files whole old (Ok flow) fs now = Moved files whole old flow fs now
-Moves files whole old (Err stop) fs now = Given {B = Flow} (λ f. f) files whole old (Err stop) (ticked (unwound stop fs) now)
+pub record Moves (files : Files) (whole : Plan Flow) (old : Stand) (result : Result Flow Stop) (fs : List Frame) (now : Stand) : Type 0 where
+  pub moves : MovesTo files whole old result fs now
+
+abbrev pub StepsTo : Files → Plan Flow → Stand → Result Flow Stop → List Frame → Stand → Type 0
+StepsTo files whole old (Ok flow) fs now = Moved files whole old flow fs now
+StepsTo files whole old (Err stop) fs now = Given {B = Flow} (λ f. f) files whole old (Err stop) now
 
 -- the same of a whole step, where these rules have ended
-abbrev pub Stepped : Files → Plan Flow → Stand → Result Flow Stop → List Frame → Stand → Type 0
-Stepped files whole old (Ok flow) fs now = Moved files whole old flow fs now
-Stepped files whole old (Err stop) fs now = Given {B = Flow} (λ f. f) files whole old (Err stop) now
+pub record Stepped (files : Files) (whole : Plan Flow) (old : Stand) (result : Result Flow Stop) (fs : List Frame) (now : Stand) : Type 0 where
+  pub steps : StepsTo files whole old result fs now
 
 -- the number at a place, none behind the last
 abbrev pub NumberAt : List ℕ → ℕ → Option ℕ → Type 0
@@ -165,7 +175,7 @@ above_branch b = suc b.condition
 
 -- a choice was made of the parts of an `if`, from which on the whole plan is this one; or the plan stopped
 abbrev pub Chooses : Files → Plan Flow → Stand → (Option ℕ → Plan Flow) → Result (Option ℕ) Stop → Stand → Type 0
-Chooses files whole old part (Ok k) now = Leads files whole old (part k) now
+Chooses files whole old part (Ok chosen) now = Leads files whole old (part chosen) now
 Chooses files whole old part (Err stop) now = Given {B = Flow} (λ f. f) files whole old (Err stop) now
 
 -- what is done of a part of an `if`, by its place; nothing, where the whole is skipped

@@ -40,11 +40,12 @@ impl<'a, T: Tree, O: Outputs, L: Ledger> Evaluator<'a, T, O, L> {
     {
         let path = self.fresh(text)?;
         if left == 0 {
-            return self.refuse(self.store.line(), Refusal::Limit, "");
+            let line = self.store.line();
+            return self.refuse(line, Refusal::Limit, "");
         }
         let outer = self.place()?;
-        let code = self.open(&path)?;
-        let code = Rc::new(self.alloc, code)?;
+        let opened = self.open(&path)?;
+        let code = Rc::new(self.alloc, opened)?;
         stack.push(Frame::Left(outer))?;
         stack.push(Frame::End)?;
         stack.push(Frame::Block(BlockRest {

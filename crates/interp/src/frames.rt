@@ -1,16 +1,14 @@
 //! What is still to be done, on a stack of frames.
-ghost use Rattle.std.specs.Prelude.{◌≡◌, ◌≤◌, ◌+◌, IsTrue, length, nat_lt};
+ghost use Rattle.std.specs.Prelude.{◌≤◌, IsTrue, length, nat_lt};
 ghost use Rattle.code.specs.Statements.{second_within};
 ghost use Rattle.data.specs.View.{data_of};
-ghost use Rattle.interp.specs.Frames.{pending, unwound};
 ghost use Rattle.interp.specs.Rounds.{rounds_in};
 
 use crate::block::Block;
 use code::Code;
 use data::Value;
 use std::rc::Rc;
-use std::sync::ledger::Ledger;
-use world::{Place, Steps, Stop};
+use world::Place;
 
 /// The statements of a block from a place on.
 #[derive(Drop)]
@@ -56,30 +54,4 @@ pub enum Frame {
     End,
     /// A file is left for the place before.
     Left(Place),
-}
-
-// Ticks for each rule on a stack.
-fn end_all<L: Ledger>(stack: &[Frame], steps: &mut Steps<L>)
-    ensures { steps.new ≡ steps.old + pending stack.now }
-{
-    for frame in stack {
-        if let Frame::End = frame {
-            steps.tick();
-        }
-    }
-}
-
-/// The stop of a run, once the rules on its stack have ended where it is a fault.
-pub fn unwind<L: Ledger>(stop: Stop, stack: &[Frame], steps: &mut Steps<L>) -> Stop
-    ensures same { result ≡ stop }
-    ensures ticks { steps.new ≡ steps.old + unwound stop stack.now }
-{
-    match stop {
-        Stop::Refused(fault) => {
-            end_all(stack, steps);
-            Stop::Refused(fault)
-        }
-        Stop::Device => Stop::Device,
-        Stop::Memory => Stop::Memory,
-    }
 }

@@ -20,6 +20,7 @@ mod names;
 mod open;
 mod running;
 mod stated;
+mod unwinding;
 
 pub use evaluation::evaluate;
 pub use evaluator::Evaluator;

@@ -1,5 +1,5 @@
 //! The statements of a file and of those that it enters, on one stack of frames.
-ghost use Rattle.std.specs.Prelude.{◌≡◌, ◌<◌, OnSome, length};
+ghost use Rattle.std.specs.Prelude.{◌≡◌, ◌<◌, IfSome, OnSome, length};
 ghost use Rattle.interp.specs.Blocks.{file_by, statements_of};
 ghost use Rattle.interp.specs.Folders.{folder};
 ghost use Rattle.interp.specs.Frames.{Does, NumberAt, Steps, Turns, others_by, round_by, rounds_left};
@@ -8,8 +8,9 @@ ghost use Rattle.interp.specs.Statements.{after_round, do_all, on_next, rounds_o
 use crate::block::{Block, statements_of};
 use crate::evaluator::Evaluator;
 use crate::flow::Flow;
-use crate::frames::{BlockRest, Frame, LoopRest, unwind};
+use crate::frames::{BlockRest, Frame, LoopRest};
 use crate::loops::round_at;
+use crate::unwinding::unwind;
 use code::Code;
 use ports::{Outputs, Tree};
 use std::rc::Rc;
@@ -20,7 +21,7 @@ use world::Stop;
 fn number_at(code: &Code, block: Block, at: usize) -> Option<usize>
     ensures is { NumberAt (statements_of code.now block) at result }
     ensures there { OnSome result (at < length (statements_of code.now block)) }
-    ensures within { OnSome result (λ number. number < length code.now.statements.items) }
+    ensures within { IfSome result (λ number. number < length code.now.statements.items) }
 {
     let numbers = statements_of(code, block);
     if at < numbers.len() {

@@ -201,21 +201,21 @@ impl<'a, T: Tree, O: Outputs, L: Ledger> Evaluator<'a, T, O, L> {
         &mut self,
         code: &Rc<Code>,
         number: usize,
-        branches: &[BranchNode],
+        parts: &[BranchNode],
         left: usize,
         stack: &mut Vec<Frame>,
     ) -> Result<Flow, Stop>
-        requires here { above above_branch branches.now ≤ length code.now.value.nodes.items }
+        requires here { above above_branch parts.now ≤ length code.now.value.nodes.items }
         requires room { HasRoom T.seen O.seen self.old }
         ensures same { Same self.old self.new }
         ensures device { Fails T.seen O.seen self.old result self.new }
         ensures gives { (otherwise : List ℕ)
-            → ((part : ℕ) → statements_of code.now.value (Part number part) ≡ branch_or otherwise branches.now part)
+            → ((part : ℕ) → statements_of code.now.value (Part number part) ≡ branch_or otherwise parts.now part)
             → Does T.seen O.seen (λ table. branches_of (folder left) (branches (map (branch_at (expressions_by table code.now.value)
-            (statements_by table code.now.value)) branches.now)) (do_all (folder left) (block_by table code.now.value otherwise)))
+            (statements_by table code.now.value)) parts.now)) (do_all (folder left) (block_by table code.now.value otherwise)))
             code.now.value self.old stack.old.items result self.new stack.new.items }
     {
-        let Some(part) = self.choose_part(code, branches)? else {
+        let Some(part) = self.choose_part(code, parts)? else {
             return Ok(Flow::Next);
         };
         stack.push(Frame::Block(BlockRest {
@@ -231,15 +231,15 @@ impl<'a, T: Tree, O: Outputs, L: Ledger> Evaluator<'a, T, O, L> {
     }
 
     // The place of the branch whose condition is the first that holds, or the place behind them; none where a disabler skips all.
-    fn choose_part(&mut self, code: &Code, branches: &[BranchNode]) -> Result<Option<usize>, Stop>
-        requires here { above above_branch branches.now ≤ length code.now.nodes.items }
+    fn choose_part(&mut self, code: &Code, parts: &[BranchNode]) -> Result<Option<usize>, Stop>
+        requires here { above above_branch parts.now ≤ length code.now.nodes.items }
         requires room { HasRoom T.seen O.seen self.old }
         ensures same { Same self.old self.new }
         ensures device { Fails T.seen O.seen self.old result self.new }
-        ensures gives { ChoosesOf T.seen O.seen branches.now code.now self.old result self.new }
+        ensures gives { ChoosesOf T.seen O.seen parts.now code.now self.old result self.new }
     {
-        for part in 0..branches.len() {
-            let branch = &branches[part];
+        for part in 0..parts.len() {
+            let branch = &parts[part];
             let value = self.eval(code, branch.condition)?;
             match self.choose(branch.line, &value)? {
                 Choice::Body => return Ok(Some(part)),
@@ -247,6 +247,6 @@ impl<'a, T: Tree, O: Outputs, L: Ledger> Evaluator<'a, T, O, L> {
                 Choice::Skip => return Ok(None),
             }
         }
-        Ok(Some(branches.len()))
+        Ok(Some(parts.len()))
     }
 }
