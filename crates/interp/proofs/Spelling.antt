@@ -1,34 +1,53 @@
 -- What the statements of code spell, by the table of names as it was when the code was made.
-use Rattle.std.proofs.Common.{◌≡◌, ℕ, zero, suc, ◌+◌, ◌-◌, ◌<◌, ◌≤◌, List, [], ◌∷◌, drop, length, length-append, length-drop, get_or, map, IsTrue, Option, Some, None, option_map, refl, sym, ap, subst, ◌∙◌, arith}
-use Rattle.std.specs.Prelude.{nat_lt}
+use Rattle.std.proofs.Common.{◌≡◌, ℕ, zero, suc, ◌+◌, ◌-◌, ◌<◌, ◌≤◌, List, [], ◌∷◌, drop, drop_of_length-le, IsErrAnd, Result, Ok, Err, length, length-append, length-drop, get_or, max, string_bytes, String, Global, Vec, map, IsTrue, Option, Some, None, option_map, refl, sym, ap, subst, ◌∙◌, arith}
+use Rattle.std.specs.Prelude.{nat_lt, ◌&&◌}
+use Rattle.std.specs.List.{list_all}
 use Rattle.code.specs.Draft.{Begins as IsFront}
-use Rattle.code.specs.Statements.{branch_at, name_at, second_within, statement_at, statement_tree, statement_within}
+use Rattle.code.specs.Nodes.{argument_at, tree_at, tree_of}
+use Rattle.code.specs.Statements.{branch_at, branch_within, name_at, second_within, statement_at, statement_tree, statement_within}
 use Rattle.code.specs.declared.code.Code.{Code}
+use Rattle.code.specs.declared.node.ArgumentNode.{ArgumentNode}
+use Rattle.code.specs.declared.node.Node.{Node}
+use Rattle.code.specs.declared.node.Node.TheVariants as nodes
 use Rattle.code.specs.declared.node.BranchNode.{BranchNode}
 use Rattle.code.specs.declared.node.StatementNode.{StatementNode}
 use Rattle.code.specs.declared.node.StatementNode.TheVariants as flat
-use Rattle.code.proofs.CallerLemmas.{statement_opens, statement_parts_before}
-use Rattle.code.proofs.Trees.{at_front, is_less}
-use Rattle.grammar.specs.ExpressionTree.{ExpressionTree}
-use Rattle.grammar.specs.Tree.{StatementTree, Statements, branches, statements}
-use Rattle.world.specs.Plan.{Plan}
+use Rattle.code.proofs.CallerLemmas.{node_opens, statement_opens, statement_parts_before}
+use Rattle.code.proofs.Trees.{at_front, both_true, is_less, less}
+use Rattle.grammar.specs.ExpressionTree.{ExpressionTree, FunctionTree, arguments}
+use Rattle.grammar.specs.Tree.{StatementTree, Statements, MoreBranches, branches, statements}
+use Rattle.world.specs.Deed.{Files}
+use Rattle.world.specs.Plan.{Plan, give, next, ruled}
+use Rattle.world.specs.declared.stop.Stop.{Stop}
 use Rattle.interp.specs.Blocks.{block_by, branch_or, expressions_by, node_at, statements_by}
-use Rattle.interp.specs.Evaluates.{Reads}
-use Rattle.interp.specs.Frames.{Made, part_done}
+use Rattle.interp.specs.Evaluates.{Given, Reads, Stand}
+use Rattle.interp.specs.Expressions.{value_of}
+use Rattle.interp.specs.Frames.{Chooses, Leads, Made, above_branch, part_done}
+use Rattle.interp.specs.Parts.{above}
 use Rattle.interp.specs.Rounds.{RoundAt, round_data}
-use Rattle.interp.specs.Statements.{Round, bound, do_all}
+use Rattle.interp.specs.Statements.{Round, bound, do_all, stated}
 use Rattle.interp.specs.declared.loops.Round.{Round as Declared}
 use Rattle.interp.specs.declared.flow.Flow.{Flow}
+use Rattle.interp.specs.declared.flow.Flow.TheVariants.{Next}
+use Rattle.interp.proofs.Evaluating.{given_stop, next_is}
 use Rattle.interp.proofs.Reading.{name_of}
+use Rattle.interp.proofs.Stack.{leads_end}
 
 -- the trees of the expressions
-pub reads : {c : Code} {names table : List (List ℕ)} → Made c names table → Reads (expressions_by table c) c names
-reads {table = table} m = record { table = table; front = m.front; known = m.known; are = refl }
+pub reads_at : {c d : Code} {names table : List (List ℕ)} → d ≡ c → Made c names table → Reads (expressions_by table c) d names
+reads_at {table = table} e m = record {
+  table = table;
+  front = m.front;
+  known = subst (λ (x : Code). x.names ≤ length table) (sym e) m.known;
+  are = ap (λ (x : Code). expressions_by table x) (sym e);
+}
 
 -- a name is what it was
 pub named : {c : Code} {names table : List (List ℕ)} (m : Made c names table) (number : ℕ) → IsTrue (nat_lt number c.names)
     → (number < length names) × (name_at names number ≡ name_at table number)
-named m number h = name_of (reads m) number h
+named {c = c} {names = names} {table = table} m number h =
+    let r : Reads (expressions_by table c) c names = record { table = table; front = m.front; known = m.known; are = refl } in
+    name_of r number h
 
 pub second_named : {c : Code} {names table : List (List ℕ)} (m : Made c names table) (second : Option ℕ) → IsTrue (second_within c.names second)
     → IsTrue (second_within (length names) second) × (option_map (name_at names) second ≡ option_map (name_at table) second)
@@ -109,3 +128,55 @@ pub bound_as : {c : Code} {names table : List (List ℕ)} (m : Made c names tabl
 bound_as {names = names} {table = table} m line first second r h k =
     ap (λ (n : List ℕ). bound line n (option_map (name_at names) second) r) (named m first h).1
     ∙ ap (λ (o : Option (List ℕ)). bound line (name_at table first) o r) (second_named m second k).1
+
+-- the next branch
+pub branch_next : (ts : List ExpressionTree) (ss : List StatementTree) (bs : List BranchNode) (i : ℕ) (b : BranchNode) → i < length bs → b ≡ get_or bs i b
+    → branches (map (branch_at ts ss) (drop i bs)) ≡ MoreBranches (tree_at ts b.condition) b.line (statements (map (statement_at ss) b.body.items)) (branches (map (branch_at ts ss) (drop (i + 1) bs)))
+branch_next ts ss bs i b l at = ap branches (next_is (branch_at ts ss) bs i b l at)
+
+-- a choice that stops
+pub chooses_stop : {A C : Type 0} {view : C → A} {files : Files} {whole : Plan Flow} {p : Plan A} {others : A → Plan Flow} {s0 s1 s2 : Stand} {stop : Stop} (part : Option ℕ → Plan Flow) (result : Result (Option ℕ) Stop)
+    → IsErrAnd result (λ e. e ≡ stop) → Leads files whole s0 (next p others) s1 → Given view files p s1 (Err stop) s2 → Chooses files whole s0 part result s2
+chooses_stop part (Ok x) is l g = absurd is
+chooses_stop part (Err e) is l g = leads_end l (given_stop g is)
+
+pub drop_all : {A : Type 0} (xs : List A) (i : ℕ) → length xs ≤ i → drop i xs ≡ []
+drop_all xs i le = drop_of_length-le xs le
+
+-- ---- expressions alone
+
+-- the tree of a node that is a call
+pub call_at : (table : List (List ℕ)) (c : Code) (value : ℕ) (x : Node) (name : String Global) (items : Vec ArgumentNode Global) (line : ℕ) → value < length c.nodes.items → x ≡ get_or c.nodes.items value x → x ≡ nodes.Call name items line
+    → tree_at (expressions_by table c) value ≡ FunctionTree (string_bytes name) (arguments (map (argument_at (expressions_by table c)) items.items)) line
+call_at table c value x name items line l at is = node_opens table c.names c.nodes.items value x c.ordered l ∙ ap (tree_of table (expressions_by table c)) (sym at ∙ is)
+
+stated_other : (into : List ℕ → Plan Flow) (table : List (List ℕ)) (ts : List ExpressionTree) (x : Node)
+    → ((name : String Global) (items : Vec ArgumentNode Global) (line : ℕ) → x ≡ nodes.Call name items line → ⊥)
+    → stated into (tree_of table ts x) ≡ next (ruled (value_of (tree_of table ts x))) (λ _. give Next)
+stated_other into table ts (nodes.Name number line) h = refl
+stated_other into table ts (nodes.Literal literal text line) h = refl
+stated_other into table ts (nodes.List items line) h = refl
+stated_other into table ts (nodes.Dictionary es line) h = refl
+stated_other into table ts (nodes.Call name items line) h = absurd (h name items line refl)
+stated_other into table ts (nodes.Postfix first ls line) h = refl
+stated_other into table ts (nodes.Prefix prefix value line) h = refl
+stated_other into table ts (nodes.Chain first others line) h = refl
+stated_other into table ts (nodes.Ternary test one other line) h = refl
+
+-- what is stated by a node that is none
+pub stated_at : (into : List ℕ → Plan Flow) (table : List (List ℕ)) (c : Code) (value : ℕ) (x : Node) → value < length c.nodes.items → x ≡ get_or c.nodes.items value x
+    → ((name : String Global) (items : Vec ArgumentNode Global) (line : ℕ) → x ≡ nodes.Call name items line → ⊥)
+    → next (ruled (value_of (tree_at (expressions_by table c) value))) (λ _. give Next) ≡ stated into (tree_at (expressions_by table c) value)
+stated_at into table c value x l at h =
+    let e : tree_at (expressions_by table c) value ≡ tree_of table (expressions_by table c) x = node_opens table c.names c.nodes.items value x c.ordered l ∙ ap (tree_of table (expressions_by table c)) (sym at) in
+    sym (ap (stated into) e ∙ stated_other into table (expressions_by table c) x h ∙ ap (λ (t : ExpressionTree). next (ruled (value_of t)) (λ _. give Next)) (sym e))
+
+-- the conditions of branches are there
+pub branches_reach : (m n : ℕ) (bs : List BranchNode) → IsTrue (list_all (branch_within m n) bs) → above above_branch bs ≤ m
+branches_reach m n [] h = omega arith
+branches_reach m n (b ∷ bs) h =
+    let p = both_true (branch_within m n b) (list_all (branch_within m n) bs) h in
+    let q = both_true (nat_lt b.condition m) (list_all (λ i. nat_lt i n) b.body.items) p.0 in
+    let a : b.condition < m = less b.condition m q.0 in
+    let r : above above_branch bs ≤ m = branches_reach m n bs p.1 in
+    omega arith

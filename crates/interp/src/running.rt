@@ -42,15 +42,16 @@ impl<'a, T: Tree, O: Outputs, L: Ledger> Evaluator<'a, T, O, L> {
         ensures device { Fails T.seen O.seen self.old result self.new }
         ensures gives { Answers T.seen O.seen (λ f. f) (do_all (folder 63) (file_by self.old.store.now.names code)) self.old result self.new }
     {
+        let shared = Rc::new(self.alloc, code)?;
         let mut stack = Vec::new(self.alloc);
         stack.push(Frame::Block(BlockRest {
-            code: Rc::new(self.alloc, code)?,
+            code: shared,
             block: Block::File,
             at: 0,
             left: 63,
         }))?;
         let mut flow = Flow::Next;
-        for _ in 0..u64::MAX {
+        for _step in 0..u64::MAX {
             let Some(frame) = stack.pop() else {
                 return Ok(flow);
             };

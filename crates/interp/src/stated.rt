@@ -183,17 +183,19 @@ impl<'a, T: Tree, O: Outputs, L: Ledger> Evaluator<'a, T, O, L> {
             code.now.value self.old stack.old.items result self.new stack.new.items }
     {
         let whole = self.eval(code, list)?;
-        if let Err(refusal) = check_loop(head.second.is_some(), &whole) {
-            return self.refuse(head.line, refusal, "");
+        match check_loop(head.second.is_some(), &whole) {
+            Ok(()) => {
+                stack.push(Frame::Loop(LoopRest {
+                    code: code.clone()?,
+                    head,
+                    whole,
+                    at: 0,
+                    left,
+                }))?;
+                Ok(Flow::Next)
+            }
+            Err(refusal) => self.refuse(head.line, refusal, ""),
         }
-        stack.push(Frame::Loop(LoopRest {
-            code: code.clone()?,
-            head,
-            whole,
-            at: 0,
-            left,
-        }))?;
-        Ok(Flow::Next)
     }
 
     // An `if` begins: the statements of the part that is chosen are to be done.
@@ -215,19 +217,21 @@ impl<'a, T: Tree, O: Outputs, L: Ledger> Evaluator<'a, T, O, L> {
             (statements_by table code.now.value)) parts.now)) (do_all (folder left) (block_by table code.now.value otherwise)))
             code.now.value self.old stack.old.items result self.new stack.new.items }
     {
-        let Some(part) = self.choose_part(code, parts)? else {
-            return Ok(Flow::Next);
-        };
-        stack.push(Frame::Block(BlockRest {
-            code: code.clone()?,
-            block: Block::Part {
-                statement: number,
-                part,
-            },
-            at: 0,
-            left,
-        }))?;
-        Ok(Flow::Next)
+        match self.choose_part(code, parts)? {
+            Some(part) => {
+                stack.push(Frame::Block(BlockRest {
+                    code: code.clone()?,
+                    block: Block::Part {
+                        statement: number,
+                        part,
+                    },
+                    at: 0,
+                    left,
+                }))?;
+                Ok(Flow::Next)
+            }
+            None => Ok(Flow::Next),
+        }
     }
 
     // The place of the branch whose condition is the first that holds, or the place behind them; none where a disabler skips all.

@@ -56,8 +56,8 @@ returns-clause-gives g c = λ files rests hold stacked.
     let b = stacked_top c.push.new.self.items c.push-2.new.self.items (rests ++ outer ∷ []) frames.End End c.in_ok-push-2.ensures.items a refl in
     let body = file_by names c.in_ok-opened.opened in
     moves_block c.push-2.new.self.items c.push-3.new.self.items ((rests ++ outer ∷ []) ++ End ∷ []) _ names b c.in_ok-push-3.ensures.items
-    (made_now c.in_ok-code.ensures c.in_ok-opened.ensures.known)
-    (leads_as (ap (λ d. behind_all rests (behind outer (behind End (do_all (folder k) (file_by names d))))) (sym c.in_ok-code.ensures) ∙ sym (behind_two rests outer End _))
+    (made_now c.in_ok-code.ensures.ok c.in_ok-opened.ensures.known)
+    (leads_as (ap (λ d. behind_all rests (behind outer (behind End (do_all (folder k) (file_by names d))))) (sym c.in_ok-code.ensures.ok) ∙ sym (behind_two rests outer End _))
     (leads_under rests (leads_further f (leads_next o))))
 
 pub returns-in_err-code-clause-gives : goal.returns-in_err-code-clause-gives
