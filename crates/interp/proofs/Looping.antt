@@ -10,7 +10,7 @@ use Rattle.interp.specs.Rounds.{Loops, rounds_in}
 use Rattle.interp.specs.Statements.{Round, item_rounds, entry_rounds, limited, looped, rounds_of, walked}
 use Rattle.interp.specs.declared.flow.Flow.{Flow}
 
-few-if : (b : Bool) (n : ℕ) (rs : List Round) → nat_le n 65536 ≡ b → (if b then Ok {E = Refusal} rs else Err refusals.Limit) ≡ Ok rs → n ≤ 65536
+few-if : (b : Bool) (n : ℕ) (rs : List Round) → nat_le n 65536 ≡ b → ◌≡◌ {A = Result (List Round) Refusal} (if b then Ok rs else Err refusals.Limit) (Ok rs) → n ≤ 65536
 few-if true n rs e h = grind (arith, nat_tests)
 few-if false n rs e h = absurd cc
 

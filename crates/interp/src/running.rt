@@ -1,5 +1,5 @@
 //! The statements of a file and of those that it enters, on one stack of frames.
-ghost use Rattle.std.specs.Prelude.{◌≡◌, ◌<◌, IfSome, OnSome, length};
+ghost use Rattle.std.specs.Prelude.{◌≡◌, ◌<◌, ◌+◌, ◌^◌, IfSome, OnSome, length};
 ghost use Rattle.interp.specs.Blocks.{file_by, statements_of};
 ghost use Rattle.interp.specs.Folders.{folder};
 ghost use Rattle.interp.specs.Frames.{Does, NumberAt, Steps, Turns, others_by, round_by, rounds_left};
@@ -20,7 +20,7 @@ use world::Stop;
 // The number of the statement at a place of a block, none behind the last.
 fn number_at(code: &Code, block: Block, at: usize) -> Option<usize>
     ensures is { NumberAt (statements_of code.now block) at result }
-    ensures there { OnSome result (at < length (statements_of code.now block)) }
+    ensures room { OnSome result (at + 1 < 2 ^ 64) }
     ensures within { IfSome result (λ number. number < length code.now.statements.items) }
 {
     let numbers = statements_of(code, block);
@@ -40,7 +40,8 @@ impl<'a, T: Tree, O: Outputs, L: Ledger> Evaluator<'a, T, O, L> {
         requires room { HasRoom T.seen O.seen self.old }
         ensures same { Same self.old self.new }
         ensures device { Fails T.seen O.seen self.old result self.new }
-        ensures gives { Answers T.seen O.seen (λ f. f) (do_all (folder 63) (file_by self.old.store.now.names code)) self.old result self.new }
+        ensures gives { Answers T.seen O.seen (λ f. f) (do_all (folder 63) (file_by self.old.store.now.names code))
+            self.old result self.new }
     {
         let shared = Rc::new(self.alloc, code)?;
         let mut stack = Vec::new(self.alloc);
@@ -159,8 +160,8 @@ impl<'a, T: Tree, O: Outputs, L: Ledger> Evaluator<'a, T, O, L> {
         requires room { HasRoom T.seen O.seen self.old }
         ensures same { Same self.old self.new }
         ensures device { Fails T.seen O.seen self.old result self.new }
-        ensures gives { Does T.seen O.seen (λ table. rounds_of (round_by table rest.code.value rest.left rest.head) (rounds_left rest)) rest.code.value
-            self.old stack.old.items result self.new stack.new.items }
+        ensures gives { Does T.seen O.seen (λ table. rounds_of (round_by table rest.code.value rest.left rest.head) (rounds_left rest))
+            rest.code.value self.old stack.old.items result self.new stack.new.items }
     {
         let Some(round) = round_at(&rest.whole, rest.at)? else {
             return Ok(Flow::Next);

@@ -93,8 +93,8 @@ impl<'a, T: Tree, O: Outputs, L: Ledger> Evaluator<'a, T, O, L> {
         ensures same { Same self.old self.new }
         ensures device { Fails T.seen O.seen self.old result self.new }
         ensures gives { name < length self.old.store.now.names → Evaluates T.seen O.seen (λ f. f) (λ ts.
-            next (ruled (value_of (tree_at ts value))) (λ d. next (assigned line (name_at self.old.store.now.names name) d) (λ _. give Next)))
-            code.now self.old result self.new }
+            next (ruled (value_of (tree_at ts value))) (λ d. next (assigned line (name_at self.old.store.now.names name) d)
+            (λ _. give Next))) code.now self.old result self.new }
     {
         let value = self.eval(code, value)?;
         self.assign(line, name, value)?;

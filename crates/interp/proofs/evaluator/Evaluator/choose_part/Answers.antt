@@ -8,7 +8,7 @@ use Rattle.interp.specs.Frames.{above_branch, part_done}
 use Rattle.interp.specs.Statements.{branches_of, do_all}
 use Rattle.interp.specs.declared.conditions.Choice.{Choice}
 use Rattle.interp.proofs.Reading.{reads_on}
-use Rattle.interp.proofs.Spelling.{branch_next, chooses_stop, part_behind, part_there}
+use Rattle.interp.proofs.Spelling.{branch_next, chooses_stop, drop_all, part_behind, part_there}
 use Rattle.interp.proofs.Stack.{leads_as, leads_further, leads_next, leads_start}
 use Rattle.interp.proofs.evaluator.Evaluator.choose_part.Goals as goal
 
@@ -63,6 +63,5 @@ loop-part-preserved g c = record { same = search rules; tree = search rules; out
 
 pub returns-clause-gives : goal.returns-clause-gives
 returns-clause-gives g c = λ files ts ss left otherwise hold reads.
-    let ts' = ts in
     leads_as (ap (λ (bs : List BranchNode). branches_of (folder left) (branches (map (branch_at ts ss) bs)) (do_all (folder left) otherwise)) (drop_all c.args.parts.now c.loop-part.part c.loop-part-test.false)
-    ∙ sym (part_behind (folder left) ts ss otherwise c.args.parts.now _ ?)) (c.loop-part.invariant.done files ts ss left otherwise hold reads)
+    ∙ sym (part_behind (folder left) ts ss otherwise c.args.parts.now (length c.args.parts.now) (omega arith))) (c.loop-part.invariant.done files ts ss left otherwise hold reads)

@@ -14,13 +14,13 @@ use Rattle.interp.proofs.Spelling.{bound_as, named, place_there, second_named, r
 use Rattle.interp.proofs.Stack.{leads_as, leads_next, leads_start, leads_under, made_as, made_on, moves_as, moves_block, moves_given, moves_none, moves_round, stacked_on}
 use Rattle.interp.proofs.evaluator.Evaluator.next_round.Goals as goal
 
-pub returns-in_err-round_at-clause-gives : goal.returns-in_err-round_at-clause-gives
-returns-in_err-round_at-clause-gives g c = λ files rests table hold stacked made. moves_none c.from_residual.result c.args.stack.now.items (leads_start hold) c.from_residual.ensures.1
+pub returns-in_err-round-clause-gives : goal.returns-in_err-round-clause-gives
+returns-in_err-round-clause-gives g c = λ files rests table hold stacked made. moves_none c.from_residual.result c.args.stack.now.items (leads_start hold) c.from_residual.ensures.1
 
 pub returns-in_default-clause-gives : goal.returns-in_default-clause-gives
 returns-in_default-clause-gives g c = λ files rests table hold stacked made.
     let l = c.args.rest in
-    moves_as (ap (λ (xs : List Round). behind_all rests (rounds_of (round_by table l.code.value l.left l.head) xs)) (sym (round_none (rounds_in (data_of l.whole)) l.at c.in_ok-round_at.field-0 c.in_default.is c.in_ok-round_at.ensures)))
+    moves_as (ap (λ (xs : List Round). behind_all rests (rounds_of (round_by table l.code.value l.left l.head) xs)) (sym (round_none (rounds_in (data_of l.whole)) l.at c.in_ok-round.field-0 c.in_default.is c.in_ok-round.ensures)))
     (moves_given c.args.stack.now.items rests (Ok flows.Next) stacked (given_give hold refl))
 
 pub returns-in_err-clone-clause-gives : goal.returns-in_err-clone-clause-gives
@@ -32,18 +32,18 @@ returns-in_err-push-clause-gives g c = λ files rests table hold stacked made. m
 pub returns-in_err-push-2-clause-gives : goal.returns-in_err-push-2-clause-gives
 returns-in_err-push-2-clause-gives g c = λ files rests table hold stacked made. moves_none c.from_residual-in_err-push-2.result c.push-2.new.self.items (leads_start hold) c.from_residual-in_err-push-2.ensures.1
 
-pub overflow_add-push : goal.overflow_add-push
-overflow_add-push g c =
+pub overflow_add-at : goal.overflow_add-at
+overflow_add-at g c =
     let l = c.args.rest in
     let xs = rounds_in (data_of l.whole) in
-    let here = round_is xs l.at c.in_ok-round_at.field-0 c.in-Some.round c.in-Some.is c.in_ok-round_at.ensures in
+    let here = round_is xs l.at c.in_ok-round.field-0 c.in-Some.round c.in-Some.is c.in_ok-round.ensures in
     omega (arith, place_there xs l.at (round_data c.in-Some.round) (drop (l.at + 1) xs) here, l.few)
 
 pub returns-in_err-bind-clause-gives : goal.returns-in_err-bind-clause-gives
 returns-in_err-bind-clause-gives g c = λ files rests table hold stacked made.
     let l = c.args.rest in
     let xs = rounds_in (data_of l.whole) in
-    let here = round_is xs l.at c.in_ok-round_at.field-0 c.in-Some.round c.in-Some.is c.in_ok-round_at.ensures in
+    let here = round_is xs l.at c.in_ok-round.field-0 c.in-Some.round c.in-Some.is c.in_ok-round.ensures in
     let names = c.args.self.now.store.now.names in
     let bind = given_as (bound_as made l.head.line l.head.first l.head.second (round_data c.in-Some.round) l.first l.second)
         (c.in_err-bind.ensures.gives (named made l.head.first l.first).0 (second_named made l.head.second l.second).0 files hold) in
@@ -54,7 +54,7 @@ pub returns-in_err-push-3-clause-gives : goal.returns-in_err-push-3-clause-gives
 returns-in_err-push-3-clause-gives g c = λ files rests table hold stacked made.
     let l = c.args.rest in
     let xs = rounds_in (data_of l.whole) in
-    let here = round_is xs l.at c.in_ok-round_at.field-0 c.in-Some.round c.in-Some.is c.in_ok-round_at.ensures in
+    let here = round_is xs l.at c.in_ok-round.field-0 c.in-Some.round c.in-Some.is c.in_ok-round.ensures in
     let names = c.args.self.now.store.now.names in
     let bind = given_as (bound_as made l.head.line l.head.first l.head.second (round_data c.in-Some.round) l.first l.second)
         (c.in_ok-bind.ensures.gives (named made l.head.first l.first).0 (second_named made l.head.second l.second).0 files hold) in
@@ -65,7 +65,7 @@ pub returns-clause-gives : goal.returns-clause-gives
 returns-clause-gives g c = λ files rests table hold stacked made.
     let l = c.args.rest in
     let xs = rounds_in (data_of l.whole) in
-    let here = round_is xs l.at c.in_ok-round_at.field-0 c.in-Some.round c.in-Some.is c.in_ok-round_at.ensures in
+    let here = round_is xs l.at c.in_ok-round.field-0 c.in-Some.round c.in-Some.is c.in_ok-round.ensures in
     let names = c.args.self.now.store.now.names in
     let bind = given_as (bound_as made l.head.line l.head.first l.head.second (round_data c.in-Some.round) l.first l.second)
         (c.in_ok-bind.ensures.gives (named made l.head.first l.first).0 (second_named made l.head.second l.second).0 files hold) in

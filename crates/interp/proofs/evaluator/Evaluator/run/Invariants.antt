@@ -9,8 +9,8 @@ use Rattle.interp.specs.Statements.{do_all}
 use Rattle.interp.proofs.evaluator.Evaluator.run.Given as goal
 
 -- the whole is what the stack still does
-abbrev pub invariant-loop-_step : goal.invariant-loop-_step
-invariant-loop-_step g l =
+abbrev pub invariant-loop-step : goal.invariant-loop-step
+invariant-loop-step g l =
     let see = g.T.Tree.seen in
     let heard = g.O.Outputs.seen in
     record {

@@ -23,7 +23,7 @@ perform-requires-clause-here g c =
     let reach : above above_argument c.in-Call.arguments.items ≤ c.args.value = arguments_reach c.args.value c.in-Call.arguments.items
         (parts_at c.args.code.now c.args.value c.index.result.now (nodes.Call c.in-Call.name c.in-Call.arguments c.in-Call.line) c.requires.here c.index.ensures c.in-Call.is) in
     let near : above above_argument c.in-Call.arguments.items ≤ length c.args.code.now.nodes.items = omega (arith, reach, c.requires.here) in
-    subst (λ (xs : List ArgumentNode). above above_argument xs ≤ length c.args.code.now.nodes.items) (sym c.deref-in-Call-2.ensures.value) near
+    subst (λ (xs : List ArgumentNode). above above_argument xs ≤ length c.args.code.now.nodes.items) (sym c.deref-in-Call.ensures.value) near
 
 pub returns-in_err-push-clause-gives : goal.returns-in_err-push-clause-gives
 returns-in_err-push-clause-gives g c = λ files rests table hold stacked made.
@@ -38,7 +38,7 @@ returns-in_err-way-clause-gives g c = λ files rests table hold stacked made.
     let two = stacked_top fs gs rests frames.End End c.in_ok-push.ensures.items stacked refl in
     let ts = expressions_by table c.args.code.now in
     let done = λ (n : List ℕ) (xs : List ArgumentNode). performed c.in-Call.line n (arguments (map (argument_at ts) xs)) in
-    let same = ap (λ (n : List ℕ). done n c.deref-in-Call-2.result.now) c.deref-in-Call.ensures ∙ ap (done (string_bytes c.in-Call.name)) c.deref-in-Call-2.ensures.value in
+    let same = ap (λ (n : List ℕ). done n c.deref-in-Call.result.now) c.deref.ensures ∙ ap (done (string_bytes c.in-Call.name)) c.deref-in-Call.ensures.value in
     let whole = behind_top rests End (next (done (string_bytes c.in-Call.name) c.in-Call.arguments.items) (λ w. by_way into w)) ∙ ap (λ (t : ExpressionTree). behind_all rests (stated into t)) (sym tree) in
     moves_as whole (moves_given gs (rests ++ End ∷ []) c.from_residual-in_err-way.result two
     (given_stop (given_as same (c.in_err-way.ensures.gives files ts hold (reads_at refl made))) c.from_residual-in_err-way.ensures.1))
@@ -52,7 +52,7 @@ returns-in_ok-way-clause-gives g c = λ files rests table hold stacked made.
     let two = stacked_top fs gs rests frames.End End c.in_ok-push.ensures.items stacked refl in
     let ts = expressions_by table c.args.code.now in
     let done = λ (n : List ℕ) (xs : List ArgumentNode). performed c.in-Call.line n (arguments (map (argument_at ts) xs)) in
-    let same = ap (λ (n : List ℕ). done n c.deref-in-Call-2.result.now) c.deref-in-Call.ensures ∙ ap (done (string_bytes c.in-Call.name)) c.deref-in-Call-2.ensures.value in
+    let same = ap (λ (n : List ℕ). done n c.deref-in-Call.result.now) c.deref.ensures ∙ ap (done (string_bytes c.in-Call.name)) c.deref-in-Call.ensures.value in
     let whole = behind_top rests End (next (done (string_bytes c.in-Call.name) c.in-Call.arguments.items) (λ w. by_way into w)) ∙ ap (λ (t : ExpressionTree). behind_all rests (stated into t)) (sym tree) in
     let p = given_as same (c.in_ok-way.ensures.gives files ts hold (reads_at refl made)) in
     moves_as whole (moves_then c.take_way.result (leads_under (rests ++ End ∷ []) (leads_next {view = way_view} {others = λ w. by_way into w} p))

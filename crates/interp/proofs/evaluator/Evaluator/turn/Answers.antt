@@ -41,4 +41,4 @@ returns-in-Left-clause-gives g c = λ files rests rest hold stacked means.
     moves_as (ap (λ (r : Rest). behind_all rests (behind r (give c.args.flow))) (sym m))
     (moves_given c.args.stack.now.items rests (Ok flows.Next) stacked
     (given_then {view = λ f. f} {x = c.args.flow} (given_give hold refl)
-    (given_then (given_change hold c.go.ensures.moved c.go.ensures.names) (given_give hold refl))))
+    (given_then (given_change hold c.go-inner.ensures.moved c.go-inner.ensures.names) (given_give hold refl))))
