@@ -1,13 +1,18 @@
 pub mod Assigning
 pub mod Blocks
 mod Costs
+pub mod Ending
 pub mod Evaluating
 pub mod Filling
+pub mod Looping
 pub mod Opening
 mod Pairs
 mod Paths
 mod Pieces
+pub mod Places
 pub mod Reading
+pub mod Spelling
+pub mod Stack
 mod Starting
 mod Ticking
 mod Values

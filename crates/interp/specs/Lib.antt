@@ -9,6 +9,7 @@ pub mod Evaluation
 pub mod Expressions
 pub mod Files
 pub mod Folders
+pub mod Frames
 pub mod Laws
 pub mod Parts
 pub mod Reading

@@ -1,15 +1,35 @@
-//! The statements of a file and of those that it enters.
-ghost use Rattle.std.specs.Prelude.{◌≡◌, length};
-ghost use Rattle.interp.specs.Blocks.{file_by};
+//! The statements of a file and of those that it enters, on one stack of frames.
+ghost use Rattle.std.specs.Prelude.{◌≡◌, ◌<◌, ◌+◌, ◌^◌, IfSome, OnSome, length};
+ghost use Rattle.interp.specs.Blocks.{file_by, statements_of};
 ghost use Rattle.interp.specs.Folders.{folder};
-ghost use Rattle.interp.specs.Statements.{do_all};
+ghost use Rattle.interp.specs.Frames.{Does, NumberAt, Steps, Turns, others_by, round_by, rounds_left};
+ghost use Rattle.interp.specs.Statements.{after_round, do_all, on_next, rounds_of};
 
+use crate::block::{Block, statements_of};
 use crate::evaluator::Evaluator;
 use crate::flow::Flow;
+use crate::frames::{BlockRest, Frame, LoopRest};
+use crate::loops::round_at;
+use crate::unwinding::unwind;
 use code::Code;
 use ports::{Outputs, Tree};
+use std::rc::Rc;
 use std::sync::ledger::Ledger;
 use world::Stop;
+
+// The number of the statement at a place of a block, none behind the last.
+fn number_at(code: &Code, block: Block, at: usize) -> Option<usize>
+    ensures is { NumberAt (statements_of code.now block) at result }
+    ensures room { OnSome result (at + 1 < 2 ^ 64) }
+    ensures within { IfSome result (λ number. number < length code.now.statements.items) }
+{
+    let numbers = statements_of(code, block);
+    if at < numbers.len() {
+        Some(numbers[at])
+    } else {
+        None
+    }
+}
 
 impl<'a, T: Tree, O: Outputs, L: Ledger> Evaluator<'a, T, O, L> {
     ghost use Rattle.interp.specs.Evaluates.{Answers, Fails, HasRoom, Same};
@@ -20,8 +40,154 @@ impl<'a, T: Tree, O: Outputs, L: Ledger> Evaluator<'a, T, O, L> {
         requires room { HasRoom T.seen O.seen self.old }
         ensures same { Same self.old self.new }
         ensures device { Fails T.seen O.seen self.old result self.new }
-        ensures gives { Answers T.seen O.seen (λ f. f) (do_all (folder 63) (file_by self.old.store.now.names code)) self.old result self.new }
+        ensures gives { Answers T.seen O.seen (λ f. f) (do_all (folder 63) (file_by self.old.store.now.names code))
+            self.old result self.new }
     {
+        let shared = Rc::new(self.alloc, code)?;
+        let mut stack = Vec::new(self.alloc);
+        stack.push(Frame::Block(BlockRest {
+            code: shared,
+            block: Block::File,
+            at: 0,
+            left: 63,
+        }))?;
+        let mut flow = Flow::Next;
+        for _step in 0..u64::MAX {
+            let Some(frame) = stack.pop() else {
+                return Ok(flow);
+            };
+            flow = self.step(frame, flow, &mut stack)?;
+        }
         Err(Stop::Memory)
+    }
+
+    // What one frame does, which was taken from the stack. A fault ends the rules that are left on it.
+    fn step(&mut self, frame: Frame, flow: Flow, stack: &mut Vec<Frame>) -> Result<Flow, Stop>
+        requires room { HasRoom T.seen O.seen self.old }
+        ensures same { Same self.old self.new }
+        ensures device { Fails T.seen O.seen self.old result self.new }
+        ensures gives { Steps T.seen O.seen frame flow self.old stack.old.items result self.new stack.new.items }
+    {
+        match self.turn(frame, flow, stack) {
+            Ok(flow) => Ok(flow),
+            Err(stop) => Err(unwind(stop, stack, self.steps)),
+        }
+    }
+
+    // The same, before rules have ended by a fault.
+    fn turn(&mut self, frame: Frame, flow: Flow, stack: &mut Vec<Frame>) -> Result<Flow, Stop>
+        requires room { HasRoom T.seen O.seen self.old }
+        ensures same { Same self.old self.new }
+        ensures device { Fails T.seen O.seen self.old result self.new }
+        ensures gives { Turns T.seen O.seen frame flow self.old stack.old.items result self.new stack.new.items }
+    {
+        match frame {
+            Frame::Block(rest) => self.go_on(rest, flow, stack),
+            Frame::Loop(rest) => self.go_round(rest, flow, stack),
+            Frame::End => {
+                self.steps.tick();
+                Ok(flow)
+            }
+            Frame::Left(place) => {
+                let _inner = self.store.go(place);
+                Ok(Flow::Next)
+            }
+        }
+    }
+
+    // After a statement.
+    fn go_on(&mut self, rest: BlockRest, flow: Flow, stack: &mut Vec<Frame>) -> Result<Flow, Stop>
+        requires room { HasRoom T.seen O.seen self.old }
+        ensures same { Same self.old self.new }
+        ensures device { Fails T.seen O.seen self.old result self.new }
+        ensures gives { Does T.seen O.seen (λ table. on_next flow (do_all (folder rest.left) (others_by table rest))) rest.code.value
+            self.old stack.old.items result self.new stack.new.items }
+    {
+        match flow {
+            Flow::Next => self.next_statement(rest, stack),
+            Flow::Continued => Ok(Flow::Continued),
+            Flow::Broken => Ok(Flow::Broken),
+            Flow::Finished => Ok(Flow::Finished),
+        }
+    }
+
+    // The next statement of a block begins.
+    fn next_statement(&mut self, rest: BlockRest, stack: &mut Vec<Frame>) -> Result<Flow, Stop>
+        requires room { HasRoom T.seen O.seen self.old }
+        ensures same { Same self.old self.new }
+        ensures device { Fails T.seen O.seen self.old result self.new }
+        ensures gives { Does T.seen O.seen (λ table. do_all (folder rest.left) (others_by table rest)) rest.code.value
+            self.old stack.old.items result self.new stack.new.items }
+    {
+        let BlockRest {
+            code,
+            block,
+            at,
+            left,
+        } = rest;
+        let Some(number) = number_at(&code, block, at) else {
+            return Ok(Flow::Next);
+        };
+        stack.push(Frame::Block(BlockRest {
+            code: code.clone()?,
+            block,
+            at: at + 1,
+            left,
+        }))?;
+        stack.push(Frame::End)?;
+        self.begin(&code, number, left, stack)
+    }
+
+    // After a round.
+    fn go_round(&mut self, rest: LoopRest, flow: Flow, stack: &mut Vec<Frame>) -> Result<Flow, Stop>
+        requires room { HasRoom T.seen O.seen self.old }
+        ensures same { Same self.old self.new }
+        ensures device { Fails T.seen O.seen self.old result self.new }
+        ensures gives { Does T.seen O.seen (λ table. after_round flow (rounds_of (round_by table rest.code.value rest.left rest.head)
+            (rounds_left rest))) rest.code.value
+            self.old stack.old.items result self.new stack.new.items }
+    {
+        match flow {
+            Flow::Next => self.next_round(rest, stack),
+            Flow::Continued => self.next_round(rest, stack),
+            Flow::Broken => Ok(Flow::Next),
+            Flow::Finished => Ok(Flow::Finished),
+        }
+    }
+
+    // The next round of a loop begins.
+    fn next_round(&mut self, rest: LoopRest, stack: &mut Vec<Frame>) -> Result<Flow, Stop>
+        requires room { HasRoom T.seen O.seen self.old }
+        ensures same { Same self.old self.new }
+        ensures device { Fails T.seen O.seen self.old result self.new }
+        ensures gives { Does T.seen O.seen (λ table. rounds_of (round_by table rest.code.value rest.left rest.head) (rounds_left rest))
+            rest.code.value self.old stack.old.items result self.new stack.new.items }
+    {
+        let Some(round) = round_at(&rest.whole, rest.at)? else {
+            return Ok(Flow::Next);
+        };
+        let LoopRest {
+            code,
+            head,
+            whole,
+            at,
+            left,
+        } = rest;
+        stack.push(Frame::Loop(LoopRest {
+            code: code.clone()?,
+            head,
+            whole,
+            at: at + 1,
+            left,
+        }))?;
+        stack.push(Frame::End)?;
+        self.bind(head.line, head.first, head.second, round)?;
+        stack.push(Frame::Block(BlockRest {
+            code,
+            block: head.body,
+            at: 0,
+            left,
+        }))?;
+        Ok(Flow::Next)
     }
 }

@@ -1,0 +1,52 @@
+-- Folders that are entered.
+use Rattle.std.proofs.Common.{◌≡◌, ℕ, zero, suc, List, [], Result, Ok, Err, refl, ap, subst, sym}
+use Rattle.faults.specs.declared.refusal.Refusal.{Refusal}
+use Rattle.faults.specs.declared.refusal.Refusal.TheVariants as refusals
+use Rattle.world.specs.Answering.{Refuses}
+use Rattle.world.specs.Deed.{Files, refuse, read}
+use Rattle.world.specs.Gives.{Holds}
+use Rattle.world.specs.Plan.{Plan, deed, ruled, next, carry, give}
+use Rattle.world.specs.World.{Facts, fault_here}
+use Rattle.world.specs.declared.stop.Stop.{Stop}
+use Rattle.world.proofs.Follow.{begun, refused_later}
+use Rattle.world.proofs.Marks.{none_added}
+use Rattle.interp.specs.Evaluates.{Stand, Given, seen_of}
+use Rattle.interp.specs.Folders.{folder, fresh, go_back, opened}
+use Rattle.interp.specs.Frames.{Leads}
+use Rattle.interp.specs.Statements.{do_all}
+use Rattle.interp.specs.declared.flow.Flow.{Flow}
+use Rattle.interp.specs.declared.flow.Flow.TheVariants.{Next}
+use Rattle.interp.proofs.Stack.{leads_further, leads_next}
+
+-- a folder that is fresh, at the place before
+abbrev pub entered_from : ℕ → List ℕ → Facts → Plan Flow
+entered_from left path outer = next (opened path) (λ body. next (ruled (do_all (folder left) body)) (λ _. next (go_back outer) (λ _. give Next)))
+
+abbrev pub entered_fresh : ℕ → List ℕ → Plan Flow
+entered_fresh zero path = deed (refuse refusals.Limit [])
+entered_fresh (suc left) path = next (deed read) (entered_from left path)
+
+pub folder_is : (left : ℕ) (text : List ℕ) → next (fresh text) (entered_fresh left) ≡ folder left text
+folder_is zero text = refl
+folder_is (suc left) text = refl
+
+-- the place is read
+pub leads_read : {A : Type 0} {files : Files} {others : Facts → Plan A} {s : Stand} → Holds s.tree files → Leads files (next (deed read) others) s (others s.world.facts) s
+leads_read {files = files} {others = others} {s = s} h =
+    leads_next {view = λ (f : Facts). f} {x = s.world.facts} (record { gives = record { is = refl; written = none_added (seen_of s) }; holds = h })
+
+-- it is refused at the present place
+pub given_refused_here : {A B : Type 0} {view : B → A} {files : Files} {refusal : Refusal} {detail : List ℕ} {s : Stand} (result : Result B Stop) → Holds s.tree files
+    → Refuses (fault_here s.world refusal detail) result → Given view files (deed (refuse refusal detail)) s result s
+given_refused_here (Ok x) h is = absurd is
+given_refused_here {view = view} {files = files} {refusal = refusal} {detail = detail} {s = s} (Err e) h is = record {
+  gives = refused_later view (fault_here s.world refusal detail) e s.world s.world (seen_of s) (begun (carry files (deed (refuse refusal detail)) s.world) (seen_of s)) is;
+  holds = h;
+}
+
+-- a fresh folder, where one more may stand
+pub leads_fresh : {C : Type 0} {view : C → List ℕ} {files : Files} {left k : ℕ} (text : List ℕ) {s0 s1 : Stand} {path : C} → suc k ≡ left
+    → Given view files (fresh text) s0 (Ok path) s1 → Leads files (folder left text) s0 (entered_from k (view path) s1.world.facts) s1
+leads_fresh {view = view} {files = files} {k = k} text {s0 = s0} {s1 = s1} {path = path} more g =
+    subst (λ n. Leads files (folder n text) s0 (entered_from k (view path) s1.world.facts) s1) more
+    (leads_further (leads_next {others = λ p. next (deed read) (entered_from k p)} g) (leads_read g.holds))

@@ -1,0 +1,182 @@
+-- What the statements of code spell, by the table of names as it was when the code was made.
+use Rattle.std.proofs.Common.{◌≡◌, ℕ, zero, suc, ◌+◌, ◌-◌, ◌<◌, ◌≤◌, List, [], ◌∷◌, drop, drop_of_length-le, IsErrAnd, Result, Ok, Err, length, length-append, length-drop, get_or, max, string_bytes, String, Global, Vec, map, IsTrue, Option, Some, None, option_map, refl, sym, ap, subst, ◌∙◌, arith}
+use Rattle.std.specs.Prelude.{nat_lt, ◌&&◌}
+use Rattle.std.specs.List.{list_all}
+use Rattle.code.specs.Draft.{Begins as IsFront}
+use Rattle.code.specs.Nodes.{argument_at, tree_at, tree_of}
+use Rattle.code.specs.Statements.{branch_at, branch_within, name_at, second_within, statement_at, statement_tree, statement_within}
+use Rattle.code.specs.declared.code.Code.{Code}
+use Rattle.code.specs.declared.node.ArgumentNode.{ArgumentNode}
+use Rattle.code.specs.declared.node.Node.{Node}
+use Rattle.code.specs.declared.node.Node.TheVariants as nodes
+use Rattle.code.specs.declared.node.BranchNode.{BranchNode}
+use Rattle.code.specs.declared.node.StatementNode.{StatementNode}
+use Rattle.code.specs.declared.node.StatementNode.TheVariants as flat
+use Rattle.code.proofs.CallerLemmas.{node_opens, statement_opens, statement_parts_before}
+use Rattle.code.proofs.Trees.{at_front, both_true, is_less, less}
+use Rattle.grammar.specs.ExpressionTree.{ExpressionTree, FunctionTree, arguments}
+use Rattle.grammar.specs.Tree.{StatementTree, Statements, MoreBranches, branches, statements}
+use Rattle.world.specs.Deed.{Files}
+use Rattle.world.specs.Plan.{Plan, give, next, ruled}
+use Rattle.world.specs.declared.stop.Stop.{Stop}
+use Rattle.interp.specs.Blocks.{block_by, branch_or, expressions_by, node_at, statements_by}
+use Rattle.interp.specs.Evaluates.{Given, Reads, Stand}
+use Rattle.interp.specs.Expressions.{value_of}
+use Rattle.interp.specs.Frames.{Chooses, Leads, Made, above_branch, part_done}
+use Rattle.interp.specs.Parts.{above}
+use Rattle.interp.specs.Rounds.{RoundAt, round_data}
+use Rattle.interp.specs.Statements.{Round, bound, do_all, stated}
+use Rattle.interp.specs.declared.loops.Round.{Round as Declared}
+use Rattle.interp.specs.declared.flow.Flow.{Flow}
+use Rattle.interp.specs.declared.flow.Flow.TheVariants.{Next}
+use Rattle.interp.proofs.Evaluating.{given_stop, next_is}
+use Rattle.interp.proofs.Reading.{name_of}
+use Rattle.interp.proofs.Stack.{leads_end}
+
+-- the trees of the expressions
+pub reads_at : {c d : Code} {names table : List (List ℕ)} → d ≡ c → Made c names table → Reads (expressions_by table c) d names
+reads_at {table = table} e m = record {
+  table = table;
+  front = m.front;
+  known = subst (λ (x : Code). x.names ≤ length table) (sym e) m.known;
+  are = ap (λ (x : Code). expressions_by table x) (sym e);
+}
+
+-- a name is what it was
+pub named : {c : Code} {names table : List (List ℕ)} (m : Made c names table) (number : ℕ) → IsTrue (nat_lt number c.names)
+    → (number < length names) × (name_at names number ≡ name_at table number)
+named {c = c} {names = names} {table = table} m number h =
+    let r : Reads (expressions_by table c) c names = record { table = table; front = m.front; known = m.known; are = refl } in
+    name_of r number h
+
+pub second_named : {c : Code} {names table : List (List ℕ)} (m : Made c names table) (second : Option ℕ) → IsTrue (second_within c.names second)
+    → IsTrue (second_within (length names) second) × (option_map (name_at names) second ≡ option_map (name_at table) second)
+second_named m None h = (h, refl)
+second_named {names = names} m (Some number) h = let p = named m number h in (is_less number (length names) p.0, ap Some p.1)
+
+-- ---- statements
+
+get_or-there : {A : Type 0} (xs : List A) (i : ℕ) (d e : A) → i < length xs → get_or xs i d ≡ get_or xs i e
+get_or-there [] i d e l = absurd (omega arith)
+get_or-there (x ∷ xs) zero d e l = refl
+get_or-there (x ∷ xs) (suc i) d e l = get_or-there xs i d e (omega arith)
+
+-- the statement with a number
+pub node_is : (c : Code) (number : ℕ) (x node : StatementNode) → number < length c.statements.items → x ≡ get_or c.statements.items number x → x ≡ node → node_at c number ≡ node
+node_is c number x node l at is = get_or-there c.statements.items number (flat.Break 0) x l ∙ sym at ∙ is
+
+-- its tree has the trees of its parts
+pub spelled : (table : List (List ℕ)) (c : Code) (number : ℕ) (x node : StatementNode) → number < length c.statements.items → x ≡ get_or c.statements.items number x → x ≡ node
+    → statement_tree table (expressions_by table c) (statements_by table c) node ≡ statement_at (statements_by table c) number
+spelled table c number x node l at is =
+    let tree : StatementNode → StatementTree = λ y. statement_tree table (expressions_by table c) (statements_by table c) y in
+    sym (statement_opens table (expressions_by table c) c.names (length c.nodes.items) c.statements.items number x c.placed l ∙ ap tree (sym at ∙ is))
+
+-- and these are there
+pub parts_of : (c : Code) (number : ℕ) (x node : StatementNode) → number < length c.statements.items → x ≡ get_or c.statements.items number x → x ≡ node
+    → IsTrue (statement_within c.names (length c.nodes.items) number node)
+parts_of c number x node l at is =
+    subst (λ y. IsTrue (statement_within c.names (length c.nodes.items) number y)) (sym at ∙ is)
+    (statement_parts_before c.names (length c.nodes.items) c.statements.items number x c.placed l)
+
+-- ---- places
+
+-- where one stands at a place, the place is there
+pub place_there : {A : Type 0} (xs : List A) (at : ℕ) (x : A) (ys : List A) → drop at xs ≡ x ∷ ys → at < length xs
+place_there xs at x ys is = let e : length (drop at xs) ≡ suc (length ys) = ap length is in omega (arith, e, length-drop at xs)
+
+-- ---- the parts of an `if`
+
+-- a part is a block of the statement
+pub part_is : (into : List ℕ → Plan Flow) (ts : List ExpressionTree) (ss : List StatementTree) (otherwise : List ℕ) (bs : List BranchNode) (k : ℕ)
+    → part_done into (branches (map (branch_at ts ss) bs)) (statements (map (statement_at ss) otherwise)) (Some k) ≡ do_all into (statements (map (statement_at ss) (branch_or otherwise bs k)))
+part_is into ts ss otherwise [] k = refl
+part_is into ts ss otherwise (b ∷ bs) zero = refl
+part_is into ts ss otherwise (b ∷ bs) (suc k) = part_is into ts ss otherwise bs k
+
+-- the part of a branch that is there
+pub part_there : (into : List ℕ → Plan Flow) (ts : List ExpressionTree) (ss : List StatementTree) (otherwise : Statements) (bs : List BranchNode) (k : ℕ) (b : BranchNode) → k < length bs
+    → part_done into (branches (map (branch_at ts ss) bs)) otherwise (Some k) ≡ do_all into (statements (map (statement_at ss) (get_or bs k b).body.items))
+part_there into ts ss otherwise [] k b l = absurd (omega arith)
+part_there into ts ss otherwise (x ∷ bs) zero b l = refl
+part_there into ts ss otherwise (x ∷ bs) (suc k) b l = part_there into ts ss otherwise bs k b (omega arith)
+
+-- the part behind all branches
+pub part_behind : (into : List ℕ → Plan Flow) (ts : List ExpressionTree) (ss : List StatementTree) (otherwise : Statements) (bs : List BranchNode) (k : ℕ) → length bs ≤ k
+    → part_done into (branches (map (branch_at ts ss) bs)) otherwise (Some k) ≡ do_all into otherwise
+part_behind into ts ss otherwise [] k l = refl
+part_behind into ts ss otherwise (x ∷ bs) zero l = absurd (omega arith)
+part_behind into ts ss otherwise (x ∷ bs) (suc k) l = part_behind into ts ss otherwise bs k (omega arith)
+
+-- a name that was there is there, and is the same
+pub name_kept : {old new : List (List ℕ)} (h : IsFront old new) (number : ℕ) → number < length old → (number < length new) × (name_at new number ≡ name_at old number)
+name_kept {old = old} {new = new} h number l =
+    let e : length new ≡ length old + length h.more = ap length h.is ∙ length-append old h.more in
+    (omega (arith, l, e), ap (λ ns. name_at ns number) h.is ∙ at_front old h.more number [] l)
+
+-- ---- rounds
+
+pub round_is : (xs : List Round) (at : ℕ) (o : Option Declared) (r : Declared) → o ≡ Some r → RoundAt xs at o → drop at xs ≡ round_data r ∷ drop (at + 1) xs
+round_is xs at o r is h = let P : Option Declared → Type 0 = λ p. RoundAt xs at p in subst P is h
+
+pub round_none : (xs : List Round) (at : ℕ) (o : Option Declared) → o ≡ None → RoundAt xs at o → drop at xs ≡ []
+round_none xs at o is h = let P : Option Declared → Type 0 = λ p. RoundAt xs at p in subst P is h
+
+-- the variables of a round by the names as they were
+pub bound_as : {c : Code} {names table : List (List ℕ)} (m : Made c names table) (line first : ℕ) (second : Option ℕ) (r : Round) → IsTrue (nat_lt first c.names) → IsTrue (second_within c.names second)
+    → bound line (name_at names first) (option_map (name_at names) second) r ≡ bound line (name_at table first) (option_map (name_at table) second) r
+bound_as {names = names} {table = table} m line first second r h k =
+    ap (λ (n : List ℕ). bound line n (option_map (name_at names) second) r) (named m first h).1
+    ∙ ap (λ (o : Option (List ℕ)). bound line (name_at table first) o r) (second_named m second k).1
+
+-- the next branch
+pub branch_next : (ts : List ExpressionTree) (ss : List StatementTree) (bs : List BranchNode) (i : ℕ) (b : BranchNode) → i < length bs → b ≡ get_or bs i b
+    → branches (map (branch_at ts ss) (drop i bs)) ≡ MoreBranches (tree_at ts b.condition) b.line (statements (map (statement_at ss) b.body.items)) (branches (map (branch_at ts ss) (drop (i + 1) bs)))
+branch_next ts ss bs i b l at = ap branches (next_is (branch_at ts ss) bs i b l at)
+
+-- a choice that stops
+pub chooses_stop : {A C : Type 0} {view : C → A} {files : Files} {whole : Plan Flow} {p : Plan A} {others : A → Plan Flow} {s0 s1 s2 : Stand} {stop : Stop} (part : Option ℕ → Plan Flow) (result : Result (Option ℕ) Stop)
+    → IsErrAnd result (λ e. e ≡ stop) → Leads files whole s0 (next p others) s1 → Given view files p s1 (Err stop) s2 → Chooses files whole s0 part result s2
+chooses_stop part (Ok x) is l g = absurd is
+chooses_stop part (Err e) is l g = leads_end l (given_stop g is)
+
+pub drop_all : {A : Type 0} (xs : List A) (i : ℕ) → length xs ≤ i → drop i xs ≡ []
+drop_all xs i le = drop_of_length-le xs le
+
+-- ---- expressions alone
+
+-- the tree of a node that is a call
+pub call_at : (table : List (List ℕ)) (c : Code) (value : ℕ) (x : Node) (name : String Global) (items : Vec ArgumentNode Global) (line : ℕ) → value < length c.nodes.items → x ≡ get_or c.nodes.items value x → x ≡ nodes.Call name items line
+    → tree_at (expressions_by table c) value ≡ FunctionTree (string_bytes name) (arguments (map (argument_at (expressions_by table c)) items.items)) line
+call_at table c value x name items line l at is = node_opens table c.names c.nodes.items value x c.ordered l ∙ ap (tree_of table (expressions_by table c)) (sym at ∙ is)
+
+stated_other : (into : List ℕ → Plan Flow) (table : List (List ℕ)) (ts : List ExpressionTree) (x : Node)
+    → ((name : String Global) (items : Vec ArgumentNode Global) (line : ℕ) → x ≡ nodes.Call name items line → ⊥)
+    → stated into (tree_of table ts x) ≡ next (ruled (value_of (tree_of table ts x))) (λ _. give Next)
+stated_other into table ts (nodes.Name number line) h = refl
+stated_other into table ts (nodes.Literal literal text line) h = refl
+stated_other into table ts (nodes.List items line) h = refl
+stated_other into table ts (nodes.Dictionary es line) h = refl
+stated_other into table ts (nodes.Call name items line) h = absurd (h name items line refl)
+stated_other into table ts (nodes.Postfix first ls line) h = refl
+stated_other into table ts (nodes.Prefix prefix value line) h = refl
+stated_other into table ts (nodes.Chain first others line) h = refl
+stated_other into table ts (nodes.Ternary test one other line) h = refl
+
+-- what is stated by a node that is none
+pub stated_at : (into : List ℕ → Plan Flow) (table : List (List ℕ)) (c : Code) (value : ℕ) (x : Node) → value < length c.nodes.items → x ≡ get_or c.nodes.items value x
+    → ((name : String Global) (items : Vec ArgumentNode Global) (line : ℕ) → x ≡ nodes.Call name items line → ⊥)
+    → next (ruled (value_of (tree_at (expressions_by table c) value))) (λ _. give Next) ≡ stated into (tree_at (expressions_by table c) value)
+stated_at into table c value x l at h =
+    let e : tree_at (expressions_by table c) value ≡ tree_of table (expressions_by table c) x = node_opens table c.names c.nodes.items value x c.ordered l ∙ ap (tree_of table (expressions_by table c)) (sym at) in
+    sym (ap (stated into) e ∙ stated_other into table (expressions_by table c) x h ∙ ap (λ (t : ExpressionTree). next (ruled (value_of t)) (λ _. give Next)) (sym e))
+
+-- the conditions of branches are there
+pub branches_reach : (m n : ℕ) (bs : List BranchNode) → IsTrue (list_all (branch_within m n) bs) → above above_branch bs ≤ m
+branches_reach m n [] h = omega arith
+branches_reach m n (b ∷ bs) h =
+    let p = both_true (branch_within m n b) (list_all (branch_within m n) bs) h in
+    let q = both_true (nat_lt b.condition m) (list_all (λ i. nat_lt i n) b.body.items) p.0 in
+    let a : b.condition < m = less b.condition m q.0 in
+    let r : above above_branch bs ≤ m = branches_reach m n bs p.1 in
+    omega arith

@@ -1,0 +1,186 @@
+use Rattle.std.proofs.Common.{◌≡◌, ◌<◌, ◌≤◌, ℕ, IsTrue, List, Ok, length, get_or, map, option_map, sym, ap, subst, refl, ◌∙◌, arith}
+use Rattle.std.specs.Prelude.{nat_lt, ◌&&◌}
+use Rattle.std.specs.List.{list_all}
+use Rattle.code.specs.Nodes.{tree_at}
+use Rattle.code.specs.Statements.{branch_at, branch_within, name_at, second_within, statement_at}
+use Rattle.code.specs.declared.code.Code.{Code}
+use Rattle.code.specs.declared.node.BranchNode.{BranchNode}
+use Rattle.code.specs.declared.node.StatementNode.{StatementNode}
+use Rattle.code.specs.declared.node.StatementNode.TheVariants as flat
+use Rattle.code.proofs.Trees.{both_true, less}
+use Rattle.data.specs.Data.{Data}
+use Rattle.grammar.specs.Tree.{StatementTree, branches}
+use Rattle.world.specs.Plan.{give, next, ruled}
+use Rattle.interp.specs.Blocks.{block_by, branch_or, expressions_by, node_at, part_of, statements_by, statements_of}
+use Rattle.interp.specs.Expressions.{value_of}
+use Rattle.interp.specs.Folders.{folder}
+use Rattle.interp.specs.Frames.{above_branch, behind_all, one_round}
+use Rattle.interp.specs.Parts.{above}
+use Rattle.interp.specs.Statements.{appended, assigned, branches_of, do_all, does, looped, stated, walked}
+use Rattle.interp.specs.declared.block.Block.TheVariants.{Part}
+use Rattle.interp.specs.declared.flow.Flow.TheVariants as flows
+use Rattle.interp.proofs.Evaluating.{given_as, given_give}
+use Rattle.interp.proofs.Spelling.{branches_reach, named, node_is, parts_of, reads_at, spelled}
+use Rattle.interp.proofs.Stack.{made_as, moves_as, moves_given}
+use Rattle.interp.proofs.evaluator.Evaluator.begin.Goals as goal
+
+pub assign_value-requires-clause-here : goal.assign_value-requires-clause-here
+assign_value-requires-clause-here g c =
+    let code = c.args.code.now.value in
+    let at = c.index.ensures ∙ ap (λ (d : Code). get_or d.statements.items c.args.number c.index.result.now) c.deref.ensures in
+    let node = flat.Assign c.in-Assign.name c.in-Assign.line c.in-Assign.value in
+    let parts = parts_of code c.args.number c.index.result.now node c.requires.there at c.in-Assign.is in
+    let m = length code.nodes.items in
+    subst (λ (d : Code). c.in-Assign.value < length d.nodes.items) (sym c.deref-in-Assign.ensures) (less c.in-Assign.value m (both_true (nat_lt c.in-Assign.name code.names) (nat_lt c.in-Assign.value m) parts).1)
+
+pub append_value-requires-clause-here : goal.append_value-requires-clause-here
+append_value-requires-clause-here g c =
+    let code = c.args.code.now.value in
+    let at = c.index.ensures ∙ ap (λ (d : Code). get_or d.statements.items c.args.number c.index.result.now) c.deref.ensures in
+    let node = flat.Append c.in-Append.name c.in-Append.line c.in-Append.value in
+    let parts = parts_of code c.args.number c.index.result.now node c.requires.there at c.in-Append.is in
+    let m = length code.nodes.items in
+    subst (λ (d : Code). c.in-Append.value < length d.nodes.items) (sym c.deref-in-Append.ensures) (less c.in-Append.value m (both_true (nat_lt c.in-Append.name code.names) (nat_lt c.in-Append.value m) parts).1)
+
+pub state-requires-clause-here : goal.state-requires-clause-here
+state-requires-clause-here g c =
+    let code = c.args.code.now.value in
+    let at = c.index.ensures ∙ ap (λ (d : Code). get_or d.statements.items c.args.number c.index.result.now) c.deref.ensures in
+    let node = flat.Expression c.in-Expression.value c.in-Expression.line in
+    let parts = parts_of code c.args.number c.index.result.now node c.requires.there at c.in-Expression.is in
+    subst (λ (d : Code). c.in-Expression.value < length d.nodes.items) (sym c.deref-in-Expression.ensures) (less c.in-Expression.value (length code.nodes.items) parts)
+
+pub begin_branch-requires-clause-here : goal.begin_branch-requires-clause-here
+begin_branch-requires-clause-here g c =
+    let code = c.args.code.now.value in
+    let at = c.index.ensures ∙ ap (λ (d : Code). get_or d.statements.items c.args.number c.index.result.now) c.deref.ensures in
+    let node = flat.If c.in-If.line c.in-If.branches c.in-If.otherwise in
+    let parts = parts_of code c.args.number c.index.result.now node c.requires.there at c.in-If.is in
+    let m = length code.nodes.items in
+    let n = c.args.number in
+    subst (λ (bs : List BranchNode). above above_branch bs ≤ m) (sym c.deref-in-If.ensures.value)
+    (branches_reach m n c.in-If.branches.items (both_true (list_all (branch_within m n) c.in-If.branches.items) (list_all (λ i. nat_lt i n) c.in-If.otherwise.items) parts).0)
+
+pub begin_loop-requires-clause-here : goal.begin_loop-requires-clause-here
+begin_loop-requires-clause-here g c =
+    let code = c.args.code.now.value in
+    let at = c.index.ensures ∙ ap (λ (d : Code). get_or d.statements.items c.args.number c.index.result.now) c.deref.ensures in
+    let node = flat.Foreach c.in-Foreach.line c.in-Foreach.first c.in-Foreach.second c.in-Foreach.list c.in-Foreach.list_line c.in-Foreach.body in
+    let parts = parts_of code c.args.number c.index.result.now node c.requires.there at c.in-Foreach.is in
+    let k = code.names in
+    let m = length code.nodes.items in
+    let l = c.in-Foreach in
+    let p = both_true (nat_lt l.first k) (second_within k l.second && (nat_lt l.list m && list_all (λ i. nat_lt i c.args.number) l.body.items)) parts in
+    let q = both_true (second_within k l.second) (nat_lt l.list m && list_all (λ i. nat_lt i c.args.number) l.body.items) p.1 in
+    let r = both_true (nat_lt l.list m) (list_all (λ i. nat_lt i c.args.number) l.body.items) q.1 in
+    less l.list m r.0
+
+pub begin_loop-requires-clause-first : goal.begin_loop-requires-clause-first
+begin_loop-requires-clause-first g c =
+    let code = c.args.code.now.value in
+    let at = c.index.ensures ∙ ap (λ (d : Code). get_or d.statements.items c.args.number c.index.result.now) c.deref.ensures in
+    let node = flat.Foreach c.in-Foreach.line c.in-Foreach.first c.in-Foreach.second c.in-Foreach.list c.in-Foreach.list_line c.in-Foreach.body in
+    let parts = parts_of code c.args.number c.index.result.now node c.requires.there at c.in-Foreach.is in
+    let k = code.names in
+    let m = length code.nodes.items in
+    let l = c.in-Foreach in
+    let p = both_true (nat_lt l.first k) (second_within k l.second && (nat_lt l.list m && list_all (λ i. nat_lt i c.args.number) l.body.items)) parts in
+    let q = both_true (second_within k l.second) (nat_lt l.list m && list_all (λ i. nat_lt i c.args.number) l.body.items) p.1 in
+    let r = both_true (nat_lt l.list m) (list_all (λ i. nat_lt i c.args.number) l.body.items) q.1 in
+    p.0
+
+pub begin_loop-requires-clause-second : goal.begin_loop-requires-clause-second
+begin_loop-requires-clause-second g c =
+    let code = c.args.code.now.value in
+    let at = c.index.ensures ∙ ap (λ (d : Code). get_or d.statements.items c.args.number c.index.result.now) c.deref.ensures in
+    let node = flat.Foreach c.in-Foreach.line c.in-Foreach.first c.in-Foreach.second c.in-Foreach.list c.in-Foreach.list_line c.in-Foreach.body in
+    let parts = parts_of code c.args.number c.index.result.now node c.requires.there at c.in-Foreach.is in
+    let k = code.names in
+    let m = length code.nodes.items in
+    let l = c.in-Foreach in
+    let p = both_true (nat_lt l.first k) (second_within k l.second && (nat_lt l.list m && list_all (λ i. nat_lt i c.args.number) l.body.items)) parts in
+    let q = both_true (second_within k l.second) (nat_lt l.list m && list_all (λ i. nat_lt i c.args.number) l.body.items) p.1 in
+    let r = both_true (nat_lt l.list m) (list_all (λ i. nat_lt i c.args.number) l.body.items) q.1 in
+    q.0
+
+pub returns-in-Assign-clause-gives : goal.returns-in-Assign-clause-gives
+returns-in-Assign-clause-gives g c = λ files rests table hold stacked made.
+    let code = c.args.code.now.value in
+    let at = c.index.ensures ∙ ap (λ (d : Code). get_or d.statements.items c.args.number c.index.result.now) c.deref.ensures in
+    let node = flat.Assign c.in-Assign.name c.in-Assign.line c.in-Assign.value in
+    let tree = spelled table code c.args.number c.index.result.now node c.requires.there at c.in-Assign.is in
+    let whole = ap (λ (t : StatementTree). behind_all rests (does (folder c.args.left) t)) tree in
+    let parts = parts_of code c.args.number c.index.result.now node c.requires.there at c.in-Assign.is in
+    let m = length code.nodes.items in
+    let name = named made c.in-Assign.name (both_true (nat_lt c.in-Assign.name code.names) (nat_lt c.in-Assign.value m) parts).0 in
+    moves_as whole (moves_given c.args.stack.now.items rests c.assign_value.result stacked
+    (given_as (ap (λ (n : List ℕ). next (ruled (value_of (tree_at (expressions_by table code) c.in-Assign.value))) (λ (d : Data). next (assigned c.in-Assign.line n d) (λ _. give flows.Next))) name.1)
+    (c.assign_value.ensures.gives name.0 files (expressions_by table code) hold (reads_at c.deref-in-Assign.ensures made))))
+
+pub returns-in-Append-clause-gives : goal.returns-in-Append-clause-gives
+returns-in-Append-clause-gives g c = λ files rests table hold stacked made.
+    let code = c.args.code.now.value in
+    let at = c.index.ensures ∙ ap (λ (d : Code). get_or d.statements.items c.args.number c.index.result.now) c.deref.ensures in
+    let node = flat.Append c.in-Append.name c.in-Append.line c.in-Append.value in
+    let tree = spelled table code c.args.number c.index.result.now node c.requires.there at c.in-Append.is in
+    let whole = ap (λ (t : StatementTree). behind_all rests (does (folder c.args.left) t)) tree in
+    let parts = parts_of code c.args.number c.index.result.now node c.requires.there at c.in-Append.is in
+    let m = length code.nodes.items in
+    let name = named made c.in-Append.name (both_true (nat_lt c.in-Append.name code.names) (nat_lt c.in-Append.value m) parts).0 in
+    moves_as whole (moves_given c.args.stack.now.items rests c.append_value.result stacked
+    (given_as (ap (λ (n : List ℕ). next (appended c.in-Append.line n (ruled (value_of (tree_at (expressions_by table code) c.in-Append.value)))) (λ _. give flows.Next)) name.1)
+    (c.append_value.ensures.gives name.0 files (expressions_by table code) hold (reads_at c.deref-in-Append.ensures made))))
+
+pub returns-in-Expression-clause-gives : goal.returns-in-Expression-clause-gives
+returns-in-Expression-clause-gives g c = λ files rests table hold stacked made.
+    let code = c.args.code.now.value in
+    let at = c.index.ensures ∙ ap (λ (d : Code). get_or d.statements.items c.args.number c.index.result.now) c.deref.ensures in
+    let node = flat.Expression c.in-Expression.value c.in-Expression.line in
+    let tree = spelled table code c.args.number c.index.result.now node c.requires.there at c.in-Expression.is in
+    let whole = ap (λ (t : StatementTree). behind_all rests (does (folder c.args.left) t)) tree in
+    moves_as (ap (λ (d : Code). behind_all rests (stated (folder c.args.left) (tree_at (expressions_by table d) c.in-Expression.value))) c.deref-in-Expression.ensures ∙ whole)
+    (c.state.ensures.gives files rests table hold stacked (made_as (sym c.deref-in-Expression.ensures) made))
+
+pub returns-in-Break-clause-gives : goal.returns-in-Break-clause-gives
+returns-in-Break-clause-gives g c = λ files rests table hold stacked made.
+    let code = c.args.code.now.value in
+    let at = c.index.ensures ∙ ap (λ (d : Code). get_or d.statements.items c.args.number c.index.result.now) c.deref.ensures in
+    let node = flat.Break c.in-Break.line in
+    let tree = spelled table code c.args.number c.index.result.now node c.requires.there at c.in-Break.is in
+    let whole = ap (λ (t : StatementTree). behind_all rests (does (folder c.args.left) t)) tree in
+    moves_as whole (moves_given c.args.stack.now.items rests (Ok flows.Broken) stacked (given_give hold refl))
+
+pub returns-in-Continue-clause-gives : goal.returns-in-Continue-clause-gives
+returns-in-Continue-clause-gives g c = λ files rests table hold stacked made.
+    let code = c.args.code.now.value in
+    let at = c.index.ensures ∙ ap (λ (d : Code). get_or d.statements.items c.args.number c.index.result.now) c.deref.ensures in
+    let node = flat.Continue c.in-Continue.line in
+    let tree = spelled table code c.args.number c.index.result.now node c.requires.there at c.in-Continue.is in
+    let whole = ap (λ (t : StatementTree). behind_all rests (does (folder c.args.left) t)) tree in
+    moves_as whole (moves_given c.args.stack.now.items rests (Ok flows.Continued) stacked (given_give hold refl))
+
+pub returns-in-If-clause-gives : goal.returns-in-If-clause-gives
+returns-in-If-clause-gives g c = λ files rests table hold stacked made.
+    let code = c.args.code.now.value in
+    let at = c.index.ensures ∙ ap (λ (d : Code). get_or d.statements.items c.args.number c.index.result.now) c.deref.ensures in
+    let node = flat.If c.in-If.line c.in-If.branches c.in-If.otherwise in
+    let tree = spelled table code c.args.number c.index.result.now node c.requires.there at c.in-If.is in
+    let whole = ap (λ (t : StatementTree). behind_all rests (does (folder c.args.left) t)) tree in
+    let is = node_is code c.args.number c.index.result.now node c.requires.there at c.in-If.is in
+    let same = λ (part : ℕ). ap (λ (x : StatementNode). part_of x part) is ∙ ap (λ (bs : List BranchNode). branch_or c.in-If.otherwise.items bs part) (sym c.deref-in-If.ensures.value) in
+    moves_as (ap (λ (bs : List BranchNode). behind_all rests (branches_of (folder c.args.left) (branches (map (branch_at (expressions_by table code) (statements_by table code)) bs))
+    (do_all (folder c.args.left) (block_by table code c.in-If.otherwise.items)))) c.deref-in-If.ensures.value ∙ whole)
+    (c.begin_branch.ensures.gives c.in-If.otherwise.items same files rests table hold stacked made)
+
+pub returns-in-Foreach-clause-gives : goal.returns-in-Foreach-clause-gives
+returns-in-Foreach-clause-gives g c = λ files rests table hold stacked made.
+    let code = c.args.code.now.value in
+    let at = c.index.ensures ∙ ap (λ (d : Code). get_or d.statements.items c.args.number c.index.result.now) c.deref.ensures in
+    let node = flat.Foreach c.in-Foreach.line c.in-Foreach.first c.in-Foreach.second c.in-Foreach.list c.in-Foreach.list_line c.in-Foreach.body in
+    let tree = spelled table code c.args.number c.index.result.now node c.requires.there at c.in-Foreach.is in
+    let whole = ap (λ (t : StatementTree). behind_all rests (does (folder c.args.left) t)) tree in
+    let is = node_is code c.args.number c.index.result.now node c.requires.there at c.in-Foreach.is in
+    let l = c.in-Foreach in
+    moves_as (ap (λ (ns : List ℕ). behind_all rests (next (ruled (value_of (tree_at (expressions_by table code) l.list)))
+    (λ d. walked l.line (one_round c.args.left l.line (name_at table l.first) (option_map (name_at table) l.second) (block_by table code ns)) (looped (option_map (name_at table) l.second) d)))) (ap (λ (x : StatementNode). part_of x 0) is) ∙ whole)
+    (c.begin_loop.ensures.gives files rests table hold stacked made)

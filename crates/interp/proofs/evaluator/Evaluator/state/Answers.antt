@@ -1,0 +1,71 @@
+use Rattle.std.proofs.Common.{◌≡◌, ◌≤◌, ℕ, List, [], ◌∷◌, ◌++◌, Ok, length, map, string_bytes, sym, ap, subst, refl, ◌∙◌, arith}
+use Rattle.code.specs.Nodes.{argument_at}
+use Rattle.code.specs.declared.node.ArgumentNode.{ArgumentNode}
+use Rattle.code.specs.declared.node.Node.TheVariants as nodes
+use Rattle.grammar.specs.ExpressionTree.{ExpressionTree, arguments}
+use Rattle.world.specs.Plan.{next}
+use Rattle.interp.specs.Acting.{by_way, performed, way_view}
+use Rattle.interp.specs.Blocks.{expressions_by}
+use Rattle.interp.specs.Folders.{folder}
+use Rattle.interp.specs.Frames.{End, behind_all}
+use Rattle.interp.specs.Parts.{above, above_argument}
+use Rattle.interp.specs.Statements.{stated}
+use Rattle.interp.specs.declared.flow.Flow.TheVariants as flows
+use Rattle.interp.specs.declared.frames.Frame.TheVariants as frames
+use Rattle.interp.proofs.Evaluating.{given_as, given_give, given_stop, given_then}
+use Rattle.interp.proofs.Reading.{arguments_reach, parts_at}
+use Rattle.interp.proofs.Spelling.{call_at, reads_at, stated_at}
+use Rattle.interp.proofs.Stack.{behind_top, leads_next, leads_start, leads_under, moves_as, moves_given, moves_none, moves_then, stacked_on, stacked_top}
+use Rattle.interp.proofs.evaluator.Evaluator.state.Goals as goal
+
+pub perform-requires-clause-here : goal.perform-requires-clause-here
+perform-requires-clause-here g c =
+    let reach : above above_argument c.in-Call.arguments.items ≤ c.args.value = arguments_reach c.args.value c.in-Call.arguments.items
+        (parts_at c.args.code.now c.args.value c.index.result.now (nodes.Call c.in-Call.name c.in-Call.arguments c.in-Call.line) c.requires.here c.index.ensures c.in-Call.is) in
+    let near : above above_argument c.in-Call.arguments.items ≤ length c.args.code.now.nodes.items = omega (arith, reach, c.requires.here) in
+    subst (λ (xs : List ArgumentNode). above above_argument xs ≤ length c.args.code.now.nodes.items) (sym c.deref-in-Call.ensures.value) near
+
+pub returns-in_err-push-clause-gives : goal.returns-in_err-push-clause-gives
+returns-in_err-push-clause-gives g c = λ files rests table hold stacked made.
+    moves_none c.from_residual.result c.push.new.self.items (leads_start hold) c.from_residual.ensures.1
+
+pub returns-in_err-way-clause-gives : goal.returns-in_err-way-clause-gives
+returns-in_err-way-clause-gives g c = λ files rests table hold stacked made.
+    let tree = call_at table c.args.code.now c.args.value c.index.result.now c.in-Call.name c.in-Call.arguments c.in-Call.line c.requires.here c.index.ensures c.in-Call.is in
+    let into = folder c.args.left in
+    let fs = c.args.stack.now.items in
+    let gs = c.push.new.self.items in
+    let two = stacked_top fs gs rests frames.End End c.in_ok-push.ensures.items stacked refl in
+    let ts = expressions_by table c.args.code.now in
+    let done = λ (n : List ℕ) (xs : List ArgumentNode). performed c.in-Call.line n (arguments (map (argument_at ts) xs)) in
+    let same = ap (λ (n : List ℕ). done n c.deref-in-Call.result.now) c.deref.ensures ∙ ap (done (string_bytes c.in-Call.name)) c.deref-in-Call.ensures.value in
+    let whole = behind_top rests End (next (done (string_bytes c.in-Call.name) c.in-Call.arguments.items) (λ w. by_way into w)) ∙ ap (λ (t : ExpressionTree). behind_all rests (stated into t)) (sym tree) in
+    moves_as whole (moves_given gs (rests ++ End ∷ []) c.from_residual-in_err-way.result two
+    (given_stop (given_as same (c.in_err-way.ensures.gives files ts hold (reads_at refl made))) c.from_residual-in_err-way.ensures.1))
+
+pub returns-in_ok-way-clause-gives : goal.returns-in_ok-way-clause-gives
+returns-in_ok-way-clause-gives g c = λ files rests table hold stacked made.
+    let tree = call_at table c.args.code.now c.args.value c.index.result.now c.in-Call.name c.in-Call.arguments c.in-Call.line c.requires.here c.index.ensures c.in-Call.is in
+    let into = folder c.args.left in
+    let fs = c.args.stack.now.items in
+    let gs = c.push.new.self.items in
+    let two = stacked_top fs gs rests frames.End End c.in_ok-push.ensures.items stacked refl in
+    let ts = expressions_by table c.args.code.now in
+    let done = λ (n : List ℕ) (xs : List ArgumentNode). performed c.in-Call.line n (arguments (map (argument_at ts) xs)) in
+    let same = ap (λ (n : List ℕ). done n c.deref-in-Call.result.now) c.deref.ensures ∙ ap (done (string_bytes c.in-Call.name)) c.deref-in-Call.ensures.value in
+    let whole = behind_top rests End (next (done (string_bytes c.in-Call.name) c.in-Call.arguments.items) (λ w. by_way into w)) ∙ ap (λ (t : ExpressionTree). behind_all rests (stated into t)) (sym tree) in
+    let p = given_as same (c.in_ok-way.ensures.gives files ts hold (reads_at refl made)) in
+    moves_as whole (moves_then c.take_way.result (leads_under (rests ++ End ∷ []) (leads_next {view = way_view} {others = λ w. by_way into w} p))
+    (c.take_way.ensures.gives files (rests ++ End ∷ []) p.holds (stacked_on gs (rests ++ End ∷ []) p.gives.written.names two)))
+
+pub returns-in_err-_value-clause-gives : goal.returns-in_err-_value-clause-gives
+returns-in_err-_value-clause-gives g c = λ files rests table hold stacked made.
+    moves_as (ap (behind_all rests) (stated_at (folder c.args.left) table c.args.code.now c.args.value c.index.result.now c.requires.here c.index.ensures c.in_default.not-Call))
+    (moves_given c.args.stack.now.items rests c.from_residual-in_err-_value.result stacked
+    (given_stop (c.in_err-_value.ensures.gives files (expressions_by table c.args.code.now) hold (reads_at refl made)) c.from_residual-in_err-_value.ensures.1))
+
+pub returns-in_ok-_value-clause-gives : goal.returns-in_ok-_value-clause-gives
+returns-in_ok-_value-clause-gives g c = λ files rests table hold stacked made.
+    let e = c.in_ok-_value.ensures.gives files (expressions_by table c.args.code.now) hold (reads_at refl made) in
+    moves_as (ap (behind_all rests) (stated_at (folder c.args.left) table c.args.code.now c.args.value c.index.result.now c.requires.here c.index.ensures c.in_default.not-Call))
+    (moves_given c.args.stack.now.items rests (Ok flows.Next) stacked (given_then e (given_give e.holds refl)))

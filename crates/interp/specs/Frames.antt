@@ -1,0 +1,227 @@
+-- What is left to do of statements that have begun, frame by frame.
+use Rattle.std.specs.Prelude.{◌≡◌, ℕ, zero, suc, ◌+◌, ◌≤◌, List, [], ◌∷◌, drop, length, map, option_map, Option, Some, None, Result, Ok, Err, string_bytes}
+use Rattle.code.specs.Draft.{Begins as IsFront}
+use Rattle.code.specs.Statements.{branch_at, name_at}
+use Rattle.code.specs.declared.code.Code.{Code}
+use Rattle.code.specs.declared.node.BranchNode.{BranchNode}
+use Rattle.data.specs.View.{data_of}
+use Rattle.grammar.specs.Tree.{StatementTree, Statements, Branches, NoBranch, MoreBranches, branches}
+use Rattle.grammar.specs.ExpressionTree.{ExpressionTree}
+use Rattle.ports.specs.Outputs.{OutputState}
+use Rattle.ports.specs.Tree.{TreeState}
+use Rattle.world.specs.Deed.{Files, change}
+use Rattle.world.specs.Gives.{Continues, Holds}
+use Rattle.world.specs.Plan.{Plan, deed, ruled, ◌>>=◌, give, carry}
+use Rattle.world.specs.World.{with_place}
+use Rattle.world.specs.declared.stop.Stop.{Stop}
+use Rattle.world.specs.declared.stop.Stop.TheVariants as stops
+use Rattle.interp.specs.declared.evaluator.Evaluator.{Evaluator}
+use Rattle.interp.specs.declared.flow.Flow.{Flow}
+use Rattle.interp.specs.declared.flow.Flow.TheVariants.{Next}
+use Rattle.interp.specs.declared.frames.BlockRest.{BlockRest}
+use Rattle.interp.specs.declared.frames.LoopHead.{LoopHead}
+use Rattle.interp.specs.declared.frames.LoopRest.{LoopRest}
+use Rattle.interp.specs.declared.frames.Frame.{Frame}
+use Rattle.interp.specs.declared.frames.Frame.TheVariants as frames
+use Rattle.interp.specs.Blocks.{block_by, statements_of}
+use Rattle.interp.specs.Evaluates.{Stand, Given, Reads, seen_of, stand_of}
+use Rattle.interp.specs.Folders.{folder}
+use Rattle.interp.specs.Rounds.{rounds_in}
+use Rattle.interp.specs.Statements.{Round, after_round, bound, branches_of, do_all, on_next, rounds_of}
+
+-- ---- what is left
+
+pub data Rest : Type 0 where
+  -- the other statements of a block, where so many more folders may stand inside one another
+  Others : ℕ → Statements → Rest
+  -- so of a loop: its line, its names, the statements of a round, and the other rounds
+  Rounds : ℕ → ℕ → List ℕ → Option (List ℕ) → Statements → List Round → Rest
+  -- the end of a rule
+  End : Rest
+  -- a file is left, for this file, its folder and this line
+  Left : List ℕ → List ℕ → ℕ → Rest
+
+-- one round of a loop
+abbrev pub one_round : ℕ → ℕ → List ℕ → Option (List ℕ) → Statements → Round → Plan Flow
+one_round left line first second body r = do
+  _ ← bound line first second r
+  do_all (folder left) body
+
+-- a file hands nothing on
+abbrev pub gone_back : List ℕ → List ℕ → ℕ → Flow → Plan Flow
+gone_back file folder line flow = do
+  _ ← deed (change (with_place file folder line))
+  give Next
+
+-- what is done, and what is left behind it
+abbrev pub behind : Rest → Plan Flow → Plan Flow
+behind (Others left ss) p = p >>= λ flow. on_next flow (do_all (folder left) ss)
+behind (Rounds left line first second body rounds) p =
+    p >>= λ flow. after_round flow (rounds_of (one_round left line first second body) rounds)
+behind End p = ruled p
+behind (Left file folder line) p = p >>= gone_back file folder line
+
+-- the last of these comes first
+abbrev pub behind_all : List Rest → Plan Flow → Plan Flow
+behind_all [] p = p
+behind_all (r ∷ rs) p = behind r (behind_all rs p)
+
+-- ---- what frames mean
+
+-- the table by which code was made; the names only grow since
+pub record Made (code : Code) (names table : List (List ℕ)) : Type 0 where
+  pub front : IsFront table names
+  pub known : code.names ≤ length table
+
+-- the statements of a block from a place on
+abbrev pub others_by : List (List ℕ) → BlockRest → Statements
+others_by table b = block_by table b.code.value (drop b.at (statements_of b.code.value b.block))
+
+pub record MeansBlock (names : List (List ℕ)) (b : BlockRest) (rest : Rest) : Type 0 where
+  pub table : List (List ℕ)
+  pub made : Made b.code.value names table
+  pub is : rest ≡ Others b.left (others_by table b)
+
+-- one round of the loop with this head
+abbrev pub round_by : List (List ℕ) → Code → ℕ → LoopHead → Round → Plan Flow
+round_by table c left h =
+    one_round left h.line (name_at table h.first) (option_map (name_at table) h.second) (block_by table c (statements_of c h.body))
+
+-- the rounds of a loop from one on
+abbrev pub rounds_left : LoopRest → List Round
+rounds_left l = drop l.at (rounds_in (data_of l.whole))
+
+pub record MeansLoop (names : List (List ℕ)) (l : LoopRest) (rest : Rest) : Type 0 where
+  pub table : List (List ℕ)
+  pub made : Made l.code.value names table
+  pub is : rest ≡ Rounds l.left l.head.line (name_at table l.head.first) (option_map (name_at table) l.head.second)
+      (block_by table l.code.value (statements_of l.code.value l.head.body)) (rounds_left l)
+
+abbrev pub Means : List (List ℕ) → Frame → Rest → Type 0
+Means names (frames.Block b) rest = MeansBlock names b rest
+Means names (frames.Loop l) rest = MeansLoop names l rest
+Means names frames.End rest = rest ≡ End
+Means names (frames.Left place) rest = rest ≡ Left (string_bytes place.file) (string_bytes place.folder) place.line
+
+abbrev pub EachMeans : List (List ℕ) → List Frame → List Rest → Type 0
+EachMeans names [] [] = Unit {0}
+EachMeans names (f ∷ fs) (r ∷ rs) = Means names f r × EachMeans names fs rs
+EachMeans names [] (r ∷ rs) = ⊥
+EachMeans names (f ∷ fs) [] = ⊥
+
+-- what a stack means, frame by frame
+pub record Stacked (names : List (List ℕ)) (fs : List Frame) (rs : List Rest) : Type 0 where
+  pub each : EachMeans names fs rs
+
+-- ---- faults
+
+-- how many rules are still to end
+abbrev pub ends_in : Frame → ℕ
+ends_in (frames.Block b) = 0
+ends_in (frames.Loop l) = 0
+ends_in frames.End = 1
+ends_in (frames.Left place) = 0
+
+abbrev pub pending : List Frame → ℕ
+pending [] = 0
+pending (f ∷ fs) = ends_in f + pending fs
+
+-- a fault ends all of them
+abbrev pub unwound : Stop → List Frame → ℕ
+unwound (stops.Refused fault) fs = pending fs
+unwound stops.Device fs = 0
+unwound stops.Memory fs = 0
+
+abbrev pub ticked : ℕ → Stand → Stand
+ticked n s = record { world = s.world; names = s.names; tree = s.tree; out = s.out; ticks = s.ticks + n }
+
+-- ---- what a step does
+
+-- the whole plan is the rest, after what was done
+pub record Leads {A : Type 0} (files : Files) (whole : Plan A) (old : Stand) (rest : Plan A) (now : Stand) : Type 0 where
+  pub continues : Continues (carry files whole old.world) (carry files rest now.world) (seen_of old) (seen_of now)
+  pub holds : Holds now.tree files
+
+-- the whole plan is what a stack still does behind this flow
+pub record Moved (files : Files) (whole : Plan Flow) (old : Stand) (flow : Flow) (fs : List Frame) (now : Stand) : Type 0 where
+  pub rests : List Rest
+  pub stacked : Stacked now.names fs rests
+  pub leads : Leads files whole old (behind_all rests (give flow)) now
+
+abbrev pub MovesTo : Files → Plan Flow → Stand → Result Flow Stop → List Frame → Stand → Type 0
+MovesTo files whole old (Ok flow) fs now = Moved files whole old flow fs now
+MovesTo files whole old (Err stop) fs now = Given {B = Flow} (λ f. f) files whole old (Err stop) (ticked (unwound stop fs) now)
+
+-- so it is, or the whole plan stopped, once the rules on the stack have ended
+pub record Moves (files : Files) (whole : Plan Flow) (old : Stand) (result : Result Flow Stop) (fs : List Frame) (now : Stand) : Type 0 where
+  pub moves : MovesTo files whole old result fs now
+
+abbrev pub StepsTo : Files → Plan Flow → Stand → Result Flow Stop → List Frame → Stand → Type 0
+StepsTo files whole old (Ok flow) fs now = Moved files whole old flow fs now
+StepsTo files whole old (Err stop) fs now = Given {B = Flow} (λ f. f) files whole old (Err stop) now
+
+-- the same of a whole step, where these rules have ended
+pub record Stepped (files : Files) (whole : Plan Flow) (old : Stand) (result : Result Flow Stop) (fs : List Frame) (now : Stand) : Type 0 where
+  pub steps : StepsTo files whole old result fs now
+
+-- the number at a place, none behind the last
+abbrev pub NumberAt : List ℕ → ℕ → Option ℕ → Type 0
+NumberAt numbers at None = drop at numbers ≡ []
+NumberAt numbers at (Some number) = drop at numbers ≡ number ∷ drop (at + 1) numbers
+
+-- how far a branch reaches: its condition
+abbrev pub above_branch : BranchNode → ℕ
+above_branch b = suc b.condition
+
+-- a choice was made of the parts of an `if`, from which on the whole plan is this one; or the plan stopped
+abbrev pub Chooses : Files → Plan Flow → Stand → (Option ℕ → Plan Flow) → Result (Option ℕ) Stop → Stand → Type 0
+Chooses files whole old part (Ok chosen) now = Leads files whole old (part chosen) now
+Chooses files whole old part (Err stop) now = Given {B = Flow} (λ f. f) files whole old (Err stop) now
+
+-- what is done of a part of an `if`, by its place; nothing, where the whole is skipped
+abbrev pub part_done : (List ℕ → Plan Flow) → Branches → Statements → Option ℕ → Plan Flow
+part_done into bs otherwise None = give Next
+part_done into NoBranch otherwise (Some part) = do_all into otherwise
+part_done into (MoreBranches test line body bs) otherwise (Some zero) = do_all into body
+part_done into (MoreBranches test line body bs) otherwise (Some (suc part)) = part_done into bs otherwise (Some part)
+
+module _ {T O L : Type 0} where
+  -- over what is left of a stack the call does what this plan does, by the table of names as it was when the code was made
+  abbrev pub Does : (T → TreeState) → (O → OutputState) → (List (List ℕ) → Plan Flow) → Code
+      → Evaluator T O L → List Frame → Result Flow Stop → Evaluator T O L → List Frame → Type 0
+  Does tree out plan code old before result new after =
+      (files : Files) (rests : List Rest) (table : List (List ℕ)) → Holds (tree old.tree.now) files
+      → Stacked old.store.now.names before rests → Made code old.store.now.names table
+      → Moves files (behind_all rests (plan table)) (stand_of tree out old) result after (stand_of tree out new)
+
+  -- the same of a plan that no code has to be read for
+  abbrev pub Acts : (T → TreeState) → (O → OutputState) → Plan Flow
+      → Evaluator T O L → List Frame → Result Flow Stop → Evaluator T O L → List Frame → Type 0
+  Acts tree out plan old before result new after =
+      (files : Files) (rests : List Rest) → Holds (tree old.tree.now) files → Stacked old.store.now.names before rests
+      → Moves files (behind_all rests plan) (stand_of tree out old) result after (stand_of tree out new)
+
+  -- the same of what is left of a frame
+  abbrev pub Turns : (T → TreeState) → (O → OutputState) → Frame → Flow
+      → Evaluator T O L → List Frame → Result Flow Stop → Evaluator T O L → List Frame → Type 0
+  Turns tree out frame flow old before result new after =
+      (files : Files) (rests : List Rest) (rest : Rest) → Holds (tree old.tree.now) files
+      → Stacked old.store.now.names before rests → Means old.store.now.names frame rest
+      → Moves files (behind_all rests (behind rest (give flow))) (stand_of tree out old) result after (stand_of tree out new)
+
+  -- the same of a whole step
+  abbrev pub Steps : (T → TreeState) → (O → OutputState) → Frame → Flow
+      → Evaluator T O L → List Frame → Result Flow Stop → Evaluator T O L → List Frame → Type 0
+  Steps tree out frame flow old before result new after =
+      (files : Files) (rests : List Rest) (rest : Rest) → Holds (tree old.tree.now) files
+      → Stacked old.store.now.names before rests → Means old.store.now.names frame rest
+      → Stepped files (behind_all rests (behind rest (give flow))) (stand_of tree out old) result after (stand_of tree out new)
+
+  -- the call chooses of the parts of an `if` with these branches
+  abbrev pub ChoosesOf : (T → TreeState) → (O → OutputState) → List BranchNode → Code
+      → Evaluator T O L → Result (Option ℕ) Stop → Evaluator T O L → Type 0
+  ChoosesOf tree out parts code old result new =
+      (files : Files) (ts : List ExpressionTree) (ss : List StatementTree) (left : ℕ) (otherwise : Statements)
+      → Holds (tree old.tree.now) files → Reads ts code old.store.now.names
+      → Chooses files (branches_of (folder left) (branches (map (branch_at ts ss) parts)) (do_all (folder left) otherwise))
+      (stand_of tree out old) (part_done (folder left) (branches (map (branch_at ts ss) parts)) otherwise) result (stand_of tree out new)

@@ -1,0 +1,256 @@
+//! Statements that begin: what they leave to do is put on the stack.
+ghost use Rattle.std.specs.Prelude.{◌≡◌, ◌<◌, ◌≤◌, ℕ, IsTrue, List, length, map, nat_lt, option_map};
+ghost use Rattle.code.specs.Nodes.{tree_at};
+ghost use Rattle.code.specs.Statements.{branch_at, name_at, second_within, statement_at};
+ghost use Rattle.grammar.specs.Tree.{branches};
+ghost use Rattle.world.specs.Plan.{give, next, ruled};
+ghost use Rattle.interp.specs.Acting.{by_way, way_view};
+ghost use Rattle.interp.specs.Blocks.{block_by, branch_or, expressions_by, statements_by, statements_of};
+ghost use Rattle.interp.specs.Expressions.{value_of};
+ghost use Rattle.interp.specs.Folders.{folder};
+ghost use Rattle.interp.specs.Frames.{Acts, ChoosesOf, Does, above_branch, round_by};
+ghost use Rattle.interp.specs.Parts.{above};
+ghost use Rattle.interp.specs.Statements.{appended, assigned, branches_of, do_all, does, looped, stated, walked};
+ghost use Rattle.interp.specs.declared.block.Block.TheVariants.{Part};
+ghost use Rattle.interp.specs.declared.flow.Flow.TheVariants.{Next};
+
+use crate::acting::Way;
+use crate::block::Block;
+use crate::conditions::Choice;
+use crate::evaluator::Evaluator;
+use crate::flow::Flow;
+use crate::frames::{BlockRest, Frame, LoopHead, LoopRest};
+use crate::loops::check_loop;
+use code::Code;
+use code::node::{BranchNode, Node, StatementNode};
+use ports::{Outputs, Tree};
+use std::rc::Rc;
+use std::sync::ledger::Ledger;
+use world::Stop;
+
+impl<'a, T: Tree, O: Outputs, L: Ledger> Evaluator<'a, T, O, L> {
+    ghost use Rattle.interp.specs.Evaluates.{Answers, Evaluates, Fails, HasRoom, Same};
+
+    /// Begins the statement with this number, whose end is on the stack; so many more folders may stand inside one another.
+    pub fn begin(
+        &mut self,
+        code: &Rc<Code>,
+        number: usize,
+        left: usize,
+        stack: &mut Vec<Frame>,
+    ) -> Result<Flow, Stop>
+        requires there { number < length code.now.value.statements.items }
+        requires room { HasRoom T.seen O.seen self.old }
+        ensures same { Same self.old self.new }
+        ensures device { Fails T.seen O.seen self.old result self.new }
+        ensures gives { Does T.seen O.seen (λ table. does (folder left) (statement_at (statements_by table code.now.value) number))
+            code.now.value self.old stack.old.items result self.new stack.new.items }
+    {
+        match &code.statements[number] {
+            StatementNode::Assign { name, line, value } => {
+                self.assign_value(code, *name, *line, *value)
+            }
+            StatementNode::Append { name, line, value } => {
+                self.append_value(code, *name, *line, *value)
+            }
+            StatementNode::Expression { value, .. } => self.state(code, *value, left, stack),
+            StatementNode::Break { .. } => Ok(Flow::Broken),
+            StatementNode::Continue { .. } => Ok(Flow::Continued),
+            StatementNode::If { branches, .. } => {
+                self.begin_branch(code, number, branches, left, stack)
+            }
+            StatementNode::Foreach {
+                line,
+                first,
+                second,
+                list,
+                ..
+            } => {
+                let head = LoopHead {
+                    line: *line,
+                    first: *first,
+                    second: *second,
+                    body: Block::Part {
+                        statement: number,
+                        part: 0,
+                    },
+                };
+                self.begin_loop(code, *list, head, left, stack)
+            }
+        }
+    }
+
+    // `name = value`
+    fn assign_value(
+        &mut self,
+        code: &Code,
+        name: usize,
+        line: usize,
+        value: usize,
+    ) -> Result<Flow, Stop>
+        requires here { value < length code.now.nodes.items }
+        requires room { HasRoom T.seen O.seen self.old }
+        ensures same { Same self.old self.new }
+        ensures device { Fails T.seen O.seen self.old result self.new }
+        ensures gives { name < length self.old.store.now.names → Evaluates T.seen O.seen (λ f. f) (λ ts.
+            next (ruled (value_of (tree_at ts value))) (λ d. next (assigned line (name_at self.old.store.now.names name) d)
+            (λ _. give Next))) code.now self.old result self.new }
+    {
+        let value = self.eval(code, value)?;
+        self.assign(line, name, value)?;
+        Ok(Flow::Next)
+    }
+
+    // `name += value`
+    fn append_value(
+        &mut self,
+        code: &Code,
+        name: usize,
+        line: usize,
+        value: usize,
+    ) -> Result<Flow, Stop>
+        requires here { value < length code.now.nodes.items }
+        requires room { HasRoom T.seen O.seen self.old }
+        ensures same { Same self.old self.new }
+        ensures device { Fails T.seen O.seen self.old result self.new }
+        ensures gives { name < length self.old.store.now.names → Evaluates T.seen O.seen (λ f. f) (λ ts.
+            next (appended line (name_at self.old.store.now.names name) (ruled (value_of (tree_at ts value)))) (λ _. give Next))
+            code.now self.old result self.new }
+    {
+        self.append(code, name, line, value)?;
+        Ok(Flow::Next)
+    }
+
+    // An expression alone: a call may enter a folder, and what others give is let go.
+    fn state(
+        &mut self,
+        code: &Code,
+        value: usize,
+        left: usize,
+        stack: &mut Vec<Frame>,
+    ) -> Result<Flow, Stop>
+        requires here { value < length code.now.nodes.items }
+        requires room { HasRoom T.seen O.seen self.old }
+        ensures same { Same self.old self.new }
+        ensures device { Fails T.seen O.seen self.old result self.new }
+        ensures gives { Does T.seen O.seen (λ table. stated (folder left) (tree_at (expressions_by table code.now) value))
+            code.now self.old stack.old.items result self.new stack.new.items }
+    {
+        if let Node::Call {
+            name,
+            arguments,
+            line,
+        } = &code.nodes[value] {
+            stack.push(Frame::End)?;
+            let way = self.perform(code, *line, name, arguments)?;
+            self.take_way(way, left, stack)
+        } else {
+            let _value = self.eval(code, value)?;
+            Ok(Flow::Next)
+        }
+    }
+
+    // A call that is a statement goes on.
+    fn take_way(&mut self, way: Way, left: usize, stack: &mut Vec<Frame>) -> Result<Flow, Stop>
+        requires room { HasRoom T.seen O.seen self.old }
+        ensures same { Same self.old self.new }
+        ensures device { Fails T.seen O.seen self.old result self.new }
+        ensures gives { Acts T.seen O.seen (by_way (folder left) (way_view way)) self.old stack.old.items result self.new stack.new.items }
+    {
+        match way {
+            Way::Ends(flow) => Ok(flow),
+            Way::Enters(text) => self.enter(&text, left, stack),
+        }
+    }
+
+    // A loop begins, whose rounds are all still to be done.
+    fn begin_loop(
+        &mut self,
+        code: &Rc<Code>,
+        list: usize,
+        head: LoopHead,
+        left: usize,
+        stack: &mut Vec<Frame>,
+    ) -> Result<Flow, Stop>
+        requires here { list < length code.now.value.nodes.items }
+        requires first { IsTrue (nat_lt head.first code.now.value.names) }
+        requires second { IsTrue (second_within code.now.value.names head.second) }
+        requires room { HasRoom T.seen O.seen self.old }
+        ensures same { Same self.old self.new }
+        ensures device { Fails T.seen O.seen self.old result self.new }
+        ensures gives { Does T.seen O.seen (λ table. next (ruled (value_of (tree_at (expressions_by table code.now.value) list)))
+            (λ d. walked head.line (round_by table code.now.value left head) (looped (option_map (name_at table) head.second) d)))
+            code.now.value self.old stack.old.items result self.new stack.new.items }
+    {
+        let whole = self.eval(code, list)?;
+        match check_loop(head.second.is_some(), &whole) {
+            Ok(()) => {
+                stack.push(Frame::Loop(LoopRest {
+                    code: code.clone()?,
+                    head,
+                    whole,
+                    at: 0,
+                    left,
+                }))?;
+                Ok(Flow::Next)
+            }
+            Err(refusal) => self.refuse(head.line, refusal, ""),
+        }
+    }
+
+    // An `if` begins: the statements of the part that is chosen are to be done.
+    fn begin_branch(
+        &mut self,
+        code: &Rc<Code>,
+        number: usize,
+        parts: &[BranchNode],
+        left: usize,
+        stack: &mut Vec<Frame>,
+    ) -> Result<Flow, Stop>
+        requires here { above above_branch parts.now ≤ length code.now.value.nodes.items }
+        requires room { HasRoom T.seen O.seen self.old }
+        ensures same { Same self.old self.new }
+        ensures device { Fails T.seen O.seen self.old result self.new }
+        ensures gives { (otherwise : List ℕ)
+            → ((part : ℕ) → statements_of code.now.value (Part number part) ≡ branch_or otherwise parts.now part)
+            → Does T.seen O.seen (λ table. branches_of (folder left) (branches (map (branch_at (expressions_by table code.now.value)
+            (statements_by table code.now.value)) parts.now)) (do_all (folder left) (block_by table code.now.value otherwise)))
+            code.now.value self.old stack.old.items result self.new stack.new.items }
+    {
+        match self.choose_part(code, parts)? {
+            Some(part) => {
+                stack.push(Frame::Block(BlockRest {
+                    code: code.clone()?,
+                    block: Block::Part {
+                        statement: number,
+                        part,
+                    },
+                    at: 0,
+                    left,
+                }))?;
+                Ok(Flow::Next)
+            }
+            None => Ok(Flow::Next),
+        }
+    }
+
+    // The place of the branch whose condition is the first that holds, or the place behind them; none where a disabler skips all.
+    fn choose_part(&mut self, code: &Code, parts: &[BranchNode]) -> Result<Option<usize>, Stop>
+        requires here { above above_branch parts.now ≤ length code.now.nodes.items }
+        requires room { HasRoom T.seen O.seen self.old }
+        ensures same { Same self.old self.new }
+        ensures device { Fails T.seen O.seen self.old result self.new }
+        ensures gives { ChoosesOf T.seen O.seen parts.now code.now self.old result self.new }
+    {
+        for part in 0..parts.len() {
+            let branch = &parts[part];
+            let value = self.eval(code, branch.condition)?;
+            match self.choose(branch.line, &value)? {
+                Choice::Body => return Ok(Some(part)),
+                Choice::Others => {}
+                Choice::Skip => return Ok(None),
+            }
+        }
+        Ok(Some(parts.len()))
+    }
+}
