@@ -13,12 +13,12 @@ use Rattle.ports.specs.Tree.{TreeState, file_at}
 use Rattle.faults.specs.declared.refusal.Refusal.{Refusal}
 use Rattle.faults.specs.declared.refusal.Refusal.TheVariants as refusals
 use Rattle.world.specs.Answering.{Refuses}
-use Rattle.world.specs.Deed.{Files, Deed, ask, need, perform, refuse as refuse_deed}
+use Rattle.world.specs.Deed.{Files, ask, need, perform, refuse as refuse_deed}
 use Rattle.world.specs.Gives.{Gives, Holds}
 use Rattle.world.specs.Plan.{Plan, carry, deed, enter, entered, give, next, refuse}
-use Rattle.world.specs.Run.{Run, Act, Done, fails, follow, marks_of, pure, ran}
+use Rattle.world.specs.Run.{Run, Act, Done, follow, marks_of, pure, ran}
 use Rattle.world.specs.Trace.{Seen, seen}
-use Rattle.world.specs.World.{World, Facts, entering, fault_here, looking}
+use Rattle.world.specs.World.{World, entering, fault_here, looking}
 use Rattle.world.specs.declared.stop.Stop.{Stop}
 use Rattle.world.specs.declared.stop.Stop.TheVariants as stops
 use Rattle.world.proofs.Follow.{after-nil, begun, done, ends_grown, gives_later, refused_later}
@@ -26,7 +26,7 @@ use Rattle.world.proofs.Marks.{front_as, grown_added, none_added}
 use Rattle.interp.specs.Evaluates.{Stand, Given, seen_of}
 use Rattle.interp.specs.Files.{line_at, most_bytes, refusal_of, refuse_line, spelled, spelled_by, tree_or_fault}
 use Rattle.interp.specs.Reading.{IsNoFault}
-use Rattle.interp.proofs.Evaluating.{given_as, given_refuse}
+use Rattle.interp.proofs.Evaluating.{given_refuse}
 
 -- ---- what was entered, and where it is refused
 

@@ -28,7 +28,7 @@ use Rattle.world.specs.World.{World, with_facts, with_place}
 use Rattle.world.specs.declared.stop.Stop.{Stop}
 use Rattle.world.proofs.Follow.{after-nil, begun, refused_later}
 use Rattle.grammar.specs.Tree.{StatementTree, AssignTree, AppendTree, ValueTree, BreakTree, ContinueTree, IfTree, ForeachTree, Statements, NoStatement, MoreStatements}
-use Rattle.interp.specs.Beginnings.{begun_at, definitions, line_before, line_unless, other_line}
+use Rattle.interp.specs.Beginnings.{RootGives, begun_at, definitions, line_before, line_unless, other_line}
 use Rattle.interp.specs.Evaluation.{begins, begins_all, begun_by, evaluation, is_project, no_machine_file}
 use Rattle.interp.proofs.Blocks.{number_below}
 use Rattle.interp.specs.declared.block.Block.TheVariants as blocks
@@ -113,3 +113,14 @@ whole_stopped files machine w v u b s result old new e t is stop g =
 pub first_is : (xs : List ℕ) (n : ℕ) → Some n ≡ slice_get xs 0 → (rest : List ℕ) × (xs ≡ n ∷ rest)
 first_is [] n e = absurd (let h : Some n ≡ None = e in cc)
 first_is (x ∷ xs) n e = (xs, let h : Some n ≡ Some x = e in cc)
+
+-- the same of equal values
+pub root_moved : {O : Type 0} (see : O → OutputState) {files : Files} {k0 k v0 v : Kept} {o0 o p0 p : O} {n0 n m0 m : ℕ} {result : Result (Unit {0}) Stop}
+    → k0 ≡ k → o0 ≡ o → n0 ≡ n → v0 ≡ v → p0 ≡ p → m0 ≡ m → RootGives files k0 (see o0) n0 result v0 (see p0) m0 → RootGives files k (see o) n result v (see p) m
+root_moved see {files = files} {k0 = k0} {k = k} {v0 = v0} {v = v} {o0 = o0} {o = o} {p0 = p0} {p = p} {n0 = n0} {n = n} {m0 = m0} {m = m} {result = result} store out ticks store_now out_now ticks_now g =
+    subst (λ x. RootGives files k (see o) n result v (see p) x) ticks_now
+    (subst (λ x. RootGives files k (see o) n result v (see x) m0) out_now
+    (subst (λ x. RootGives files k (see o) n result x (see p0) m0) store_now
+    (subst (λ x. RootGives files k (see o) x result v0 (see p0) m0) ticks
+    (subst (λ x. RootGives files k (see x) n0 result v0 (see p0) m0) out
+    (subst (λ x. RootGives files x (see o0) n0 result v0 (see p0) m0) store g)))))

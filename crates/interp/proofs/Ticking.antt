@@ -1,6 +1,6 @@
 -- How a whole evaluation has ticked.
-use Rattle.std.proofs.Common.{◌≡◌, ℕ, ◌+◌, ◌≤◌, List, [], ◌++◌, length, Result, Ok, Err, IsErrAnd, refl, sym, ap, subst, arith}
-use Rattle.world.specs.Counts.{EndsKeepUp, TicksAll, below, counts_from}
+use Rattle.std.proofs.Common.{◌≡◌, ℕ, ◌≤◌, List, [], ◌++◌, length, Result, Ok, Err, IsErrAnd, refl, sym, ap, subst, arith}
+use Rattle.world.specs.Counts.{EndsKeepUp, below, counts_from}
 use Rattle.world.specs.Gives.{Ends, Gives}
 use Rattle.world.specs.Run.{Run, Done, marks_of}
 use Rattle.world.specs.Store.{Kept, world_of}

@@ -1,8 +1,14 @@
 -- How an evaluation begins.
-use Rattle.std.specs.Prelude.{ℕ, Bool, true, false, [], Option, Some, None}
+use Rattle.std.specs.Prelude.{ℕ, Bool, true, false, [], Option, Some, None, Result}
 use Rattle.grammar.specs.Tree.{StatementTree, AssignTree, AppendTree, ValueTree, BreakTree, ContinueTree, IfTree, ForeachTree, Statements, NoStatement, MoreStatements}
 use Rattle.faults.specs.declared.refusal.Refusal.TheVariants as refusals
-use Rattle.world.specs.Plan.{Plan, ruled, ◌>>=◌, give, refuse}
+use Rattle.ports.specs.Outputs.{OutputState}
+use Rattle.world.specs.Deed.{Files}
+use Rattle.world.specs.Gives.{Gives}
+use Rattle.world.specs.Plan.{Plan, ruled, ◌>>=◌, carry, give, refuse}
+use Rattle.world.specs.Store.{Kept, world_of}
+use Rattle.world.specs.Trace.{seen}
+use Rattle.world.specs.declared.stop.Stop.{Stop}
 use Rattle.interp.specs.Evaluation.{is_project, root}
 use Rattle.interp.specs.Folders.{opened}
 
@@ -36,3 +42,9 @@ definitions = do
   body ← opened []
   _ ← ruled (root body)
   give tt
+
+-- over these files, a call did from one store to another what the root file does
+pub record RootGives (files : Files) (old : Kept) (out : OutputState) (ticks : ℕ) (result : Result (Unit {0})
+    Stop) (new : Kept) (out_now : OutputState) (ticks_now : ℕ) : Type 0 where
+  pub gives : Gives (λ u. u) (carry files definitions (world_of old)) result (world_of new) (seen out ticks old.names)
+      (seen out_now ticks_now new.names)

@@ -1,5 +1,5 @@
 -- Definition files: their bytes, and the statements that they spell.
-use Rattle.std.specs.Prelude.{ℕ, ◌+◌, Bool, true, false, List, [], take, count_by, nat_eq, nat_le, length, Option, Some, None, Result, Ok, Err}
+use Rattle.std.specs.Prelude.{ℕ, ◌+◌, Bool, true, false, List, [], take, count_by, nat_eq, nat_le, length, Result, Ok, Err}
 use Rattle.std.specs.Str.{is_utf8}
 use Rattle.std.specs.Str.Lossy.{utf8_valid_len}
 use Rattle.lexer.specs.declared.fault.SyntaxFault.{SyntaxFault}

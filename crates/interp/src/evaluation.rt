@@ -4,13 +4,12 @@ ghost use Rattle.faults.specs.Faults.{plain_fault};
 ghost use Rattle.ports.specs.Endings.{HasRoom};
 ghost use Rattle.world.specs.Answering.{Refuses};
 ghost use Rattle.world.specs.Deed.{Files};
-ghost use Rattle.world.specs.Gives.{Gives, Holds};
+ghost use Rattle.world.specs.Gives.{Holds};
 ghost use Rattle.world.specs.Plan.{carry, ruled};
 ghost use Rattle.world.specs.SettingsView.{settings_view};
 ghost use Rattle.world.specs.Start.{first_world};
-ghost use Rattle.world.specs.Store.{world_of};
 ghost use Rattle.world.specs.Trace.{seen};
-ghost use Rattle.interp.specs.Beginnings.{definitions};
+ghost use Rattle.interp.specs.Beginnings.{RootGives, definitions};
 ghost use Rattle.interp.specs.Blocks.{file_by};
 ghost use Rattle.interp.specs.Cost.{tree_cost};
 ghost use Rattle.interp.specs.Evaluated.{Evaluated, FailsOnce, Ticked};
@@ -118,8 +117,7 @@ fn definitions<T: Tree, O: Outputs, L: Ledger>(
     requires out { HasRoom (O.seen out.old).failures }
     ensures device { FailsOnce (T.seen tree.old) (O.seen out.old) result (T.seen tree.new) (O.seen out.new) }
     ensures gives { (files : Files) → Holds (T.seen tree.old) files
-        → Gives (λ u. u) (carry files definitions (world_of store.old)) result (world_of store.new)
-        (seen (O.seen out.old) steps.old store.old.names) (seen (O.seen out.new) steps.new store.new.names) }
+        → RootGives files store.old (O.seen out.old) steps.old result store.new (O.seen out.new) steps.new }
 {
     let mut evaluator = Evaluator::new(alloc, store, tree, out, steps);
     evaluator.definitions()

@@ -1,4 +1,4 @@
-use Rattle.std.proofs.Common.{◌≡◌, List, ℕ, refl, string_bytes, ap, sym, ◌∙◌}
+use Rattle.std.proofs.Common.{◌≡◌, string_bytes, ap, ◌∙◌}
 use Rattle.ports.specs.Tree.{file_at}
 use Rattle.world.specs.Costs.{definition_file}
 use Rattle.world.specs.Store.{changing, world_of}

@@ -1,4 +1,4 @@
-use Rattle.std.proofs.Common.{Option, List, ℕ, ap, option_map, string_bytes, sym, ◌∙◌}
+use Rattle.std.proofs.Common.{ap, option_map, string_bytes, sym, ◌∙◌}
 use Rattle.paths.specs.Paths.{folder_below}
 use Rattle.interp.specs.Folders.{fresh_by}
 use Rattle.interp.proofs.Evaluating.{given_as, given_none, given_read}

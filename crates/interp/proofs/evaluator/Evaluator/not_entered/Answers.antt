@@ -1,4 +1,4 @@
-use Rattle.std.proofs.Common.{[], length, true, false, ap, ◌∙◌, sym, refl}
+use Rattle.std.proofs.Common.{[], ap, ◌∙◌, sym, refl}
 use Rattle.std.specs.Prelude.{bytes_eq, nat_lt, not}
 use Rattle.std.specs.List.{list_any}
 use Rattle.std.proofs.lemmas.Bool.{lt-ltb, le-ltb}

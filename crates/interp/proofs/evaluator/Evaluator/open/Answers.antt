@@ -1,4 +1,4 @@
-use Rattle.std.proofs.Common.{◌≡◌, List, ℕ, Option, Some, None, length, option_map, string_bytes, ap, sym, ◌∙◌}
+use Rattle.std.proofs.Common.{◌≡◌, length, option_map, ap, sym, ◌∙◌}
 use Rattle.ports.specs.Tree.{file_at}
 use Rattle.faults.specs.declared.refusal.Refusal.TheVariants as refusals
 use Rattle.world.specs.Costs.{definition_file}
@@ -42,7 +42,6 @@ returns-in-None-clause-gives g c = λ files h.
     let sized : c.in_ok-size.field-0 ≡ option_map length (file_at files path) =
     c.in_ok-size.ensures.size h.steady ∙ ap (λ fs. option_map length (file_at fs c.deref-2.result.now)) h.files ∙ ap (λ p. option_map length (file_at files p)) (c.deref-2.ensures ∙ c.in_ok-file.ensures) in
     given_ask looked c.in_ok-note_look.ensures.names
-    (given_as
-    (ap (λ p. deed (refuse refusals.FileMissing p)) (c.deref-in-None.ensures ∙ c.in_ok-file.ensures)
-    ∙ ap (opened_by c.args.folder.now) (sym (none_length (file_at files path) (sym c.in-None.is ∙ sized))))
-    (given_here (holds_later c.in_ok-size.ensures.asks.stays h) c.line-line.ensures c.refuse.ensures))
+    (given_as (ap (opened_by c.args.folder.now) (sym (none_length (file_at files path) (sym c.in-None.is ∙ sized))))
+    (given_as (ap (λ p. deed (refuse refusals.FileMissing p)) (c.deref-in-None.ensures ∙ c.in_ok-file.ensures))
+    (given_here (holds_later c.in_ok-size.ensures.asks.stays h) c.line-line.ensures c.refuse.ensures)))

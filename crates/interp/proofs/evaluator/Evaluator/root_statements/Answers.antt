@@ -1,4 +1,4 @@
-use Rattle.std.proofs.Common.{Some, None, ap, refl, sym}
+use Rattle.std.proofs.Common.{Some, None, ap, refl}
 use Rattle.world.specs.Plan.{next}
 use Rattle.interp.specs.Blocks.{file_by}
 use Rattle.interp.specs.Folders.{folder}
