@@ -281,11 +281,13 @@ leads_laid rs r is l = leads_as (ap (behind_all rs) (sym is) ∙ sym (behind_top
 pub moves_block : (fs gs : List Frame) (rs : List Rest) (b : BlockRest) {files : Files} {whole : Plan Flow} {s0 s : Stand} (table : List (List ℕ))
     → Stacked s.names fs rs → gs ≡ fs ++ frames.Block b ∷ [] → Made b.code.value s.names table
     → Leads files whole s0 (behind_all rs (do_all (folder b.left) (others_by table b))) s → Moves files whole s0 (Ok Next) gs s
-moves_block fs gs rs b table h is m l = record { moves = record {
-  rests = rs ++ Others b.left (others_by table b) ∷ [];
-  stacked = stacked_top fs gs rs (frames.Block b) (Others b.left (others_by table b)) is h (record { table = table; made = m; is = refl });
-  leads = leads_laid rs (Others b.left (others_by table b)) {others = λ flow. on_next flow (do_all (folder b.left) (others_by table b))} refl l;
-} }
+moves_block fs gs rs b table h is m l = record {
+  moves = record {
+    rests = rs ++ Others b.left (others_by table b) ∷ [];
+    stacked = stacked_top fs gs rs (frames.Block b) (Others b.left (others_by table b)) is h (record { table = table; made = m; is = refl });
+    leads = leads_laid rs (Others b.left (others_by table b)) {others = λ flow. on_next flow (do_all (folder b.left) (others_by table b))} refl l;
+  };
+}
 
 abbrev pub rounds_rest : List (List ℕ) → LoopRest → Rest
 rounds_rest table l = Rounds l.left l.head.line (name_at table l.head.first) (option_map (name_at table) l.head.second)
@@ -295,11 +297,13 @@ rounds_rest table l = Rounds l.left l.head.line (name_at table l.head.first) (op
 pub moves_loop : (fs gs : List Frame) (rs : List Rest) (r : LoopRest) {files : Files} {whole : Plan Flow} {s0 s : Stand} (table : List (List ℕ))
     → Stacked s.names fs rs → gs ≡ fs ++ frames.Loop r ∷ [] → Made r.code.value s.names table
     → Leads files whole s0 (behind_all rs (rounds_of (round_by table r.code.value r.left r.head) (rounds_left r))) s → Moves files whole s0 (Ok Next) gs s
-moves_loop fs gs rs r table h is m l = record { moves = record {
-  rests = rs ++ rounds_rest table r ∷ [];
-  stacked = stacked_top fs gs rs (frames.Loop r) (rounds_rest table r) is h (record { table = table; made = m; is = refl });
-  leads = leads_laid rs (rounds_rest table r) {others = λ flow. after_round flow (rounds_of (round_by table r.code.value r.left r.head) (rounds_left r))} refl l;
-} }
+moves_loop fs gs rs r table h is m l = record {
+  moves = record {
+    rests = rs ++ rounds_rest table r ∷ [];
+    stacked = stacked_top fs gs rs (frames.Loop r) (rounds_rest table r) is h (record { table = table; made = m; is = refl });
+    leads = leads_laid rs (rounds_rest table r) {others = λ flow. after_round flow (rounds_of (round_by table r.code.value r.left r.head) (rounds_left r))} refl l;
+  };
+}
 
 -- ---- the whole run
 
@@ -373,7 +377,7 @@ moves_round fs gs hs rs l {s0 = s0} {c = c} {left = left} {r = r} table are same
     let o : Rest = Rounds l.left l.head.line (name_at table l.head.first) (option_map (name_at table) l.head.second) (block_by table c (statements_of c l.head.body)) (rounds_left l) in
     let m : Made l.code.value s0.names table = subst (λ (d : Code). Made d s0.names table) (sym same) made in
     let is : o ≡ rounds_rest table l =
-        ap (λ (d : Code). Rounds l.left l.head.line (name_at table l.head.first) (option_map (name_at table) l.head.second) (block_by table d (statements_of d l.head.body)) (rounds_left l)) (sym same) in
+    ap (λ (d : Code). Rounds l.left l.head.line (name_at table l.head.first) (option_map (name_at table) l.head.second) (block_by table d (statements_of d l.head.body)) (rounds_left l)) (sym same) in
     let one = stacked_top fs gs rs (frames.Loop l) o put h (record { table = table; made = m; is = is }) in
     let two = stacked_top gs hs (rs ++ o ∷ []) frames.End End end one refl in
     moves_as (behind_two rs o End (round_by table c l.left l.head r)

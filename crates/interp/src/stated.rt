@@ -140,7 +140,8 @@ impl<'a, T: Tree, O: Outputs, L: Ledger> Evaluator<'a, T, O, L> {
             name,
             arguments,
             line,
-        } = &code.nodes[value] {
+        } = &code.nodes[value]
+        {
             stack.push(Frame::End)?;
             let way = self.perform(code, *line, name, arguments)?;
             self.take_way(way, left, stack)

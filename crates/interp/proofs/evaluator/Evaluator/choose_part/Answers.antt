@@ -18,14 +18,14 @@ loop-part-init g c = record { same = (refl, (refl, (refl, refl))); tree = refl; 
 pub returns-in_err-value-clause-gives : goal.returns-in_err-value-clause-gives
 returns-in_err-value-clause-gives g c = λ files ts ss left otherwise hold reads.
     let l = leads_as (ap (λ (x : Branches). branches_of (folder left) x (do_all (folder left) otherwise))
-        (branch_next ts ss c.args.parts.now c.loop-part.part c.index-parts-part.result c.loop-part-test.true c.index-parts-part.is)) (c.loop-part.invariant.done files ts ss left otherwise hold reads) in
+    (branch_next ts ss c.args.parts.now c.loop-part.part c.index-parts-part.result c.loop-part-test.true c.index-parts-part.is)) (c.loop-part.invariant.done files ts ss left otherwise hold reads) in
     chooses_stop (part_done (folder left) (branches (map (branch_at ts ss) c.args.parts.now)) otherwise) c.from_residual.result c.from_residual.ensures.1 l
     (c.in_err-value.ensures.gives files ts l.holds (reads_on reads l.continues.written.names))
 
 pub returns-in_err-choose-clause-gives : goal.returns-in_err-choose-clause-gives
 returns-in_err-choose-clause-gives g c = λ files ts ss left otherwise hold reads.
     let l = leads_as (ap (λ (x : Branches). branches_of (folder left) x (do_all (folder left) otherwise))
-        (branch_next ts ss c.args.parts.now c.loop-part.part c.index-parts-part.result c.loop-part-test.true c.index-parts-part.is)) (c.loop-part.invariant.done files ts ss left otherwise hold reads) in
+    (branch_next ts ss c.args.parts.now c.loop-part.part c.index-parts-part.result c.loop-part-test.true c.index-parts-part.is)) (c.loop-part.invariant.done files ts ss left otherwise hold reads) in
     let e = c.in_ok-value.ensures.gives files ts l.holds (reads_on reads l.continues.written.names) in
     let m = leads_further l (leads_next e) in
     chooses_stop (part_done (folder left) (branches (map (branch_at ts ss) c.args.parts.now)) otherwise) c.from_residual-in_err-choose.result c.from_residual-in_err-choose.ensures.1 m
@@ -34,17 +34,17 @@ returns-in_err-choose-clause-gives g c = λ files ts ss left otherwise hold read
 pub returns-in-Body-clause-gives : goal.returns-in-Body-clause-gives
 returns-in-Body-clause-gives g c = λ files ts ss left otherwise hold reads.
     let l = leads_as (ap (λ (x : Branches). branches_of (folder left) x (do_all (folder left) otherwise))
-        (branch_next ts ss c.args.parts.now c.loop-part.part c.index-parts-part.result c.loop-part-test.true c.index-parts-part.is)) (c.loop-part.invariant.done files ts ss left otherwise hold reads) in
+    (branch_next ts ss c.args.parts.now c.loop-part.part c.index-parts-part.result c.loop-part-test.true c.index-parts-part.is)) (c.loop-part.invariant.done files ts ss left otherwise hold reads) in
     let e = c.in_ok-value.ensures.gives files ts l.holds (reads_on reads l.continues.written.names) in
     let m = leads_further l (leads_next e) in
     let n = leads_further m (leads_next (c.in_ok-choose.ensures.gives files e.holds)) in
     let k = leads_as (ap (λ (x : Choice). by_choice x (do_all (folder left) (statements (map (statement_at ss) c.index-parts-part.result.body.items))) (branches_of (folder left) (branches (map (branch_at ts ss) (drop (c.loop-part.part + 1) c.args.parts.now))) (do_all (folder left) otherwise))) c.in-Body.is) n in
-    leads_as (sym (part_there (folder left) ts ss otherwise c.args.parts.now c.loop-part.part c.index-parts-part.result c.loop-part-test.true) ) (leads_as (ap (λ (b : BranchNode). do_all (folder left) (statements (map (statement_at ss) b.body.items))) c.index-parts-part.is) k)
+    leads_as (sym (part_there (folder left) ts ss otherwise c.args.parts.now c.loop-part.part c.index-parts-part.result c.loop-part-test.true)) (leads_as (ap (λ (b : BranchNode). do_all (folder left) (statements (map (statement_at ss) b.body.items))) c.index-parts-part.is) k)
 
 pub returns-in-Skip-clause-gives : goal.returns-in-Skip-clause-gives
 returns-in-Skip-clause-gives g c = λ files ts ss left otherwise hold reads.
     let l = leads_as (ap (λ (x : Branches). branches_of (folder left) x (do_all (folder left) otherwise))
-        (branch_next ts ss c.args.parts.now c.loop-part.part c.index-parts-part.result c.loop-part-test.true c.index-parts-part.is)) (c.loop-part.invariant.done files ts ss left otherwise hold reads) in
+    (branch_next ts ss c.args.parts.now c.loop-part.part c.index-parts-part.result c.loop-part-test.true c.index-parts-part.is)) (c.loop-part.invariant.done files ts ss left otherwise hold reads) in
     let e = c.in_ok-value.ensures.gives files ts l.holds (reads_on reads l.continues.written.names) in
     let m = leads_further l (leads_next e) in
     let n = leads_further m (leads_next (c.in_ok-choose.ensures.gives files e.holds)) in
@@ -52,14 +52,19 @@ returns-in-Skip-clause-gives g c = λ files ts ss left otherwise hold reads.
     k
 
 pub loop-part-preserved : goal.loop-part-preserved
-loop-part-preserved g c = record { same = search rules; tree = search rules; out = search rules; done = λ files ts ss left otherwise hold reads.
-    let l = leads_as (ap (λ (x : Branches). branches_of (folder left) x (do_all (folder left) otherwise))
-        (branch_next ts ss c.args.parts.now c.loop-part.part c.index-parts-part.result c.loop-part-test.true c.index-parts-part.is)) (c.loop-part.invariant.done files ts ss left otherwise hold reads) in
-    let e = c.in_ok-value.ensures.gives files ts l.holds (reads_on reads l.continues.written.names) in
-    let m = leads_further l (leads_next e) in
-    let n = leads_further m (leads_next (c.in_ok-choose.ensures.gives files e.holds)) in
-    let k = leads_as (ap (λ (x : Choice). by_choice x (do_all (folder left) (statements (map (statement_at ss) c.index-parts-part.result.body.items))) (branches_of (folder left) (branches (map (branch_at ts ss) (drop (c.loop-part.part + 1) c.args.parts.now))) (do_all (folder left) otherwise))) c.in-Others.is) n in
-    k }
+loop-part-preserved g c = record {
+  same = search rules;
+  tree = search rules;
+  out = search rules;
+  done = λ files ts ss left otherwise hold reads.
+      let l = leads_as (ap (λ (x : Branches). branches_of (folder left) x (do_all (folder left) otherwise))
+      (branch_next ts ss c.args.parts.now c.loop-part.part c.index-parts-part.result c.loop-part-test.true c.index-parts-part.is)) (c.loop-part.invariant.done files ts ss left otherwise hold reads) in
+      let e = c.in_ok-value.ensures.gives files ts l.holds (reads_on reads l.continues.written.names) in
+      let m = leads_further l (leads_next e) in
+      let n = leads_further m (leads_next (c.in_ok-choose.ensures.gives files e.holds)) in
+      let k = leads_as (ap (λ (x : Choice). by_choice x (do_all (folder left) (statements (map (statement_at ss) c.index-parts-part.result.body.items))) (branches_of (folder left) (branches (map (branch_at ts ss) (drop (c.loop-part.part + 1) c.args.parts.now))) (do_all (folder left) otherwise))) c.in-Others.is) n in
+      k;
+}
 
 pub returns-clause-gives : goal.returns-clause-gives
 returns-clause-gives g c = λ files ts ss left otherwise hold reads.

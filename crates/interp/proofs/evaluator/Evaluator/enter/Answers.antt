@@ -91,4 +91,3 @@ returns-in_err-push-3-clause-gives g c = λ files rests hold stacked.
     let path : c.deref.result.now ≡ string_bytes c.in_ok-path.path = c.deref.ensures in
     let o = given_as (ap opened path) (c.in_ok-opened.ensures.gives files f.holds) in
     moves_none c.from_residual-in_err-push-3.result c.push-3.new.self.items (leads_under rests (leads_further f (leads_next o))) c.from_residual-in_err-push-3.ensures.1
-

@@ -46,7 +46,7 @@ returns-in_err-bind-clause-gives g c = λ files rests table hold stacked made.
     let here = round_is xs l.at c.in_ok-round.field-0 c.in-Some.round c.in-Some.is c.in_ok-round.ensures in
     let names = c.args.self.now.store.now.names in
     let bind = given_as (bound_as made l.head.line l.head.first l.head.second (round_data c.in-Some.round) l.first l.second)
-        (c.in_err-bind.ensures.gives (named made l.head.first l.first).0 (second_named made l.head.second l.second).0 files hold) in
+    (c.in_err-bind.ensures.gives (named made l.head.first l.first).0 (second_named made l.head.second l.second).0 files hold) in
     moves_round c.args.stack.now.items c.push.new.self.items c.push-2.new.self.items rests _ table here c.in_ok-clone.ensures.cases c.in_ok-push.ensures.items c.in_ok-push-2.ensures.items stacked made
     (λ rs s. moves_given c.push-2.new.self.items rs c.from_residual-in_err-bind.result s (given_stop bind c.from_residual-in_err-bind.ensures.1))
 
@@ -57,7 +57,7 @@ returns-in_err-push-3-clause-gives g c = λ files rests table hold stacked made.
     let here = round_is xs l.at c.in_ok-round.field-0 c.in-Some.round c.in-Some.is c.in_ok-round.ensures in
     let names = c.args.self.now.store.now.names in
     let bind = given_as (bound_as made l.head.line l.head.first l.head.second (round_data c.in-Some.round) l.first l.second)
-        (c.in_ok-bind.ensures.gives (named made l.head.first l.first).0 (second_named made l.head.second l.second).0 files hold) in
+    (c.in_ok-bind.ensures.gives (named made l.head.first l.first).0 (second_named made l.head.second l.second).0 files hold) in
     moves_round c.args.stack.now.items c.push.new.self.items c.push-2.new.self.items rests _ table here c.in_ok-clone.ensures.cases c.in_ok-push.ensures.items c.in_ok-push-2.ensures.items stacked made
     (λ rs s. moves_none c.from_residual-in_err-push-3.result c.push-3.new.self.items (leads_under rs (leads_next bind)) c.from_residual-in_err-push-3.ensures.1)
 
@@ -68,7 +68,7 @@ returns-clause-gives g c = λ files rests table hold stacked made.
     let here = round_is xs l.at c.in_ok-round.field-0 c.in-Some.round c.in-Some.is c.in_ok-round.ensures in
     let names = c.args.self.now.store.now.names in
     let bind = given_as (bound_as made l.head.line l.head.first l.head.second (round_data c.in-Some.round) l.first l.second)
-        (c.in_ok-bind.ensures.gives (named made l.head.first l.first).0 (second_named made l.head.second l.second).0 files hold) in
+    (c.in_ok-bind.ensures.gives (named made l.head.first l.first).0 (second_named made l.head.second l.second).0 files hold) in
     moves_round c.args.stack.now.items c.push.new.self.items c.push-2.new.self.items rests _ table here c.in_ok-clone.ensures.cases c.in_ok-push.ensures.items c.in_ok-push-2.ensures.items stacked made
     (λ rs s. moves_block c.push-2.new.self.items c.push-3.new.self.items rs _ table (stacked_on c.push-2.new.self.items rs bind.gives.written.names s) c.in_ok-push-3.ensures.items
     (made_on bind.gives.written.names made) (leads_under rs (leads_next bind)))

@@ -30,6 +30,6 @@ returns-clause-gives g c = λ files rests table hold stacked made.
     let rest = c.args.rest in
     let some : drop rest.at (statements_of c.deref.result.now rest.block) ≡ c.in-Some.number ∷ drop (rest.at + 1) (statements_of c.deref.result.now rest.block) = c.in-Some.ensures.is in
     let here : drop rest.at (statements_of rest.code.value rest.block) ≡ c.in-Some.number ∷ drop (rest.at + 1) (statements_of rest.code.value rest.block) =
-        subst (λ (d : Code). drop rest.at (statements_of d rest.block) ≡ c.in-Some.number ∷ drop (rest.at + 1) (statements_of d rest.block)) c.deref.ensures some in
+    subst (λ (d : Code). drop rest.at (statements_of d rest.block) ≡ c.in-Some.number ∷ drop (rest.at + 1) (statements_of d rest.block)) c.deref.ensures some in
     moves_statement c.args.stack.now.items c.push.new.self.items c.push-2.new.self.items rests _ table here c.in_ok-clone.ensures.cases c.in_ok-push.ensures.items c.in_ok-push-2.ensures.items stacked made
     (λ rs s. c.begin.ensures.gives files rs table hold s made)

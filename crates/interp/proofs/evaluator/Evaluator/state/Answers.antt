@@ -21,7 +21,7 @@ use Rattle.interp.proofs.evaluator.Evaluator.state.Goals as goal
 pub perform-requires-clause-here : goal.perform-requires-clause-here
 perform-requires-clause-here g c =
     let reach : above above_argument c.in-Call.arguments.items ≤ c.args.value = arguments_reach c.args.value c.in-Call.arguments.items
-        (parts_at c.args.code.now c.args.value c.index.result.now (nodes.Call c.in-Call.name c.in-Call.arguments c.in-Call.line) c.requires.here c.index.ensures c.in-Call.is) in
+    (parts_at c.args.code.now c.args.value c.index.result.now (nodes.Call c.in-Call.name c.in-Call.arguments c.in-Call.line) c.requires.here c.index.ensures c.in-Call.is) in
     let near : above above_argument c.in-Call.arguments.items ≤ length c.args.code.now.nodes.items = omega (arith, reach, c.requires.here) in
     subst (λ (xs : List ArgumentNode). above above_argument xs ≤ length c.args.code.now.nodes.items) (sym c.deref-in-Call.ensures.value) near
 
