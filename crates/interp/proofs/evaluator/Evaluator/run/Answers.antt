@@ -1,4 +1,4 @@
-use Rattle.std.proofs.Common.{◌≡◌, ℕ, List, Ok, sym, ap, refl, ◌∙◌, rules}
+use Rattle.std.proofs.Common.{◌≡◌, ◌-◌, ℕ, List, append-nil, take, Err, Ok, sym, ap, refl, ◌∙◌, rules}
 use Rattle.code.specs.declared.code.Code.{Code}
 use Rattle.interp.specs.Blocks.{file_by}
 use Rattle.interp.specs.Folders.{folder}
@@ -39,11 +39,13 @@ pub returns-in_err-flow-clause-gives : goal.returns-in_err-flow-clause-gives
 returns-in_err-flow-clause-gives g c = λ files hold.
     let m = c.loop-step.invariant.done files hold in
     run_stopped c.from_residual-in_err-flow.ensures.1
-    (step_then c.pop.new.self.items c.loop-step.stack.items c.step.new.stack.items c.in-Some.frame c.loop-step.flow c.step.result c.in-Some.ensures.items m
+    (step_then c.pop.new.self.items c.loop-step.stack.items c.step.new.stack.items c.in-Some.frame c.loop-step.flow (Err c.in_err-flow.field-0.0) c.in-Some.ensures.items m
     (λ rests rest s t. c.in_err-flow.ensures.gives files rests rest m.leads.holds s t)).steps
 
 pub returns-in_default-clause-gives : goal.returns-in_default-clause-gives
-returns-in_default-clause-gives g c = λ files hold. run_ended c.loop-step.stack.items c.loop-step.flow c.in_default.ensures.items (c.loop-step.invariant.done files hold)
+returns-in_default-clause-gives g c = λ files hold. run_ended c.loop-step.stack.items c.loop-step.flow
+    (c.in_default.ensures.items ∙ append-nil c.pop.new.self.items ∙ c.in_default.ensures.rest ∙ ap (λ (n : ℕ). take (n - 1) c.loop-step.stack.items) c.in_default.ensures.cases.0)
+    (c.loop-step.invariant.done files hold)
 
 pub returns-clause-gives : goal.returns-clause-gives
 returns-clause-gives g c = λ files hold. run_none (c.loop-step.invariant.done files hold).leads refl
