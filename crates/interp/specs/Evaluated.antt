@@ -35,7 +35,8 @@ Ticked run cost (Err stops.Device) old new = TickedSome (marks_of run) cost old 
 Ticked run cost (Err stops.Memory) old new = TickedSome (marks_of run) cost old new
 
 -- one of the devices has failed once more where the answer says so, and else none has
-pub record FailsOnce {B : Type 0} (tree : TreeState) (out : OutputState) (result : Result B Stop) (tree_now : TreeState) (out_now : OutputState) : Type 0 where
+pub record FailsOnce {B : Type 0} (tree : TreeState) (out : OutputState) (result : Result B Stop) (tree_now : TreeState)
+    (out_now : OutputState) : Type 0 where
   pub of_tree : tree.failures ≤ tree_now.failures
   pub of_out : out.failures ≤ out_now.failures
   pub sum : tree_now.failures + out_now.failures ≡ failures_after (tree.failures + out.failures) result

@@ -8,6 +8,7 @@ use Rattle.ports.specs.Outputs.{OutputState}
 use Rattle.ports.specs.Tree.{TreeState}
 use Rattle.faults.specs.Faults.{FaultData}
 use Rattle.faults.specs.declared.refusal.Refusal.{Refusal}
+use Rattle.world.specs.Answering.{State}
 use Rattle.world.specs.Deed.{Files}
 use Rattle.world.specs.Gives.{Gives, Holds, failures_after}
 use Rattle.world.specs.Plan.{Plan, carry}

@@ -142,6 +142,7 @@ pub fn evaluate<T: Tree, O: Outputs, L: Ledger>(
         (seen (O.seen out.old) steps.old []) (seen (O.seen out.new) steps.new []) }
     ensures device { FailsOnce (T.seen tree.old) (O.seen out.old) result (T.seen tree.new) (O.seen out.new) }
 {
+    // The law that `ticks` rests on; the call does nothing.
     ends_keep_up();
     if !machine.is_empty() {
         return refuse_machine_file(alloc);

@@ -1,4 +1,4 @@
-use Rattle.std.proofs.Common.{◌≡◌, Bool, true, false, [], ◌∷◌, Ok, Err, refl, sym, ap, ◌∙◌, arith, rules}
+use Rattle.std.proofs.Common.{◌≡◌, ℕ, ◌+◌, ◌<◌, Bool, true, false, not, List, [], ◌∷◌, ◌++◌, length, length-append, drop, get_or, Ok, Err, refl, sym, ap, ◌∙◌, arith, rules}
 use Rattle.std.specs.Prelude.{if◌then◌else◌}
 use Rattle.std.proofs.lemmas.Bool.{false≢true}
 use Rattle.std.proofs.lemmas.Grind.{common_steps}
@@ -7,6 +7,7 @@ use Rattle.data.specs.Data.{Data, list, Items, no_items, item, items_append}
 use Rattle.data.specs.Limits.{items_fit, within}
 use Rattle.data.specs.View.{data_of, items_of}
 use Rattle.data.specs.declared.refusal.Refusal.TheVariants as operation
+use Rattle.data.specs.declared.value.Value.{Value}
 use Rattle.data.proofs.ItemsLemmas.{front_fits, items_append_assoc, items_append_none}
 use Rattle.interp.proofs.list.list_value.Goals as goal
 
