@@ -37,8 +37,8 @@ row_of functions.Project = record {
   positional = Text ∷ [];
   needed = 1;
   others = Some Texts;
-  keywords = [];
-  left_out = codes "version" ∷ codes "license" ∷ codes "default_options" ∷ codes "meson_version" ∷ common_left_out;
+  keywords = optional (codes "version") Text ∷ optional (codes "license") Texts ∷ optional (codes "meson_version") Text ∷ [];
+  left_out = codes "default_options" ∷ common_left_out;
 }
 row_of functions.Range = record {
   positional = Integer ∷ Integer ∷ Integer ∷ [];

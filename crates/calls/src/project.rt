@@ -1,33 +1,42 @@
 //! `project`, as far as it goes.
-ghost use Rattle.std.specs.Prelude.{◌≡◌, codes, drop, map, option_map, string_bytes, Result, bytes_eq};
+ghost use Rattle.std.specs.Prelude.{◌≡◌, [], codes, map, option_map, unwrap_or, IfOk, Result, bytes_eq};
 ghost use Rattle.std.specs.List.{list_all};
+ghost use Rattle.data.specs.Data.{text_in};
 ghost use Rattle.data.specs.View.{data_of};
 ghost use Rattle.faults.specs.declared.refusal.Refusal.{Refusal as RefusalSo};
 ghost use Rattle.arguments.specs.Arguments.{arguments_data};
+ghost use Rattle.options.specs.Resolves.{resolved};
+ghost use Rattle.options.specs.View.{options_in, outcome_in};
+ghost use Rattle.targets.specs.View.{facts_view};
 ghost use Rattle.world.specs.Answering.{Carries, HasRoom};
 ghost use Rattle.world.specs.Caller.{state_of};
-ghost use Rattle.world.specs.SettingsView.{settings_view};
-ghost use Rattle.calls.specs.Project.{first_project, is_empty, languages_refusal, left_out_at, no_option_file, no_option_words, project, project_by, refuse_at, texts_behind};
+ghost use Rattle.world.specs.Store.{world_of};
+ghost use Rattle.calls.specs.Project.{begin, facts_of, first_project, languages_refusal, left_out_at, no_option_file, project, project_by, refuse_at, settled, texts_behind, version_of};
 
 use arguments::Arguments;
 use data::Value;
 use faults::Refusal;
+use options::{Declared, OptionFault, Options, resolve};
 use ports::{Outputs, Tree};
-use world::{Caller, Place, Settings, Stop};
+use project_facts::{flags_of, option_entries, program};
+use std::alloc::{AllocError, Global};
+use targets::Facts;
+use world::{Caller, Place, Stop, Store};
 
 // A refusal at another place than that of the call.
 fn refuse_at<T: Tree, O: Outputs>(
     caller: &mut Caller<'_, T, O>,
     file: &str,
+    line: usize,
     refusal: Refusal,
 ) -> Result<(), Stop>
-    ensures { Carries (λ u. u) (refuse_at file.now 1 refusal) (state_of T.seen O.seen caller.old) result
+    ensures { Carries (λ u. u) (refuse_at file.now line refusal) (state_of T.seen O.seen caller.old) result
         (state_of T.seen O.seen caller.new) }
 {
     let place = Place {
         file: String::from_str(caller.alloc, file)?,
         folder: String::new(caller.alloc),
-        line: 1,
+        line,
     };
     let _outer = caller.store.go(place);
     caller.refuse(refusal, "")
@@ -43,37 +52,9 @@ fn no_option_file<T: Tree, O: Outputs>(
 {
     let found = caller.is_there(path)?;
     if found {
-        refuse_at(caller, path, Refusal::LeftOut)
+        refuse_at(caller, path, 1, Refusal::LeftOut)
     } else {
         Ok(())
-    }
-}
-
-fn is_empty(words: &[String]) -> bool
-    ensures { result ≡ is_empty (map string_bytes words.now) }
-{
-    match words {
-        [] => true,
-        _ => false,
-    }
-}
-
-fn has_no_words(settings: &Settings) -> bool
-    ensures { result ≡ is_empty (settings_view settings.now).words }
-{
-    is_empty(&settings.words)
-}
-
-// And no option is known.
-fn no_option_words<T: Tree, O: Outputs>(caller: &mut Caller<'_, T, O>) -> Result<(), Stop>
-    ensures { Carries (λ u. u) (no_option_words (is_empty (state_of T.seen O.seen caller.old).world.facts.settings.words))
-        (state_of T.seen O.seen caller.old) result (state_of T.seen O.seen caller.new) }
-{
-    let is_free = has_no_words(caller.store.settings());
-    if is_free {
-        Ok(())
-    } else {
-        refuse_at(caller, "<command line>", Refusal::OptionValue)
     }
 }
 
@@ -102,6 +83,92 @@ fn are_c(languages: &[&str]) -> bool
     true
 }
 
+// The options with their values, or the stop of the first fault of one.
+fn settle<T: Tree, O: Outputs>(
+    caller: &Caller<'_, T, O>,
+    outcome: Result<Options, OptionFault>,
+) -> Result<Options, Stop>
+    ensures { Carries options_in (settled (outcome_in outcome) caller.now.store.now.line) (state_of T.seen O.seen caller.now) result
+        (state_of T.seen O.seen caller.now) }
+{
+    match outcome {
+        Ok(options) => Ok(options),
+        Err(fault) => {
+            let line = caller.store.line();
+            Err(Stop::Refused(fault.told_in(caller.alloc, "meson.options", line)?))
+        }
+    }
+}
+
+// What the options come to, of which none is declared so far.
+fn outcome_of(alloc: Global, store: &Store) -> Result<Result<Options, OptionFault>, AllocError>
+    ensures { IfOk result (λ o. outcome_in o
+        ≡ (resolved [] [] (world_of store.now).facts.machine (world_of store.now).facts.settings.words).outcome) }
+{
+    let declared = Declared::empty(alloc);
+    let settings = store.settings();
+    let resolved = resolve(alloc, &declared, &[], store.machine(), &settings.words)?;
+    Ok(resolved.outcome)
+}
+
+fn version_of(arguments: &Arguments) -> &str
+    ensures { result.now ≡ version_of (arguments_data arguments.now) }
+{
+    match arguments.keyword("version") {
+        Some(value) => text_or_undefined(value),
+        None => "undefined",
+    }
+}
+
+fn text_or_undefined(value: &Value) -> &str
+    ensures { result.now ≡ unwrap_or (text_in (data_of value.now)) (codes "undefined") }
+{
+    match value.as_text() {
+        Some(text) => text.as_str(),
+        None => "undefined",
+    }
+}
+
+// What the arguments, the options and the machine file say of the project.
+fn facts_of(
+    alloc: Global,
+    arguments: &Arguments,
+    options: &Options,
+    store: &Store,
+) -> Result<Facts, AllocError>
+    ensures { IfOk result (λ f. facts_view f
+        ≡ facts_of (arguments_data arguments.now) (options_in options.now) (world_of store.now).facts) }
+{
+    let settings = store.settings();
+    Ok(Facts {
+        name: String::from_str(alloc, arguments.text_at(0))?,
+        version: String::from_str(alloc, version_of(arguments))?,
+        license: arguments.texts(alloc, "license")?,
+        depth: settings.depth,
+        source_root: String::from_str(alloc, settings.source_root.as_str())?,
+        build_root: String::from_str(alloc, settings.build_root.as_str())?,
+        compiler: program(alloc, store.machine(), "c", "cc")?,
+        archiver: program(alloc, store.machine(), "ar", "ar")?,
+        flags: flags_of(alloc, options)?,
+        options: option_entries(alloc, options)?,
+    })
+}
+
+// Sets the options, and begins the project.
+fn begin<T: Tree, O: Outputs>(
+    caller: &mut Caller<'_, T, O>,
+    arguments: &Arguments,
+) -> Result<(), Stop>
+    ensures { Carries (λ u. u) (begin (arguments_data arguments.now)) (state_of T.seen O.seen caller.old) result
+        (state_of T.seen O.seen caller.new) }
+{
+    let outcome = outcome_of(caller.alloc, caller.store)?;
+    let options = settle(caller, outcome)?;
+    let facts = facts_of(caller.alloc, arguments, &options, caller.store)?;
+    caller.store.set_options(options);
+    caller.begin(facts)
+}
+
 // The first call.
 fn first_project<T: Tree, O: Outputs>(
     caller: &mut Caller<'_, T, O>,
@@ -115,12 +182,11 @@ fn first_project<T: Tree, O: Outputs>(
     caller.fitting(check_languages(&languages))?;
     no_option_file(caller, "meson.options")?;
     no_option_file(caller, "meson_options.txt")?;
-    no_option_words(caller)?;
-    caller.store.begin();
+    begin(caller, arguments)?;
     Ok(None)
 }
 
-/// `project(name, language..)`: a later call is refused, whatever it is given.
+/// `project(name, language.., version:, license:, meson_version:)`: a later call is refused, whatever it is given.
 pub fn project<T: Tree, O: Outputs>(
     caller: &mut Caller<'_, T, O>,
     arguments: &Arguments,

@@ -6,6 +6,24 @@ ghost use Rattle.calls.specs.Rows.{row_of};
 use crate::function::Function;
 use arguments::{Keyword, Kind, Row};
 
+static PROJECT: [Keyword; 3] = [
+    Keyword {
+        name: "version",
+        kind: Kind::Text,
+        is_needed: false,
+    },
+    Keyword {
+        name: "license",
+        kind: Kind::Texts,
+        is_needed: false,
+    },
+    Keyword {
+        name: "meson_version",
+        kind: Kind::Text,
+        is_needed: false,
+    },
+];
+
 static SUBDIR: [Keyword; 1] = [Keyword {
     name: "if_found",
     kind: Kind::Dependencies,
@@ -84,16 +102,8 @@ pub fn row(function: Function) -> Row
             positional: &[Kind::Text],
             needed: 1,
             others: Some(Kind::Texts),
-            keywords: &[],
-            left_out: &[
-                "version",
-                "license",
-                "default_options",
-                "meson_version",
-                "kwargs",
-                "fallback",
-                "deprecated",
-            ],
+            keywords: &PROJECT,
+            left_out: &["default_options", "kwargs", "fallback", "deprecated"],
         },
         Function::Range => Row {
             positional: &[Kind::Integer, Kind::Integer, Kind::Integer],

@@ -82,19 +82,25 @@ carries_stop {view = view} {view' = view'} {d = d} {next = next} {s0 = s0} {s1 =
   same = p.same;
 }
 
--- want of memory: the world may have changed, and names may be new; the devices are as they were
-pub carries_lost : {A B : Type 0} {view : B → A} {d : Deed A} {w w1 : World} {names names1 : List (List ℕ)} {tree : TreeState} {out : OutputState} {lent : ℕ × ℕ × ℕ} {result : Result B Stop}
-    → IsErrAnd result (λ e. e ≡ stops.Memory) → IsFront names names1 → Carries view d (record { world = w; names = names; tree = tree; out = out; lent = lent }) result (record { world = w1; names = names1; tree = tree; out = out; lent = lent })
-carries_lost {view = view} {d = d} {w = w} {w1 = w1} {names = names} {names1 = names1} {tree = tree} {out = out} {result = result} is front = record {
+-- want of memory: the world may have changed, and names may be new; no device failed, and nothing was told
+pub carries_lost : {A B : Type 0} {view : B → A} {d : Deed A} {w w1 : World} {names names1 : List (List ℕ)} {tree tree1 : TreeState} {out : OutputState} {lent : ℕ × ℕ × ℕ} {result : Result B Stop}
+    → IsErrAnd result (λ e. e ≡ stops.Memory) → IsFront names names1 → Stays tree tree1 → tree1.failures ≡ tree.failures
+    → Carries view d (record { world = w; names = names; tree = tree; out = out; lent = lent }) result (record { world = w1; names = names1; tree = tree1; out = out; lent = lent })
+carries_lost {view = view} {d = d} {w = w} {w1 = w1} {names = names} {names1 = names1} {tree = tree} {tree1 = tree1} {out = out} {result = result} is front stays none = record {
   gives = λ files n h. wanted_grown view (perform files d w) w1 (seen out n names) (seen out n names1) result is refl refl front;
-  stays = stays_here tree;
-  device = record { tree = omega arith; out = omega arith; sum = sym (memory_quietly result is (tree.failures + out.failures)) };
+  stays = stays;
+  device = record { tree = omega (arith, none); out = omega arith; sum = let m : ℕ = tree.failures + out.failures in let e : tree1.failures + out.failures ≡ m = omega (arith, none) in e ∙ sym (memory_quietly result is m) };
   same = refl;
 }
 
+-- the same, where the tree was not asked
+pub carries_wanted : {A B : Type 0} {view : B → A} {d : Deed A} {w w1 : World} {names names1 : List (List ℕ)} {tree : TreeState} {out : OutputState} {lent : ℕ × ℕ × ℕ} {result : Result B Stop}
+    → IsErrAnd result (λ e. e ≡ stops.Memory) → IsFront names names1 → Carries view d (record { world = w; names = names; tree = tree; out = out; lent = lent }) result (record { world = w1; names = names1; tree = tree; out = out; lent = lent })
+carries_wanted {tree = tree} is front = carries_lost is front (stays_here tree) refl
+
 -- want of memory before anything was done
 pub carries_none : {A B : Type 0} {view : B → A} {d : Deed A} {s : State} {result : Result B Stop} → IsErrAnd result (λ e. e ≡ stops.Memory) → Carries view d s result s
-carries_none {s = s} is = carries_lost is (same_front s.names)
+carries_none {s = s} is = carries_wanted is (same_front s.names)
 
 -- an answer is given
 pub carries_give : {A B : Type 0} {view : B → A} {a : A} {s : State} {x : B} → view x ≡ a → Carries view (give a) s (Ok x) s
@@ -206,7 +212,7 @@ is_some-option_map f (Some x) = refl
 
 -- the tree said how large a file is
 pub carries_found : (path : List ℕ) {w w1 : World} {names names1 : List (List ℕ)} {tree tree1 : TreeState} {out : OutputState} {lent : ℕ × ℕ × ℕ} {size : Option ℕ} {found : Bool}
-    → w1 ≡ looking w path → names1 ≡ names → (IsTrue tree.steady → size ≡ option_map length (file_at tree.files path)) → found ≡ is_some size → Stays tree tree1 → tree1.failures ≡ tree.failures
+    → w1 ≡ looking w path found → names1 ≡ names → (IsTrue tree.steady → size ≡ option_map length (file_at tree.files path)) → found ≡ is_some size → Stays tree tree1 → tree1.failures ≡ tree.failures
     → Carries (λ b. b) (there path) (record { world = w; names = names; tree = tree; out = out; lent = lent }) (Ok found) (record { world = w1; names = names1; tree = tree1; out = out; lent = lent })
 unfolding there
 carries_found path {w = w} {w1 = w1} {names = names} {names1 = names1} {tree = tree} {tree1 = tree1} {out = out} {size = size} {found = found} looked named is same stays none = record {
@@ -214,8 +220,9 @@ carries_found path {w = w} {w1 = w1} {names = names} {names1 = names1} {tree = t
       let e : found ≡ is_some (file_at files path) =
       same ∙ ap is_some (is h.steady) ∙ is_some-option_map length (file_at tree.files path) ∙ ap (λ fs. is_some (file_at fs path)) h.files in
       subst (λ v. Gives (λ (b : Bool). b) (perform files (there path) w) (Ok found) v (seen out n names) (seen out n names1)) (sym looked)
-      (subst (λ ns. Gives (λ (b : Bool). b) (perform files (there path) w) (Ok found) (looking w path) (seen out n names) (seen out n ns)) (sym named)
-      (subst (λ b. Ends (ran (Done (is_some (file_at files path))) (looking w path) []) (Done b) (looking w path) (seen out n names) (seen out n names)) (sym e) (record { is = refl; written = none_added (seen out n names) })));
+      (subst (λ ns. Gives (λ (b : Bool). b) (perform files (there path) w) (Ok found) (looking w path found) (seen out n names) (seen out n ns)) (sym named)
+      (subst (λ b. Ends (ran (Done (is_some (file_at files path))) (looking w path (is_some (file_at files path))) []) (Done b) (looking w path b) (seen out n names) (seen out n names)) (sym e)
+      (record { is = refl; written = none_added (seen out n names) })));
   stays = stays;
   device = record { tree = omega (arith, none); out = omega arith; sum = omega (arith, none) };
   same = refl;
