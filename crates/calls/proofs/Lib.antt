@@ -1,2 +1,3 @@
 pub mod Gaps
+pub mod Places
 pub mod Values

@@ -11,7 +11,8 @@ ghost use Rattle.targets.specs.View.{facts_view};
 ghost use Rattle.world.specs.Answering.{Carries, HasRoom};
 ghost use Rattle.world.specs.Caller.{state_of};
 ghost use Rattle.world.specs.Store.{world_of};
-ghost use Rattle.calls.specs.Project.{begin, facts_of, first_project, languages_refusal, left_out_at, no_option_file, project, project_by, refuse_at, settled, texts_behind, version_of};
+ghost use Rattle.calls.specs.Project.{begin, facts_of, first_project, languages_refusal, left_out_at, no_option_file, project};
+ghost use Rattle.calls.specs.Project.{project_by, refuse_at, settled, texts_behind, version_of};
 
 use arguments::Arguments;
 use data::Value;

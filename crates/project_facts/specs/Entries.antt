@@ -34,9 +34,6 @@ shown (value.Feature state) = text (word_of state)
 abbrev pub entry_of : List ℕ × value.Value → OptionEntryData
 entry_of named = record { name = named.0; kind = type_of named.1; value = shown named.1 }
 
-abbrev pub entry_in : Setting → OptionEntryData
-entry_in setting = entry_of (named_value setting)
-
 -- every option, in their order
 abbrev pub entries_in : List Setting → List OptionEntryData
-entries_in settings = map entry_in settings
+entries_in settings = map entry_of (map named_value settings)

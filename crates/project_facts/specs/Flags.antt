@@ -1,5 +1,5 @@
 -- What edges take from the options.
-use Rattle.std.specs.Prelude.{ℕ, Bool, false, List, [], Option, Some, None, codes, bytes_eq, if◌then◌else◌}
+use Rattle.std.specs.Prelude.{ℕ, Bool, false, List, [], Option, Some, codes, bytes_eq, if◌then◌else◌}
 use Rattle.option_values.specs.Values as value
 use Rattle.options.specs.Resolves.{value_named}
 use Rattle.options.specs.Settings.{Setting}

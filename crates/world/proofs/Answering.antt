@@ -1,5 +1,5 @@
 -- Calls one after another, against their deeds.
-use Rattle.std.proofs.Common.{◌≡◌, ℕ, ◌+◌, Option, Some, None, option_map, is_some, IsTrue, length, Bool, true, false, List, [], Result, Ok, Err, IsErrAnd, refl, sym, ap, subst, ◌∙◌, arith, String, Global, string_bytes}
+use Rattle.std.proofs.Common.{◌≡◌, ℕ, ◌+◌, Option, Some, None, option_map, is_some, IsTrue, length, Bool, true, false, List, [], Result, Ok, Err, IsErrAnd, refl, sym, ap, subst, ◌∙◌, arith}
 use Rattle.code.specs.Draft.{Begins as IsFront}
 use Rattle.ports.specs.Outputs.{OutputState, logs, Sends}
 use Rattle.ports.specs.Tree.{TreeState, Stays, file_at}
@@ -9,15 +9,14 @@ use Rattle.data.specs.View.{data_of}
 use Rattle.data.specs.declared.refusal.Refusal.{Refusal as OperationRefusal}
 use Rattle.data.specs.declared.value.Value.{Value}
 use Rattle.faults.specs.Faults.{FaultData}
-use Rattle.world.specs.Operation.{of_operation}
 use Rattle.world.specs.Trace.{Seen, seen}
-use Rattle.world.specs.World.{World, Facts, looking, with_facts, fault_here}
+use Rattle.world.specs.World.{World, Facts, looking, fault_here}
 use Rattle.world.specs.Store.{changing}
 use Rattle.world.specs.Run.{ran, Done}
 use Rattle.world.specs.Gives.{Gives, Ends, failures_after}
-use Rattle.world.specs.Deed.{Files, Deed, give, refuse, tell, say, ask, read, change, then, perform, answered, fitting, need, there}
+use Rattle.world.specs.Deed.{Files, Deed, give, refuse, tell, say, read, change, then, perform, answered, fitting, need, there}
 use Rattle.world.specs.Answering.{State, seen_at, HasRoom, Fails, Carries, Refuses, IsAnswered, IsFitting, Views}
-use Rattle.world.proofs.Follow.{stopped_later, wanted_later, failed_later, ended_later, refused_later, gives_later, begun, done, device_stops, failures_after-refusal, wanted_grown}
+use Rattle.world.proofs.Follow.{stopped_later, failed_later, ended_later, refused_later, gives_later, begun, done, device_stops, failures_after-refusal, wanted_grown}
 use Rattle.world.proofs.Holding.{holds_later, stays_here, stays_on}
 use Rattle.world.proofs.Marks.{none_added, same_front, grown_added}
 use Rattle.world.proofs.Tells.{ends_told, begins_logs}
@@ -128,7 +127,7 @@ carries_refuse {view = view} {refusal = refusal} {detail = detail} {s = s} {resu
 
 -- ---- answers of operations
 
-carries_same : {A B : Type 0} {view : B → A} {d : Deed A} {s : State} {r r' : Result B Stop} → r' ≡ r → Carries view d s r s → Carries view d s r' s
+pub carries_same : {A B : Type 0} {view : B → A} {d : Deed A} {s : State} {r r' : Result B Stop} → r' ≡ r → Carries view d s r s → Carries view d s r' s
 carries_same {view = view} {d = d} {s = s} is p = subst (λ x. Carries view d s x s) (sym is) p
 
 -- the same deed, written otherwise

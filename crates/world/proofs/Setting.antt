@@ -1,5 +1,5 @@
 -- A variable that takes a value in the slot of its name's number.
-use Rattle.std.proofs.Common.{◌≡◌, ℕ, zero, suc, ◌+◌, ◌<◌, ◌≤◌, ◌≢◌, Bool, true, false, cond, List, [], ◌∷◌, ◌++◌, length, length-append, get_or, get_or-set_same, get_or-set_other, set, Option, Some, None, option_map, bytes_eq, refl, sym, ap, subst, ◌∙◌, arith}
+use Rattle.std.proofs.Common.{◌≡◌, ℕ, suc, ◌+◌, ◌<◌, ◌≤◌, ◌≢◌, Bool, true, false, cond, List, [], ◌∷◌, ◌++◌, length, length-append, get_or, get_or-set_same, get_or-set_other, set, Option, Some, None, option_map, bytes_eq, refl, sym, ap, ◌∙◌, arith}
 use Rattle.std.specs.Prelude.{nat_lt, nat_eq, not, ◌||◌, is_some, if◌then◌else◌, option_and_then}
 use Rattle.std.specs.List.{list_any, position_or_len}
 use Rattle.std.proofs.lemmas.Bool.{false≢true}
@@ -18,8 +18,9 @@ use Rattle.std.specs.List.{IsDistinct}
 use Rattle.std.proofs.lemmas.List.{get_or_past}
 use Rattle.std.proofs.Common.{append_assoc, append-nil}
 use Rattle.world.proofs.Numbers.{number_at}
-use Rattle.std.specs.Prelude.{codes}
-use Rattle.project.specs.World.{new_world}
+use Rattle.std.specs.Prelude.{codes, Result, Ok, Err, OnOk}
+use Rattle.project.specs.World.{WorldData, new_world}
+use Rattle.world.specs.Declaring.{declaring}
 use Rattle.world.specs.Settings.{SettingsData}
 use Rattle.world.specs.Start.{first_world, unnamed}
 
@@ -216,6 +217,18 @@ slot_taken names slots new n distinct l same none false q (Some j) h e =
 pub variables_taken : (names : List (List ℕ)) (slots new : List (Option Value)) (n : ℕ) → IsDistinct bytes_eq names → n < length names → ((i : ℕ) → i ≢ n → get_or new i None ≡ get_or slots i None) → get_or new n None ≡ None
     → (q : List ℕ) → kept_variables names new q ≡ variables_with (kept_variables names slots) (get_or names n []) None q
 variables_taken names slots new n distinct l same none q = slot_taken names slots new n distinct l same none (bytes_eq (get_or names n []) q) q (number_in q names) refl refl
+
+-- ---- the project
+
+-- where a call ends well, the project is this of what it was
+pub project_made : {A E : Type 0} (result : Result A E) (k : Kept) (p : WorldData) (f : WorldData → WorldData) → OnOk result (p ≡ f k.project)
+    → OnOk result (world_of (record k { project = p }) ≡ changing (declaring f) (world_of k))
+project_made (Ok x) k p f is = ap (λ q. world_of (record k { project = q })) is
+project_made (Err e) k p f is = tt
+
+pub then_same : {A E : Type 0} (v : World) {w z : World} (result : Result A E) → OnOk result (v ≡ w) → w ≡ z → OnOk result (v ≡ z)
+then_same v (Ok x) is same = is ∙ same
+then_same v (Err e) is same = tt
 
 -- before anything was done
 pub world_first : (k : Kept) (settings : SettingsData) → k.file ≡ codes "meson.build" → k.folder ≡ [] → k.line ≡ 1 → k.settings ≡ settings → k.names ≡ [] → k.slots ≡ [] → k.machine ≡ []

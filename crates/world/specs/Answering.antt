@@ -9,7 +9,6 @@ use Rattle.template.specs.declared.config.SetStop.{SetStop}
 use Rattle.template.specs.declared.config.SetStop.TheVariants as set_stops
 use Rattle.world.specs.Operation.{of_operation}
 use Rattle.world.specs.World.{World, fault_here}
-use Rattle.world.specs.Run.{Run, Act}
 use Rattle.world.specs.Trace.{Seen, seen}
 use Rattle.world.specs.Gives.{Gives, Holds, Continues, IsRefusal, failures_after}
 use Rattle.world.specs.Deed.{Files, Deed, perform}

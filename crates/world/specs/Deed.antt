@@ -4,7 +4,6 @@ use Rattle.std.specs.Prelude.{ℕ, Bool, true, false, List, [], map, Option, Res
 use Rattle.ports.specs.Outputs.{Step, logs}
 use Rattle.ports.specs.Tree.{file_at}
 use Rattle.data.specs.declared.refusal.Refusal.{Refusal as OperationRefusal}
-use Rattle.faults.specs.Faults.{FaultData}
 use Rattle.world.specs.Operation.{of_operation}
 use Rattle.world.specs.Trace.{Told}
 use Rattle.world.specs.World.{Facts, looking, with_facts, fault_here}

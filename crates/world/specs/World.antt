@@ -1,5 +1,5 @@
 -- The world of a run: what its definition files are evaluated in.
-use Rattle.std.specs.Prelude.{ℕ, Bool, true, false, List, [], ◌∷◌, ◌++◌, Option, Some, None, if◌then◌else◌}
+use Rattle.std.specs.Prelude.{ℕ, Bool, true, false, List, [], ◌∷◌, ◌++◌, Option, if◌then◌else◌}
 use Rattle.std.specs.Str.{bytes_eq}
 use Rattle.data.specs.Data.{Data}
 use Rattle.edge.specs.Texts.{first_kept}

@@ -67,7 +67,8 @@ impl<'a, T: Tree, O: Outputs> Caller<'a, T, O> {
 
     /// Refuses the call unless it is true.
     pub fn need(&self, is_so: bool, refusal: Refusal, detail: &str) -> Result<(), Stop>
-        ensures { Carries (λ u. u) (need is_so refusal detail.now) (state_of T.seen O.seen self.now) result (state_of T.seen O.seen self.now) }
+        ensures { Carries (λ u. u) (need is_so refusal detail.now) (state_of T.seen O.seen self.now)
+            result (state_of T.seen O.seen self.now) }
     {
         if is_so {
             Ok(())

@@ -1,5 +1,6 @@
 //! What a run keeps: its world.
-ghost use Rattle.std.specs.Prelude.{◌≡◌, ◌≢◌, ◌<◌, ◌≤◌, ◌+◌, ◌==◌, ℕ, List, IfOk, OnOk, is_ok, not, None, Some, false, true, length, map, max, option_map, slice_index_or, string_bytes, [], bytes_eq};
+ghost use Rattle.std.specs.Prelude.{◌≡◌, ◌≢◌, ◌<◌, ◌≤◌, ◌+◌, ◌==◌, ℕ, List, IfOk, OnOk, is_ok, not, None, Some, false, true, length, map};
+ghost use Rattle.std.specs.Prelude.{max, option_map, slice_index_or, string_bytes, [], bytes_eq};
 ghost use Rattle.std.specs.List.{list_any};
 ghost use Rattle.code.specs.Code.{code_tree};
 ghost use Rattle.code.specs.Draft.{Begins as IsFront};
@@ -217,7 +218,8 @@ impl Store {
 
     /// What is done next is done at this place. Gives the place before.
     pub fn go(&mut self, place: Place) -> Place
-        ensures moved { world_of self.new ≡ changing (with_place (string_bytes place.file) (string_bytes place.folder) place.line) (world_of self.old) }
+        ensures moved { world_of self.new
+            ≡ changing (with_place (string_bytes place.file) (string_bytes place.folder) place.line) (world_of self.old) }
         ensures names { self.new.names ≡ self.old.names }
         ensures file { string_bytes result.file ≡ self.old.file }
         ensures folder { string_bytes result.folder ≡ self.old.folder }
@@ -288,7 +290,8 @@ impl Store {
     pub fn set_number(&mut self, number: usize, value: Value) -> Result<(), AllocError>
         requires { number < length self.old.names }
         ensures names { self.new.names ≡ self.old.names }
-        ensures world { OnOk result (world_of self.new ≡ changing (with_variable (slice_index_or self.old.names number []) (Some (data_of value))) (world_of self.old)) }
+        ensures world { OnOk result (world_of self.new
+            ≡ changing (with_variable (slice_index_or self.old.names number []) (Some (data_of value))) (world_of self.old)) }
     {
         let _distinct = self.names.len();
         reach(&mut self.slots, number)?;

@@ -41,7 +41,8 @@ impl<'a, T: Tree, O: Outputs> Caller<'a, T, O> {
         name: &str,
         value: ConfigValue,
     ) -> Result<(), Stop>
-        ensures { Carries (λ u. u) (set_configured number name.now (content_of value)) (state_of T.seen O.seen self.old) result (state_of T.seen O.seen self.new) }
+        ensures { Carries (λ u. u) (set_configured number name.now (content_of value))
+            (state_of T.seen O.seen self.old) result (state_of T.seen O.seen self.new) }
     {
         let answer = self.store.set_configured(number, name, value);
         self.configured(answer)
@@ -49,7 +50,8 @@ impl<'a, T: Tree, O: Outputs> Caller<'a, T, O> {
 
     /// Gives a name a text in quotes in the data with a number, or refuses the call where they are frozen.
     pub fn set_quoted(&mut self, number: usize, name: &str, text: &str) -> Result<(), Stop>
-        ensures { Carries (λ u. u) (set_quoted number name.now text.now) (state_of T.seen O.seen self.old) result (state_of T.seen O.seen self.new) }
+        ensures { Carries (λ u. u) (set_quoted number name.now text.now)
+            (state_of T.seen O.seen self.old) result (state_of T.seen O.seen self.new) }
     {
         let answer = self.store.set_quoted(number, name, text);
         self.configured(answer)
@@ -57,7 +59,8 @@ impl<'a, T: Tree, O: Outputs> Caller<'a, T, O> {
 
     /// Gives each name of other data the value that it has there, in the data with a number, or refuses the call where these are frozen.
     pub fn merge_configured(&mut self, number: usize, others: &ConfigData) -> Result<(), Stop>
-        ensures { Carries (λ u. u) (merge_configured number others.now) (state_of T.seen O.seen self.old) result (state_of T.seen O.seen self.new) }
+        ensures { Carries (λ u. u) (merge_configured number others.now)
+            (state_of T.seen O.seen self.old) result (state_of T.seen O.seen self.new) }
     {
         let answer = self.store.merge_configured(number, others);
         self.configured(answer)

@@ -4,7 +4,8 @@ ghost use Rattle.edge.specs.Texts.{texts};
 ghost use Rattle.project.specs.View.{answer_view, install_view, test_view};
 ghost use Rattle.targets.specs.View.{facts_view, target_view};
 ghost use Rattle.world.specs.Answering.{Carries, IsAllowed};
-ghost use Rattle.world.specs.Declaring.{add_arguments, add_dependency, add_install, add_link_arguments, add_output, add_target, add_test, of_project};
+ghost use Rattle.world.specs.Declaring.{add_arguments, add_dependency, add_install, add_link_arguments, add_output, add_target, add_test};
+ghost use Rattle.world.specs.Declaring.{of_project};
 ghost use Rattle.world.specs.Deed.{change};
 ghost use Rattle.world.specs.Store.{world_of};
 ghost use Rattle.world.specs.World.{begun};
@@ -45,7 +46,8 @@ impl<'a, T: Tree, O: Outputs> Caller<'a, T, O> {
 
     /// Begins the project, of which nothing is declared yet.
     pub fn begin(&mut self, facts: Facts) -> Result<(), Stop>
-        ensures { Carries (λ u. u) (change (begun (facts_view facts))) (state_of T.seen O.seen self.old) result (state_of T.seen O.seen self.new) }
+        ensures { Carries (λ u. u) (change (begun (facts_view facts)))
+            (state_of T.seen O.seen self.old) result (state_of T.seen O.seen self.new) }
     {
         self.store.begin(self.alloc, facts)?;
         Ok(())
@@ -53,7 +55,8 @@ impl<'a, T: Tree, O: Outputs> Caller<'a, T, O> {
 
     /// Adds a target and gives its number, or refuses the call as the project does.
     pub fn add_target(&mut self, target: Target) -> Result<usize, Stop>
-        ensures { Carries (λ n. n) (add_target (target_view target)) (state_of T.seen O.seen self.old) result (state_of T.seen O.seen self.new) }
+        ensures { Carries (λ n. n) (add_target (target_view target))
+            (state_of T.seen O.seen self.old) result (state_of T.seen O.seen self.new) }
     {
         let answer = self.store.add_target(target)?;
         self.allowed(answer)
@@ -61,7 +64,8 @@ impl<'a, T: Tree, O: Outputs> Caller<'a, T, O> {
 
     /// Takes the path of a file of a folder that `configure_file` makes, or refuses the call as the project does.
     pub fn add_output(&mut self, folder: &str, name: &str) -> Result<(), Stop>
-        ensures { Carries (λ u. u) (add_output folder.now name.now) (state_of T.seen O.seen self.old) result (state_of T.seen O.seen self.new) }
+        ensures { Carries (λ u. u) (add_output folder.now name.now)
+            (state_of T.seen O.seen self.old) result (state_of T.seen O.seen self.new) }
     {
         let answer = self.store.add_output(folder, name)?;
         self.allowed(answer)
@@ -69,7 +73,8 @@ impl<'a, T: Tree, O: Outputs> Caller<'a, T, O> {
 
     /// Adds words to those of all compile commands, or refuses the call as the project does.
     pub fn add_arguments(&mut self, words: &[String]) -> Result<(), Stop>
-        ensures { Carries (λ u. u) (add_arguments (texts words.now)) (state_of T.seen O.seen self.old) result (state_of T.seen O.seen self.new) }
+        ensures { Carries (λ u. u) (add_arguments (texts words.now))
+            (state_of T.seen O.seen self.old) result (state_of T.seen O.seen self.new) }
     {
         let answer = self.store.add_arguments(words)?;
         self.allowed(answer)
@@ -77,7 +82,8 @@ impl<'a, T: Tree, O: Outputs> Caller<'a, T, O> {
 
     /// Adds words to those of all link commands, or refuses the call as the project does.
     pub fn add_link_arguments(&mut self, words: &[String]) -> Result<(), Stop>
-        ensures { Carries (λ u. u) (add_link_arguments (texts words.now)) (state_of T.seen O.seen self.old) result (state_of T.seen O.seen self.new) }
+        ensures { Carries (λ u. u) (add_link_arguments (texts words.now))
+            (state_of T.seen O.seen self.old) result (state_of T.seen O.seen self.new) }
     {
         let answer = self.store.add_link_arguments(words)?;
         self.allowed(answer)
@@ -85,7 +91,8 @@ impl<'a, T: Tree, O: Outputs> Caller<'a, T, O> {
 
     /// Notes what a call of `dependency` answered.
     pub fn add_dependency(&mut self, answer: Answer) -> Result<(), Stop>
-        ensures { Carries (λ u. u) (add_dependency (answer_view answer)) (state_of T.seen O.seen self.old) result (state_of T.seen O.seen self.new) }
+        ensures { Carries (λ u. u) (add_dependency (answer_view answer))
+            (state_of T.seen O.seen self.old) result (state_of T.seen O.seen self.new) }
     {
         self.store.add_dependency(answer)?;
         Ok(())
@@ -93,7 +100,8 @@ impl<'a, T: Tree, O: Outputs> Caller<'a, T, O> {
 
     /// Notes a file that is installed.
     pub fn add_install(&mut self, install: Install) -> Result<(), Stop>
-        ensures { Carries (λ u. u) (add_install (install_view install)) (state_of T.seen O.seen self.old) result (state_of T.seen O.seen self.new) }
+        ensures { Carries (λ u. u) (add_install (install_view install))
+            (state_of T.seen O.seen self.old) result (state_of T.seen O.seen self.new) }
     {
         self.store.add_install(install)?;
         Ok(())

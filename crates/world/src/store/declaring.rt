@@ -1,7 +1,8 @@
 //! The project of a run.
 ghost use Rattle.std.specs.Prelude.{◌≡◌, IfOk, OnOk, string_bytes};
 ghost use Rattle.edge.specs.Texts.{put_all_new, texts};
-ghost use Rattle.project.specs.Adding.{after_target, arguments_answer, output_answer, target_answer, with_dependency, with_install, with_test};
+ghost use Rattle.project.specs.Adding.{after_target, arguments_answer, output_answer, target_answer, with_dependency, with_install};
+ghost use Rattle.project.specs.Adding.{with_test};
 ghost use Rattle.project.specs.View.{answer_view, install_view, test_view};
 ghost use Rattle.project.specs.World.{WorldData};
 ghost use Rattle.targets.specs.View.{facts_view, target_view};
@@ -97,7 +98,8 @@ impl Store {
     /// Adds a target and gives its number, or answers why the project refuses it.
     pub fn add_target(&mut self, target: Target) -> Result<Result<usize, Refusal>, AllocError>
         ensures answer { IfOk result (λ r. r ≡ target_answer self.old.project (target_view target)) }
-        ensures world { OnOk result (world_of self.new ≡ changing (declaring (λ p. after_target p (target_view target))) (world_of self.old)) }
+        ensures world { OnOk result (world_of self.new
+            ≡ changing (declaring (λ p. after_target p (target_view target))) (world_of self.old)) }
         ensures names { self.new.names ≡ self.old.names }
     {
         self.project.add_target(target)
@@ -131,7 +133,8 @@ impl Store {
         words: &[String],
     ) -> Result<Result<(), Refusal>, AllocError>
         ensures answer { IfOk result (λ r. r ≡ arguments_answer self.old.project (texts words.now)) }
-        ensures world { OnOk result (world_of self.new ≡ changing (declaring (after_link_arguments (texts words.now))) (world_of self.old)) }
+        ensures world { OnOk result (world_of self.new
+            ≡ changing (declaring (after_link_arguments (texts words.now))) (world_of self.old)) }
         ensures names { self.new.names ≡ self.old.names }
     {
         self.project.add_link_arguments(words)
@@ -139,7 +142,8 @@ impl Store {
 
     /// Notes what a call of `dependency` answered.
     pub fn add_dependency(&mut self, answer: Answer) -> Result<(), AllocError>
-        ensures world { OnOk result (world_of self.new ≡ changing (declaring (λ p. with_dependency p (answer_view answer))) (world_of self.old)) }
+        ensures world { OnOk result (world_of self.new
+            ≡ changing (declaring (λ p. with_dependency p (answer_view answer))) (world_of self.old)) }
         ensures names { self.new.names ≡ self.old.names }
     {
         self.project.add_dependency(answer)
@@ -147,7 +151,8 @@ impl Store {
 
     /// Notes a file that is installed.
     pub fn add_install(&mut self, install: Install) -> Result<(), AllocError>
-        ensures world { OnOk result (world_of self.new ≡ changing (declaring (λ p. with_install p (install_view install))) (world_of self.old)) }
+        ensures world { OnOk result (world_of self.new
+            ≡ changing (declaring (λ p. with_install p (install_view install))) (world_of self.old)) }
         ensures names { self.new.names ≡ self.old.names }
     {
         self.project.add_install(install)

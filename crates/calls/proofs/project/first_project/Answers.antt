@@ -2,7 +2,7 @@ use Rattle.std.proofs.Common.{[], codes, map, ap, refl, sym, ◌∙◌}
 use Rattle.faults.specs.declared.refusal.Refusal.TheVariants as refusals
 use Rattle.world.specs.Deed.{change, fitting}
 use Rattle.world.specs.World.{with_place}
-use Rattle.calls.specs.Project.{refuse_at, left_out_at, no_option_file, no_option_words, is_empty, languages_refusal, first_project, project_by, project}
+use Rattle.calls.specs.Project.{refuse_at, left_out_at, no_option_file, languages_refusal, begin, first_project, project_by, project}
 use Rattle.calls.proofs.Values.{two, views_same}
 use Rattle.world.proofs.Answering.{carries_as, carries_then, carries_stop, carries_none, carries_read, carries_change, carries_give, carries_refuse, carries_fitting}
 use Rattle.calls.proofs.project.first_project.Goals as goal
@@ -22,10 +22,10 @@ pub returns-in_err-no_option_file-2 : goal.returns-in_err-no_option_file-2
 unfolding first_project
 returns-in_err-no_option_file-2 g c = (carries_then (carries_fitting _ _ (views_same _ _ (c.check_languages.ensures ∙ ap (λ ls. languages_refusal (map (λ l. l.now) ls)) c.deref.ensures.value ∙ ap languages_refusal c.in_ok-languages.ensures)) c.in_ok-fitting.ensures) (carries_then c.in_ok-no_option_file.ensures (carries_stop c.in_err-no_option_file-2.ensures c.from_residual-in_err-no_option_file-2.ensures.1)))
 
-pub returns-in_err-no_option_words : goal.returns-in_err-no_option_words
+pub returns-in_err-begin : goal.returns-in_err-begin
 unfolding first_project
-returns-in_err-no_option_words g c = (carries_then (carries_fitting _ _ (views_same _ _ (c.check_languages.ensures ∙ ap (λ ls. languages_refusal (map (λ l. l.now) ls)) c.deref.ensures.value ∙ ap languages_refusal c.in_ok-languages.ensures)) c.in_ok-fitting.ensures) (carries_then c.in_ok-no_option_file.ensures (carries_then c.in_ok-no_option_file-2.ensures (carries_read (carries_stop c.in_err-no_option_words.ensures c.from_residual-in_err-no_option_words.ensures.1)))))
+returns-in_err-begin g c = (carries_then (carries_fitting _ _ (views_same _ _ (c.check_languages.ensures ∙ ap (λ ls. languages_refusal (map (λ l. l.now) ls)) c.deref.ensures.value ∙ ap languages_refusal c.in_ok-languages.ensures)) c.in_ok-fitting.ensures) (carries_then c.in_ok-no_option_file.ensures (carries_then c.in_ok-no_option_file-2.ensures (carries_stop c.in_err-begin.ensures c.from_residual-in_err-begin.ensures.1))))
 
 pub returns : goal.returns
 unfolding first_project
-returns g c = (carries_then (carries_fitting _ _ (views_same _ _ (c.check_languages.ensures ∙ ap (λ ls. languages_refusal (map (λ l. l.now) ls)) c.deref.ensures.value ∙ ap languages_refusal c.in_ok-languages.ensures)) c.in_ok-fitting.ensures) (carries_then c.in_ok-no_option_file.ensures (carries_then c.in_ok-no_option_file-2.ensures (carries_read (carries_then c.in_ok-no_option_words.ensures (carries_then (carries_change {x = tt {0}} c.begin.ensures.world c.begin.ensures.names) (carries_give refl)))))))
+returns g c = (carries_then (carries_fitting _ _ (views_same _ _ (c.check_languages.ensures ∙ ap (λ ls. languages_refusal (map (λ l. l.now) ls)) c.deref.ensures.value ∙ ap languages_refusal c.in_ok-languages.ensures)) c.in_ok-fitting.ensures) (carries_then c.in_ok-no_option_file.ensures (carries_then c.in_ok-no_option_file-2.ensures (carries_then c.in_ok-begin.ensures (carries_give refl)))))

@@ -2,7 +2,7 @@ use Rattle.std.proofs.Common.{[], codes, map, ap, refl, sym, ◌∙◌}
 use Rattle.faults.specs.declared.refusal.Refusal.TheVariants as refusals
 use Rattle.world.specs.Deed.{change, fitting}
 use Rattle.world.specs.World.{with_place}
-use Rattle.calls.specs.Project.{refuse_at, left_out_at, no_option_file, no_option_words, is_empty, languages_refusal, first_project, project_by, project}
+use Rattle.calls.specs.Project.{refuse_at, left_out_at, no_option_file, languages_refusal, begin, first_project, project_by, project}
 use Rattle.calls.proofs.Values.{two, views_same}
 use Rattle.world.proofs.Answering.{carries_as, carries_then, carries_stop, carries_none, carries_read, carries_change, carries_give, carries_refuse, carries_fitting}
 use Rattle.calls.proofs.project.refuse_at.Goals as goal
@@ -12,4 +12,4 @@ returns-in_err-from_str g c = carries_none c.from_residual.ensures.1
 
 pub returns : goal.returns
 unfolding refuse_at
-returns g c = carries_then (carries_as (two (λ f d. change (with_place f d 1)) c.in_ok-from_str.ensures.ok c.new.ensures.bytes) (carries_change {x = tt {0}} c.go-outer.ensures.moved c.go-outer.ensures.names)) (carries_refuse c.refuse.ensures)
+returns g c = carries_then (carries_as (two (λ f d. change (with_place f d c.args.line)) c.in_ok-from_str.ensures.ok c.new.ensures.bytes) (carries_change {x = tt {0}} c.go-outer.ensures.moved c.go-outer.ensures.names)) (carries_refuse c.refuse.ensures)
