@@ -1,5 +1,5 @@
 -- Refusals at other places than that of the call.
-use Rattle.std.proofs.Common.{◌≡◌, ℕ, List, [], Result, Err, refl}
+use Rattle.std.proofs.Common.{◌≡◌, ℕ, List, [], Err, refl}
 use Rattle.faults.specs.Faults.{plain_fault}
 use Rattle.faults.specs.View.{fault_view}
 use Rattle.faults.specs.declared.fault.Fault.{Fault}

@@ -12,7 +12,7 @@ ghost use Rattle.calls.specs.Rows.{row_of};
 use crate::function::Function;
 use crate::lists::{disabler, is_disabler};
 use crate::messages::{assert, error, message, warning};
-use crate::project::project;
+use crate::project_call::project;
 use crate::rows::row;
 use crate::variables::{get_variable, is_variable, set_variable, unset_variable};
 use arguments::{Arguments, check, gives_disabler};

@@ -8,7 +8,7 @@ mod function;
 mod lists;
 mod messages;
 mod names;
-mod project;
+mod project_call;
 mod rows;
 mod variables;
 

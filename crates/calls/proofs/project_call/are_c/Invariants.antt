@@ -1,6 +1,6 @@
 use Rattle.std.proofs.Common.{◌≡◌, map, drop, codes, bytes_eq}
 use Rattle.std.specs.List.{list_all}
-use Rattle.calls.proofs.project.are_c.Given as goal
+use Rattle.calls.proofs.project_call.are_c.Given as goal
 
 -- what is left decides
 abbrev pub invariant-loop-language : goal.invariant-loop-language

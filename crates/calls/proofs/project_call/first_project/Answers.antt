@@ -1,11 +1,8 @@
-use Rattle.std.proofs.Common.{[], codes, map, ap, refl, sym, ◌∙◌}
-use Rattle.faults.specs.declared.refusal.Refusal.TheVariants as refusals
-use Rattle.world.specs.Deed.{change, fitting}
-use Rattle.world.specs.World.{with_place}
-use Rattle.calls.specs.Project.{refuse_at, left_out_at, no_option_file, languages_refusal, begin, first_project, project_by, project}
-use Rattle.calls.proofs.Values.{two, views_same}
-use Rattle.world.proofs.Answering.{carries_as, carries_then, carries_stop, carries_none, carries_read, carries_change, carries_give, carries_refuse, carries_fitting}
-use Rattle.calls.proofs.project.first_project.Goals as goal
+use Rattle.std.proofs.Common.{map, ap, refl, ◌∙◌}
+use Rattle.calls.specs.Project.{languages_refusal, first_project}
+use Rattle.calls.proofs.Values.{views_same}
+use Rattle.world.proofs.Answering.{carries_then, carries_stop, carries_none, carries_give, carries_fitting}
+use Rattle.calls.proofs.project_call.first_project.Goals as goal
 
 pub returns-in_err-languages : goal.returns-in_err-languages
 returns-in_err-languages g c = carries_none c.from_residual.ensures.1

@@ -1,11 +1,7 @@
-use Rattle.std.proofs.Common.{[], codes, map, ap, refl, sym, ◌∙◌}
-use Rattle.faults.specs.declared.refusal.Refusal.TheVariants as refusals
-use Rattle.world.specs.Deed.{change, fitting}
-use Rattle.world.specs.World.{with_place}
-use Rattle.calls.specs.Project.{refuse_at, left_out_at, no_option_file, languages_refusal, begin, first_project, project_by, project}
-use Rattle.calls.proofs.Values.{two, views_same}
-use Rattle.world.proofs.Answering.{carries_as, carries_then, carries_stop, carries_none, carries_read, carries_change, carries_give, carries_refuse, carries_fitting}
-use Rattle.calls.proofs.project.no_option_file.Goals as goal
+use Rattle.std.proofs.Common.{ap, refl, sym}
+use Rattle.calls.specs.Project.{left_out_at, no_option_file}
+use Rattle.world.proofs.Answering.{carries_as, carries_then, carries_stop, carries_give}
+use Rattle.calls.proofs.project_call.no_option_file.Goals as goal
 
 pub returns-in_err-found : goal.returns-in_err-found
 unfolding no_option_file

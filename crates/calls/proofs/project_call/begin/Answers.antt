@@ -1,9 +1,9 @@
-use Rattle.std.proofs.Common.{[], ap}
+use Rattle.std.proofs.Common.{ap}
 use Rattle.world.specs.Deed.{change}
 use Rattle.world.specs.World.{begun}
 use Rattle.world.proofs.Answering.{carries_as, carries_change, carries_none, carries_read, carries_stop, carries_then}
 use Rattle.calls.specs.Project.{begin, settled}
-use Rattle.calls.proofs.project.begin.Goals as goal
+use Rattle.calls.proofs.project_call.begin.Goals as goal
 
 pub returns-in_err-outcome : goal.returns-in_err-outcome
 returns-in_err-outcome g c = carries_none c.from_residual.ensures.1
