@@ -1,4 +1,5 @@
 pub mod Counting
 pub mod Gaps
 pub mod Joining
+pub mod Places
 pub mod Values

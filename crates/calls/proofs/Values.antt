@@ -37,12 +37,3 @@ pub carries_denied : {B D : Type 0} {view : D → B} (b : Bool) (refusal : Refus
     (result : Result D Stop) → b ≡ false → Refuses (fault_here s.world refusal detail) result → Carries view (then (need b refusal detail) next) s result s
 carries_denied b refusal detail (Ok x) is r = absurd r
 carries_denied b refusal detail (Err e) is r = carries_stop {view = λ (u : Unit {0}). u} (need_no b refusal detail is r) refl
-
--- want of memory, where the world may have changed and no name is new
-pub carries_wanted : {A B : Type 0} {view : B → A} {d : Deed A} {w w1 : World} {names names1 : List (List ℕ)} {tree : TreeState} {out : OutputState}
-    {lent : ℕ × ℕ × ℕ} {result : Result B Stop} → IsErrAnd result (λ e. e ≡ stops.Memory) → names1 ≡ names
-    → Carries view d (record { world = w; names = names; tree = tree; out = out; lent = lent }) result
-    (record { world = w1; names = names1; tree = tree; out = out; lent = lent })
-carries_wanted {view = view} {d = d} {w = w} {w1 = w1} {names = names} {tree = tree} {out = out} {lent = lent} {result = result} is same =
-    subst (λ ns. Carries view d (record { world = w; names = names; tree = tree; out = out; lent = lent }) result
-    (record { world = w1; names = ns; tree = tree; out = out; lent = lent })) (sym same) (carries_lost is (same_front names))

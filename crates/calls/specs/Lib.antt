@@ -1,5 +1,4 @@
 pub mod Disablers
-pub mod Executable
 pub mod Functions
 pub mod JoinPaths
 pub mod Messages

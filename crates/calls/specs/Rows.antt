@@ -3,6 +3,7 @@ use Rattle.std.specs.Prelude.{ℕ, List, [], ◌∷◌, Some, None, codes}
 use Rattle.arguments.specs.declared.row.Kind.{Kind}
 use Rattle.arguments.specs.declared.row.Kind.TheVariants.{Any, Boolean, Integer, Text, Texts, Dependencies}
 use Rattle.arguments.specs.Row.{RowData, optional}
+use Rattle.target_calls.specs.Rows.{target_row}
 use Rattle.calls.specs.declared.function.Function.{Function}
 use Rattle.calls.specs.declared.function.Function.TheVariants as functions
 
@@ -22,27 +23,16 @@ values kinds needed = record { positional = kinds; needed = needed; others = Non
 abbrev pub some_texts : RowData
 some_texts = record { positional = []; needed = 1; others = Some Text; keywords = []; left_out = common_left_out }
 
--- ---- the project and its targets
+-- ---- the project
 
--- a name and languages; the keywords are left out so far
+-- a name and languages
 abbrev pub project_row : RowData
 project_row = record {
   positional = Text ∷ [];
   needed = 1;
   others = Some Texts;
-  keywords = [];
-  left_out = codes "version" ∷ codes "license" ∷ codes "default_options" ∷ codes "meson_version" ∷ common_left_out;
-}
-
--- a name and sources; the keywords are left out so far
-abbrev pub executable_row : RowData
-executable_row = record {
-  positional = Text ∷ [];
-  needed = 1;
-  others = Some Texts;
-  keywords = [];
-  left_out = codes "sources" ∷ codes "include_directories" ∷ codes "c_args" ∷ codes "link_args" ∷ codes "link_with" ∷ codes "dependencies"
-      ∷ codes "install" ∷ codes "install_dir" ∷ codes "build_by_default" ∷ common_left_out;
+  keywords = optional (codes "version") Text ∷ optional (codes "license") Texts ∷ optional (codes "meson_version") Text ∷ [];
+  left_out = codes "default_options" ∷ common_left_out;
 }
 
 -- ---- folders
@@ -63,7 +53,7 @@ abbrev pub row_of : Function → RowData
 row_of functions.Assert = values (Boolean ∷ Text ∷ []) 1
 row_of functions.Disabler = values [] 0
 row_of functions.Error = any_values
-row_of functions.Executable = executable_row
+row_of functions.Executable = target_row
 row_of functions.GetVariable = values (Text ∷ Any ∷ []) 1
 row_of functions.IsDisabler = values (Any ∷ []) 1
 row_of functions.IsVariable = values (Text ∷ []) 1

@@ -10,11 +10,10 @@ ghost use Rattle.calls.specs.Functions.{call, does, is_turned_off, takes_disable
 ghost use Rattle.calls.specs.Rows.{row_of};
 
 use crate::disablers::{disabler, is_disabler};
-use crate::executable::executable;
 use crate::function::Function;
 use crate::join_paths::join_paths;
 use crate::messages::{assert, error, message, warning};
-use crate::project::project;
+use crate::project_call::project;
 use crate::range::range;
 use crate::rows::row;
 use crate::variables::{get_variable, is_variable, set_variable, unset_variable};
@@ -22,6 +21,8 @@ use arguments::{Arguments, check, gives_disabler};
 use data::Value;
 use faults::Refusal;
 use ports::{Outputs, Tree};
+use target_calls::declare_target;
+use targets::Kind;
 use world::{Caller, Stop};
 
 fn takes_disablers(function: Function) -> bool
@@ -72,7 +73,7 @@ fn act<T: Tree, O: Outputs>(
         Function::Assert => assert(caller, arguments),
         Function::Disabler => disabler(caller),
         Function::Error => error(caller, arguments),
-        Function::Executable => executable(caller, arguments),
+        Function::Executable => declare_target(caller, Kind::Executable, arguments),
         Function::GetVariable => get_variable(caller, arguments),
         Function::IsDisabler => is_disabler(caller, arguments),
         Function::IsVariable => is_variable(caller, arguments),

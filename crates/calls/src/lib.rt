@@ -5,12 +5,11 @@
 
 mod calling;
 mod disablers;
-mod executable;
 mod function;
 mod join_paths;
 mod messages;
 mod names;
-mod project;
+mod project_call;
 mod range;
 mod rows;
 mod variables;

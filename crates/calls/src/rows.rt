@@ -1,10 +1,29 @@
 //! The rows of the functions: what each takes.
 ghost use Rattle.std.specs.Prelude.{◌≡◌};
 ghost use Rattle.arguments.specs.RowView.{row_data};
-ghost use Rattle.calls.specs.Rows.{executable_row, project_row, row_of, some_texts, subdir_row, values};
+ghost use Rattle.calls.specs.Rows.{project_row, row_of, some_texts, subdir_row, values};
 
 use crate::function::Function;
 use arguments::{Keyword, Kind, Row};
+use target_calls::target_row;
+
+static PROJECT: [Keyword; 3] = [
+    Keyword {
+        name: "version",
+        kind: Kind::Text,
+        is_needed: false,
+    },
+    Keyword {
+        name: "license",
+        kind: Kind::Texts,
+        is_needed: false,
+    },
+    Keyword {
+        name: "meson_version",
+        kind: Kind::Text,
+        is_needed: false,
+    },
+];
 
 static SUBDIR: [Keyword; 1] = [Keyword {
     name: "if_found",
@@ -20,7 +39,7 @@ pub fn row(function: Function) -> Row
         Function::Assert => values(&[Kind::Boolean, Kind::Text], 1),
         Function::Disabler | Function::SubdirDone => values(&[], 0),
         Function::Error | Function::Message | Function::Warning => any_values(),
-        Function::Executable => executable_row(),
+        Function::Executable => target_row(),
         Function::GetVariable => values(&[Kind::Text, Kind::Any], 1),
         Function::IsDisabler => values(&[Kind::Any], 1),
         Function::IsVariable | Function::UnsetVariable => values(&[Kind::Text], 1),
@@ -71,9 +90,9 @@ fn some_texts() -> Row
     }
 }
 
-// ---- the project and its targets
+// ---- the project
 
-// A name and languages; the keywords are left out so far.
+// A name and languages.
 fn project_row() -> Row
     ensures { row_data result ≡ project_row }
 {
@@ -81,42 +100,8 @@ fn project_row() -> Row
         positional: &[Kind::Text],
         needed: 1,
         others: Some(Kind::Texts),
-        keywords: &[],
-        left_out: &[
-            "version",
-            "license",
-            "default_options",
-            "meson_version",
-            "kwargs",
-            "fallback",
-            "deprecated",
-        ],
-    }
-}
-
-// A name and sources; the keywords are left out so far.
-fn executable_row() -> Row
-    ensures { row_data result ≡ executable_row }
-{
-    Row {
-        positional: &[Kind::Text],
-        needed: 1,
-        others: Some(Kind::Texts),
-        keywords: &[],
-        left_out: &[
-            "sources",
-            "include_directories",
-            "c_args",
-            "link_args",
-            "link_with",
-            "dependencies",
-            "install",
-            "install_dir",
-            "build_by_default",
-            "kwargs",
-            "fallback",
-            "deprecated",
-        ],
+        keywords: &PROJECT,
+        left_out: &["default_options", "kwargs", "fallback", "deprecated"],
     }
 }
 

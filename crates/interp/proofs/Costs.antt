@@ -1,5 +1,5 @@
 -- No evaluation ends more rules than its tree costs.
-use Rattle.std.proofs.Common.{◌≡◌, ℕ, zero, suc, ◌+◌, ◌*◌, ◌≤◌, Bool, true, false, List, [], ◌∷◌, ◌++◌, Option, Some, None, Result, Ok, Err, refl, sym, ap, ◌∙◌, arith}
+use Rattle.std.proofs.Common.{◌≡◌, ℕ, zero, suc, ◌+◌, ◌*◌, ◌≤◌, Bool, true, false, List, [], ◌∷◌, ◌++◌, Option, Some, None, is_some, Result, Ok, Err, refl, sym, ap, ◌∙◌, arith}
 use Rattle.std.specs.Prelude.{if◌then◌else◌, nat_le, nat_lt, not, ◌||◌, ◌&&◌, length, bytes_eq, map}
 use Rattle.std.specs.List.{list_any}
 use Rattle.std.specs.Str.{is_utf8}
@@ -409,7 +409,7 @@ module _ (files : Files) where
   opened-paid : (folder : List ℕ) (w : World) → is_opened w.entered (definition_file folder) ≡ false
       → spent file_cost files (carry files (opened folder) w) + paid worth (carry files (opened folder) w) ≤ unopened file_cost files w.entered
   opened-paid folder w new =
-      let w' : World = looking w (definition_file folder) in
+      let w' : World = looking w (definition_file folder) (is_some (file_at files (definition_file folder))) in
       let r : Run Statements = carry files (opened_by folder (file_at files (definition_file folder))) w' in
       omega (arith, spent-after file_cost files [] r, paid-after worth [] r, opened_by-paid folder (file_at files (definition_file folder)) w' new refl)
 

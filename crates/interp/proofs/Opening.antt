@@ -1,5 +1,5 @@
 -- Folders that are entered, and files that are read.
-use Rattle.std.proofs.Common.{◌≡◌, ℕ, ◌<◌, ◌≤◌, Bool, true, false, List, [], length, Option, Some, None, option_map, Result, Ok, Err, IsErrAnd, refl, sym, ap, subst, ◌∙◌}
+use Rattle.std.proofs.Common.{◌≡◌, ℕ, ◌<◌, ◌≤◌, Bool, true, false, List, [], length, Option, Some, None, option_map, is_some, Result, Ok, Err, IsErrAnd, refl, sym, ap, subst, ◌∙◌}
 use Rattle.std.specs.Str.{IsUtf8, is_utf8}
 use Rattle.std.specs.Str.Lossy.{utf8_valid_len}
 use Rattle.std.proofs.lemmas.Bool.{lt-leb, le-leb}
@@ -122,7 +122,7 @@ moved_on view act x others w w1 v out n names names1 result new is same g =
     (subst (λ ns. Gives view (others x w1) result v (seen out n ns) new) same g))
 
 pub given_ask : {A B : Type 0} {view : B → A} {files : Files} {path : List ℕ} {others : Option (List ℕ) → Plan A} {w w1 : World} {names names1 : List (List ℕ)} {tree tree1 : TreeState} {out : OutputState} {n : ℕ} {result : Result B Stop} {s : Stand}
-    → w1 ≡ looking w path → names1 ≡ names
+    → w1 ≡ looking w path (is_some (file_at files path)) → names1 ≡ names
     → Given view files (others (file_at files path)) (record { world = w1; names = names1; tree = tree1; out = out; ticks = n }) result s
     → Given view files (next (deed (ask path)) others) (record { world = w; names = names; tree = tree; out = out; ticks = n }) result s
 given_ask {view = view} {files = files} {path = path} {others = others} {w = w} {w1 = w1} {names = names} {names1 = names1} {out = out} {n = n} {result = result} {s = s} is same g = record {
@@ -195,6 +195,11 @@ some_length (Some bytes) n e = (bytes, refl, let h : Some n ≡ Some (length byt
 pub none_length : (o : Option (List ℕ)) → None ≡ option_map length o → o ≡ None
 none_length None e = refl
 none_length (Some bytes) e = absurd (let h : None ≡ Some (length bytes) = e in cc)
+
+-- whether it is there
+pub found_length : (o : Option (List ℕ)) (size : Option ℕ) → size ≡ option_map length o → is_some size ≡ is_some o
+found_length None size e = ap is_some e
+found_length (Some bytes) size e = ap is_some e
 
 -- a source that has a tree
 pub source_read : (bytes : List ℕ) (tree : FileTree) → parsed bytes ≡ Ok tree → give (statements tree) ≡ deed (tree_or_fault (parsed bytes))

@@ -75,9 +75,10 @@ impl<'a, T: Tree, O: Outputs, L: Ledger> Evaluator<'a, T, O, L> {
         ensures gives { Answers T.seen O.seen (file_by self.new.store.now.names) (opened folder.now) self.old result self.new }
     {
         let file = path_in(self.alloc, folder, "meson.build")?;
-        self.store.note_look(self.alloc, &file)?;
+        let size = self.tree.size(&file)?;
+        self.store.note_look(self.alloc, &file, size.is_some())?;
         let line = self.store.line();
-        match self.tree.size(&file)? {
+        match size {
             Some(size) => self.enter_folder(folder, file, size),
             None => self.refuse(line, Refusal::FileMissing, &file),
         }

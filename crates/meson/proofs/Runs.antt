@@ -1,28 +1,27 @@
 -- What a whole run tells.
-use Rattle.std.proofs.Common.{◌≡◌, true, false, List, ◌++◌, Result, Ok, Err, IsErrAnd, refl, sym, ap, subst, ◌∙◌, append_assoc}
-use Rattle.ports.specs.Endings.{is_whole}
-use Rattle.ports.specs.Outputs.{OutputState, Step, Sends, faults}
-use Rattle.ports.proofs.Sending.{sends_then, sends_part, sends_stop, sends_none}
+use Rattle.std.proofs.Common.{◌≡◌, ℕ, ◌+◌, ◌≤◌, true, false, List, ◌++◌, Result, Ok, Err, refl, sym, ap, subst, ◌∙◌, append_assoc, arith}
 use Rattle.std.proofs.lemmas.Bool.{false≢true}
+use Rattle.ports.specs.Endings.{HasRoom}
+use Rattle.ports.specs.Outputs.{OutputState, Step, Sends, faults}
+use Rattle.ports.proofs.Sending.{sends_part, sends_stop, sends_then}
 use Rattle.faults.specs.Faults.{FaultData, fault_line}
 use Rattle.faults.specs.View.{fault_view}
-use Rattle.world.specs.Gives.{Ends}
+use Rattle.conclusion.specs.Concluding.{Agrees, Whole, done_with, failed_devices, faulted_with, is_finished, outputs_steps, told_before}
+use Rattle.conclusion.specs.declared.concluding.Status.{Status}
+use Rattle.conclusion.specs.declared.concluding.Status.TheVariants as statuses
+use Rattle.world.specs.Gives.{failures_after}
 use Rattle.world.specs.Run.{Outcome, Run, ran, Done, Faulted, marks_of, outcome_of}
-use Rattle.world.specs.Store.{Kept, world_of}
-use Rattle.world.specs.Trace.{steps_of, Seen, Begins}
-use Rattle.world.specs.World.{World}
+use Rattle.world.specs.Store.{Kept}
+use Rattle.world.specs.Trace.{Begins, Seen, steps_of}
 use Rattle.world.specs.declared.stop.Stop.{Stop}
 use Rattle.world.specs.declared.stop.Stop.TheVariants as stops
 use Rattle.world.proofs.Marks.{steps_of-append}
 use Rattle.interp.specs.Evaluated.{Evaluated}
-use Rattle.meson.specs.Setup.{Whole, whole_of, build_steps, Configures, Settles, Agrees, is_finished}
-use Rattle.meson.specs.Stopping.{IsNoFault, ending_of}
-use Rattle.meson.specs.declared.running.Status.{Status}
-use Rattle.meson.specs.declared.running.Status.TheVariants as statuses
+use Rattle.meson.specs.Setup.{Keeps, OnEnd, Settles, whole_of}
 
 -- the steps of a run begin with what its marks tell
 whole_steps : (r : Run (Unit {0})) → (rest : List Step) × ((whole_of r).steps ≡ steps_of (marks_of r) ++ rest)
-whole_steps (ran (Done x) w ms) = (build_steps w.facts.project, refl)
+whole_steps (ran (Done x) w ms) = (outputs_steps w.facts.project, refl)
 whole_steps (ran (Faulted f) w ms) = (faults (fault_line f), refl)
 
 -- a beginning of a run's marks tells a beginning of its steps
@@ -33,68 +32,41 @@ begun_steps r old new b =
     = sym (append_assoc (steps_of b.made) (steps_of b.left) rest.0) ∙ ap (λ x. x ++ rest.0) (sym (steps_of-append b.made b.left) ∙ ap steps_of (sym b.all)) ∙ sym rest.1 in
     subst (λ x. Sends old.out new.out x false) is (sends_stop (steps_of b.left ++ rest.0) (sends_part b.written.sent))
 
-stopped : (run : Run (Unit {0})) (s : Stop) (old new : Seen) → Evaluated run (Err s) old new → Configures run (Err s) old.out new.out
-stopped run (stops.Refused fault) old new g = (g.is, g.written.sent)
-stopped run stops.Device old new g = begun_steps run old new g
-stopped run stops.Memory old new g = begun_steps run old new g
+-- what is told first, and then how a run ends
+told : {steps : List Step} {run : Whole} {status : Status} {old mid new : OutputState} → Sends old mid steps true → Agrees run status mid new → Agrees (told_before steps run) status old new
+told s a = record { status = a.status; events = sends_then s a.events }
 
--- an evaluation that stopped
-pub configures_stop : (run : Run (Unit {0})) (s : Stop) (old new : Seen) (result : Result (Unit {0}) Stop) → IsErrAnd result (λ e. e ≡ s)
-    → Evaluated run (Err s) old new → Configures run result old.out new.out
-configures_stop run s old new (Ok x) is g = absurd is
-configures_stop run s old new (Err e) is g = subst (λ x. Configures run (Err x) old.out new.out) (sym is) (stopped run s old new g)
+fault_whole : (run : Run (Unit {0})) (f : FaultData) → outcome_of run ≡ Faulted f → whole_of run ≡ told_before (steps_of (marks_of run)) (faulted_with f)
+fault_whole (ran o w ms) f e = ap (λ (p : Outcome (Unit {0})). whole_of (ran p w ms)) e
 
--- want of memory before anything was done
-pub configures_none : (run : Run (Unit {0})) (o : OutputState) (result : Result (Unit {0}) Stop) → IsErrAnd result (λ e. e ≡ stops.Memory) → Configures run result o o
-configures_none run o (Ok x) is = absurd is
-configures_none run o (Err e) is = subst (λ x. Configures run (Err x) o o) (sym is) (sends_none o (whole_of run).steps)
-
-done_steps : (run : Run (Unit {0})) (w : World) → run ≡ ran (Done tt) w (marks_of run) → (whole_of run).steps ≡ steps_of (marks_of run) ++ build_steps w.facts.project
-done_steps run w e = ap (λ r. (whole_of r).steps) e
-
--- an evaluation that came to its end, and then a beginning of the file
-cut_file : (run : Run (Unit {0})) (w : World) (old mid : Seen) (new : OutputState) → Ends run (Done tt) w old mid
-    → Sends mid.out new (build_steps w.facts.project) false → Sends old.out new (whole_of run).steps false
-cut_file run w old mid new e f = subst (λ x. Sends old.out new x false) (sym (done_steps run w e.is)) (sends_then e.written.sent f)
-
--- an evaluation that came to its end, and then the file
-pub configures_file : (run : Run (Unit {0})) (k : Kept) (old mid : Seen) (new : OutputState) (result : Result (Unit {0}) Stop) → Evaluated run (Ok k) old mid
-    → IsNoFault result → Sends mid.out new (build_steps k.project) (is_whole (ending_of result)) → Configures run result old.out new
-configures_file run k old mid new (Ok x) e no_fault f = (world_of k, e.is, sends_then e.written.sent f)
-configures_file run k old mid new (Err (stops.Refused fault)) e no_fault f = absurd no_fault
-configures_file run k old mid new (Err stops.Device) e no_fault f = cut_file run (world_of k) old mid new e f
-configures_file run k old mid new (Err stops.Memory) e no_fault f = cut_file run (world_of k) old mid new e f
-
-done_status : (run : Run (Unit {0})) (w : World) → run ≡ ran (Done tt) w (marks_of run) → (whole_of run).status ≡ statuses.Done
-done_status run w e = ap (λ r. (whole_of r).status) e
-
-fault_steps : (run : Run (Unit {0})) (f : FaultData) → outcome_of run ≡ Faulted f → (whole_of run).steps ≡ steps_of (marks_of run) ++ faults (fault_line f)
-fault_steps (ran o w ms) f e = ap (λ (p : Outcome (Unit {0})). (whole_of (ran p w ms)).steps) e
-
-fault_status : (run : Run (Unit {0})) (f : FaultData) → outcome_of run ≡ Faulted f → (whole_of run).status ≡ statuses.Fault
-fault_status (ran o w ms) f e = ap (λ (p : Outcome (Unit {0})). (whole_of (ran p w ms)).status) e
-
-unfinished : (run : Whole) (ended status : Status) (old mid new : OutputState) → is_finished status ≡ false → ended ≡ status → new ≡ mid → Sends old mid run.steps false → Agrees run ended old new
-unfinished run ended status old mid new u e same s = record {
-  status = λ h. absurd (false≢true (sym (ap is_finished e ∙ u) ∙ h));
-  events = subst (λ b. Sends old new run.steps b) (sym (ap is_finished e ∙ u)) (subst (λ o. Sends old o run.steps false) (sym same) s);
+unfinished : (run : Whole) (stop status : Status) (old mid new : OutputState) → is_finished stop ≡ false → Keeps stop status mid new → Sends old mid run.steps false → Agrees run status old new
+unfinished run stop status old mid new u k s = record {
+  status = λ h. absurd (false≢true (sym (ap is_finished k.status ∙ u) ∙ h));
+  events = subst (λ b. Sends old new run.steps b) (sym (ap is_finished k.status ∙ u)) (subst (λ o. Sends old o run.steps false) (sym k.same) s);
 }
 
--- the status and the steps of an answer that is settled
-pub agrees : (run : Run (Unit {0})) (answer : Result (Unit {0}) Stop) (status : Status) (old mid new : OutputState) → Configures run answer old mid → Settles answer status mid new → Agrees (whole_of run) status old new
-agrees run (Ok x) status old mid new c s = record {
-  status = λ h. s.0 ∙ sym (done_status run c.0 c.1);
-  events = subst (λ b. Sends old new (whole_of run).steps b) (sym (ap is_finished s.0)) (subst (λ o. Sends old o (whole_of run).steps true) (sym s.1) (subst (λ r. Sends old mid r true) (sym (done_steps run c.0 c.1)) c.2));
-}
-agrees run (Err (stops.Refused fault)) statuses.Done old mid new c s = absurd s
-agrees run (Err (stops.Refused fault)) statuses.Fault old mid new c s = record {
-  status = λ h. sym (fault_status run (fault_view fault) c.0);
-  events = subst (λ r. Sends old new r true) (sym (fault_steps run (fault_view fault) c.0)) (sends_then c.1 s.sends);
-}
-agrees run (Err (stops.Refused fault)) statuses.Device old mid new c s = record {
-  status = λ h. absurd (false≢true h);
-  events = subst (λ r. Sends old new r false) (sym (fault_steps run (fault_view fault) c.0)) (sends_then c.1 s.sends);
-}
-agrees run (Err (stops.Refused fault)) statuses.Memory old mid new c s = absurd s
-agrees run (Err stops.Device) status old mid new c s = unfinished (whole_of run) status statuses.Device old mid new refl s.0 s.1 c
-agrees run (Err stops.Memory) status old mid new c s = unfinished (whole_of run) status statuses.Memory old mid new refl s.0 s.1 c
+-- the status and the steps of an evaluation after which all is done
+pub agrees : (run : Run (Unit {0})) (answer : Result Kept Stop) (status : Status) (old mid : Seen) (new : OutputState) → Evaluated run answer old mid → Settles answer status mid.out new → Agrees (whole_of run) status old.out new
+agrees run (Ok kept) status old mid new e s = subst (λ w. Agrees w status old.out new) (sym (ap whole_of e.is)) (told e.written.sent s.agrees)
+agrees run (Err (stops.Refused fault)) status old mid new e s = subst (λ w. Agrees w status old.out new) (sym (fault_whole run (fault_view fault) e.is)) (told e.written.sent s.agrees)
+agrees run (Err stops.Device) status old mid new e s = unfinished (whole_of run) statuses.Device status old.out mid.out new refl s (begun_steps run old mid e)
+agrees run (Err stops.Memory) status old mid new e s = unfinished (whole_of run) statuses.Memory status old.out mid.out new refl s (begun_steps run old mid e)
+
+-- ---- failures: `t` and `o` of the two devices before an evaluation, `u` and those of `mid` after it
+
+-- after an evaluation that came to its end none has failed
+pub room_after : (answer : Result Kept Stop) (t o u p : ℕ) → t ≤ u → o ≤ p → u + p ≡ failures_after (t + o) answer → HasRoom o → OnEnd answer (HasRoom p)
+room_after (Ok kept) t o u p a b e h = let same : o ≡ p = omega (arith, a, b, e) in subst (λ n. HasRoom n) same h
+room_after (Err (stops.Refused fault)) t o u p a b e h = let same : o ≡ p = omega (arith, a, b, e) in subst (λ n. HasRoom n) same h
+room_after (Err stops.Device) t o u p a b e h = tt
+room_after (Err stops.Memory) t o u p a b e h = tt
+
+kept_failures : (stop status : Status) (n u : ℕ) (mid new : OutputState) → u + mid.failures ≡ n + failed_devices stop → Keeps stop status mid new → u + new.failures ≡ n + failed_devices status
+kept_failures stop status n u mid new e k = ap (λ o. u + o.failures) k.same ∙ e ∙ ap (λ s. n + failed_devices s) (sym k.status)
+
+pub failures_settled : (answer : Result Kept Stop) (status : Status) (t o u : ℕ) (mid new : OutputState) → u + mid.failures ≡ failures_after (t + o) answer → Settles answer status mid new
+    → u + new.failures ≡ t + o + failed_devices status
+failures_settled (Ok kept) status t o u mid new e s = omega (arith, e, s.failures)
+failures_settled (Err (stops.Refused fault)) status t o u mid new e s = omega (arith, e, s.failures)
+failures_settled (Err stops.Device) status t o u mid new e s = kept_failures statuses.Device status (t + o) u mid new (omega (arith, e)) s
+failures_settled (Err stops.Memory) status t o u mid new e s = kept_failures statuses.Memory status (t + o) u mid new (omega (arith, e)) s

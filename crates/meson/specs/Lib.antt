@@ -1,4 +1,2 @@
-pub mod FaultSteps
-pub mod Stopping
 pub mod Setup
 pub mod Laws

@@ -1,13 +1,13 @@
 //! `meson setup` for C projects: from the bytes of a source tree to the bytes of a build folder.
 #![tactic(auto)]
 
-mod fault;
 mod law;
 mod program;
 mod running;
 
 pub use command::{Line, LineFault, command_line};
+pub use conclusion::Status;
 pub use law::depends_on_looked;
 pub use program::run;
-pub use running::{Status, setup};
+pub use running::setup;
 pub use world::Settings;

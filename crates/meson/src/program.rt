@@ -1,10 +1,11 @@
 //! A run of the program, over a folder of a disk.
 ghost use Rattle.std.specs.Prelude.{◌≡◌, ◌<◌, ◌≤◌, map, string_bytes};
 ghost use Rattle.command.specs.CommandLine.{IsRefused, IsTaken};
-ghost use Rattle.meson.specs.Setup.{exit_status};
+ghost use Rattle.conclusion.specs.Concluding.{exit_status};
 
-use crate::running::{Status, setup};
+use crate::running::setup;
 use command::{Line, LineFault, command_line};
+use conclusion::Status;
 use ports::{DiskOutputs, DiskTree};
 use std::alloc::{AllocError, Global};
 use std::io::{ErrorKind, Write};

@@ -1,7 +1,7 @@
 //! The rows of the functions: what each takes.
 ghost use Rattle.std.specs.Prelude.{◌≡◌};
 ghost use Rattle.arguments.specs.RowView.{row_data};
-ghost use Rattle.target_calls.specs.Rows.{files_row, include_directories_row};
+ghost use Rattle.target_calls.specs.Rows.{files_row, include_directories_row, target_row};
 
 use arguments::{Keyword, Kind, Row};
 
@@ -34,5 +34,31 @@ pub fn include_directories_row() -> Row
         others: Some(Kind::Texts),
         keywords: &IS_SYSTEM,
         left_out: &["kwargs", "fallback", "deprecated"],
+    }
+}
+
+/// What `executable` and the like take, as far as they go.
+pub fn target_row() -> Row
+    ensures { row_data result ≡ target_row }
+{
+    Row {
+        positional: &[Kind::Text],
+        needed: 1,
+        others: Some(Kind::Texts),
+        keywords: &[],
+        left_out: &[
+            "sources",
+            "include_directories",
+            "c_args",
+            "link_args",
+            "link_with",
+            "dependencies",
+            "install",
+            "install_dir",
+            "build_by_default",
+            "kwargs",
+            "fallback",
+            "deprecated",
+        ],
     }
 }

@@ -16,7 +16,7 @@ use target_arguments::{directories_at, files_at};
 use world::{Caller, Stop};
 
 // The paths of the files that texts name.
-fn named_files<T: Tree, O: Outputs>(
+pub(crate) fn named_files<T: Tree, O: Outputs>(
     caller: &Caller<'_, T, O>,
     texts: &[&str],
 ) -> Result<Vec<String>, Stop>
@@ -48,7 +48,7 @@ fn named_folders<T: Tree, O: Outputs>(
 }
 
 // Refuses the call unless each of the files is there.
-fn require_all<T: Tree, O: Outputs>(
+pub(crate) fn require_all<T: Tree, O: Outputs>(
     caller: &mut Caller<'_, T, O>,
     paths: &[String],
 ) -> Result<(), Stop>

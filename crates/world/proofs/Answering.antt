@@ -1,5 +1,5 @@
 -- Calls one after another, against their deeds.
-use Rattle.std.proofs.Common.{◌≡◌, ℕ, ◌+◌, Option, Some, None, option_map, is_some, IsTrue, length, Bool, true, false, List, [], Result, Ok, Err, IsErrAnd, refl, sym, ap, subst, ◌∙◌, arith, String, Global, string_bytes}
+use Rattle.std.proofs.Common.{◌≡◌, ℕ, ◌+◌, Option, Some, None, option_map, is_some, IsTrue, length, Bool, true, false, List, [], Result, Ok, Err, IsErrAnd, refl, sym, ap, subst, ◌∙◌, arith}
 use Rattle.code.specs.Draft.{Begins as IsFront}
 use Rattle.ports.specs.Outputs.{OutputState, logs, Sends}
 use Rattle.ports.specs.Tree.{TreeState, Stays, file_at}
@@ -9,15 +9,14 @@ use Rattle.data.specs.View.{data_of}
 use Rattle.data.specs.declared.refusal.Refusal.{Refusal as OperationRefusal}
 use Rattle.data.specs.declared.value.Value.{Value}
 use Rattle.faults.specs.Faults.{FaultData}
-use Rattle.world.specs.Operation.{of_operation}
 use Rattle.world.specs.Trace.{Seen, seen}
-use Rattle.world.specs.World.{World, Facts, looking, with_facts, fault_here}
+use Rattle.world.specs.World.{World, Facts, looking, fault_here}
 use Rattle.world.specs.Store.{changing}
 use Rattle.world.specs.Run.{ran, Done}
 use Rattle.world.specs.Gives.{Gives, Ends, failures_after}
-use Rattle.world.specs.Deed.{Files, Deed, give, refuse, tell, say, ask, read, change, then, perform, answered, fitting, need, there}
+use Rattle.world.specs.Deed.{Files, Deed, give, refuse, tell, say, read, change, then, perform, answered, fitting, need, there}
 use Rattle.world.specs.Answering.{State, seen_at, HasRoom, Fails, Carries, Refuses, IsAnswered, IsFitting, Views}
-use Rattle.world.proofs.Follow.{stopped_later, wanted_later, failed_later, ended_later, refused_later, gives_later, begun, done, device_stops, failures_after-refusal, wanted_grown}
+use Rattle.world.proofs.Follow.{stopped_later, failed_later, ended_later, refused_later, gives_later, begun, done, device_stops, failures_after-refusal, wanted_grown}
 use Rattle.world.proofs.Holding.{holds_later, stays_here, stays_on}
 use Rattle.world.proofs.Marks.{none_added, same_front, grown_added}
 use Rattle.world.proofs.Tells.{ends_told, begins_logs}
@@ -82,19 +81,25 @@ carries_stop {view = view} {view' = view'} {d = d} {next = next} {s0 = s0} {s1 =
   same = p.same;
 }
 
--- want of memory: the world may have changed, and names may be new; the devices are as they were
-pub carries_lost : {A B : Type 0} {view : B → A} {d : Deed A} {w w1 : World} {names names1 : List (List ℕ)} {tree : TreeState} {out : OutputState} {lent : ℕ × ℕ × ℕ} {result : Result B Stop}
-    → IsErrAnd result (λ e. e ≡ stops.Memory) → IsFront names names1 → Carries view d (record { world = w; names = names; tree = tree; out = out; lent = lent }) result (record { world = w1; names = names1; tree = tree; out = out; lent = lent })
-carries_lost {view = view} {d = d} {w = w} {w1 = w1} {names = names} {names1 = names1} {tree = tree} {out = out} {result = result} is front = record {
+-- want of memory: the world may have changed, and names may be new; no device failed, and nothing was told
+pub carries_lost : {A B : Type 0} {view : B → A} {d : Deed A} {w w1 : World} {names names1 : List (List ℕ)} {tree tree1 : TreeState} {out : OutputState} {lent : ℕ × ℕ × ℕ} {result : Result B Stop}
+    → IsErrAnd result (λ e. e ≡ stops.Memory) → IsFront names names1 → Stays tree tree1 → tree1.failures ≡ tree.failures
+    → Carries view d (record { world = w; names = names; tree = tree; out = out; lent = lent }) result (record { world = w1; names = names1; tree = tree1; out = out; lent = lent })
+carries_lost {view = view} {d = d} {w = w} {w1 = w1} {names = names} {names1 = names1} {tree = tree} {tree1 = tree1} {out = out} {result = result} is front stays none = record {
   gives = λ files n h. wanted_grown view (perform files d w) w1 (seen out n names) (seen out n names1) result is refl refl front;
-  stays = stays_here tree;
-  device = record { tree = omega arith; out = omega arith; sum = sym (memory_quietly result is (tree.failures + out.failures)) };
+  stays = stays;
+  device = record { tree = omega (arith, none); out = omega arith; sum = let m : ℕ = tree.failures + out.failures in let e : tree1.failures + out.failures ≡ m = omega (arith, none) in e ∙ sym (memory_quietly result is m) };
   same = refl;
 }
 
+-- the same, where the tree was not asked
+pub carries_wanted : {A B : Type 0} {view : B → A} {d : Deed A} {w w1 : World} {names names1 : List (List ℕ)} {tree : TreeState} {out : OutputState} {lent : ℕ × ℕ × ℕ} {result : Result B Stop}
+    → IsErrAnd result (λ e. e ≡ stops.Memory) → IsFront names names1 → Carries view d (record { world = w; names = names; tree = tree; out = out; lent = lent }) result (record { world = w1; names = names1; tree = tree; out = out; lent = lent })
+carries_wanted {tree = tree} is front = carries_lost is front (stays_here tree) refl
+
 -- want of memory before anything was done
 pub carries_none : {A B : Type 0} {view : B → A} {d : Deed A} {s : State} {result : Result B Stop} → IsErrAnd result (λ e. e ≡ stops.Memory) → Carries view d s result s
-carries_none {s = s} is = carries_lost is (same_front s.names)
+carries_none {s = s} is = carries_wanted is (same_front s.names)
 
 -- an answer is given
 pub carries_give : {A B : Type 0} {view : B → A} {a : A} {s : State} {x : B} → view x ≡ a → Carries view (give a) s (Ok x) s
@@ -122,7 +127,7 @@ carries_refuse {view = view} {refusal = refusal} {detail = detail} {s = s} {resu
 
 -- ---- answers of operations
 
-carries_same : {A B : Type 0} {view : B → A} {d : Deed A} {s : State} {r r' : Result B Stop} → r' ≡ r → Carries view d s r s → Carries view d s r' s
+pub carries_same : {A B : Type 0} {view : B → A} {d : Deed A} {s : State} {r r' : Result B Stop} → r' ≡ r → Carries view d s r s → Carries view d s r' s
 carries_same {view = view} {d = d} {s = s} is p = subst (λ x. Carries view d s x s) (sym is) p
 
 -- the same deed, written otherwise
@@ -206,7 +211,7 @@ is_some-option_map f (Some x) = refl
 
 -- the tree said how large a file is
 pub carries_found : (path : List ℕ) {w w1 : World} {names names1 : List (List ℕ)} {tree tree1 : TreeState} {out : OutputState} {lent : ℕ × ℕ × ℕ} {size : Option ℕ} {found : Bool}
-    → w1 ≡ looking w path → names1 ≡ names → (IsTrue tree.steady → size ≡ option_map length (file_at tree.files path)) → found ≡ is_some size → Stays tree tree1 → tree1.failures ≡ tree.failures
+    → w1 ≡ looking w path found → names1 ≡ names → (IsTrue tree.steady → size ≡ option_map length (file_at tree.files path)) → found ≡ is_some size → Stays tree tree1 → tree1.failures ≡ tree.failures
     → Carries (λ b. b) (there path) (record { world = w; names = names; tree = tree; out = out; lent = lent }) (Ok found) (record { world = w1; names = names1; tree = tree1; out = out; lent = lent })
 unfolding there
 carries_found path {w = w} {w1 = w1} {names = names} {names1 = names1} {tree = tree} {tree1 = tree1} {out = out} {size = size} {found = found} looked named is same stays none = record {
@@ -214,8 +219,9 @@ carries_found path {w = w} {w1 = w1} {names = names} {names1 = names1} {tree = t
       let e : found ≡ is_some (file_at files path) =
       same ∙ ap is_some (is h.steady) ∙ is_some-option_map length (file_at tree.files path) ∙ ap (λ fs. is_some (file_at fs path)) h.files in
       subst (λ v. Gives (λ (b : Bool). b) (perform files (there path) w) (Ok found) v (seen out n names) (seen out n names1)) (sym looked)
-      (subst (λ ns. Gives (λ (b : Bool). b) (perform files (there path) w) (Ok found) (looking w path) (seen out n names) (seen out n ns)) (sym named)
-      (subst (λ b. Ends (ran (Done (is_some (file_at files path))) (looking w path) []) (Done b) (looking w path) (seen out n names) (seen out n names)) (sym e) (record { is = refl; written = none_added (seen out n names) })));
+      (subst (λ ns. Gives (λ (b : Bool). b) (perform files (there path) w) (Ok found) (looking w path found) (seen out n names) (seen out n ns)) (sym named)
+      (subst (λ b. Ends (ran (Done (is_some (file_at files path))) (looking w path (is_some (file_at files path))) []) (Done b) (looking w path b) (seen out n names) (seen out n names)) (sym e)
+      (record { is = refl; written = none_added (seen out n names) })));
   stays = stays;
   device = record { tree = omega (arith, none); out = omega arith; sum = omega (arith, none) };
   same = refl;

@@ -1,6 +1,8 @@
 pub mod Answering
+pub mod Configuring
 pub mod Costs
 mod Counts
+pub mod Declaring
 pub mod Follow
 pub mod Holding
 pub mod Leading

@@ -1,10 +1,9 @@
 -- An act depends only on the paths that it looks at, where it is a deed or a plan.
-use Rattle.std.proofs.Common.{◌≡◌, ℕ, List, [], ◌∷◌, ◌++◌, Option, refl, sym, ap, subst, ◌∙◌, append_assoc, append-nil}
+use Rattle.std.proofs.Common.{◌≡◌, ℕ, List, [], ◌∷◌, ◌++◌, is_some, refl, sym, ap, subst, ◌∙◌, append_assoc, append-nil}
 use Rattle.ports.specs.Tree.{file_at}
-use Rattle.faults.specs.Faults.{FaultData}
 use Rattle.world.specs.Trace.{Mark}
 use Rattle.world.specs.World.{World, looking, fault_here}
-use Rattle.world.specs.Run.{Run, ran, Act, Done, Faulted, pure, fails, after, follow, with_end, world_after}
+use Rattle.world.specs.Run.{Run, ran, Act, Done, Faulted, after, follow, with_end, world_after}
 use Rattle.world.specs.Deed.{Files, Deed, give, refuse, tell, ask, read, change, then, perform}
 use Rattle.world.specs.Plan.{Plan, deed, ruled, enter, entered, next as next_plan, carry}
 use Rattle.world.specs.Look.{Agree, Grows, Depends}
@@ -68,7 +67,7 @@ rules act p = record {
 looks : (path : List ℕ) → Depends (λ f. perform f (ask path))
 looks path = record {
   grows = λ f w. record { more = path ∷ []; is = refl };
-  same = λ f g w h. ap (λ o. ran (Done o) (looking w path) []) (sym (agree-last f g w.looked path h));
+  same = λ f g w h. ap (λ o. ran (Done o) (looking w path (is_some o)) []) (sym (agree-last f g w.looked path h));
 }
 
 -- each deed, by its steps

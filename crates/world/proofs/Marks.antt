@@ -1,7 +1,7 @@
 -- Marks, one after another.
-use Rattle.std.proofs.Common.{◌≡◌, ℕ, ◌+◌, List, [], ◌∷◌, ◌++◌, true, refl, sym, ap, subst, ◌∙◌, append_assoc, append-nil, arith}
+use Rattle.std.proofs.Common.{◌≡◌, ◌+◌, List, [], ◌∷◌, ◌++◌, true, refl, sym, ap, subst, ◌∙◌, append_assoc, append-nil, arith}
 use Rattle.code.specs.Draft.{Begins as IsFront}
-use Rattle.ports.specs.Outputs.{OutputState, Sends}
+use Rattle.ports.specs.Outputs.{Sends}
 use Rattle.ports.proofs.Sending.{sends_nothing, sends_then}
 use Rattle.world.specs.Trace.{Mark, Told, Ended, steps_of, ends_of, Seen, seen, Adds}
 

@@ -1,5 +1,5 @@
 -- A variable that takes a value in the slot of its name's number.
-use Rattle.std.proofs.Common.{◌≡◌, ℕ, zero, suc, ◌+◌, ◌<◌, ◌≤◌, ◌≢◌, Bool, true, false, cond, List, [], ◌∷◌, ◌++◌, length, length-append, get_or, get_or-set_same, get_or-set_other, set, Option, Some, None, option_map, bytes_eq, refl, sym, ap, subst, ◌∙◌, arith}
+use Rattle.std.proofs.Common.{◌≡◌, ℕ, suc, ◌+◌, ◌<◌, ◌≤◌, ◌≢◌, Bool, true, false, cond, List, [], ◌∷◌, ◌++◌, length, length-append, get_or, get_or-set_same, get_or-set_other, set, Option, Some, None, option_map, bytes_eq, refl, sym, ap, ◌∙◌, arith}
 use Rattle.std.specs.Prelude.{nat_lt, nat_eq, not, ◌||◌, is_some, if◌then◌else◌, option_and_then}
 use Rattle.std.specs.List.{list_any, position_or_len}
 use Rattle.std.proofs.lemmas.Bool.{false≢true}
@@ -11,18 +11,18 @@ use Rattle.code.proofs.NameLists.{name_at}
 use Rattle.data.specs.Data.{Data}
 use Rattle.data.specs.View.{data_of}
 use Rattle.data.specs.declared.value.Value.{Value}
-use Rattle.world.specs.World.{World, variables_with, with_variable}
+use Rattle.world.specs.World.{World, variables_with, with_variable, with_variables}
 use Rattle.world.specs.Store.{Kept, slot_value, kept_variables, world_of, changing}
 use Rattle.code.specs.Draft.{Begins as IsFront}
 use Rattle.std.specs.List.{IsDistinct}
 use Rattle.std.proofs.lemmas.List.{get_or_past}
 use Rattle.std.proofs.Common.{append_assoc, append-nil}
 use Rattle.world.proofs.Numbers.{number_at}
-use Rattle.std.specs.Prelude.{codes}
-use Rattle.build.specs.Data.{ProjectData}
-use Rattle.world.specs.SettingsView.{settings_view}
-use Rattle.world.specs.Start.{first_world}
-use Rattle.world.specs.declared.settings.Settings.{Settings}
+use Rattle.std.specs.Prelude.{codes, Result, Ok, Err, OnOk}
+use Rattle.project.specs.World.{WorldData, new_world}
+use Rattle.world.specs.Declaring.{declaring}
+use Rattle.world.specs.Settings.{SettingsData}
+use Rattle.world.specs.Start.{first_world, unnamed}
 
 by_test : (b d e : Bool) (n k : ℕ) → nat_eq n k ≡ b → nat_lt (cond b (k + 1) n) (k + 1) ≡ d → nat_lt n k ≡ e → n ≤ k → d ≡ e
 by_test true true true n k h i j l = refl
@@ -179,66 +179,26 @@ variables_grown {names = names} slots front few q = ap (λ ns. kept_variables ns
 
 -- the same, with this table of names and these slots
 abbrev pub with_slots : Kept → List (List ℕ) → List (Option Value) → Kept
-with_slots k names slots = record {
-  file = k.file;
-  folder = k.folder;
-  line = k.line;
-  settings = k.settings;
-  names = names;
-  slots = slots;
-  is_begun = k.is_begun;
-  project = k.project;
-  entered = k.entered;
-  looked = k.looked;
-}
+with_slots k names slots = record k { names = names; slots = slots }
+
+-- the same world with other variables
+abbrev pub with_all : World → (List ℕ → Option Data) → World
+with_all w variables = changing (with_variables variables) w
+
+all_same : (w : World) (f g : List ℕ → Option Data) → ((q : List ℕ) → f q ≡ g q) → with_all w f ≡ with_all w g
+all_same w f g e = λ i. with_all w (λ q. e q i)
 
 -- a variable takes a value or loses it
 pub world_with : (k : Kept) (names : List (List ℕ)) (slots : List (Option Value)) (name : List ℕ) (v : Option Data)
     → ((q : List ℕ) → kept_variables names slots q ≡ variables_with (kept_variables k.names k.slots) name v q) → world_of (with_slots k names slots) ≡ changing (with_variable name v) (world_of k)
-world_with k names slots name v e = λ i. record {
-  facts = record {
-    file = k.file;
-    folder = k.folder;
-    line = k.line;
-    settings = k.settings;
-    variables = λ q. e q i;
-    is_begun = k.is_begun;
-    project = k.project;
-  };
-  entered = k.entered;
-  looked = k.looked;
-}
+world_with k names slots name v e = all_same (world_of k) (kept_variables names slots) (variables_with (kept_variables k.names k.slots) name v) e
 
 -- the variables stay
 pub world_as : (k : Kept) (names : List (List ℕ)) (slots : List (Option Value)) → ((q : List ℕ) → kept_variables names slots q ≡ kept_variables k.names k.slots q) → world_of (with_slots k names slots) ≡ world_of k
-world_as k names slots e = λ i. record {
-  facts = record {
-    file = k.file;
-    folder = k.folder;
-    line = k.line;
-    settings = k.settings;
-    variables = λ q. e q i;
-    is_begun = k.is_begun;
-    project = k.project;
-  };
-  entered = k.entered;
-  looked = k.looked;
-}
+world_as k names slots e = all_same (world_of k) (kept_variables names slots) (kept_variables k.names k.slots) e
 
 pub world_lost : (w : World) (name : List ℕ) → w.facts.variables name ≡ None → w ≡ changing (with_variable name None) w
-world_lost w name h = λ i. record {
-  facts = record {
-    file = w.facts.file;
-    folder = w.facts.folder;
-    line = w.facts.line;
-    settings = w.facts.settings;
-    variables = λ q. none_lost w.facts.variables name q h i;
-    is_begun = w.facts.is_begun;
-    project = w.facts.project;
-  };
-  entered = w.entered;
-  looked = w.looked;
-}
+world_lost w name h = all_same w w.facts.variables (variables_with w.facts.variables name None) (λ q. none_lost w.facts.variables name q h)
 
 -- a slot that is emptied
 slot_taken : (names : List (List ℕ)) (slots new : List (Option Value)) (n : ℕ) → IsDistinct bytes_eq names → n < length names → ((i : ℕ) → i ≢ n → get_or new i None ≡ get_or slots i None) → get_or new n None ≡ None
@@ -258,16 +218,33 @@ pub variables_taken : (names : List (List ℕ)) (slots new : List (Option Value)
     → (q : List ℕ) → kept_variables names new q ≡ variables_with (kept_variables names slots) (get_or names n []) None q
 variables_taken names slots new n distinct l same none q = slot_taken names slots new n distinct l same none (bytes_eq (get_or names n []) q) q (number_in q names) refl refl
 
+-- ---- the project
+
+-- where a call ends well, the project is this of what it was
+pub project_made : {A E : Type 0} (result : Result A E) (k : Kept) (p : WorldData) (f : WorldData → WorldData) → OnOk result (p ≡ f k.project)
+    → OnOk result (world_of (record k { project = p }) ≡ changing (declaring f) (world_of k))
+project_made (Ok x) k p f is = ap (λ q. world_of (record k { project = q })) is
+project_made (Err e) k p f is = tt
+
+pub then_same : {A E : Type 0} (v : World) {w z : World} (result : Result A E) → OnOk result (v ≡ w) → w ≡ z → OnOk result (v ≡ z)
+then_same v (Ok x) is same = is ∙ same
+then_same v (Err e) is same = tt
+
 -- before anything was done
-pub world_first : (settings : Settings) (file folder : List ℕ) (names : List (List ℕ)) (slots : List (Option Value)) (project : ProjectData) (entered looked : List (List ℕ))
-    → file ≡ codes "meson.build" → folder ≡ [] → names ≡ [] → slots ≡ [] → project ≡ record { depth = settings.depth; targets = [] } → entered ≡ [] → looked ≡ []
-    → world_of (record { file = file; folder = folder; line = 1; settings = settings_view settings; names = names; slots = slots; is_begun = false; project = project; entered = entered; looked = looked })
-    ≡ first_world (settings_view settings)
-world_first settings file folder names slots project entered looked a b c d e f g =
-    ap (λ x. world_of (record { file = x; folder = folder; line = 1; settings = settings_view settings; names = names; slots = slots; is_begun = false; project = project; entered = entered; looked = looked })) a
-    ∙ ap (λ x. world_of (record { file = codes "meson.build"; folder = x; line = 1; settings = settings_view settings; names = names; slots = slots; is_begun = false; project = project; entered = entered; looked = looked })) b
-    ∙ ap (λ x. world_of (record { file = codes "meson.build"; folder = []; line = 1; settings = settings_view settings; names = x; slots = slots; is_begun = false; project = project; entered = entered; looked = looked })) c
-    ∙ ap (λ x. world_of (record { file = codes "meson.build"; folder = []; line = 1; settings = settings_view settings; names = []; slots = x; is_begun = false; project = project; entered = entered; looked = looked })) d
-    ∙ ap (λ x. world_of (record { file = codes "meson.build"; folder = []; line = 1; settings = settings_view settings; names = []; slots = []; is_begun = false; project = x; entered = entered; looked = looked })) e
-    ∙ ap (λ x. world_of (record { file = codes "meson.build"; folder = []; line = 1; settings = settings_view settings; names = []; slots = []; is_begun = false; project = record { depth = settings.depth; targets = [] }; entered = x; looked = looked })) f
-    ∙ ap (λ x. world_of (record { file = codes "meson.build"; folder = []; line = 1; settings = settings_view settings; names = []; slots = []; is_begun = false; project = record { depth = settings.depth; targets = [] }; entered = []; looked = x })) g
+pub world_first : (k : Kept) (settings : SettingsData) → k.file ≡ codes "meson.build" → k.folder ≡ [] → k.line ≡ 1 → k.settings ≡ settings → k.names ≡ [] → k.slots ≡ [] → k.machine ≡ []
+    → k.options ≡ [] → k.configurations ≡ [] → k.is_begun ≡ false → k.project ≡ new_world (unnamed settings) → k.entered ≡ [] → k.looked ≡ [] → world_of k ≡ first_world settings
+world_first k settings file folder line set names slots machine options configurations begun project entered looked = λ i. world_of (record {
+  file = file i;
+  folder = folder i;
+  line = line i;
+  settings = set i;
+  names = names i;
+  slots = slots i;
+  machine = machine i;
+  options = options i;
+  configurations = configurations i;
+  is_begun = begun i;
+  project = project i;
+  entered = entered i;
+  looked = looked i;
+})

@@ -1,7 +1,7 @@
 -- What is told.
 use Rattle.std.proofs.Common.{◌≡◌, ℕ, true, false, List, [], ◌∷◌, ◌++◌, map, append-nil, refl, sym, ap, subst, ◌∙◌, arith}
 use Rattle.std.proofs.lemmas.List.{map-append}
-use Rattle.ports.specs.Outputs.{OutputState, Step, logs, Sends, all, part}
+use Rattle.ports.specs.Outputs.{Step, logs, Sends, all, part}
 use Rattle.world.specs.Gives.{Ends}
 use Rattle.world.specs.World.{World}
 use Rattle.world.specs.Run.{ran, Act, Done, marks_of}

@@ -4,14 +4,19 @@ use Rattle.ports.specs.Outputs.{OutputState}
 use Rattle.ports.specs.Tree.{TreeState, Stays}
 use Rattle.data.specs.declared.refusal.Refusal.{Refusal as OperationRefusal}
 use Rattle.faults.specs.Faults.{FaultData}
+use Rattle.project.specs.declared.refusal.Refusal.{Refusal as ProjectRefusal}
+use Rattle.template.specs.declared.config.SetStop.{SetStop}
+use Rattle.template.specs.declared.config.SetStop.TheVariants as set_stops
 use Rattle.world.specs.Operation.{of_operation}
 use Rattle.world.specs.World.{World, fault_here}
-use Rattle.world.specs.Run.{Run, Act}
 use Rattle.world.specs.Trace.{Seen, seen}
 use Rattle.world.specs.Gives.{Gives, Holds, Continues, IsRefusal, failures_after}
 use Rattle.world.specs.Deed.{Files, Deed, perform}
+use Rattle.world.specs.Declaring.{of_project}
 use Rattle.faults.specs.declared.refusal.Refusal.{Refusal}
+use Rattle.faults.specs.declared.refusal.Refusal.TheVariants as refusals
 use Rattle.world.specs.declared.stop.Stop.{Stop}
+use Rattle.world.specs.declared.stop.Stop.TheVariants as stops
 
 -- the world, the table of names, what the devices are seen as, and the names of the references by which all of these are held
 pub record State : Type 0 where
@@ -67,6 +72,17 @@ IsAnswered w (Err refusal) result = Refuses (fault_here w (of_operation refusal)
 abbrev pub IsFitting : {B : Type 0} → World → Result B Refusal → Result B Stop → Type 0
 IsFitting w (Ok x) result = result ≡ Ok x
 IsFitting w (Err refusal) result = Refuses (fault_here w refusal []) result
+
+-- what the project answers is handed on, or its refusal
+abbrev pub IsAllowed : {B : Type 0} → World → Result B ProjectRefusal → Result B Stop → Type 0
+IsAllowed w (Ok x) result = result ≡ Ok x
+IsAllowed w (Err refusal) result = Refuses (fault_here w (of_project refusal) []) result
+
+-- a change of configuration data was made, or the call is refused since they are frozen, or no memory was left
+abbrev pub IsConfigured : World → Result (Unit {0}) SetStop → Result (Unit {0}) Stop → Type 0
+IsConfigured w (Ok u) result = result ≡ Ok u
+IsConfigured w (Err set_stops.Frozen) result = Refuses (fault_here w refusals.Frozen []) result
+IsConfigured w (Err set_stops.Memory) result = result ≡ Err stops.Memory
 
 -- an operation answers what is given, seen so
 abbrev pub Views : {A B R : Type 0} → (B → A) → Result A R → Result B R → Type 0

@@ -1,6 +1,6 @@
 -- The marks of a run as counts of events.
-use Rattle.std.specs.Prelude.{◌≡◌, ℕ, ◌+◌, ◌-◌, ◌≤◌, List, [], ◌∷◌, ◌++◌, length, if◌then◌else◌, nat_lt, Result, Ok, Err}
-use Rattle.world.specs.Trace.{Mark, Told, Ended, Seen, Begins, ends_of, steps_of}
+use Rattle.std.specs.Prelude.{◌≡◌, ℕ, ◌+◌, ◌≤◌, List, [], ◌∷◌, ◌++◌, length, if◌then◌else◌, nat_lt, Result, Ok, Err}
+use Rattle.world.specs.Trace.{Mark, Told, Ended, ends_of, steps_of}
 use Rattle.world.specs.declared.stop.Stop.{Stop}
 use Rattle.world.specs.declared.stop.Stop.TheVariants as stops
 

@@ -4,7 +4,6 @@ use Rattle.std.specs.Prelude.{ℕ, Bool, true, false, List, [], map, Option, Res
 use Rattle.ports.specs.Outputs.{Step, logs}
 use Rattle.ports.specs.Tree.{file_at}
 use Rattle.data.specs.declared.refusal.Refusal.{Refusal as OperationRefusal}
-use Rattle.faults.specs.Faults.{FaultData}
 use Rattle.world.specs.Operation.{of_operation}
 use Rattle.world.specs.Trace.{Told}
 use Rattle.world.specs.World.{Facts, looking, with_facts, fault_here}
@@ -23,7 +22,7 @@ pub data Deed : Type 0 → Type 1 where
   refuse : {A : Type 0} → Refusal → List ℕ → Deed A
   -- steps for the outputs
   tell : List Step → Deed (Unit {0})
-  -- the bytes of the file at this path, which counts as looked at
+  -- the bytes of the file at this path, which counts as looked at, and whose presence the project notes
   ask : List ℕ → Deed (Option (List ℕ))
   read : Deed Facts
   change : (Facts → Facts) → Deed (Unit {0})
@@ -38,7 +37,7 @@ abbrev pub perform : {A : Type 0} → Files → Deed A → Act A
 perform files (give a) w = pure a w
 perform files (refuse refusal detail) w = fails (fault_here w refusal detail) w
 perform files (tell steps) w = ran (Done tt) w (map Told steps)
-perform files (ask path) w = ran (Done (file_at files path)) (looking w path) []
+perform files (ask path) w = ran (Done (file_at files path)) (looking w path (is_some (file_at files path))) []
 perform files read w = pure w.facts w
 perform files (change f) w = ran (Done tt) (with_facts w (f w.facts)) []
 perform files (then first next) w = follow (perform files first w) (λ a. perform files (next a))

@@ -1,7 +1,9 @@
 pub mod Answering
 pub mod Caller
+pub mod Configuring
 pub mod Costs
 pub mod Counts
+pub mod Declaring
 pub mod Deed
 pub mod Gives
 pub mod Look

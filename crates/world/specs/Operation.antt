@@ -1,5 +1,4 @@
 -- The numbers and words of refusals.
-use Rattle.std.specs.Prelude.{ℕ, List, codes}
 use Rattle.data.specs.declared.refusal.Refusal.{Refusal as OperationRefusal}
 use Rattle.data.specs.declared.refusal.Refusal.TheVariants as operation
 use Rattle.faults.specs.declared.refusal.Refusal.{Refusal}

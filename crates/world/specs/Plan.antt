@@ -1,5 +1,5 @@
 -- Plans: what evaluation does. A plan reads and changes the world by deeds, and beside them ends rules and enters folders.
-use Rattle.std.specs.Prelude.{ℕ, Bool, true, false, List, [], Result, Ok, Err}
+use Rattle.std.specs.Prelude.{ℕ, List, [], Result, Ok, Err}
 use Rattle.data.specs.declared.refusal.Refusal.{Refusal as OperationRefusal}
 use Rattle.world.specs.Operation.{of_operation}
 use Rattle.world.specs.World.{entering, with_line}

@@ -1,9 +1,37 @@
 -- The world in which a run begins.
 use Rattle.std.specs.Prelude.{[], None, false, codes}
+use Rattle.project.specs.World.{new_world}
+use Rattle.targets.specs.Data.{FactsData, FlagsData}
 use Rattle.world.specs.Settings.{SettingsData}
 use Rattle.world.specs.World.{World}
 
--- at the first line of the root file: no variable, no target, nothing entered and nothing looked at
+abbrev pub no_flags : FlagsData
+no_flags = record {
+  warning_level = 0;
+  is_werror = false;
+  c_std = [];
+  optimization = [];
+  is_debug = false;
+  c_args = [];
+  c_link_args = [];
+}
+
+-- what is known of a project before `project` is called: the folders
+abbrev pub unnamed : SettingsData → FactsData
+unnamed s = record {
+  name = [];
+  version = [];
+  license = [];
+  depth = s.depth;
+  source_root = s.source_root;
+  build_root = s.build_root;
+  compiler = [];
+  archiver = [];
+  flags = no_flags;
+  options = [];
+}
+
+-- at the first line of the root file: no variable, no machine file, nothing declared, nothing entered and nothing looked at
 abbrev pub first_world : SettingsData → World
 first_world s = record {
   facts = record {
@@ -12,8 +40,11 @@ first_world s = record {
     line = 1;
     settings = s;
     variables = λ _. None;
+    machine = [];
+    options = [];
+    configurations = [];
     is_begun = false;
-    project = record { depth = s.depth; targets = [] };
+    project = new_world (unnamed s);
   };
   entered = [];
   looked = [];

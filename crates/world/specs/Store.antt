@@ -1,10 +1,15 @@
 -- What a store is seen as, and the world that it keeps.
-use Rattle.std.specs.Prelude.{ℕ, Bool, List, Option, None, option_map, option_and_then, slice_index_or}
-use Rattle.build.specs.Data.{ProjectData}
+use Rattle.std.specs.Prelude.{ℕ, Bool, List, [], Option, Some, None, option_map, option_and_then, slice_index_or}
 use Rattle.code.specs.Names.{number_in}
 use Rattle.data.specs.Data.{Data}
 use Rattle.data.specs.View.{data_of}
 use Rattle.data.specs.declared.value.Value.{Value}
+use Rattle.machine_file.specs.Files.{Section}
+use Rattle.options.specs.Settings.{Setting}
+use Rattle.options.specs.View.{options_in}
+use Rattle.options.specs.declared.settings.Options.{Options}
+use Rattle.project.specs.World.{WorldData}
+use Rattle.template.specs.Config.{Configuration}
 use Rattle.world.specs.Settings.{SettingsData}
 use Rattle.world.specs.World.{World, Facts, with_facts}
 
@@ -16,10 +21,18 @@ pub record Kept : Type 0 where
   pub settings : SettingsData
   pub names : List (List ℕ)
   pub slots : List (Option Value)
+  pub machine : List Section
+  pub options : List Setting
+  pub configurations : List Configuration
   pub is_begun : Bool
-  pub project : ProjectData
+  pub project : WorldData
   pub entered : List (List ℕ)
   pub looked : List (List ℕ)
+
+-- the options, where there are any yet
+abbrev pub options_of : Option Options → List Setting
+options_of None = []
+options_of (Some options) = options_in options
 
 -- the value in a slot
 abbrev pub slot_value : List (Option Value) → ℕ → Option Data
@@ -37,6 +50,9 @@ world_of k = record {
     line = k.line;
     settings = k.settings;
     variables = kept_variables k.names k.slots;
+    machine = k.machine;
+    options = k.options;
+    configurations = k.configurations;
     is_begun = k.is_begun;
     project = k.project;
   };

@@ -1,11 +1,17 @@
 -- The world of a run: what its definition files are evaluated in.
-use Rattle.std.specs.Prelude.{ℕ, Bool, List, [], ◌∷◌, ◌++◌, Option, Some, None, if◌then◌else◌}
+use Rattle.std.specs.Prelude.{ℕ, Bool, true, false, List, [], ◌∷◌, ◌++◌, Option, if◌then◌else◌}
 use Rattle.std.specs.Str.{bytes_eq}
-use Rattle.build.specs.Data.{ProjectData}
 use Rattle.data.specs.Data.{Data}
+use Rattle.edge.specs.Texts.{first_kept}
 use Rattle.faults.specs.Faults.{FaultData}
-use Rattle.world.specs.Settings.{SettingsData}
 use Rattle.faults.specs.declared.refusal.Refusal.{Refusal}
+use Rattle.machine_file.specs.Files.{Section}
+use Rattle.options.specs.Settings.{Setting}
+use Rattle.project.specs.Adding.{with_absent, with_present}
+use Rattle.project.specs.World.{WorldData, new_world}
+use Rattle.targets.specs.Data.{FactsData}
+use Rattle.template.specs.Config.{Configuration}
+use Rattle.world.specs.Settings.{SettingsData}
 
 -- what a call may read and change
 pub record Facts : Type 0 where
@@ -17,9 +23,15 @@ pub record Facts : Type 0 where
   pub settings : SettingsData
   -- the variables by their names
   pub variables : List ℕ → Option Data
+  -- the sections of the machine file
+  pub machine : List Section
+  -- the options with their values; none before `project` is called
+  pub options : List Setting
+  -- configuration data by their numbers
+  pub configurations : List Configuration
   -- whether `project` was called, and the project so far
   pub is_begun : Bool
-  pub project : ProjectData
+  pub project : WorldData
 
 -- the facts, the folders entered and the paths looked at, each in order
 pub record World : Type 0 where
@@ -28,13 +40,10 @@ pub record World : Type 0 where
   pub looked : List (List ℕ)
 
 abbrev pub with_facts : World → Facts → World
-with_facts w facts = record { facts = facts; entered = w.entered; looked = w.looked }
-
-abbrev pub looking : World → List ℕ → World
-looking w path = record { facts = w.facts; entered = w.entered; looked = w.looked ++ path ∷ [] }
+with_facts w facts = record w { facts = facts }
 
 abbrev pub entering : World → List ℕ → World
-entering w folder = record { facts = w.facts; entered = w.entered ++ folder ∷ []; looked = w.looked }
+entering w folder = record w { entered = w.entered ++ folder ∷ [] }
 
 -- a fault at the present place
 abbrev pub fault_here : World → Refusal → List ℕ → FaultData
@@ -44,49 +53,26 @@ fault_here w refusal detail = record { file = w.facts.file; line = w.facts.line;
 
 -- another line of the present file
 abbrev pub with_line : ℕ → Facts → Facts
-with_line line f = record {
-  file = f.file;
-  folder = f.folder;
-  line = line;
-  settings = f.settings;
-  variables = f.variables;
-  is_begun = f.is_begun;
-  project = f.project;
-}
+with_line line f = record f { line = line }
 
 -- another file and its folder, at a line
 abbrev pub with_place : List ℕ → List ℕ → ℕ → Facts → Facts
-with_place file folder line f = record {
-  file = file;
-  folder = folder;
-  line = line;
-  settings = f.settings;
-  variables = f.variables;
-  is_begun = f.is_begun;
-  project = f.project;
-}
+with_place file folder line f = record f { file = file; folder = folder; line = line }
 
 abbrev pub with_variables : (List ℕ → Option Data) → Facts → Facts
-with_variables variables f = record {
-  file = f.file;
-  folder = f.folder;
-  line = f.line;
-  settings = f.settings;
-  variables = variables;
-  is_begun = f.is_begun;
-  project = f.project;
-}
+with_variables variables f = record f { variables = variables }
 
-abbrev pub with_project : Bool → ProjectData → Facts → Facts
-with_project is_begun project f = record {
-  file = f.file;
-  folder = f.folder;
-  line = f.line;
-  settings = f.settings;
-  variables = f.variables;
-  is_begun = is_begun;
-  project = project;
-}
+abbrev pub with_machine : List Section → Facts → Facts
+with_machine machine f = record f { machine = machine }
+
+abbrev pub with_options : List Setting → Facts → Facts
+with_options options f = record f { options = options }
+
+abbrev pub with_configurations : List Configuration → Facts → Facts
+with_configurations configurations f = record f { configurations = configurations }
+
+abbrev pub with_project : WorldData → Facts → Facts
+with_project project f = record f { project = project }
 
 -- a variable takes a value, or loses the one that it has
 abbrev pub variables_with : (List ℕ → Option Data) → List ℕ → Option Data → List ℕ → Option Data
@@ -94,3 +80,27 @@ variables_with variables name value other = if bytes_eq name other then value el
 
 abbrev pub with_variable : List ℕ → Option Data → Facts → Facts
 with_variable name value f = with_variables (variables_with f.variables name value) f
+
+-- ---- the project
+
+-- a project of which nothing is declared yet; the paths that were looked at before stay noted
+abbrev pub begun_project : FactsData → WorldData → WorldData
+begun_project facts before =
+    record (new_world facts) { present = first_kept before.present; absent = first_kept before.absent }
+
+-- `project` was called, and says this of the project
+abbrev pub begun : FactsData → Facts → Facts
+begun facts f = record f { is_begun = true; project = begun_project facts f.project }
+
+-- the project takes note of a path that was looked at: a file is there, or not
+abbrev pub noted : List ℕ → Bool → WorldData → WorldData
+noted path true project = with_present project path
+noted path false project = with_absent project path
+
+-- a path is looked at
+abbrev pub looking : World → List ℕ → Bool → World
+looking w path is_there = record {
+  facts = with_project (noted path is_there w.facts.project) w.facts;
+  entered = w.entered;
+  looked = w.looked ++ path ∷ [];
+}

@@ -6,6 +6,9 @@ ghost use Rattle.faults.specs.View.{fault_view};
 ghost use Rattle.world.specs.Store.{world_of};
 ghost use Rattle.world.specs.World.{fault_here};
 
+mod configuring;
+mod declaring;
+
 use crate::operation::of_operation;
 use crate::stop::Stop;
 use crate::store::Store;
@@ -64,7 +67,8 @@ impl<'a, T: Tree, O: Outputs> Caller<'a, T, O> {
 
     /// Refuses the call unless it is true.
     pub fn need(&self, is_so: bool, refusal: Refusal, detail: &str) -> Result<(), Stop>
-        ensures { Carries (λ u. u) (need is_so refusal detail.now) (state_of T.seen O.seen self.now) result (state_of T.seen O.seen self.now) }
+        ensures { Carries (λ u. u) (need is_so refusal detail.now) (state_of T.seen O.seen self.now)
+            result (state_of T.seen O.seen self.now) }
     {
         if is_so {
             Ok(())
@@ -78,9 +82,10 @@ impl<'a, T: Tree, O: Outputs> Caller<'a, T, O> {
         requires { HasRoom (state_of T.seen O.seen self.old) }
         ensures { Carries (λ b. b) (there path.now) (state_of T.seen O.seen self.old) result (state_of T.seen O.seen self.new) }
     {
-        self.store.note_look(self.alloc, path)?;
         let size = self.tree.size(path)?;
-        Ok(size.is_some())
+        let found = size.is_some();
+        self.store.note_look(self.alloc, path, found)?;
+        Ok(found)
     }
 
     /// Refuses the call unless a file is at this path.

@@ -1,25 +1,36 @@
 //! What a run keeps: its world.
-ghost use Rattle.std.specs.Prelude.{◌≡◌, ◌≢◌, ◌<◌, ◌≤◌, ◌+◌, ◌==◌, ℕ, List, IfOk, OnOk, OnErr, is_ok, not, None, Some, false, true, length, map, max, option_map, slice_index_or, string_bytes, [], bytes_eq};
+ghost use Rattle.std.specs.Prelude.{◌≡◌, ◌≢◌, ◌<◌, ◌≤◌, ◌+◌, ◌==◌, ℕ, List, IfOk, OnOk, is_ok, not, None, Some, false, true, length, map};
+ghost use Rattle.std.specs.Prelude.{max, option_map, slice_index_or, string_bytes, [], bytes_eq};
 ghost use Rattle.std.specs.List.{list_any};
-ghost use Rattle.build.specs.Outputs.{is_free, with_target};
-ghost use Rattle.build.specs.View.{target_view};
 ghost use Rattle.code.specs.Code.{code_tree};
 ghost use Rattle.code.specs.Draft.{Begins as IsFront};
 ghost use Rattle.data.specs.View.{data_of};
 ghost use Rattle.grammar.specs.Tree.{file_of};
+ghost use Rattle.machine_file.specs.View.{machine_in};
+ghost use Rattle.option_values.specs.View.{value_in};
+ghost use Rattle.options.specs.Resolves.{value_named};
+ghost use Rattle.options.specs.View.{options_in};
+ghost use Rattle.targets.specs.View.{facts_view, flags_view};
 ghost use Rattle.world.specs.SettingsView.{settings_view};
-ghost use Rattle.world.specs.Start.{first_world};
+ghost use Rattle.world.specs.Start.{first_world, no_flags, unnamed};
 ghost use Rattle.world.specs.Store.{changing, slot_value, world_of};
-ghost use Rattle.world.specs.World.{entering, looking, with_line, with_place, with_project, with_variable};
+ghost use Rattle.world.specs.World.{entering, with_line, with_machine, with_options, with_place, with_variable};
+
+mod configuring;
+mod declaring;
 
 use crate::settings::Settings;
-use build::{Duplicate, Project, Target};
 use code::{Code, Names, flatten};
 use data::Value;
 use grammar::tree::File;
+use machine_file::Machine;
+use options::{OptionValue, Options};
+use project::Project;
 use std::alloc::{AllocError, Global};
 use std::marker::Model;
 use std::mem;
+use targets::{Facts, Flags};
+use template::ConfigData;
 
 /// A place in the definition files.
 #[derive(Drop, Debug)]
@@ -39,6 +50,9 @@ pub struct Store {
     settings: Settings,
     names: Names,
     slots: Vec<Option<Value>>,
+    machine: Machine,
+    options: Option<Options>,
+    configurations: Vec<ConfigData>,
     is_begun: bool,
     project: Project,
     entered: Names,
@@ -48,7 +62,8 @@ pub struct Store {
 impl Model for Store {
     ghost use Rattle.std.specs.Prelude.{◌≤◌, length, map, string_bytes};
     ghost use Rattle.world.specs.SettingsView.{settings_view};
-    ghost use Rattle.world.specs.Store.{Kept};
+    ghost use Rattle.machine_file.specs.View.{machine_in};
+    ghost use Rattle.world.specs.Store.{Kept, options_of};
 
     ghost Value = { Kept };
 
@@ -64,6 +79,9 @@ impl Model for Store {
       settings = settings_view s.settings;
       names = s.names;
       slots = s.slots.items;
+      machine = machine_in s.machine;
+      options = options_of s.options;
+      configurations = s.configurations.items;
       is_begun = s.is_begun;
       project = s.project;
       entered = s.entered;
@@ -109,13 +127,45 @@ fn taken(slots: &mut Vec<Option<Value>>, number: usize) -> Option<Value>
     }
 }
 
+// What is known of a project before `project` is called.
+fn unnamed(alloc: Global, settings: &Settings) -> Result<Facts, AllocError>
+    ensures { IfOk result (λ f. facts_view f ≡ unnamed (settings_view settings.now)) }
+{
+    Ok(Facts {
+        name: String::new(alloc),
+        version: String::new(alloc),
+        license: Vec::new(alloc),
+        depth: settings.depth,
+        source_root: String::from_str(alloc, settings.source_root.as_str())?,
+        build_root: String::from_str(alloc, settings.build_root.as_str())?,
+        compiler: Vec::new(alloc),
+        archiver: Vec::new(alloc),
+        flags: no_flags(alloc),
+        options: Vec::new(alloc),
+    })
+}
+
+fn no_flags(alloc: Global) -> Flags
+    ensures { flags_view result ≡ no_flags }
+{
+    Flags {
+        warning_level: 0,
+        is_werror: false,
+        c_std: String::new(alloc),
+        optimization: String::new(alloc),
+        is_debug: false,
+        c_args: Vec::new(alloc),
+        c_link_args: Vec::new(alloc),
+    }
+}
+
 impl Store {
     /// The world in which a run begins.
     pub fn new(alloc: Global, settings: Settings) -> Result<Store, AllocError>
         ensures world { IfOk result (λ s. world_of s ≡ first_world (settings_view settings)) }
         ensures names { IfOk result (λ s. s.names ≡ []) }
     {
-        let project = Project::new(alloc, settings.depth)?;
+        let project = Project::new(alloc, unnamed(alloc, &settings)?)?;
         Ok(Store {
             place: Place {
                 file: String::from_str(alloc, "meson.build")?,
@@ -125,6 +175,9 @@ impl Store {
             settings,
             names: Names::new(alloc),
             slots: Vec::new(alloc),
+            machine: Machine::empty(alloc),
+            options: None,
+            configurations: Vec::new(alloc),
             is_begun: false,
             project,
             entered: Names::new(alloc),
@@ -165,7 +218,8 @@ impl Store {
 
     /// What is done next is done at this place. Gives the place before.
     pub fn go(&mut self, place: Place) -> Place
-        ensures moved { world_of self.new ≡ changing (with_place (string_bytes place.file) (string_bytes place.folder) place.line) (world_of self.old) }
+        ensures moved { world_of self.new
+            ≡ changing (with_place (string_bytes place.file) (string_bytes place.folder) place.line) (world_of self.old) }
         ensures names { self.new.names ≡ self.old.names }
         ensures file { string_bytes result.file ≡ self.old.file }
         ensures folder { string_bytes result.folder ≡ self.old.folder }
@@ -236,7 +290,8 @@ impl Store {
     pub fn set_number(&mut self, number: usize, value: Value) -> Result<(), AllocError>
         requires { number < length self.old.names }
         ensures names { self.new.names ≡ self.old.names }
-        ensures world { OnOk result (world_of self.new ≡ changing (with_variable (slice_index_or self.old.names number []) (Some (data_of value))) (world_of self.old)) }
+        ensures world { OnOk result (world_of self.new
+            ≡ changing (with_variable (slice_index_or self.old.names number []) (Some (data_of value))) (world_of self.old)) }
     {
         let _distinct = self.names.len();
         reach(&mut self.slots, number)?;
@@ -265,45 +320,39 @@ impl Store {
         }
     }
 
-    // ---- the project
+    // ---- the machine file and the options
 
-    /// The project so far.
-    pub fn project(&self) -> &Project
-        ensures { result.now ≡ self.now.project }
+    /// What the machine file says.
+    pub fn machine(&self) -> &Machine
+        ensures { machine_in result.now ≡ self.now.machine }
     {
-        &self.project
+        &self.machine
     }
 
-    /// The project, once the run is over.
-    pub fn into_project(self) -> Project
-        ensures { result ≡ self.project }
-    {
-        self.project
-    }
-
-    /// Whether `project` was called.
-    pub fn is_begun(&self) -> bool
-        ensures { result ≡ self.now.is_begun }
-    {
-        self.is_begun
-    }
-
-    /// Notes that `project` was called.
-    pub fn begin(&mut self)
-        ensures world { world_of self.new ≡ changing (with_project true self.old.project) (world_of self.old) }
+    /// The machine file says this.
+    pub fn set_machine(&mut self, machine: Machine)
+        ensures world { world_of self.new ≡ changing (with_machine (machine_in machine)) (world_of self.old) }
         ensures names { self.new.names ≡ self.old.names }
     {
-        self.is_begun = true;
+        self.machine = machine;
     }
 
-    /// Declares a target, unless a path that it makes is taken.
-    pub fn add_target(&mut self, target: Target) -> Result<Result<(), Duplicate>, AllocError>
-        ensures answer { IfOk result (λ answer. is_ok answer ≡ is_free self.old.project (target_view target)) }
-        ensures added { IfOk result (λ answer. OnOk answer (world_of self.new ≡ changing (with_project self.old.is_begun (with_target self.old.project (target_view target))) (world_of self.old))) }
-        ensures refused { IfOk result (λ answer. OnErr answer (self.new ≡ self.old)) }
+    /// The value of the option of a name; it tells the option's type too.
+    pub fn option(&self, name: &str) -> Option<&OptionValue>
+        ensures { option_map (λ v. value_in v.now) result ≡ value_named self.now.options name.now }
+    {
+        match &self.options {
+            Some(options) => options.get(name),
+            None => None,
+        }
+    }
+
+    /// The options have these values.
+    pub fn set_options(&mut self, options: Options)
+        ensures world { world_of self.new ≡ changing (with_options (options_in options)) (world_of self.old) }
         ensures names { self.new.names ≡ self.old.names }
     {
-        self.project.add_target(target)
+        self.options = Some(options);
     }
 
     // ---- folders and paths
@@ -329,16 +378,6 @@ impl Store {
         ensures names { self.new.names ≡ self.old.names }
     {
         self.entered.put(folder)?;
-        Ok(())
-    }
-
-    /// Notes that a path is looked at.
-    pub fn note_look(&mut self, alloc: Global, path: &str) -> Result<(), AllocError>
-        ensures world { OnOk result (world_of self.new ≡ looking (world_of self.old) path.now) }
-        ensures names { self.new.names ≡ self.old.names }
-    {
-        let path = String::from_str(alloc, path)?;
-        self.looked.push(path)?;
         Ok(())
     }
 }

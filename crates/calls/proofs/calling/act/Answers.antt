@@ -41,7 +41,7 @@ pub returns-in-SubdirDone : goal.returns-in-SubdirDone
 returns-in-SubdirDone g c = carries_as (ap (λ f. does f (arguments_data c.args.arguments.now)) (sym c.in-SubdirDone.is)) (carries_give refl)
 
 pub returns-in-Executable : goal.returns-in-Executable
-returns-in-Executable g c = carries_as (ap (λ f. does f (arguments_data c.args.arguments.now)) (sym c.in-Executable.is)) c.executable.ensures
+returns-in-Executable g c = carries_as (ap (λ f. does f (arguments_data c.args.arguments.now)) (sym c.in-Executable.is)) c.declare_target.ensures
 
 pub returns-in-JoinPaths : goal.returns-in-JoinPaths
 returns-in-JoinPaths g c = carries_as (ap (λ f. does f (arguments_data c.args.arguments.now)) (sym c.in-JoinPaths.is)) c.join_paths.ensures

@@ -4,14 +4,14 @@ use Rattle.data.specs.declared.value.Value.{Value}
 use Rattle.world.specs.Deed.{change}
 use Rattle.world.specs.World.{with_variable}
 use Rattle.calls.specs.Variables.{set_to}
-use Rattle.world.proofs.Answering.{carries_as, carries_lost, carries_none, carries_grown, carries_refuse}
+use Rattle.world.proofs.Answering.{carries_as, carries_grown, carries_none, carries_refuse, carries_wanted}
 use Rattle.calls.proofs.variables.set_to.Goals as goal
 
 pub returns-in_err-value-in-Some : goal.returns-in_err-value-in-Some
 returns-in_err-value-in-Some g c = carries_none c.from_residual.ensures.1
 
 pub returns-in_err-set-in-Some : goal.returns-in_err-set-in-Some
-returns-in_err-set-in-Some g c = carries_lost c.from_residual-in_err-set-in-Some.ensures.1 c.set.ensures.names
+returns-in_err-set-in-Some g c = carries_wanted c.from_residual-in_err-set-in-Some.ensures.1 c.set.ensures.names
 
 pub returns-in_ok-set-in-Some : goal.returns-in_ok-set-in-Some
 unfolding set_to

@@ -1,9 +1,24 @@
+use Rattle.std.proofs.Common.{[]}
 use Rattle.world.specs.SettingsView.{settings_view}
+use Rattle.world.specs.Trace.{seen}
 use Rattle.meson.specs.Setup.{evaluated}
-use Rattle.meson.proofs.Runs.{agrees}
+use Rattle.meson.proofs.Runs.{agrees, failures_settled, room_after}
 use Rattle.meson.proofs.running.run_with.Goals as goal
+
+pub settle-requires : goal.settle-requires
+settle-requires g c =
+    let failed = c.evaluated-answer.ensures.device in
+    room_after c.evaluated-answer.result (g.T.Tree.seen c.args.tree.now).failures (g.O.Outputs.seen c.args.out.now).failures
+    (g.T.Tree.seen c.evaluated-answer.new.tree).failures (g.O.Outputs.seen c.evaluated-answer.new.out).failures failed.of_tree failed.of_out failed.sum c.requires.out
 
 pub returns-clause-run : goal.returns-clause-run
 returns-clause-run g c = λ files holds.
-    agrees (evaluated files (settings_view c.args.inputs.now.settings.now) c.args.inputs.now.machine.now) c.configure-answer.result c.settle.result (g.O.Outputs.seen c.args.out.now) (g.O.Outputs.seen c.configure-answer.new.out) (g.O.Outputs.seen c.settle.new.out)
-    (c.configure-answer.ensures.run files holds) c.settle.ensures
+    agrees (evaluated files (settings_view c.args.inputs.now.settings.now) c.args.inputs.now.machine.now) c.evaluated-answer.result c.settle.result
+    (seen (g.O.Outputs.seen c.args.out.now) c.new_steps-steps.result []) (seen (g.O.Outputs.seen c.evaluated-answer.new.out) c.evaluated-answer.new.steps []) (g.O.Outputs.seen c.settle.new.out)
+    (c.evaluated-answer.ensures.run files holds) c.settle.ensures
+
+pub returns-clause-device : goal.returns-clause-device
+returns-clause-device g c =
+    failures_settled c.evaluated-answer.result c.settle.result (g.T.Tree.seen c.args.tree.now).failures (g.O.Outputs.seen c.args.out.now).failures
+    (g.T.Tree.seen c.evaluated-answer.new.tree).failures (g.O.Outputs.seen c.evaluated-answer.new.out) (g.O.Outputs.seen c.settle.new.out)
+    c.evaluated-answer.ensures.device.sum c.settle.ensures

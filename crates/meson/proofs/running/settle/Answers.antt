@@ -1,6 +1,10 @@
-use Rattle.std.proofs.Common.{◌+◌, ◌^◌, ◌<◌, subst}
-use Rattle.meson.specs.Setup.{OnRefusal}
+use Rattle.std.proofs.Common.{subst}
+use Rattle.ports.specs.Endings.{HasRoom}
+use Rattle.meson.specs.Setup.{OnEnd}
 use Rattle.meson.proofs.running.settle.Goals as goal
 
-pub write_fault-requires : goal.write_fault-requires
-write_fault-requires g c = subst (λ s. OnRefusal s ((g.O.Outputs.seen c.args.out.now).failures + 1 < 2 ^ 64)) c.in-Err-Refused.field-0-is (c.requires c.in-Err-Refused.field-0 c.in-Err-Refused.is)
+pub conclude-requires : goal.conclude-requires
+conclude-requires g c = subst (λ a. OnEnd a (HasRoom (g.O.Outputs.seen c.args.out.now).failures)) c.in-Ok.is c.requires
+
+pub refuse-requires : goal.refuse-requires
+refuse-requires g c = subst (λ a. OnEnd a (HasRoom (g.O.Outputs.seen c.args.out.now).failures)) c.in-Err-Refused.is c.requires

@@ -1,4 +1,4 @@
-use Rattle.std.proofs.Common.{◌≡◌, length, option_map, ap, sym, ◌∙◌}
+use Rattle.std.proofs.Common.{◌≡◌, length, option_map, is_some, ap, refl, sym, ◌∙◌}
 use Rattle.ports.specs.Tree.{file_at}
 use Rattle.faults.specs.declared.refusal.Refusal.TheVariants as refusals
 use Rattle.world.specs.Costs.{definition_file}
@@ -10,26 +10,29 @@ use Rattle.world.specs.declared.stop.Stop.TheVariants as stops
 use Rattle.world.proofs.Holding.{holds_later}
 use Rattle.interp.specs.Folders.{opened_by}
 use Rattle.interp.proofs.Evaluating.{given_as, given_none}
-use Rattle.interp.proofs.Opening.{given_ask, given_here, given_short, none_length, some_length}
+use Rattle.interp.proofs.Opening.{found_length, given_ask, given_here, given_short, none_length, some_length}
 use Rattle.interp.proofs.evaluator.Evaluator.open.Goals as goal
 
 pub returns-in_err-file-clause-gives : goal.returns-in_err-file-clause-gives
 returns-in_err-file-clause-gives g c = λ files h. given_none h c.from_residual.ensures.1
 
-pub returns-in_err-note_look-clause-gives : goal.returns-in_err-note_look-clause-gives
-returns-in_err-note_look-clause-gives g c = λ files h. given_short stops.Memory h tt c.from_residual-in_err-note_look.ensures.1 c.in_err-note_look.ensures.names
-
 pub returns-in_err-size-clause-gives : goal.returns-in_err-size-clause-gives
 returns-in_err-size-clause-gives g c = λ files h.
-    given_short stops.Device (holds_later c.in_err-size.ensures.asks.stays h) tt c.from_residual-in_err-size.ensures.1 c.in_ok-note_look.ensures.names
+    given_short stops.Device (holds_later c.in_err-size.ensures.asks.stays h) tt c.from_residual-in_err-size.ensures.1 refl
+
+pub returns-in_err-note_look-clause-gives : goal.returns-in_err-note_look-clause-gives
+returns-in_err-note_look-clause-gives g c = λ files h.
+    given_short stops.Memory (holds_later c.in_ok-size.ensures.asks.stays h) tt c.from_residual-in_err-note_look.ensures.1 c.in_err-note_look.ensures.names
 
 pub returns-in-Some-clause-gives : goal.returns-in-Some-clause-gives
 returns-in-Some-clause-gives g c = λ files h.
     let path = definition_file c.args.folder.now in
-    let looked : world_of c.note_look.new.self ≡ looking (world_of c.args.self.now.store.now) path =
-    c.in_ok-note_look.ensures.world ∙ ap (looking (world_of c.args.self.now.store.now)) (c.deref.ensures ∙ c.in_ok-file.ensures) in
+    let before = world_of c.args.self.now.store.now in
     let sized : c.in_ok-size.field-0 ≡ option_map length (file_at files path) =
-    c.in_ok-size.ensures.size h.steady ∙ ap (λ fs. option_map length (file_at fs c.deref-2.result.now)) h.files ∙ ap (λ p. option_map length (file_at files p)) (c.deref-2.ensures ∙ c.in_ok-file.ensures) in
+    c.in_ok-size.ensures.size h.steady ∙ ap (λ fs. option_map length (file_at fs c.deref.result.now)) h.files ∙ ap (λ p. option_map length (file_at files p)) (c.deref.ensures ∙ c.in_ok-file.ensures) in
+    let looked : world_of c.note_look.new.self ≡ looking before path (is_some (file_at files path)) =
+    c.in_ok-note_look.ensures.world ∙ ap (λ p. looking before p c.is_some.result) (c.deref-2.ensures ∙ c.in_ok-file.ensures)
+    ∙ ap (looking before path) (c.is_some.ensures ∙ found_length (file_at files path) c.in_ok-size.field-0 sized) in
     let there = some_length (file_at files path) c.in-Some.size (sym c.in-Some.is ∙ sized) in
     given_ask looked c.in_ok-note_look.ensures.names
     (given_as (ap (opened_by c.args.folder.now) (sym there.1)) (c.enter_folder.ensures.gives files there.0 (holds_later c.in_ok-size.ensures.asks.stays h) there.1 there.2))
@@ -37,10 +40,12 @@ returns-in-Some-clause-gives g c = λ files h.
 pub returns-in-None-clause-gives : goal.returns-in-None-clause-gives
 returns-in-None-clause-gives g c = λ files h.
     let path = definition_file c.args.folder.now in
-    let looked : world_of c.note_look.new.self ≡ looking (world_of c.args.self.now.store.now) path =
-    c.in_ok-note_look.ensures.world ∙ ap (looking (world_of c.args.self.now.store.now)) (c.deref.ensures ∙ c.in_ok-file.ensures) in
+    let before = world_of c.args.self.now.store.now in
     let sized : c.in_ok-size.field-0 ≡ option_map length (file_at files path) =
-    c.in_ok-size.ensures.size h.steady ∙ ap (λ fs. option_map length (file_at fs c.deref-2.result.now)) h.files ∙ ap (λ p. option_map length (file_at files p)) (c.deref-2.ensures ∙ c.in_ok-file.ensures) in
+    c.in_ok-size.ensures.size h.steady ∙ ap (λ fs. option_map length (file_at fs c.deref.result.now)) h.files ∙ ap (λ p. option_map length (file_at files p)) (c.deref.ensures ∙ c.in_ok-file.ensures) in
+    let looked : world_of c.note_look.new.self ≡ looking before path (is_some (file_at files path)) =
+    c.in_ok-note_look.ensures.world ∙ ap (λ p. looking before p c.is_some.result) (c.deref-2.ensures ∙ c.in_ok-file.ensures)
+    ∙ ap (looking before path) (c.is_some.ensures ∙ found_length (file_at files path) c.in_ok-size.field-0 sized) in
     given_ask looked c.in_ok-note_look.ensures.names
     (given_as (ap (opened_by c.args.folder.now) (sym (none_length (file_at files path) (sym c.in-None.is ∙ sized))))
     (given_as (ap (λ p. deed (refuse refusals.FileMissing p)) (c.deref-in-None.ensures ∙ c.in_ok-file.ensures))

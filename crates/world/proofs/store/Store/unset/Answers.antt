@@ -1,10 +1,7 @@
-use Rattle.std.proofs.Common.{◌≡◌, None, get_or, [], ap, sym, ◌∙◌}
-use Rattle.std.specs.Prelude.{option_and_then}
-use Rattle.code.specs.Names.{number_in}
+use Rattle.std.proofs.Common.{None, get_or, [], ap, sym, ◌∙◌}
 use Rattle.code.proofs.NameLists.{name_at}
-use Rattle.world.specs.Store.{changing, slot_value, world_of}
+use Rattle.world.specs.Store.{changing, world_of}
 use Rattle.world.specs.World.{with_variable}
-use Rattle.world.proofs.Setting.{world_lost}
 use Rattle.world.proofs.store.Store.unset.Goals as goal
 
 pub returns-in-Some-clause-world : goal.returns-in-Some-clause-world

@@ -1,0 +1,77 @@
+-- Deeds that declare what a project has.
+use Rattle.std.specs.Prelude.{ℕ, List, [], Result, Ok, Err}
+use Rattle.edge.specs.Texts.{Path, Text}
+use Rattle.faults.specs.declared.refusal.Refusal.{Refusal}
+use Rattle.faults.specs.declared.refusal.Refusal.TheVariants as refusals
+use Rattle.project.specs.Adding.{after_answer, after_target, arguments_answer, output_answer, target_answer, with_arguments}
+use Rattle.project.specs.Adding.{with_dependency}
+use Rattle.project.specs.Adding.{with_install, with_link_arguments, with_output, with_test}
+use Rattle.project.specs.World.{WorldData, AnswerData, InstallData, TestData}
+use Rattle.project.specs.declared.refusal.Refusal.{Refusal as ProjectRefusal}
+use Rattle.project.specs.declared.refusal.Refusal.TheVariants as project
+use Rattle.targets.specs.Data.{TargetData}
+use Rattle.targets.specs.Files.{path_in}
+use Rattle.world.specs.World.{Facts, with_project}
+use Rattle.world.specs.Deed.{Deed, give, refuse, read, change, ◌>>=◌}
+
+-- the refusal that one of the project is
+abbrev pub of_project : ProjectRefusal → Refusal
+of_project project.Arguments = refusals.Arguments
+of_project project.Missing = refusals.FileMissing
+of_project project.Unholdable = refusals.NinjaName
+of_project project.Duplicate = refusals.Duplicate
+of_project project.Limit = refusals.Limit
+of_project project.Late = refusals.LateArguments
+
+-- what the project answers is given, or its refusal
+unfoldable pub allowed : {A : Type 0} → Result A ProjectRefusal → Deed A
+allowed (Ok a) = give a
+allowed (Err refusal) = refuse (of_project refusal) []
+
+-- the project becomes this of what it was
+abbrev pub declaring : (WorldData → WorldData) → Facts → Facts
+declaring f facts = with_project (f facts.project) facts
+
+-- the project answers, and is afterwards this of what it was
+unfoldable pub declared : {A : Type 0} → (answer : WorldData → Result A ProjectRefusal) → (after : WorldData → WorldData) → Deed A
+declared answer after = do
+  facts ← read
+  _ ← change (declaring after)
+  allowed (answer facts.project)
+
+-- a target is added, and its number given
+unfoldable pub add_target : TargetData → Deed ℕ
+add_target t = declared (λ p. target_answer p t) (λ p. after_target p t)
+
+abbrev pub after_output : Path → Text → WorldData → WorldData
+after_output folder name p = after_answer (output_answer p folder name) (with_output p (path_in folder name)) p
+
+-- `configure_file` makes a file of the folder
+unfoldable pub add_output : Path → Text → Deed (Unit {0})
+add_output folder name = declared (λ p. output_answer p folder name) (after_output folder name)
+
+abbrev pub after_arguments : List Text → WorldData → WorldData
+after_arguments words p = after_answer (arguments_answer p words) (with_arguments p words) p
+
+-- words for all compile commands
+unfoldable pub add_arguments : List Text → Deed (Unit {0})
+add_arguments words = declared (λ p. arguments_answer p words) (after_arguments words)
+
+abbrev pub after_link_arguments : List Text → WorldData → WorldData
+after_link_arguments words p = after_answer (arguments_answer p words) (with_link_arguments p words) p
+
+-- words for all link commands
+unfoldable pub add_link_arguments : List Text → Deed (Unit {0})
+add_link_arguments words = declared (λ p. arguments_answer p words) (after_link_arguments words)
+
+-- ---- what is only noted
+
+-- what a call of `dependency` answered
+unfoldable pub add_dependency : AnswerData → Deed (Unit {0})
+add_dependency answer = change (declaring (λ p. with_dependency p answer))
+
+unfoldable pub add_install : InstallData → Deed (Unit {0})
+add_install install = change (declaring (λ p. with_install p install))
+
+unfoldable pub add_test : TestData → Deed (Unit {0})
+add_test test = change (declaring (λ p. with_test p test))

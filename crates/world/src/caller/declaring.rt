@@ -1,0 +1,117 @@
+//! What a function declares of the project.
+ghost use Rattle.std.specs.Prelude.{◌≡◌, Result, string_bytes};
+ghost use Rattle.edge.specs.Texts.{texts};
+ghost use Rattle.project.specs.View.{answer_view, install_view, test_view};
+ghost use Rattle.targets.specs.View.{facts_view, target_view};
+ghost use Rattle.world.specs.Answering.{Carries, IsAllowed};
+ghost use Rattle.world.specs.Declaring.{add_arguments, add_dependency, add_install, add_link_arguments, add_output, add_target, add_test};
+ghost use Rattle.world.specs.Declaring.{of_project};
+ghost use Rattle.world.specs.Deed.{change};
+ghost use Rattle.world.specs.Store.{world_of};
+ghost use Rattle.world.specs.World.{begun};
+
+use crate::caller::Caller;
+use crate::stop::Stop;
+use faults::Refusal;
+use ports::{Outputs, Tree};
+use project::{Answer, Install, Test};
+use targets::{Facts, Target};
+
+/// The refusal that one of the project is.
+pub fn of_project(refusal: project::Refusal) -> Refusal
+    ensures { result ≡ of_project refusal }
+{
+    match refusal {
+        project::Refusal::Arguments => Refusal::Arguments,
+        project::Refusal::Missing => Refusal::FileMissing,
+        project::Refusal::Unholdable => Refusal::NinjaName,
+        project::Refusal::Duplicate => Refusal::Duplicate,
+        project::Refusal::Limit => Refusal::Limit,
+        project::Refusal::Late => Refusal::LateArguments,
+    }
+}
+
+impl<'a, T: Tree, O: Outputs> Caller<'a, T, O> {
+    ghost use Rattle.world.specs.Caller.{state_of};
+
+    /// What the project answered, or the stop of its refusal.
+    pub fn allowed<A>(&self, answer: Result<A, project::Refusal>) -> Result<A, Stop>
+        ensures { IsAllowed (world_of self.now.store.now) answer result }
+    {
+        match answer {
+            Ok(value) => Ok(value),
+            Err(refusal) => self.refuse(of_project(refusal), ""),
+        }
+    }
+
+    /// Begins the project, of which nothing is declared yet.
+    pub fn begin(&mut self, facts: Facts) -> Result<(), Stop>
+        ensures { Carries (λ u. u) (change (begun (facts_view facts)))
+            (state_of T.seen O.seen self.old) result (state_of T.seen O.seen self.new) }
+    {
+        self.store.begin(self.alloc, facts)?;
+        Ok(())
+    }
+
+    /// Adds a target and gives its number, or refuses the call as the project does.
+    pub fn add_target(&mut self, target: Target) -> Result<usize, Stop>
+        ensures { Carries (λ n. n) (add_target (target_view target))
+            (state_of T.seen O.seen self.old) result (state_of T.seen O.seen self.new) }
+    {
+        let answer = self.store.add_target(target)?;
+        self.allowed(answer)
+    }
+
+    /// Takes the path of a file of a folder that `configure_file` makes, or refuses the call as the project does.
+    pub fn add_output(&mut self, folder: &str, name: &str) -> Result<(), Stop>
+        ensures { Carries (λ u. u) (add_output folder.now name.now)
+            (state_of T.seen O.seen self.old) result (state_of T.seen O.seen self.new) }
+    {
+        let answer = self.store.add_output(folder, name)?;
+        self.allowed(answer)
+    }
+
+    /// Adds words to those of all compile commands, or refuses the call as the project does.
+    pub fn add_arguments(&mut self, words: &[String]) -> Result<(), Stop>
+        ensures { Carries (λ u. u) (add_arguments (texts words.now))
+            (state_of T.seen O.seen self.old) result (state_of T.seen O.seen self.new) }
+    {
+        let answer = self.store.add_arguments(words)?;
+        self.allowed(answer)
+    }
+
+    /// Adds words to those of all link commands, or refuses the call as the project does.
+    pub fn add_link_arguments(&mut self, words: &[String]) -> Result<(), Stop>
+        ensures { Carries (λ u. u) (add_link_arguments (texts words.now))
+            (state_of T.seen O.seen self.old) result (state_of T.seen O.seen self.new) }
+    {
+        let answer = self.store.add_link_arguments(words)?;
+        self.allowed(answer)
+    }
+
+    /// Notes what a call of `dependency` answered.
+    pub fn add_dependency(&mut self, answer: Answer) -> Result<(), Stop>
+        ensures { Carries (λ u. u) (add_dependency (answer_view answer))
+            (state_of T.seen O.seen self.old) result (state_of T.seen O.seen self.new) }
+    {
+        self.store.add_dependency(answer)?;
+        Ok(())
+    }
+
+    /// Notes a file that is installed.
+    pub fn add_install(&mut self, install: Install) -> Result<(), Stop>
+        ensures { Carries (λ u. u) (add_install (install_view install))
+            (state_of T.seen O.seen self.old) result (state_of T.seen O.seen self.new) }
+    {
+        self.store.add_install(install)?;
+        Ok(())
+    }
+
+    /// Notes a test.
+    pub fn add_test(&mut self, test: Test) -> Result<(), Stop>
+        ensures { Carries (λ u. u) (add_test (test_view test)) (state_of T.seen O.seen self.old) result (state_of T.seen O.seen self.new) }
+    {
+        self.store.add_test(test)?;
+        Ok(())
+    }
+}

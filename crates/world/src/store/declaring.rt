@@ -1,0 +1,168 @@
+//! The project of a run.
+ghost use Rattle.std.specs.Prelude.{◌≡◌, IfOk, OnOk, string_bytes};
+ghost use Rattle.edge.specs.Texts.{put_all_new, texts};
+ghost use Rattle.project.specs.Adding.{after_target, arguments_answer, output_answer, target_answer, with_dependency, with_install};
+ghost use Rattle.project.specs.Adding.{with_test};
+ghost use Rattle.project.specs.View.{answer_view, install_view, test_view};
+ghost use Rattle.project.specs.World.{WorldData};
+ghost use Rattle.targets.specs.View.{facts_view, target_view};
+ghost use Rattle.world.specs.Declaring.{after_arguments, after_link_arguments, after_output, declaring};
+ghost use Rattle.world.specs.Store.{changing, world_of};
+ghost use Rattle.world.specs.World.{begun, begun_project, looking};
+
+use crate::store::Store;
+use project::{Answer, Install, Project, Refusal, Test};
+use std::alloc::{AllocError, Global};
+use targets::{Facts, Target};
+
+// Notes again which paths were there.
+fn note_present(project: &mut Project, paths: &[String]) -> Result<(), AllocError>
+    ensures { OnOk result (project.new ≡ record project.old { present = put_all_new project.old.present (texts paths.now) }) }
+{
+    for path in paths {
+        project.add_present(path.clone()?)?;
+    }
+    Ok(())
+}
+
+// Notes again which paths were not there.
+fn note_absent(project: &mut Project, paths: &[String]) -> Result<(), AllocError>
+    ensures { OnOk result (project.new ≡ record project.old { absent = put_all_new project.old.absent (texts paths.now) }) }
+{
+    for path in paths {
+        project.add_absent(path.clone()?)?;
+    }
+    Ok(())
+}
+
+// A project of which nothing is declared yet, with the paths that were looked at before.
+fn begun_project(alloc: Global, facts: Facts, before: &Project) -> Result<Project, AllocError>
+    ensures { IfOk result (λ p. p ≡ begun_project (facts_view facts) before.now) }
+{
+    let mut project = Project::new(alloc, facts)?;
+    note_present(&mut project, before.present())?;
+    note_absent(&mut project, before.absent())?;
+    Ok(project)
+}
+
+impl Store {
+    /// The project so far.
+    pub fn project(&self) -> &Project
+        ensures { result.now ≡ self.now.project }
+    {
+        &self.project
+    }
+
+    /// The project, once the run is over.
+    pub fn into_project(self) -> Project
+        ensures { result ≡ self.project }
+    {
+        self.project
+    }
+
+    /// Whether `project` was called.
+    pub fn is_begun(&self) -> bool
+        ensures { result ≡ self.now.is_begun }
+    {
+        self.is_begun
+    }
+
+    /// Notes that `project` was called, and what it says of the project, of which nothing is declared yet.
+    pub fn begin(&mut self, alloc: Global, facts: Facts) -> Result<(), AllocError>
+        ensures world { OnOk result (world_of self.new ≡ changing (begun (facts_view facts)) (world_of self.old)) }
+        ensures names { self.new.names ≡ self.old.names }
+    {
+        let project = begun_project(alloc, facts, &self.project)?;
+        self.project = project;
+        self.is_begun = true;
+        Ok(())
+    }
+
+    /// Notes that a path is looked at, and whether a file is there.
+    pub fn note_look(&mut self, alloc: Global, path: &str, is_there: bool) -> Result<(), AllocError>
+        ensures world { OnOk result (world_of self.new ≡ looking (world_of self.old) path.now is_there) }
+        ensures names { self.new.names ≡ self.old.names }
+    {
+        let noted = String::from_str(alloc, path)?;
+        if is_there {
+            self.project.add_present(noted)?;
+        } else {
+            self.project.add_absent(noted)?;
+        }
+        self.looked.push(String::from_str(alloc, path)?)?;
+        Ok(())
+    }
+
+    // ---- what is declared
+
+    /// Adds a target and gives its number, or answers why the project refuses it.
+    pub fn add_target(&mut self, target: Target) -> Result<Result<usize, Refusal>, AllocError>
+        ensures answer { IfOk result (λ r. r ≡ target_answer self.old.project (target_view target)) }
+        ensures world { OnOk result (world_of self.new
+            ≡ changing (declaring (λ p. after_target p (target_view target))) (world_of self.old)) }
+        ensures names { self.new.names ≡ self.old.names }
+    {
+        self.project.add_target(target)
+    }
+
+    /// Takes the path of a file of a folder that `configure_file` makes, or answers why the project refuses it.
+    pub fn add_output(
+        &mut self,
+        folder: &str,
+        name: &str,
+    ) -> Result<Result<(), Refusal>, AllocError>
+        ensures answer { IfOk result (λ r. r ≡ output_answer self.old.project folder.now name.now) }
+        ensures world { OnOk result (world_of self.new ≡ changing (declaring (after_output folder.now name.now)) (world_of self.old)) }
+        ensures names { self.new.names ≡ self.old.names }
+    {
+        self.project.add_output(folder, name)
+    }
+
+    /// Adds words to those of all compile commands, or answers why the project refuses them.
+    pub fn add_arguments(&mut self, words: &[String]) -> Result<Result<(), Refusal>, AllocError>
+        ensures answer { IfOk result (λ r. r ≡ arguments_answer self.old.project (texts words.now)) }
+        ensures world { OnOk result (world_of self.new ≡ changing (declaring (after_arguments (texts words.now))) (world_of self.old)) }
+        ensures names { self.new.names ≡ self.old.names }
+    {
+        self.project.add_arguments(words)
+    }
+
+    /// Adds words to those of all link commands, or answers why the project refuses them.
+    pub fn add_link_arguments(
+        &mut self,
+        words: &[String],
+    ) -> Result<Result<(), Refusal>, AllocError>
+        ensures answer { IfOk result (λ r. r ≡ arguments_answer self.old.project (texts words.now)) }
+        ensures world { OnOk result (world_of self.new
+            ≡ changing (declaring (after_link_arguments (texts words.now))) (world_of self.old)) }
+        ensures names { self.new.names ≡ self.old.names }
+    {
+        self.project.add_link_arguments(words)
+    }
+
+    /// Notes what a call of `dependency` answered.
+    pub fn add_dependency(&mut self, answer: Answer) -> Result<(), AllocError>
+        ensures world { OnOk result (world_of self.new
+            ≡ changing (declaring (λ p. with_dependency p (answer_view answer))) (world_of self.old)) }
+        ensures names { self.new.names ≡ self.old.names }
+    {
+        self.project.add_dependency(answer)
+    }
+
+    /// Notes a file that is installed.
+    pub fn add_install(&mut self, install: Install) -> Result<(), AllocError>
+        ensures world { OnOk result (world_of self.new
+            ≡ changing (declaring (λ p. with_install p (install_view install))) (world_of self.old)) }
+        ensures names { self.new.names ≡ self.old.names }
+    {
+        self.project.add_install(install)
+    }
+
+    /// Notes a test.
+    pub fn add_test(&mut self, test: Test) -> Result<(), AllocError>
+        ensures world { OnOk result (world_of self.new ≡ changing (declaring (λ p. with_test p (test_view test))) (world_of self.old)) }
+        ensures names { self.new.names ≡ self.old.names }
+    {
+        self.project.add_test(test)
+    }
+}
