@@ -3,10 +3,8 @@ ghost use Rattle.ports.specs.Endings.{HasRoom};
 ghost use Rattle.ports.specs.Outputs.{OutputState};
 
 use crate::given::strings;
-use build::{Edge, Rule};
-use first_ninja::{
-    can_hold_edge, can_hold_path, can_hold_value, write_edge, write_path, write_value, write_words,
-};
+use edge::{Edge, Rule, are_writable, can_hold_path, can_hold_value};
+use ninja::{write_edge, write_path, write_value, write_words};
 use ports::{DeviceFault, Event, MemOutputs, Outputs};
 use std::alloc::{AllocError, Global};
 use std::test::Fail;
@@ -102,9 +100,10 @@ fn an_edge_with_blanks_and_quotes(rt: HostRuntime) -> Result<(), Fail> {
         description: String::from_str(alloc, "Compiling C object q.p/a b:c$.c.o")?,
         depfile: Some(String::from_str(alloc, "q.p/a b:c$.c.o.d")?),
     };
-    assert!(rt; can_hold_edge(&edge));
+    let edges = [edge];
+    assert!(rt; are_writable(&edges));
     let mut out = MemOutputs::new(alloc, 1000)?;
-    put_edge(&edge, &mut out)?;
+    put_edge(&edges[0], &mut out)?;
     assert_eq!(rt;
         written(alloc, &out)?.as_slice(),
         b"build q.p/a$ b$:c$$.c.o: c_compile ../a$ b$:c$$.c | i || o

@@ -41,8 +41,8 @@ fault_whole (ran o w ms) f e = ap (λ (p : Outcome (Unit {0})). whole_of (ran p 
 
 unfinished : (run : Whole) (stop status : Status) (old mid new : OutputState) → is_finished stop ≡ false → Keeps stop status mid new → Sends old mid run.steps false → Agrees run status old new
 unfinished run stop status old mid new u k s = record {
-  status = λ h. absurd (false≢true (sym (ap is_finished k.status ∙ u) ∙ h));
-  events = subst (λ b. Sends old new run.steps b) (sym (ap is_finished k.status ∙ u)) (subst (λ o. Sends old o run.steps false) (sym k.same) s);
+  status = λ h. absurd (false≢true (sym (ap is_finished k.ended ∙ u) ∙ h));
+  events = subst (λ b. Sends old new run.steps b) (sym (ap is_finished k.ended ∙ u)) (subst (λ o. Sends old o run.steps false) (sym k.same) s);
 }
 
 -- the status and the steps of an evaluation after which all is done
@@ -62,7 +62,7 @@ room_after (Err stops.Device) t o u p a b e h = tt
 room_after (Err stops.Memory) t o u p a b e h = tt
 
 kept_failures : (stop status : Status) (n u : ℕ) (mid new : OutputState) → u + mid.failures ≡ n + failed_devices stop → Keeps stop status mid new → u + new.failures ≡ n + failed_devices status
-kept_failures stop status n u mid new e k = ap (λ o. u + o.failures) k.same ∙ e ∙ ap (λ s. n + failed_devices s) (sym k.status)
+kept_failures stop status n u mid new e k = ap (λ o. u + o.failures) k.same ∙ e ∙ ap (λ s. n + failed_devices s) (sym k.ended)
 
 pub failures_settled : (answer : Result Kept Stop) (status : Status) (t o u : ℕ) (mid new : OutputState) → u + mid.failures ≡ failures_after (t + o) answer → Settles answer status mid new
     → u + new.failures ≡ t + o + failed_devices status

@@ -43,7 +43,7 @@ pub record Concludes (run : Whole) (status : Status) (old new : OutputState) : T
 
 -- the outputs were asked for nothing
 pub record Keeps (stopped status : Status) (old new : OutputState) : Type 0 where
-  pub status : status ≡ stopped
+  pub ended : status ≡ stopped
   pub same : new ≡ old
 
 -- what is done after an evaluation that answered so, and the status

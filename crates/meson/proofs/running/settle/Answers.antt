@@ -1,10 +1,21 @@
-use Rattle.std.proofs.Common.{subst}
+use Rattle.std.proofs.Common.{Err, subst, sym}
 use Rattle.ports.specs.Endings.{HasRoom}
-use Rattle.meson.specs.Setup.{OnEnd}
+use Rattle.conclusion.specs.Concluding.{Agrees, done_with}
+use Rattle.world.specs.Store.{Kept}
+use Rattle.meson.specs.Setup.{OnEnd, Settles}
 use Rattle.meson.proofs.running.settle.Goals as goal
 
 pub conclude-requires : goal.conclude-requires
 conclude-requires g c = subst (λ a. OnEnd a (HasRoom (g.O.Outputs.seen c.args.out.now).failures)) c.in-Ok.is c.requires
 
 pub refuse-requires : goal.refuse-requires
-refuse-requires g c = subst (λ a. OnEnd a (HasRoom (g.O.Outputs.seen c.args.out.now).failures)) c.in-Err-Refused.is c.requires
+refuse-requires g c =
+    subst (λ s. OnEnd {A = Kept} (Err s) (HasRoom (g.O.Outputs.seen c.args.out.now).failures)) c.in-Err-Refused.field-0-is
+    (subst (λ a. OnEnd a (HasRoom (g.O.Outputs.seen c.args.out.now).failures)) c.in-Err-Refused.is c.requires)
+
+pub returns-in-Ok : goal.returns-in-Ok
+returns-in-Ok g c =
+    let old = g.O.Outputs.seen c.args.out.now in
+    let new = g.O.Outputs.seen c.conclude.new.out in
+    subst (λ a. Settles a c.conclude.result old new) (sym c.in-Ok.is)
+    (record { agrees = subst (λ p. Agrees (done_with p) c.conclude.result old new) c.project.ensures c.conclude.ensures.agrees; failures = c.conclude.ensures.device })
