@@ -28,11 +28,11 @@ pub returns-in-Some-clause-gives : goal.returns-in-Some-clause-gives
 returns-in-Some-clause-gives g c = λ files h.
     let path = definition_file c.args.folder.now in
     let before = world_of c.args.self.now.store.now in
-    let sized : c.in_ok-size.field-0 ≡ option_map length (file_at files path) =
+    let sized : c.in_ok-size.size ≡ option_map length (file_at files path) =
     c.in_ok-size.ensures.size h.steady ∙ ap (λ fs. option_map length (file_at fs c.deref.result.now)) h.files ∙ ap (λ p. option_map length (file_at files p)) (c.deref.ensures ∙ c.in_ok-file.ensures) in
     let looked : world_of c.note_look.new.self ≡ looking before path (is_some (file_at files path)) =
     c.in_ok-note_look.ensures.world ∙ ap (λ p. looking before p c.is_some.result) (c.deref-2.ensures ∙ c.in_ok-file.ensures)
-    ∙ ap (looking before path) (c.is_some.ensures ∙ found_length (file_at files path) c.in_ok-size.field-0 sized) in
+    ∙ ap (looking before path) (c.is_some.ensures ∙ found_length (file_at files path) c.in_ok-size.size sized) in
     let there = some_length (file_at files path) c.in-Some.size (sym c.in-Some.is ∙ sized) in
     given_ask looked c.in_ok-note_look.ensures.names
     (given_as (ap (opened_by c.args.folder.now) (sym there.1)) (c.enter_folder.ensures.gives files there.0 (holds_later c.in_ok-size.ensures.asks.stays h) there.1 there.2))
@@ -41,11 +41,11 @@ pub returns-in-None-clause-gives : goal.returns-in-None-clause-gives
 returns-in-None-clause-gives g c = λ files h.
     let path = definition_file c.args.folder.now in
     let before = world_of c.args.self.now.store.now in
-    let sized : c.in_ok-size.field-0 ≡ option_map length (file_at files path) =
+    let sized : c.in_ok-size.size ≡ option_map length (file_at files path) =
     c.in_ok-size.ensures.size h.steady ∙ ap (λ fs. option_map length (file_at fs c.deref.result.now)) h.files ∙ ap (λ p. option_map length (file_at files p)) (c.deref.ensures ∙ c.in_ok-file.ensures) in
     let looked : world_of c.note_look.new.self ≡ looking before path (is_some (file_at files path)) =
     c.in_ok-note_look.ensures.world ∙ ap (λ p. looking before p c.is_some.result) (c.deref-2.ensures ∙ c.in_ok-file.ensures)
-    ∙ ap (looking before path) (c.is_some.ensures ∙ found_length (file_at files path) c.in_ok-size.field-0 sized) in
+    ∙ ap (looking before path) (c.is_some.ensures ∙ found_length (file_at files path) c.in_ok-size.size sized) in
     given_ask looked c.in_ok-note_look.ensures.names
     (given_as (ap (opened_by c.args.folder.now) (sym (none_length (file_at files path) (sym c.in-None.is ∙ sized))))
     (given_as (ap (λ p. deed (refuse refusals.FileMissing p)) (c.deref-in-None.ensures ∙ c.in_ok-file.ensures))

@@ -1,3 +1,0 @@
-pub mod PathLists
-pub mod PathTexts
-pub mod Adding
