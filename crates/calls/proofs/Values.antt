@@ -1,7 +1,5 @@
 -- Values and texts that calls answer.
-use Rattle.std.proofs.Common.{◌≡◌, ℕ, Bool, false, List, Option, Some, None, option_map, is_some, Result, Ok, Err, IsErrAnd, String, Global, string_bytes, refl, sym, ap, subst, ◌∙◌}
-use Rattle.ports.specs.Outputs.{OutputState}
-use Rattle.ports.specs.Tree.{TreeState}
+use Rattle.std.proofs.Common.{◌≡◌, ℕ, Bool, false, List, Option, Some, None, option_map, is_some, Result, Ok, Err, String, Global, string_bytes, refl, sym, ap, ◌∙◌}
 use Rattle.data.specs.View.{data_of}
 use Rattle.data.specs.declared.refusal.Refusal.{Refusal as OperationRefusal}
 use Rattle.data.specs.declared.value.Value.{Value}
@@ -9,11 +7,9 @@ use Rattle.data.specs.Tables.{string_in}
 use Rattle.faults.specs.declared.refusal.Refusal.{Refusal}
 use Rattle.world.specs.Answering.{State, Carries, IsAnswered, Refuses, Views}
 use Rattle.world.specs.Deed.{Deed, answered, need, then}
-use Rattle.world.specs.World.{World, fault_here}
+use Rattle.world.specs.World.{fault_here}
 use Rattle.world.specs.declared.stop.Stop.{Stop}
-use Rattle.world.specs.declared.stop.Stop.TheVariants as stops
-use Rattle.world.proofs.Answering.{carries_answered, carries_lost, carries_stop, need_no}
-use Rattle.world.proofs.Marks.{same_front}
+use Rattle.world.proofs.Answering.{carries_answered, carries_stop, need_no}
 
 pub is_some-data : (o : Option Value) → is_some (option_map data_of o) ≡ is_some o
 is_some-data None = refl
