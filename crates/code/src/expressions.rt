@@ -87,7 +87,8 @@ impl Draft {
     #[cycle(flatten)]
     fn list(&mut self, items: &[Expression<'_>], line: usize) -> Result<usize, AllocError>
         ensures grows { Grows self.old self.new }
-        ensures stands { IfOk result (λ number. Stands (trees_in self.new) number (ListTree (expressions (map expression_of items.now)) line)) }
+        ensures stands { IfOk result (λ number. Stands (trees_in self.new) number
+            (ListTree (expressions (map expression_of items.now)) line)) }
     {
         let items = self.items(items)?;
         self.push(Node::List { items, line })
@@ -97,7 +98,8 @@ impl Draft {
     #[cycle(flatten)]
     fn dictionary(&mut self, entries: &[Entry<'_>], line: usize) -> Result<usize, AllocError>
         ensures grows { Grows self.old self.new }
-        ensures stands { IfOk result (λ number. Stands (trees_in self.new) number (DictionaryTree (entry_trees (map entry_of entries.now)) line)) }
+        ensures stands { IfOk result (λ number. Stands (trees_in self.new) number
+            (DictionaryTree (entry_trees (map entry_of entries.now)) line)) }
     {
         let entries = self.entries(entries)?;
         self.push(Node::Dictionary { entries, line })
@@ -112,7 +114,8 @@ impl Draft {
         line: usize,
     ) -> Result<usize, AllocError>
         ensures grows { Grows self.old self.new }
-        ensures stands { IfOk result (λ number. Stands (trees_in self.new) number (FunctionTree name.now (argument_trees arguments.now) line)) }
+        ensures stands { IfOk result (λ number. Stands (trees_in self.new) number
+            (FunctionTree name.now (argument_trees arguments.now) line)) }
     {
         let name = String::from_str(self.alloc, name)?;
         let arguments = self.arguments(arguments)?;

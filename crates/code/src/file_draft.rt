@@ -50,7 +50,8 @@ impl FileDraft {
 
     /// Puts a statement at the end, and answers its number.
     pub fn push(&mut self, statement: StatementNode) -> Result<usize, AllocError>
-        requires { IsTrue (statement_within (length self.old.draft.names) (length (trees_in self.old.draft)) (length (statements_in self.old))
+        requires { IsTrue (statement_within (length self.old.draft.names) (length (trees_in self.old.draft))
+            (length (statements_in self.old))
             statement) }
         ensures extends { Extends self.old self.new }
         ensures is { IfOk result (λ number. IsStatement self.new number

@@ -104,7 +104,8 @@ IsRefused words = ((fault : ErrorKind) × IsAmong fault (faults_of words) × (fa
 
 -- the words are a line, or clap finds a call for help in them
 abbrev pub IsTaken : List (List ℕ) → Type 0
-IsTaken words = ((faults_of words ≡ []) × ((given : Given) × (given_in (rows_of_setup words) ≡ Some given))) ⊎ IsAmong kind.DisplayHelp (faults_of words)
+IsTaken words = ((faults_of words ≡ []) × ((given : Given) × (given_in (rows_of_setup words) ≡ Some given)))
+    ⊎ IsAmong kind.DisplayHelp (faults_of words)
 
 -- a line comes where clap's parse succeeds, with the values that it found; help and refusals come
 -- only where they are due

@@ -52,7 +52,8 @@ step_in_stored start_dictionary = refl
 step_in_stored (put_entry k) = refl
 
 abbrev pub step_code : Coded Step
-step_code = code_by Stored (coded⊎ (coded⊎ (coded⊎ coded_bool coded_ℤ) (coded⊎ (coded_list coded_ℕ) object_row.coded)) (coded⊎ (coded⊎ coded_unit coded_unit) (coded⊎ coded_unit (coded_list coded_ℕ)))) stored step_in step_in_stored
+step_code = code_by Stored (coded⊎ (coded⊎ (coded⊎ coded_bool coded_ℤ) (coded⊎ (coded_list coded_ℕ) object_row.coded))
+    (coded⊎ (coded⊎ coded_unit coded_unit) (coded⊎ coded_unit (coded_list coded_ℕ)))) stored step_in step_in_stored
 
 abbrev mutual
   pub steps : Data → List Step

@@ -20,7 +20,8 @@ pub most-le-items_weight : (vs : List Value) → most deep-Value vs ≤ items_we
 most-le-items_weight [] = omega arith
 most-le-items_weight (v ∷ vs) = omega (arith, deep-le-weight v, most-le-items_weight vs)
 
-pub most-le-entries_weight : (ks : List (List ℕ)) (vs : List Value) → length ks ≡ length vs → most deep-Value vs ≤ entries_weight (entries_of ks vs)
+pub most-le-entries_weight : (ks : List (List ℕ)) (vs : List Value) → length ks ≡ length vs
+    → most deep-Value vs ≤ entries_weight (entries_of ks vs)
 most-le-entries_weight [] [] fit = omega arith
 most-le-entries_weight [] (v ∷ vs) fit = absurd (omega arith)
 most-le-entries_weight (k ∷ ks) [] fit = absurd (omega arith)

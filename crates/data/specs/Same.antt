@@ -52,7 +52,8 @@ same_dependency d e =
     && (same_texts d.link_args e.link_args && (bytes_eq d.link_with e.link_with && same_sources d.sources e.sources))))))
 
 abbrev pub same_machine : Machine → Machine → Bool
-same_machine m n = bytes_eq m.system n.system && (bytes_eq m.cpu_family n.cpu_family && (bytes_eq m.cpu n.cpu && bytes_eq m.endian n.endian))
+same_machine m n = bytes_eq m.system n.system
+    && (bytes_eq m.cpu_family n.cpu_family && (bytes_eq m.cpu n.cpu && bytes_eq m.endian n.endian))
 
 abbrev pub same_object : Object → Object → Bool
 same_object (TheObject.Feature f) (TheObject.Feature g) = same_feature f g

@@ -108,19 +108,24 @@ abbrev pub entry_step : Entry-F ExpressionTree LinkTree ArgumentTree EntryTree O
 entry_step e = (e.key, e.value)
 
 abbrev pub expression_of : Expression → ExpressionTree
-expression_of = fold-Expression ExpressionTree LinkTree ArgumentTree EntryTree OperandTree expression_step link_step argument_step entry_step operand_step
+expression_of = fold-Expression ExpressionTree LinkTree ArgumentTree EntryTree OperandTree expression_step link_step argument_step
+    entry_step operand_step
 
 abbrev pub operand_of : Operand → OperandTree
-operand_of = fold-Operand ExpressionTree LinkTree ArgumentTree EntryTree OperandTree expression_step link_step argument_step entry_step operand_step
+operand_of = fold-Operand ExpressionTree LinkTree ArgumentTree EntryTree OperandTree expression_step link_step argument_step entry_step
+    operand_step
 
 abbrev pub link_of : Link → LinkTree
-link_of = fold-Link ExpressionTree LinkTree ArgumentTree EntryTree OperandTree expression_step link_step argument_step entry_step operand_step
+link_of = fold-Link ExpressionTree LinkTree ArgumentTree EntryTree OperandTree expression_step link_step argument_step entry_step
+    operand_step
 
 abbrev pub argument_of : Argument → ArgumentTree
-argument_of = fold-Argument ExpressionTree LinkTree ArgumentTree EntryTree OperandTree expression_step link_step argument_step entry_step operand_step
+argument_of = fold-Argument ExpressionTree LinkTree ArgumentTree EntryTree OperandTree expression_step link_step argument_step entry_step
+    operand_step
 
 abbrev pub entry_of : Entry → EntryTree
-entry_of = fold-Entry ExpressionTree LinkTree ArgumentTree EntryTree OperandTree expression_step link_step argument_step entry_step operand_step
+entry_of = fold-Entry ExpressionTree LinkTree ArgumentTree EntryTree OperandTree expression_step link_step argument_step entry_step
+    operand_step
 
 -- the arguments that the code has
 abbrev pub argument_trees : List Argument → ArgumentTrees

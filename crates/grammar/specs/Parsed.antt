@@ -77,4 +77,5 @@ HasFault source f = FaultsBy f.kind source f.line
 
 -- where the first k tokens begin a file, so do fewer: what no front reaches, no longer one does
 abbrev pub FrontsAreShorter : List ℕ → Type 0
-FrontsAreShorter source = (n : ℕ) (ts : List Lexeme) (j k : ℕ) → AreTokens source ts → j ≤ k → BeginsBy (file n) ts k → BeginsBy (file n) ts j
+FrontsAreShorter source = (n : ℕ) (ts : List Lexeme) (j k : ℕ) → AreTokens source ts → j ≤ k → BeginsBy (file n) ts k
+    → BeginsBy (file n) ts j

@@ -57,7 +57,8 @@ abbrev pub opened : {A : Type 0} → Kind → Inner → ((Bool → Form Expressi
 opened k Closed f = never
 opened k (Inside e) f = token k then f e
 
-unfoldable pub opened_at : {A : Type 0} → Kind → Option (Bool → Reader ExpressionTree) → ((Bool → Reader ExpressionTree) → Lexeme → Reader A) → Reader A
+unfoldable pub opened_at : {A : Type 0} → Kind → Option (Bool → Reader ExpressionTree)
+    → ((Bool → Reader ExpressionTree) → Lexeme → Reader A) → Reader A
 opened_at k None f ts = deep_at k ts
 opened_at k (Some e) f ts = token_at k ts >>= λ x. f e x.0 x.1
 

@@ -73,7 +73,8 @@ tail_at items ts = if begins Kinds.Comma ts then (token_at Kinds.Comma ts >>= λ
 -- the elements of a list up to what stops it, where there are fewer than so many; each leads on from a state to the next
 unfoldable pub items_by : {S A : Type 0} → (List Lexeme → Bool) → (S → Reader A) → (S → A → S) → ℕ → S → Reader (List A)
 items_by stop r step zero s ts = Ok ([], ts)
-items_by stop r step (suc k) s ts = if stop ts then Ok ([], ts) else (r s ts >>= λ x. tail_at (items_by stop r step k (step s x.0)) x.1 >>= λ y. Ok (x.0 ∷ y.0, y.1))
+items_by stop r step (suc k) s ts =
+    if stop ts then Ok ([], ts) else (r s ts >>= λ x. tail_at (items_by stop r step k (step s x.0)) x.1 >>= λ y. Ok (x.0 ∷ y.0, y.1))
 
 unfoldable pub listed_at : {S A : Type 0} → Kind → (S → Reader A) → (S → A → S) → S → Reader (List A)
 listed_at k r step s ts = items_by (begins k) r step (length ts + 1) s ts

@@ -1,5 +1,5 @@
 -- Folders that are entered.
-use Rattle.std.proofs.Common.{◌≡◌, ℕ, zero, suc, List, [], Result, Ok, Err, refl, ap, subst, sym}
+use Rattle.std.proofs.Common.{◌≡◌, ℕ, zero, suc, List, [], Result, Ok, Err, refl, subst}
 use Rattle.faults.specs.declared.refusal.Refusal.{Refusal}
 use Rattle.faults.specs.declared.refusal.Refusal.TheVariants as refusals
 use Rattle.world.specs.Answering.{Refuses}

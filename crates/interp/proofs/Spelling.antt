@@ -1,6 +1,6 @@
 -- What the statements of code spell, by the table of names as it was when the code was made.
-use Rattle.std.proofs.Common.{◌≡◌, ℕ, zero, suc, ◌+◌, ◌-◌, ◌<◌, ◌≤◌, List, [], ◌∷◌, drop, drop_of_length-le, IsErrAnd, Result, Ok, Err, length, length-append, length-drop, get_or, max, string_bytes, String, Global, Vec, map, IsTrue, Option, Some, None, option_map, refl, sym, ap, subst, ◌∙◌, arith}
-use Rattle.std.specs.Prelude.{nat_lt, ◌&&◌}
+use Rattle.std.proofs.Common.{◌≡◌, ℕ, zero, suc, ◌+◌, ◌<◌, ◌≤◌, List, [], ◌∷◌, drop, drop_of_length-le, IsErrAnd, Result, Ok, Err, length, length-append, length-drop, get_or, string_bytes, String, Global, Vec, map, IsTrue, Option, Some, None, option_map, refl, sym, ap, subst, ◌∙◌, arith}
+use Rattle.std.specs.Prelude.{nat_lt}
 use Rattle.std.specs.List.{list_all}
 use Rattle.code.specs.Draft.{Begins as IsFront}
 use Rattle.code.specs.Nodes.{argument_at, tree_at, tree_of}
@@ -19,7 +19,7 @@ use Rattle.grammar.specs.Tree.{StatementTree, Statements, MoreBranches, branches
 use Rattle.world.specs.Deed.{Files}
 use Rattle.world.specs.Plan.{Plan, give, next, ruled}
 use Rattle.world.specs.declared.stop.Stop.{Stop}
-use Rattle.interp.specs.Blocks.{block_by, branch_or, expressions_by, node_at, statements_by}
+use Rattle.interp.specs.Blocks.{branch_or, expressions_by, node_at, statements_by}
 use Rattle.interp.specs.Evaluates.{Given, Reads, Stand}
 use Rattle.interp.specs.Expressions.{value_of}
 use Rattle.interp.specs.Frames.{Chooses, Leads, Made, above_branch, part_done}

@@ -4,10 +4,10 @@ use Rattle.code.specs.Draft.{Begins as IsFront}
 use Rattle.code.specs.declared.code.Code.{Code}
 use Rattle.code.specs.Statements.{name_at, statement_at}
 use Rattle.world.specs.Deed.{Files}
-use Rattle.world.specs.Gives.{Gives, Holds, Continues, is_ended}
-use Rattle.world.specs.Plan.{Plan, next, ruled, carry, give}
-use Rattle.world.specs.Run.{Run, ran, Act, Done, Faulted, after, follow, with_end, marks_of, pure}
-use Rattle.world.specs.Trace.{Mark, Ended, Seen, seen}
+use Rattle.world.specs.Gives.{Gives, Holds, is_ended}
+use Rattle.world.specs.Plan.{Plan, next, carry, give}
+use Rattle.world.specs.Run.{Run, ran, Act, Done, Faulted, after, follow, with_end, marks_of}
+use Rattle.world.specs.Trace.{Mark, Ended, seen}
 use Rattle.world.specs.World.{World}
 use Rattle.world.specs.declared.stop.Stop.{Stop}
 use Rattle.world.specs.declared.stop.Stop.TheVariants as stops
@@ -23,7 +23,7 @@ use Rattle.interp.specs.declared.frames.BlockRest.{BlockRest}
 use Rattle.interp.specs.declared.frames.LoopRest.{LoopRest}
 use Rattle.interp.specs.declared.frames.Frame.{Frame}
 use Rattle.interp.specs.declared.frames.Frame.TheVariants as frames
-use Rattle.interp.specs.Frames.{Rest, Others, Rounds, End, Left, one_round, gone_back, behind, behind_all, Made, MeansBlock, MeansLoop, Means, EachMeans, Stacked, ends_in, pending, unwound, ticked, Leads, Moved, Moves, Stepped, others_by, round_by, rounds_left}
+use Rattle.interp.specs.Frames.{Rest, Others, Rounds, End, Left, one_round, gone_back, behind, behind_all, Made, Means, EachMeans, Stacked, ends_in, pending, unwound, Leads, Moved, Moves, Stepped, others_by, round_by, rounds_left}
 use Rattle.interp.proofs.Evaluating.{given_give, given_none, given_rule, given_stop}
 
 -- ---- marks that come first

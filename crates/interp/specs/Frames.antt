@@ -153,7 +153,8 @@ MovesTo files whole old (Ok flow) fs now = Moved files whole old flow fs now
 MovesTo files whole old (Err stop) fs now = Given {B = Flow} (λ f. f) files whole old (Err stop) (ticked (unwound stop fs) now)
 
 -- so it is, or the whole plan stopped, once the rules on the stack have ended
-pub record Moves (files : Files) (whole : Plan Flow) (old : Stand) (result : Result Flow Stop) (fs : List Frame) (now : Stand) : Type 0 where
+pub record Moves (files : Files) (whole : Plan Flow) (old : Stand) (result : Result Flow Stop) (fs : List Frame)
+    (now : Stand) : Type 0 where
   pub moves : MovesTo files whole old result fs now
 
 abbrev pub StepsTo : Files → Plan Flow → Stand → Result Flow Stop → List Frame → Stand → Type 0
@@ -161,7 +162,8 @@ StepsTo files whole old (Ok flow) fs now = Moved files whole old flow fs now
 StepsTo files whole old (Err stop) fs now = Given {B = Flow} (λ f. f) files whole old (Err stop) now
 
 -- the same of a whole step, where these rules have ended
-pub record Stepped (files : Files) (whole : Plan Flow) (old : Stand) (result : Result Flow Stop) (fs : List Frame) (now : Stand) : Type 0 where
+pub record Stepped (files : Files) (whole : Plan Flow) (old : Stand) (result : Result Flow Stop) (fs : List Frame)
+    (now : Stand) : Type 0 where
   pub steps : StepsTo files whole old result fs now
 
 -- the number at a place, none behind the last

@@ -70,7 +70,8 @@ pub data StandsFor : List ℕ → List ℕ → Type 0 where
 -- The token of this kind and slice, and the text that it stands for.
 pub data TokenStandsFor : Kind → List ℕ → List ℕ → Type 0 where
   quoted : (inside text : List ℕ) → StandsFor inside text → TokenStandsFor Kinds.String (quote ∷ (inside ++ quote ∷ [])) text
-  format : (inside text : List ℕ) → StandsFor inside text → TokenStandsFor Kinds.FormatString (lower_f ∷ quote ∷ (inside ++ quote ∷ [])) text
+  format : (inside text : List ℕ) → StandsFor inside text
+      → TokenStandsFor Kinds.FormatString (lower_f ∷ quote ∷ (inside ++ quote ∷ [])) text
   raw : (inside : List ℕ) → TokenStandsFor Kinds.RawString (three_quotes ++ (inside ++ three_quotes)) inside
   raw_format : (inside : List ℕ) → TokenStandsFor Kinds.RawFormatString (lower_f ∷ (three_quotes ++ (inside ++ three_quotes))) inside
   other : (k : Kind) (text : List ℕ) → is_string k ≡ false → TokenStandsFor k text text

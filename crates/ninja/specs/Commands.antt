@@ -22,11 +22,15 @@ abbrev pub is_special_in_double : ℕ → Bool
 is_special_in_double b = (b == 36) || ((b == 96) || (b == 92))
 
 abbrev pub next_between : ℕ → Quoting
-next_between b = cond (b == 32) BetweenWords (cond (b == 39) (Single [] []) (cond (b == 34) (Double [] []) (cond (b == 62) Arrow (cond (is_bare_byte b) (Bare (b ∷ []) (b ∷ [])) Unread))))
+next_between b = cond (b == 32) BetweenWords
+    (cond (b == 39) (Single [] []) (cond (b == 34) (Double [] [])
+    (cond (b == 62) Arrow (cond (is_bare_byte b) (Bare (b ∷ []) (b ∷ [])) Unread))))
 
 abbrev pub next_quoting : Quoting → ℕ → Quoting
 next_quoting BetweenWords b = next_between b
-next_quoting (Bare bare text) b = cond (b == 32) BetweenWords (cond (b == 39) (Single bare text) (cond (b == 34) (Double bare text) (cond (is_bare_byte b) (Bare (bare ++ b ∷ []) (text ++ b ∷ [])) Unread)))
+next_quoting (Bare bare text) b = cond (b == 32) BetweenWords
+    (cond (b == 39) (Single bare text)
+    (cond (b == 34) (Double bare text) (cond (is_bare_byte b) (Bare (bare ++ b ∷ []) (text ++ b ∷ [])) Unread)))
 next_quoting (Single bare text) b = cond (b == 39) (Bare bare text) (Single bare (text ++ b ∷ []))
 next_quoting (Double bare text) b = cond (b == 34) (Bare bare text) (cond (is_special_in_double b) Unread (Double bare (text ++ b ∷ [])))
 next_quoting Arrow b = cond (b == 32) BetweenWords Unread

@@ -67,7 +67,14 @@ build_line ts =
     let ins = paths_at rule.1 in
     let implicits = paths_behind_bar ins.1 in
     let orders = paths_behind_bars implicits.1 in
-    at_end orders.1 (record { outputs = outs.0; implicit_outputs = implicit_outs.0; rule = rule.0; inputs = ins.0; implicit = implicits.0; order_only = orders.0 }))
+    at_end orders.1 (record {
+      outputs = outs.0;
+      implicit_outputs = implicit_outs.0;
+      rule = rule.0;
+      inputs = ins.0;
+      implicit = implicits.0;
+      order_only = orders.0;
+    }))
 
 abbrev pub default_line : List Token → Option (List (List Piece))
 default_line ts = let paths = paths_at ts in with_path paths.0 (at_end paths.1 paths.0)
@@ -87,7 +94,8 @@ is_keyword name = same_bytes name (codes "build") || (same_bytes name (codes "ru
 -- `= value`, behind a name
 abbrev pub let_behind : Bool → List ℕ → List Piece → Option Statement
 let_behind indented name [] = None
-let_behind indented name (p ∷ ps) = cond (is_plain 61 p && not (is_keyword name || same_bytes name [])) (Some (Let indented name (without_blanks ps))) None
+let_behind indented name (p ∷ ps) =
+    cond (is_plain 61 p && not (is_keyword name || same_bytes name [])) (Some (Let indented name (without_blanks ps))) None
 
 abbrev pub let_of : Bool → List ℕ × List Piece → Option Statement
 let_of indented found = let_behind indented found.0 (without_blanks found.1)
@@ -195,9 +203,17 @@ after_statement s (Let true name value) = bound (file_scope s.read) name value s
 after_statement s (Let false name value) =
     let m = closed s.read s.block in
     Some (record { read = record m { variables = m.variables ++ (name, expansion (file_scope m) value) ∷ [] }; block = NoBlock })
-after_statement s (RuleHead name) = Some (record { read = closed s.read s.block; block = RuleBlock (record { name = name; bindings = [] }) })
-after_statement s (BuildHead line) = let m = closed s.read s.block in Some (record { read = m; block = EdgeBlock (edge_of (file_scope m) line) })
-after_statement s (Default paths) = let m = closed s.read s.block in Some (record { read = record m { defaults = m.defaults ++ expansions (file_scope m) paths }; block = NoBlock })
+after_statement s (RuleHead name) = Some (record {
+  read = closed s.read s.block;
+  block = RuleBlock (record { name = name; bindings = [] });
+})
+after_statement s (BuildHead line) = let m = closed s.read s.block in Some (record {
+  read = m;
+  block = EdgeBlock (edge_of (file_scope m) line);
+})
+after_statement s (Default paths) =
+    let m = closed s.read s.block in
+    Some (record { read = record m { defaults = m.defaults ++ expansions (file_scope m) paths }; block = NoBlock })
 
 -- reading goes on from a state
 abbrev pub after_lines : State → List (List Piece) → Option State
@@ -248,7 +264,8 @@ value_at zero m rule edge name = None
 value_at (suc depth) m rule edge name =
     elim (same_bytes name (codes "in") || same_bytes name (codes "out")) [
       | true ↦ None
-      | false ↦ first_value (value_in edge.bindings name) (rule_value (used (value_at depth m rule edge)) (value_in rule.bindings name) (file_scope m name))
+      | false ↦ first_value (value_in edge.bindings name)
+          (rule_value (used (value_at depth m rule edge)) (value_in rule.bindings name) (file_scope m name))
     ]
 
 -- what a variable of the edge's rule stands for at the edge

@@ -27,10 +27,12 @@ abbrev pub spaced_path_run : List ℕ → List Step
 spaced_path_run path = puts (codes " ") ++ puts (path_text path)
 
 abbrev pub needs_run : (inputs implicit order_only : List (List ℕ)) → List Step
-needs_run inputs implicit order_only = puts (paths_text inputs) ++ (puts (signed_paths_text (codes " |") implicit) ++ puts (signed_paths_text (codes " ||") order_only))
+needs_run inputs implicit order_only =
+    puts (paths_text inputs) ++ (puts (signed_paths_text (codes " |") implicit) ++ puts (signed_paths_text (codes " ||") order_only))
 
 abbrev pub build_run : EdgeData → List Step
-build_run e = puts (codes "build") ++ (puts (paths_text e.outputs) ++ (puts (codes ": ") ++ (puts (rule_text e.rule) ++ needs_run e.inputs e.implicit e.order_only)))
+build_run e = puts (codes "build")
+    ++ (puts (paths_text e.outputs) ++ (puts (codes ": ") ++ (puts (rule_text e.rule) ++ needs_run e.inputs e.implicit e.order_only)))
 
 abbrev pub end_run : Option (List ℕ) → List Step
 end_run None = puts (codes "\n")
@@ -38,4 +40,5 @@ end_run (Some path) = puts (codes " DEPFILE = ") ++ (puts (value_text path) ++ p
 
 abbrev pub bindings_run : EdgeData → List Step
 bindings_run e =
-    puts (codes "\n COMMAND = ") ++ (puts (value_text (words_text e.words e.redirect)) ++ (puts (codes "\n DESC = ") ++ (puts (value_text e.description) ++ (puts (codes "\n") ++ end_run e.depfile))))
+    puts (codes "\n COMMAND = ")
+    ++ (puts (value_text (words_text e.words e.redirect)) ++ (puts (codes "\n DESC = ") ++ (puts (value_text e.description) ++ (puts (codes "\n") ++ end_run e.depfile))))

@@ -4,7 +4,9 @@ use Rattle.std.specs.List.{list_any}
 
 -- `A-Z a-z 0-9 _ @ % + = : , . / -`
 abbrev pub is_bare_byte : ℕ → Bool
-is_bare_byte b = (nat_le 97 b && nat_le b 122) || ((nat_le 65 b && nat_le b 90) || ((nat_le 45 b && nat_le b 58) || ((b == 95) || ((b == 64) || ((b == 37) || ((b == 43) || ((b == 61) || (b == 44))))))))
+is_bare_byte b = (nat_le 97 b && nat_le b 122)
+    || ((nat_le 65 b && nat_le b 90)
+    || ((nat_le 45 b && nat_le b 58) || ((b == 95) || ((b == 64) || ((b == 37) || ((b == 43) || ((b == 61) || (b == 44))))))))
 
 abbrev pub has_equals : List ℕ → Bool
 has_equals bytes = list_any (λ b. b == 61) bytes
@@ -20,7 +22,8 @@ is_one_of [] word = false
 is_one_of (w ∷ ws) word = same_bytes w word || is_one_of ws word
 
 abbrev pub is_reserved : List ℕ → Bool
-is_reserved word = is_one_of (codes "case" ∷ codes "do" ∷ codes "done" ∷ codes "elif" ∷ codes "else" ∷ codes "esac" ∷ codes "fi" ∷ codes "for" ∷ codes "if" ∷ codes "in" ∷ codes "then" ∷ codes "until" ∷ codes "while" ∷ []) word
+is_reserved word = is_one_of (codes "case" ∷ codes "do" ∷ codes "done" ∷ codes "elif" ∷ codes "else" ∷ codes "esac" ∷ codes "fi"
+    ∷ codes "for" ∷ codes "if" ∷ codes "in" ∷ codes "then" ∷ codes "until" ∷ codes "while" ∷ []) word
 
 -- what a shell would read as no word of the command: an assignment, or a word of its own language
 abbrev pub is_no_first_word : List ℕ → Bool

@@ -32,11 +32,13 @@ rule_text Custom = codes "custom"
 rule_text CustomDep = codes "custom_dep"
 
 abbrev pub needs_text : (inputs implicit order_only : List (List ℕ)) → List ℕ
-needs_text inputs implicit order_only = paths_text inputs ++ (signed_paths_text (codes " |") implicit ++ signed_paths_text (codes " ||") order_only)
+needs_text inputs implicit order_only =
+    paths_text inputs ++ (signed_paths_text (codes " |") implicit ++ signed_paths_text (codes " ||") order_only)
 
 -- outputs, a rule, and what is needed
 abbrev pub build_text : (rule : List ℕ) (outputs inputs implicit order_only : List (List ℕ)) → List ℕ
-build_text rule outputs inputs implicit order_only = codes "build" ++ (paths_text outputs ++ (codes ": " ++ (rule ++ needs_text inputs implicit order_only)))
+build_text rule outputs inputs implicit order_only =
+    codes "build" ++ (paths_text outputs ++ (codes ": " ++ (rule ++ needs_text inputs implicit order_only)))
 
 -- ---- the block of an edge
 
@@ -55,7 +57,8 @@ build_line e = build_text (rule_text e.rule) e.outputs e.inputs e.implicit e.ord
 -- outputs, rule and needs, then command, description and depfile, and an empty line
 abbrev pub edge_text : EdgeData → List ℕ
 edge_text e =
-    line (build_line e) (line (binding_text (codes "COMMAND") (words_text e.words e.redirect)) (line (binding_text (codes "DESC") e.description) (depfile_line e.depfile (line [] []))))
+    line (build_line e) (line (binding_text (codes "COMMAND") (words_text e.words e.redirect))
+    (line (binding_text (codes "DESC") e.description) (depfile_line e.depfile (line [] []))))
 
 -- ---- the file
 

@@ -60,7 +60,12 @@ slot_of ToFault byte = Fault byte
 
 -- what outputs in memory are seen as
 abbrev pub state_at : List ℕ → List (Event Span) → Option Span → ℕ → OutputState
-state_at names slots current failures = record { events = events_at names slots; open_name = open_at names current; failures = failures; tells = true }
+state_at names slots current failures = record {
+  events = events_at names slots;
+  open_name = open_at names current;
+  failures = failures;
+  tells = true;
+}
 
 -- how many items more these have room for
 abbrev pub room_of : {X : Type 0} → Vec X Global → ℕ

@@ -23,7 +23,8 @@ name_length bytes = let n = prefix_len is_name_byte bytes in if slice_index byte
 -- the log's line for a name that stands for nothing
 unfoldable pub warning : List ℕ → ℕ → List ℕ → List Step
 warning path number name =
-    logs (codes "WARNING: ") ++ (logs path ++ (logs (codes ":") ++ (logs (decimal number) ++ (logs (codes ": no value for ") ++ (logs name ++ logs (codes "\n"))))))
+    logs (codes "WARNING: ")
+    ++ (logs path ++ (logs (codes ":") ++ (logs (decimal number) ++ (logs (codes ": no value for ") ++ (logs name ++ logs (codes "\n"))))))
 
 unfoldable pub value_or_warning : Option Content → List Step → List Step
 value_or_warning (Some content) warning = puts (printed content)
@@ -71,7 +72,8 @@ words bytes = words_after [] bytes
 unfoldable pub body_length : List ℕ → ℕ
 body_length bytes =
     let n = length bytes in
-    if nat_lt 0 n && (slice_index bytes (n - 1) == 10) then (if nat_lt 1 n && (slice_index bytes (n - 2) == 13) then n - 2 else n - 1) else n
+    if nat_lt 0 n && (slice_index bytes (n - 1) == 10) then
+    (if nat_lt 1 n && (slice_index bytes (n - 2) == 13) then n - 2 else n - 1) else n
 
 -- whether a line defines a name, and which
 pub data Reading : Type 0 where
@@ -124,7 +126,8 @@ line_fault bytes = refusal (reading bytes)
 -- what a line writes that is read so: nothing where it is refused
 unfoldable pub steps_of : Entries → List ℕ → ℕ → List ℕ → Reading → List Step
 steps_of entries path number bytes Plain = replaced entries path number 0 0 bytes
-steps_of entries path number bytes (Defines name) = definition_or_comment name (value_of entries name) ++ puts (drop (body_length bytes) bytes)
+steps_of entries path number bytes (Defines name) =
+    definition_or_comment name (value_of entries name) ++ puts (drop (body_length bytes) bytes)
 steps_of entries path number bytes Malformed = []
 steps_of entries path number bytes TooLong = []
 

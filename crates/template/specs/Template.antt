@@ -56,7 +56,8 @@ Agrees (Err Device) found = Unit {0}
 
 -- one of two counts is one more, the other as it was
 abbrev pub OneMore : ℕ → ℕ → ℕ → ℕ → Type 0
-OneMore tree_old tree_new out_old out_new = ((tree_new ≡ tree_old + 1) × (out_new ≡ out_old)) ⊎ ((tree_new ≡ tree_old) × (out_new ≡ out_old + 1))
+OneMore tree_old tree_new out_old out_new = ((tree_new ≡ tree_old + 1) × (out_new ≡ out_old))
+    ⊎ ((tree_new ≡ tree_old) × (out_new ≡ out_old + 1))
 
 -- a device fault is told by one of the two counts, any other answer by none
 abbrev pub PassFailures : {T : Type 0} → ℕ → ℕ → ℕ → ℕ → Result T PassStop → Type 0

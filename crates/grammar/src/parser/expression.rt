@@ -183,7 +183,8 @@ impl<'a> Parser<'_, 'a> {
     // Takes a token that opens a level, with the levels that may be opened behind it.
     #[tactic(auto, using(crate::proofs::ExpressionTails::enter_found, crate::proofs::ExpressionTails::enter_fails, crate::proofs::ExpressionTails::enter_deep, crate::proofs::ExpressionTails::enter_missing, crate::proofs::Tails::fails_at))]
     pub(super) fn enter(&mut self, kind: Kind, levels: u32) -> Result<(Token<'a>, u32), ReadError>
-        ensures read { Gives (λ x. (lexeme_of x.0, x.1)) result (lexemes self.new.rest.now) (enter_at kind levels (lexemes self.old.rest.now)) }
+        ensures read { Gives (λ x. (lexeme_of x.0, x.1)) result (lexemes self.new.rest.now)
+            (enter_at kind levels (lexemes self.old.rest.now)) }
         ensures shorter { OnOk result (length self.new.rest.now < length self.old.rest.now) }
         ensures lower { IfOk result (λ x. x.1 < levels) }
     {
@@ -207,7 +208,8 @@ impl<'a> Parser<'_, 'a> {
         ternaries: bool,
         rank: Rank,
     ) -> Result<Expression<'a>, ReadError>
-        ensures read { Gives expression_of result (lexemes self.new.rest.now) (part_at rank (unary_at levels ternaries) (lexemes self.old.rest.now)) }
+        ensures read { Gives expression_of result (lexemes self.new.rest.now)
+            (part_at rank (unary_at levels ternaries) (lexemes self.old.rest.now)) }
         ensures shorter { OnOk result (length self.new.rest.now < length self.old.rest.now) }
     {
         match rank {
@@ -276,7 +278,8 @@ impl<'a> Parser<'_, 'a> {
         levels: u32,
         ternaries: bool,
     ) -> Result<Expression<'a>, ReadError>
-        ensures read { Gives expression_of result (lexemes self.new.rest.now) (comparison_at (unary_at levels ternaries) (lexemes self.old.rest.now)) }
+        ensures read { Gives expression_of result (lexemes self.new.rest.now)
+            (comparison_at (unary_at levels ternaries) (lexemes self.old.rest.now)) }
         ensures shorter { OnOk result (length self.new.rest.now < length self.old.rest.now) }
     {
         let line = self.first_line();
@@ -325,7 +328,8 @@ impl<'a> Parser<'_, 'a> {
         levels: u32,
         ternaries: bool,
     ) -> Result<Expression<'a>, ReadError>
-        ensures read { Gives expression_of result (lexemes self.new.rest.now) (ternary_at (unary_at levels) ternaries (lexemes self.old.rest.now)) }
+        ensures read { Gives expression_of result (lexemes self.new.rest.now)
+            (ternary_at (unary_at levels) ternaries (lexemes self.old.rest.now)) }
         ensures shorter { OnOk result (length self.new.rest.now < length self.old.rest.now) }
     {
         let line = self.first_line();

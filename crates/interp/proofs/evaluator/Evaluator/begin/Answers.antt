@@ -1,8 +1,8 @@
-use Rattle.std.proofs.Common.{◌≡◌, ◌<◌, ◌≤◌, ℕ, IsTrue, List, Ok, length, get_or, map, option_map, sym, ap, subst, refl, ◌∙◌, arith}
+use Rattle.std.proofs.Common.{◌<◌, ◌≤◌, ℕ, List, Ok, length, get_or, map, option_map, sym, ap, subst, refl, ◌∙◌}
 use Rattle.std.specs.Prelude.{nat_lt, ◌&&◌}
 use Rattle.std.specs.List.{list_all}
 use Rattle.code.specs.Nodes.{tree_at}
-use Rattle.code.specs.Statements.{branch_at, branch_within, name_at, second_within, statement_at}
+use Rattle.code.specs.Statements.{branch_at, branch_within, name_at, second_within}
 use Rattle.code.specs.declared.code.Code.{Code}
 use Rattle.code.specs.declared.node.BranchNode.{BranchNode}
 use Rattle.code.specs.declared.node.StatementNode.{StatementNode}
@@ -11,13 +11,12 @@ use Rattle.code.proofs.Trees.{both_true, less}
 use Rattle.data.specs.Data.{Data}
 use Rattle.grammar.specs.Tree.{StatementTree, branches}
 use Rattle.world.specs.Plan.{give, next, ruled}
-use Rattle.interp.specs.Blocks.{block_by, branch_or, expressions_by, node_at, part_of, statements_by, statements_of}
+use Rattle.interp.specs.Blocks.{block_by, branch_or, expressions_by, part_of, statements_by}
 use Rattle.interp.specs.Expressions.{value_of}
 use Rattle.interp.specs.Folders.{folder}
 use Rattle.interp.specs.Frames.{above_branch, behind_all, one_round}
 use Rattle.interp.specs.Parts.{above}
 use Rattle.interp.specs.Statements.{appended, assigned, branches_of, do_all, does, looped, stated, walked}
-use Rattle.interp.specs.declared.block.Block.TheVariants.{Part}
 use Rattle.interp.specs.declared.flow.Flow.TheVariants as flows
 use Rattle.interp.proofs.Evaluating.{given_as, given_give}
 use Rattle.interp.proofs.Spelling.{branches_reach, named, node_is, parts_of, reads_at, spelled}

@@ -1,10 +1,10 @@
-use Rattle.std.proofs.Common.{◌≡◌, ℕ, List, Ok, Some, None, map, sym, ap, refl, ◌∙◌}
+use Rattle.std.proofs.Common.{ℕ, List, Ok, map, sym, ap, refl, ◌∙◌}
 use Rattle.code.specs.Statements.{branch_at}
 use Rattle.code.specs.declared.code.Code.{Code}
 use Rattle.grammar.specs.Tree.{branches}
-use Rattle.interp.specs.Blocks.{block_by, branch_or, expressions_by, statements_by, statements_of}
+use Rattle.interp.specs.Blocks.{block_by, expressions_by, statements_by, statements_of}
 use Rattle.interp.specs.Folders.{folder}
-use Rattle.interp.specs.Frames.{behind_all, part_done}
+use Rattle.interp.specs.Frames.{part_done}
 use Rattle.interp.specs.Statements.{do_all}
 use Rattle.interp.specs.declared.block.Block.TheVariants.{Part}
 use Rattle.interp.specs.declared.flow.Flow.TheVariants as flows

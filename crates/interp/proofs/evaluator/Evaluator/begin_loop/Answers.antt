@@ -1,4 +1,4 @@
-use Rattle.std.proofs.Common.{◌≡◌, ℕ, IsTrue, List, Ok, option_map, sym, ap, subst, refl, ◌∙◌}
+use Rattle.std.proofs.Common.{IsTrue, sym, ap, subst, ◌∙◌}
 use Rattle.std.specs.Prelude.{nat_lt}
 use Rattle.code.specs.Statements.{name_at, second_within}
 use Rattle.code.specs.declared.code.Code.{Code}

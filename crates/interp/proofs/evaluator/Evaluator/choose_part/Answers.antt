@@ -1,10 +1,10 @@
-use Rattle.std.proofs.Common.{◌≡◌, ◌+◌, ℕ, List, Ok, Some, None, Option, drop, map, length, sym, ap, refl, ◌∙◌, rules, arith}
+use Rattle.std.proofs.Common.{◌+◌, List, drop, map, length, sym, ap, refl, ◌∙◌, rules, arith}
 use Rattle.code.specs.Statements.{branch_at, statement_at}
 use Rattle.code.specs.declared.node.BranchNode.{BranchNode}
 use Rattle.grammar.specs.Tree.{Branches, branches, statements}
 use Rattle.interp.specs.Conditions.{by_choice}
 use Rattle.interp.specs.Folders.{folder}
-use Rattle.interp.specs.Frames.{above_branch, part_done}
+use Rattle.interp.specs.Frames.{part_done}
 use Rattle.interp.specs.Statements.{branches_of, do_all}
 use Rattle.interp.specs.declared.conditions.Choice.{Choice}
 use Rattle.interp.proofs.Reading.{reads_on}

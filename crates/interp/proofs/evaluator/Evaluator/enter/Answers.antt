@@ -1,19 +1,15 @@
-use Rattle.std.proofs.Common.{subst, ◌≡◌, ℕ, suc, ◌-◌, List, [], ◌∷◌, ◌++◌, Ok, sym, ap, refl, ◌∙◌, string_bytes, arith}
-use Rattle.code.specs.declared.code.Code.{Code}
+use Rattle.std.proofs.Common.{subst, ◌≡◌, ℕ, suc, ◌-◌, [], ◌∷◌, ◌++◌, sym, ap, refl, ◌∙◌, string_bytes, arith}
 use Rattle.faults.specs.declared.refusal.Refusal.TheVariants as refusals
 use Rattle.world.specs.Answering.{Refuses}
-use Rattle.world.specs.Plan.{next, ruled, give}
-use Rattle.world.proofs.Marks.{same_front}
+use Rattle.world.specs.Plan.{next}
 use Rattle.interp.specs.Blocks.{file_by}
 use Rattle.interp.specs.Evaluates.{stand_of}
-use Rattle.interp.specs.Folders.{folder, fresh, go_back, opened}
-use Rattle.interp.specs.Frames.{Rest, End, Left, behind, behind_all, Leads, Made, Stacked}
+use Rattle.interp.specs.Folders.{folder, fresh, opened}
+use Rattle.interp.specs.Frames.{Rest, End, Left, behind, behind_all}
 use Rattle.interp.specs.Statements.{do_all}
-use Rattle.interp.specs.declared.flow.Flow.{Flow}
-use Rattle.interp.specs.declared.flow.Flow.TheVariants.{Next}
 use Rattle.interp.specs.declared.frames.Frame.TheVariants as frames
 use Rattle.interp.proofs.Evaluating.{given_as, given_stop, given_then}
-use Rattle.interp.proofs.Places.{entered_fresh, entered_from, folder_is, given_refused_here, leads_fresh}
+use Rattle.interp.proofs.Places.{entered_fresh, folder_is, given_refused_here, leads_fresh}
 use Rattle.interp.proofs.Stack.{behind_two, leads_as, leads_further, leads_next, leads_start, leads_under, left_here, made_now, moves_as, moves_block, moves_given, moves_none, moves_then, stacked_on, stacked_top}
 use Rattle.interp.proofs.evaluator.Evaluator.enter.Goals as goal
 

@@ -1,17 +1,12 @@
-use Rattle.std.proofs.Common.{◌≡◌, ◌+◌, ◌<◌, ◌≤◌, ℕ, List, [], ◌∷◌, drop, length, Option, Ok, Some, None, option_map, sym, ap, subst, refl, ◌∙◌, arith}
-use Rattle.code.specs.Statements.{name_at}
-use Rattle.code.specs.declared.code.Code.{Code}
+use Rattle.std.proofs.Common.{◌+◌, List, drop, Ok, sym, ap, refl, arith}
 use Rattle.data.specs.View.{data_of}
-use Rattle.data.specs.declared.value.Value.{Value}
-use Rattle.interp.specs.Blocks.{block_by, statements_of}
-use Rattle.interp.specs.Folders.{folder}
-use Rattle.interp.specs.Frames.{behind_all, others_by, round_by, rounds_left}
-use Rattle.interp.specs.Rounds.{RoundAt, round_data, rounds_in}
-use Rattle.interp.specs.Statements.{Round, bound, do_all, rounds_of}
+use Rattle.interp.specs.Frames.{behind_all, round_by}
+use Rattle.interp.specs.Rounds.{round_data, rounds_in}
+use Rattle.interp.specs.Statements.{Round, rounds_of}
 use Rattle.interp.specs.declared.flow.Flow.TheVariants as flows
 use Rattle.interp.proofs.Evaluating.{given_as, given_give, given_stop}
 use Rattle.interp.proofs.Spelling.{bound_as, named, place_there, second_named, round_is, round_none}
-use Rattle.interp.proofs.Stack.{leads_as, leads_next, leads_start, leads_under, made_as, made_on, moves_as, moves_block, moves_given, moves_none, moves_round, stacked_on}
+use Rattle.interp.proofs.Stack.{leads_next, leads_start, leads_under, made_on, moves_as, moves_block, moves_given, moves_none, moves_round, stacked_on}
 use Rattle.interp.proofs.evaluator.Evaluator.next_round.Goals as goal
 
 pub returns-in_err-round-clause-gives : goal.returns-in_err-round-clause-gives

@@ -2,7 +2,7 @@ use Rattle.std.proofs.Common.{◌≡◌, ◌+◌, ℕ, List, [], ◌∷◌, drop
 use Rattle.code.specs.declared.code.Code.{Code}
 use Rattle.interp.specs.Blocks.{block_by, statements_of}
 use Rattle.interp.specs.Folders.{folder}
-use Rattle.interp.specs.Frames.{NumberAt, behind_all}
+use Rattle.interp.specs.Frames.{behind_all}
 use Rattle.interp.specs.Statements.{do_all}
 use Rattle.interp.specs.declared.flow.Flow.TheVariants as flows
 use Rattle.interp.proofs.Evaluating.{given_give}

@@ -1,4 +1,4 @@
-use Rattle.std.proofs.Common.{◌≡◌, ◌-◌, ℕ, List, append-nil, take, Err, Ok, sym, ap, refl, ◌∙◌, rules}
+use Rattle.std.proofs.Common.{◌-◌, ℕ, append-nil, take, Err, Ok, ap, refl, ◌∙◌, rules}
 use Rattle.code.specs.declared.code.Code.{Code}
 use Rattle.interp.specs.Blocks.{file_by}
 use Rattle.interp.specs.Folders.{folder}

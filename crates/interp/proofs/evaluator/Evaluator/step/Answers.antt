@@ -1,4 +1,4 @@
-use Rattle.std.proofs.Common.{◌≡◌, ℕ, ◌+◌, List, ap, ◌∙◌}
+use Rattle.std.proofs.Common.{◌+◌, List, ap, ◌∙◌}
 use Rattle.interp.specs.Frames.{unwound}
 use Rattle.interp.specs.declared.frames.Frame.{Frame}
 use Rattle.interp.proofs.Ending.{stepped_on, stepped_stop}

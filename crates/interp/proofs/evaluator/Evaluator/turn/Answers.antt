@@ -1,15 +1,9 @@
-use Rattle.std.proofs.Common.{List, Ok, sym, ap, refl, ◌∙◌, ◌≡◌, ℕ, string_bytes}
-use Rattle.world.specs.Plan.{give, next, deed}
-use Rattle.world.specs.Deed.{change}
-use Rattle.world.specs.World.{with_place}
-use Rattle.interp.specs.Evaluates.{stand_of}
+use Rattle.std.proofs.Common.{Ok, sym, ap, refl, ◌≡◌, string_bytes}
+use Rattle.world.specs.Plan.{give}
 use Rattle.interp.specs.Folders.{folder}
-use Rattle.interp.specs.Frames.{Rest, End, Left, behind, behind_all, Means, MeansBlock, MeansLoop, others_by, rounds_left, round_by}
+use Rattle.interp.specs.Frames.{Rest, End, Left, behind, behind_all, MeansBlock, MeansLoop, others_by, rounds_left, round_by}
 use Rattle.interp.specs.Statements.{after_round, do_all, on_next, rounds_of}
-use Rattle.interp.specs.declared.flow.Flow.{Flow}
 use Rattle.interp.specs.declared.flow.Flow.TheVariants as flows
-use Rattle.interp.specs.declared.frames.Frame.{Frame}
-use Rattle.interp.specs.declared.frames.Frame.TheVariants as frames
 use Rattle.interp.proofs.Evaluating.{given_change, given_give, given_rule, given_then}
 use Rattle.interp.proofs.Stack.{means_as, moves_as, moves_given, moves_next}
 use Rattle.interp.proofs.evaluator.Evaluator.turn.Goals as goal
