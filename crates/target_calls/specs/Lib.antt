@@ -1,3 +1,11 @@
+pub mod BuildTargets
+pub mod BuildTargetsView
+pub mod Dependencies
 pub mod Files
-pub mod PlainTargets
+pub mod Here
+pub mod HereView
+pub mod Maybe
+pub mod ProjectWords
 pub mod Rows
+pub mod Sources
+pub mod Targets
