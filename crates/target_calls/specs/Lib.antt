@@ -4,6 +4,8 @@ pub mod Dependencies
 pub mod Files
 pub mod Here
 pub mod HereView
+pub mod Installs
+pub mod InstallsView
 pub mod Maybe
 pub mod ProjectWords
 pub mod Rows

@@ -1,5 +1,5 @@
 -- Functions that declare an executable or a library.
-use Rattle.std.specs.Prelude.{[], Option, Some, bytes_eq, codes, ok_or, if◌then◌else◌}
+use Rattle.std.specs.Prelude.{ℕ, [], Option, Some, bytes_eq, codes, ok_or, if◌then◌else◌}
 use Rattle.arguments.specs.Arguments.{ArgumentsData}
 use Rattle.data.specs.Data.{Data, object}
 use Rattle.data.specs.declared.object.Object.TheVariants as objects
@@ -15,6 +15,7 @@ use Rattle.world.specs.Deed.{Deed, give, read, ◌>>=◌, fitting, need}
 use Rattle.target_calls.specs.BuildTargets.{NamedTargetData, declared}
 use Rattle.target_calls.specs.Files.{all_required}
 use Rattle.target_calls.specs.Here.{here_of}
+use Rattle.target_calls.specs.Installs.{folders_in, install_of, noted}
 
 -- what the arguments say: E9 where they say no target
 unfoldable pub said : Kind → ArgumentsData → Deed NamedTargetData
@@ -28,6 +29,14 @@ required_fit t = do
   facts ← read
   need (is_fit facts.project t) refusals.Arguments []
 
+-- the target is declared, and where its file goes is noted
+unfoldable pub add_installed : ArgumentsData → TargetData → Deed ℕ
+add_installed a t = do
+  facts ← read
+  n ← add_target t
+  _ ← noted (install_of (folders_in facts) a t)
+  give n
+
 -- `executable`, `static_library` and `shared_library`, by the kind: E9; E14 of the first missing file in the order of the arguments; E21,
 -- E11, E22
 unfoldable pub declare : Kind → ArgumentsData → Deed (Option Data)
@@ -35,7 +44,7 @@ declare kind a = do
   d ← said kind a
   _ ← required_fit d.target
   _ ← all_required d.files
-  n ← add_target d.target
+  n ← add_installed a d.target
   give (Some (object (objects.BuildTarget n)))
 
 -- what `library` makes where the option `default_library` has this value

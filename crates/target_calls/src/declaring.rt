@@ -8,10 +8,11 @@ ghost use Rattle.targets.specs.declared.target.Kind.TheVariants as kinds;
 ghost use Rattle.world.specs.Answering.{Carries, HasRoom};
 ghost use Rattle.world.specs.Caller.{state_of};
 ghost use Rattle.target_calls.specs.BuildTargetsView.{named_target_view};
-ghost use Rattle.target_calls.specs.Targets.{declare, library, library_kind, required_fit, said};
+ghost use Rattle.target_calls.specs.Targets.{add_installed, declare, library, library_kind, required_fit, said};
 
 use crate::build_target::{NamedTarget, declared};
 use crate::here::here_of;
+use crate::installs::{folders_in, install_of, note};
 use crate::tree::require_all;
 use arguments::Arguments;
 use data::{Object, Value};
@@ -47,6 +48,22 @@ fn require_fit<T: Tree, O: Outputs>(caller: &Caller<'_, T, O>, target: &Target) 
     caller.need(fits, Refusal::Arguments, "")
 }
 
+// Declares a target, and notes where its file goes.
+fn add_installed<T: Tree, O: Outputs>(
+    caller: &mut Caller<'_, T, O>,
+    arguments: &Arguments,
+    target: Target,
+) -> Result<usize, Stop>
+    ensures { Carries (λ n. n) (add_installed (arguments_data arguments.now) (target_view target))
+        (state_of T.seen O.seen caller.old) result (state_of T.seen O.seen caller.new) }
+{
+    let folders = folders_in(caller);
+    let install = install_of(&folders, arguments, &target)?;
+    let number = caller.add_target(target)?;
+    note(caller, install)?;
+    Ok(number)
+}
+
 // Declares a target of a kind.
 fn declare<T: Tree, O: Outputs>(
     caller: &mut Caller<'_, T, O>,
@@ -60,7 +77,7 @@ fn declare<T: Tree, O: Outputs>(
     let named = said(caller, kind, arguments)?;
     require_fit(caller, &named.target)?;
     require_all(caller, &named.files)?;
-    let number = caller.add_target(named.target)?;
+    let number = add_installed(caller, arguments, named.target)?;
     let value = Value::of_object(caller.alloc, Object::BuildTarget(number))?;
     Ok(Some(value))
 }

@@ -5,6 +5,7 @@ mod build_target;
 mod declaring;
 mod dependencies;
 mod here;
+mod installs;
 mod project_words;
 mod rows;
 mod sources;
