@@ -5,4 +5,9 @@ use Rattle.target_calls.specs.Here.{HereData}
 use Rattle.target_calls.specs.declared.here.Here.{Here}
 
 abbrev pub here_view : Here → HereData
-here_view h = record { source_root = h.source_root.now; folder = h.folder.now; earlier = map linked_view h.earlier.now }
+here_view h = record {
+  depth = h.depth;
+  source_root = h.source_root.now;
+  folder = h.folder.now;
+  earlier = map linked_view h.earlier.now;
+}

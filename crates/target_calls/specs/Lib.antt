@@ -1,5 +1,9 @@
 pub mod BuildTargets
 pub mod BuildTargetsView
+pub mod Commands
+pub mod CommandsView
+pub mod CustomTargets
+pub mod CustomTargetsView
 pub mod Dependencies
 pub mod Files
 pub mod Here

@@ -41,7 +41,8 @@ fn all_named(alloc: Global, sources: &[data::Source]) -> Result<Vec<NamedSource>
     Ok(named)
 }
 
-fn strings(alloc: Global, texts: &[Text]) -> Result<Vec<String>, AllocError>
+/// Texts as strings of their own.
+pub fn strings(alloc: Global, texts: &[Text]) -> Result<Vec<String>, AllocError>
     ensures { IfOk result (λ v. map string_bytes v.items ≡ texts.now) }
 {
     let mut strings = Vec::new(alloc);

@@ -12,6 +12,8 @@ use world::Caller;
 #[derive(Clone, Copy)]
 pub struct Here<'a> {
     pub alloc: Global,
+    /// How many folders the build folder lies below the source root.
+    pub depth: usize,
     /// An absolute path.
     pub source_root: &'a str,
     /// The folder of the definition file, `""` for the root.
@@ -26,6 +28,7 @@ pub fn here_of<'c, T: Tree, O: Outputs>(caller: &'c Caller<'_, T, O>) -> Here<'c
 {
     Here {
         alloc: caller.alloc,
+        depth: caller.store.settings().depth,
         source_root: caller.store.settings().source_root.as_str(),
         folder: caller.store.folder(),
         earlier: caller.store.project().targets(),

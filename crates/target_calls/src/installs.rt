@@ -63,8 +63,8 @@ fn usual_folder<'f>(folders: &Folders<'f>, kind: Kind) -> &'f str
     }
 }
 
-// What the keyword `install_dir` says.
-fn folder_given(arguments: &Arguments) -> Option<&Text>
+/// What the keyword `install_dir` says.
+pub fn folder_given(arguments: &Arguments) -> Option<&Text>
     ensures { option_map (λ t. t.now) result ≡ folder_given (arguments_data arguments.now) }
 {
     match arguments.keyword("install_dir") {

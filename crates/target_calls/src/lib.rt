@@ -2,6 +2,8 @@
 #![tactic(auto)]
 
 mod build_target;
+mod command;
+mod custom_target;
 mod declaring;
 mod dependencies;
 mod here;

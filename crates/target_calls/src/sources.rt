@@ -12,8 +12,8 @@ use std::rc::Rc;
 use target_arguments::NamedSource;
 use targets::{Linked, Source};
 
-// The outputs of the target with a number.
-fn outputs_at(earlier: &[Linked], number: usize) -> Option<&[String]>
+/// The outputs of the target with a number.
+pub fn outputs_at(earlier: &[Linked], number: usize) -> Option<&[String]>
     ensures { option_map (λ ps. texts ps.now) result ≡ outputs_at (map linked_view earlier.now) number }
 {
     match earlier.get(number) {
@@ -22,8 +22,8 @@ fn outputs_at(earlier: &[Linked], number: usize) -> Option<&[String]>
     }
 }
 
-// One of them.
-fn output_at(earlier: &[Linked], number: usize, place: usize) -> Option<&str>
+/// The output at a place of the target with a number.
+pub fn output_at(earlier: &[Linked], number: usize, place: usize) -> Option<&str>
     ensures { option_map (λ p. p.now) result ≡ output_at (map linked_view earlier.now) number place }
 {
     match outputs_at(earlier, number)?.get(place) {
@@ -32,14 +32,28 @@ fn output_at(earlier: &[Linked], number: usize, place: usize) -> Option<&str>
     }
 }
 
+/// Outputs of one target.
+pub fn made_of(alloc: Global, paths: &[String]) -> Result<Source, AllocError>
+    ensures { IfOk result (λ s. source_view s ≡ Made (texts paths.now)) }
+{
+    let paths = copies(alloc, paths)?;
+    Ok(Source::Made(Rc::new(alloc, paths)?))
+}
+
+/// One output of a target.
+pub fn one_made_of(alloc: Global, path: &str) -> Result<Source, AllocError>
+    ensures { IfOk result (λ s. source_view s ≡ one_made path.now) }
+{
+    let mut paths = Vec::new(alloc);
+    paths.push(String::from_str(alloc, path)?)?;
+    Ok(Source::Made(Rc::new(alloc, paths)?))
+}
+
 fn all_made(alloc: Global, earlier: &[Linked], number: usize) -> Result<Option<Source>, AllocError>
     ensures { IfOk result (λ s. option_map source_view s ≡ option_map Made (outputs_at (map linked_view earlier.now) number)) }
 {
     match outputs_at(earlier, number) {
-        Some(outputs) => {
-            let paths = copies(alloc, outputs)?;
-            Ok(Some(Source::Made(Rc::new(alloc, paths)?)))
-        }
+        Some(outputs) => Ok(Some(made_of(alloc, outputs)?)),
         None => Ok(None),
     }
 }
@@ -54,11 +68,7 @@ fn one_made(
         ≡ option_map one_made (output_at (map linked_view earlier.now) number place)) }
 {
     match output_at(earlier, number, place) {
-        Some(output) => {
-            let mut paths = Vec::new(alloc);
-            paths.push(String::from_str(alloc, output)?)?;
-            Ok(Some(Source::Made(Rc::new(alloc, paths)?)))
-        }
+        Some(output) => Ok(Some(one_made_of(alloc, output)?)),
         None => Ok(None),
     }
 }
