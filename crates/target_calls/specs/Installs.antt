@@ -17,9 +17,10 @@ use Rattle.world.specs.Declaring.{add_install}
 use Rattle.world.specs.Deed.{Deed, give}
 use Rattle.world.specs.World.{Facts}
 
--- the build folder, and the folders of the options `prefix`, `bindir` and `libdir`
+-- the build folder, the folder of the definition file, and the folders of the options `prefix`, `bindir` and `libdir`
 pub record FoldersData : Type 0 where
   pub build_root : Path
+  pub folder : Path
   pub prefix : Path
   pub bindir : Path
   pub libdir : Path
@@ -34,6 +35,7 @@ option_text options name = text_of (value_named options name)
 abbrev pub folders_in : Facts → FoldersData
 folders_in facts = record {
   build_root = facts.settings.build_root;
+  folder = facts.folder;
   prefix = option_text facts.options (codes "prefix");
   bindir = option_text facts.options (codes "bindir");
   libdir = option_text facts.options (codes "libdir");

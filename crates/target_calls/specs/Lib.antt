@@ -2,6 +2,9 @@ pub mod BuildTargets
 pub mod BuildTargetsView
 pub mod Commands
 pub mod CommandsView
+pub mod CustomCalls
+pub mod CustomInstalls
+pub mod CustomInstallsView
 pub mod CustomTargets
 pub mod CustomTargetsView
 pub mod Dependencies

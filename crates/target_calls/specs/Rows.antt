@@ -1,5 +1,5 @@
 -- The rows of the functions: what each takes.
-use Rattle.std.specs.Prelude.{ℕ, List, [], ◌∷◌, ◌++◌, Some, codes}
+use Rattle.std.specs.Prelude.{ℕ, List, [], ◌∷◌, ◌++◌, None, Some, codes}
 use Rattle.arguments.specs.declared.row.Kind.TheVariants.{Any, Boolean, Dependencies, Flat, IntegerOrText, Text, Texts}
 use Rattle.arguments.specs.declared.row.Piece.TheVariants as pieces
 use Rattle.arguments.specs.Row.{KeywordData, RowData, needed, optional}
@@ -57,6 +57,26 @@ row_with keywords = record {
   needed = 1;
   others = Some (Flat pieces.Source);
   keywords = keywords;
+  left_out = common_left_out;
+}
+
+-- `custom_target(name)`
+abbrev pub custom_target_row : RowData
+custom_target_row = record {
+  positional = Text ∷ [];
+  needed = 1;
+  others = None;
+  keywords = needed (codes "output") Texts
+      ∷ needed (codes "command") (Flat pieces.CommandWord)
+      ∷ optional (codes "input") (Flat pieces.Source)
+      ∷ optional (codes "depend_files") (Flat pieces.Source)
+      ∷ optional (codes "depends") (Flat pieces.Target)
+      ∷ optional (codes "capture") Boolean
+      ∷ optional (codes "depfile") Text
+      ∷ optional (codes "build_by_default") Boolean
+      ∷ optional (codes "install") Boolean
+      ∷ optional (codes "install_dir") Text
+      ∷ [];
   left_out = common_left_out;
 }
 

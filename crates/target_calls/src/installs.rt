@@ -25,6 +25,8 @@ pub struct Folders<'a> {
     pub alloc: Global,
     /// An absolute path.
     pub build_root: &'a str,
+    /// The folder of the definition file, `""` for the root.
+    pub folder: &'a str,
     pub prefix: &'a str,
     pub bindir: &'a str,
     pub libdir: &'a str,
@@ -47,6 +49,7 @@ pub fn folders_in<'c, T: Tree, O: Outputs>(caller: &'c Caller<'_, T, O>) -> Fold
     Folders {
         alloc: caller.alloc,
         build_root: caller.store.settings().build_root.as_str(),
+        folder: caller.store.folder(),
         prefix: option_text(caller.store, "prefix"),
         bindir: option_text(caller.store, "bindir"),
         libdir: option_text(caller.store, "libdir"),

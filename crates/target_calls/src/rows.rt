@@ -1,7 +1,8 @@
 //! The rows of the functions: what each takes.
 ghost use Rattle.std.specs.Prelude.{◌≡◌};
 ghost use Rattle.arguments.specs.RowView.{row_data};
-ghost use Rattle.target_calls.specs.Rows.{files_row, include_directories_row, project_words_row, shared_library_row, target_row};
+ghost use Rattle.target_calls.specs.Rows.{custom_target_row, files_row, include_directories_row, project_words_row};
+ghost use Rattle.target_calls.specs.Rows.{shared_library_row, target_row};
 
 use arguments::{Keyword, Kind, Piece, Row};
 
@@ -123,6 +124,59 @@ static SHARED_LIBRARY: [Keyword; 11] = [
     },
 ];
 
+static CUSTOM_TARGET: [Keyword; 10] = [
+    Keyword {
+        name: "output",
+        kind: Kind::Texts,
+        is_needed: true,
+    },
+    Keyword {
+        name: "command",
+        kind: Kind::Flat(Piece::CommandWord),
+        is_needed: true,
+    },
+    Keyword {
+        name: "input",
+        kind: Kind::Flat(Piece::Source),
+        is_needed: false,
+    },
+    Keyword {
+        name: "depend_files",
+        kind: Kind::Flat(Piece::Source),
+        is_needed: false,
+    },
+    Keyword {
+        name: "depends",
+        kind: Kind::Flat(Piece::Target),
+        is_needed: false,
+    },
+    Keyword {
+        name: "capture",
+        kind: Kind::Boolean,
+        is_needed: false,
+    },
+    Keyword {
+        name: "depfile",
+        kind: Kind::Text,
+        is_needed: false,
+    },
+    Keyword {
+        name: "build_by_default",
+        kind: Kind::Boolean,
+        is_needed: false,
+    },
+    Keyword {
+        name: "install",
+        kind: Kind::Boolean,
+        is_needed: false,
+    },
+    Keyword {
+        name: "install_dir",
+        kind: Kind::Text,
+        is_needed: false,
+    },
+];
+
 /// What `files` takes.
 pub fn files_row() -> Row
     ensures { row_data result ≡ files_row }
@@ -158,6 +212,19 @@ pub fn project_words_row() -> Row
         needed: 0,
         others: Some(Kind::Texts),
         keywords: &LANGUAGE,
+        left_out: &["kwargs", "fallback", "deprecated"],
+    }
+}
+
+/// What `custom_target` takes.
+pub fn custom_target_row() -> Row
+    ensures { row_data result ≡ custom_target_row }
+{
+    Row {
+        positional: &[Kind::Text],
+        needed: 1,
+        others: None,
+        keywords: &CUSTOM_TARGET,
         left_out: &["kwargs", "fallback", "deprecated"],
     }
 }

@@ -39,8 +39,8 @@ pub struct Names {
 
 // ---- what may be given
 
-// How many items a keyword gives, its lists opened.
-fn count_named(alloc: Global, arguments: &Arguments, name: &str) -> Result<usize, AllocError>
+/// How many items a keyword gives, its lists opened.
+pub fn count_named(alloc: Global, arguments: &Arguments, name: &str) -> Result<usize, AllocError>
     ensures { IfOk result (λ n. n ≡ count_named name.now (arguments_data arguments.now)) }
 {
     let leaves = arguments.leaves(alloc, name)?;

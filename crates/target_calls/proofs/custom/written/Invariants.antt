@@ -3,7 +3,7 @@ use Rattle.std.specs.Prelude.{flat_map}
 use Rattle.arguments.specs.Arguments.{named_data}
 use Rattle.data.specs.View.{data_of}
 use Rattle.target_calls.specs.CustomTargets.{written_in}
-use Rattle.target_calls.proofs.custom_target.written.Given as goal
+use Rattle.target_calls.proofs.custom.written.Given as goal
 
 abbrev pub invariant-loop-named : goal.invariant-loop-named
 invariant-loop-named l =

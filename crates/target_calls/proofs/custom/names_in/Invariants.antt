@@ -1,7 +1,7 @@
 use Rattle.std.proofs.Common.{◌≡◌, [], map, drop, string_bytes}
 use Rattle.placeholders.specs.View.{place_view}
 use Rattle.target_calls.specs.CustomTargets.{names_behind}
-use Rattle.target_calls.proofs.custom_target.names_in.Given as goal
+use Rattle.target_calls.proofs.custom.names_in.Given as goal
 
 -- the names so far and the texts that are left decide
 abbrev pub invariant-loop-text : goal.invariant-loop-text
