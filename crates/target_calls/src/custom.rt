@@ -126,10 +126,7 @@ fn written(alloc: Global, arguments: &Arguments) -> Result<Vec<&Value>, AllocErr
 }
 
 // The files of the tree among the sources.
-fn written_files(
-    here: &Here<'_>,
-    arguments: &Arguments,
-) -> Result<Option<Vec<String>>, AllocError>
+fn written_files(here: &Here<'_>, arguments: &Arguments) -> Result<Option<Vec<String>>, AllocError>
     ensures { IfOk result (λ fs. option_map (λ v. texts v.items) fs ≡ written_files (here_view here.now) (arguments_data arguments.now)) }
 {
     let values = written(here.alloc, arguments)?;
@@ -255,11 +252,7 @@ fn paths_in(alloc: Global, folder: &str, names: &[String]) -> Result<Vec<String>
     Ok(paths)
 }
 
-fn path_of(
-    alloc: Global,
-    folder: &str,
-    name: &Option<String>,
-) -> Result<Option<String>, AllocError>
+fn path_of(alloc: Global, folder: &str, name: &Option<String>) -> Result<Option<String>, AllocError>
     ensures { IfOk result (λ p. option_map string_bytes p
         ≡ option_map (path_of_file folder.now) (option_map string_bytes name.now)) }
 {

@@ -8,8 +8,8 @@ ghost use Rattle.target_calls.specs.BuildTargetsView.{named_target_view};
 ghost use Rattle.target_calls.specs.CustomCalls.{custom_target, said_custom};
 
 use crate::build_target::NamedTarget;
-use crate::custom_installs::add_custom;
 use crate::custom::{count_named, declared_custom};
+use crate::custom_installs::add_custom;
 use crate::declaring::require_fit;
 use crate::here::here_of;
 use crate::tree::require_all;

@@ -40,7 +40,10 @@ fn said<T: Tree, O: Outputs>(
 }
 
 /// Refuses a target that the project can't have.
-pub fn require_fit<T: Tree, O: Outputs>(caller: &Caller<'_, T, O>, target: &Target) -> Result<(), Stop>
+pub fn require_fit<T: Tree, O: Outputs>(
+    caller: &Caller<'_, T, O>,
+    target: &Target,
+) -> Result<(), Stop>
     ensures { Carries (λ u. u) (required_fit (target_view target.now)) (state_of T.seen O.seen caller.now) result
         (state_of T.seen O.seen caller.now) }
 {

@@ -3,9 +3,9 @@
 
 mod build_target;
 mod command;
+mod custom;
 mod custom_call;
 mod custom_installs;
-mod custom;
 mod declaring;
 mod dependencies;
 mod here;
@@ -19,6 +19,7 @@ pub use custom_call::custom_target;
 pub use declaring::{executable, library, shared_library, static_library};
 pub use project_words::{add_project_arguments, add_project_link_arguments};
 pub use rows::{
-    custom_target_row, files_row, include_directories_row, project_words_row, shared_library_row, target_row,
+    custom_target_row, files_row, include_directories_row, project_words_row, shared_library_row,
+    target_row,
 };
 pub use tree::{files, include_directories};
