@@ -1,72 +1,49 @@
-//! Functions that declare a target of sources alone.
-ghost use Rattle.std.specs.Prelude.{◌≡◌, IfOk, map, option_map, string_bytes};
+//! Functions that declare an executable or a library.
+ghost use Rattle.std.specs.Prelude.{◌≡◌, option_map};
 ghost use Rattle.arguments.specs.Arguments.{arguments_data};
 ghost use Rattle.data.specs.View.{data_of};
-ghost use Rattle.edge.specs.Texts.{texts};
-ghost use Rattle.targets.specs.Data.{Tree as TreeSource};
-ghost use Rattle.targets.specs.View.{lists_view, source_view, target_view};
+ghost use Rattle.option_values.specs.View.{value_in};
+ghost use Rattle.targets.specs.View.{target_view};
+ghost use Rattle.targets.specs.declared.target.Kind.TheVariants as kinds;
 ghost use Rattle.world.specs.Answering.{Carries, HasRoom};
 ghost use Rattle.world.specs.Caller.{state_of};
-ghost use Rattle.target_calls.specs.PlainTargets.{declare_target, required_fit, sources_alone, target_of};
+ghost use Rattle.target_calls.specs.BuildTargetsView.{named_target_view};
+ghost use Rattle.target_calls.specs.Targets.{add_installed, declare, library, library_kind, required_fit, said};
 
-use crate::tree::{named_files, require_all};
+use crate::build_target::{NamedTarget, declared};
+use crate::here::here_of;
+use crate::installs::{folders_in, install_of, note};
+use crate::tree::require_all;
 use arguments::Arguments;
 use data::{Object, Value};
 use faults::Refusal;
+use options::OptionValue;
 use ports::{Outputs, Tree};
-use std::alloc::{AllocError, Global};
-use targets::{BuildTarget, Kind, Lists, Source, Target};
+use targets::{Kind, Target};
 use world::{Caller, Stop};
 
-// Files of the tree as sources.
-fn sources_of(alloc: Global, paths: &[String]) -> Result<Vec<Source>, AllocError>
-    ensures { IfOk result (λ v. map source_view v.items ≡ map TreeSource (texts paths.now)) }
-{
-    let mut sources = Vec::new(alloc);
-    for path in paths {
-        sources.push(Source::Tree(path.clone()?))?;
-    }
-    Ok(sources)
-}
-
-// What a target of these sources has of its own.
-fn lists_of(alloc: Global, paths: &[String]) -> Result<Lists, AllocError>
-    ensures { IfOk result (λ l. lists_view l ≡ sources_alone (texts paths.now)) }
-{
-    Ok(Lists {
-        sources: sources_of(alloc, paths)?,
-        include_folders: Vec::new(alloc),
-        compile_args: Vec::new(alloc),
-        link_args: Vec::new(alloc),
-        link_with: Vec::new(alloc),
-    })
-}
-
-// A target of a folder with these sources.
-fn target_of(
-    alloc: Global,
+// What the arguments say, or the refusal of arguments that say no target.
+fn said<T: Tree, O: Outputs>(
+    caller: &Caller<'_, T, O>,
     kind: Kind,
-    folder: &str,
-    name: &str,
-    paths: &[String],
-) -> Result<Target, AllocError>
-    ensures { IfOk result (λ t. target_view t ≡ target_of kind folder.now name.now (texts paths.now)) }
+    arguments: &Arguments,
+) -> Result<NamedTarget, Stop>
+    ensures { Carries named_target_view (said kind (arguments_data arguments.now))
+        (state_of T.seen O.seen caller.now) result (state_of T.seen O.seen caller.now) }
 {
-    Ok(Target::Build(BuildTarget {
-        kind,
-        folder: String::from_str(alloc, folder)?,
-        name: String::from_str(alloc, name)?,
-        own: lists_of(alloc, paths)?,
-        dependencies: Vec::new(alloc),
-        version: None,
-        soversion: None,
-        is_default: true,
-        is_installed: false,
-    }))
+    let here = here_of(caller);
+    let found = declared(&here, kind, arguments)?;
+    match found {
+        Some(target) => Ok(target),
+        None => caller.refuse(Refusal::Arguments, ""),
+    }
 }
 
-// Refuses a target that the project can't have.
-fn require_fit<T: Tree, O: Outputs>(caller: &Caller<'_, T, O>, target: &Target) -> Result<(), Stop>
+/// Refuses a target that the project can't have.
+pub fn require_fit<T: Tree, O: Outputs>(
+    caller: &Caller<'_, T, O>,
+    target: &Target,
+) -> Result<(), Stop>
     ensures { Carries (λ u. u) (required_fit (target_view target.now)) (state_of T.seen O.seen caller.now) result
         (state_of T.seen O.seen caller.now) }
 {
@@ -74,23 +51,101 @@ fn require_fit<T: Tree, O: Outputs>(caller: &Caller<'_, T, O>, target: &Target) 
     caller.need(fits, Refusal::Arguments, "")
 }
 
-/// `executable(name, texts..)` and the like, by the kind of the target: E9, E14, E21, E11, E22 in this order.
-pub fn declare_target<T: Tree, O: Outputs>(
+// Declares a target, and notes where its file goes.
+fn add_installed<T: Tree, O: Outputs>(
+    caller: &mut Caller<'_, T, O>,
+    arguments: &Arguments,
+    target: Target,
+) -> Result<usize, Stop>
+    ensures { Carries (λ n. n) (add_installed (arguments_data arguments.now) (target_view target))
+        (state_of T.seen O.seen caller.old) result (state_of T.seen O.seen caller.new) }
+{
+    let folders = folders_in(caller);
+    let install = install_of(&folders, arguments, &target)?;
+    let number = caller.add_target(target)?;
+    note(caller, install)?;
+    Ok(number)
+}
+
+// Declares a target of a kind.
+fn declare<T: Tree, O: Outputs>(
     caller: &mut Caller<'_, T, O>,
     kind: Kind,
     arguments: &Arguments,
 ) -> Result<Option<Value>, Stop>
     requires { HasRoom (state_of T.seen O.seen caller.old) }
-    ensures { Carries (option_map data_of) (declare_target kind (arguments_data arguments.now))
+    ensures { Carries (option_map data_of) (declare kind (arguments_data arguments.now))
         (state_of T.seen O.seen caller.old) result (state_of T.seen O.seen caller.new) }
 {
-    let files = arguments.texts_behind(caller.alloc, 1)?;
-    let paths = named_files(caller, &files)?;
-    let folder = caller.store.folder();
-    let target = target_of(caller.alloc, kind, folder, arguments.text_at(0), &paths)?;
-    require_fit(caller, &target)?;
-    require_all(caller, &paths)?;
-    let number = caller.add_target(target)?;
+    let named = said(caller, kind, arguments)?;
+    require_fit(caller, &named.target)?;
+    require_all(caller, &named.files)?;
+    let number = add_installed(caller, arguments, named.target)?;
     let value = Value::of_object(caller.alloc, Object::BuildTarget(number))?;
     Ok(Some(value))
+}
+
+/// `executable(name, sources..)`: E9, E14, E21, E11, E22 in this order.
+pub fn executable<T: Tree, O: Outputs>(
+    caller: &mut Caller<'_, T, O>,
+    arguments: &Arguments,
+) -> Result<Option<Value>, Stop>
+    requires { HasRoom (state_of T.seen O.seen caller.old) }
+    ensures { Carries (option_map data_of) (declare kinds.Executable (arguments_data arguments.now))
+        (state_of T.seen O.seen caller.old) result (state_of T.seen O.seen caller.new) }
+{
+    declare(caller, Kind::Executable, arguments)
+}
+
+/// `static_library(name, sources..)`: E9, E14, E21, E11, E22 in this order.
+pub fn static_library<T: Tree, O: Outputs>(
+    caller: &mut Caller<'_, T, O>,
+    arguments: &Arguments,
+) -> Result<Option<Value>, Stop>
+    requires { HasRoom (state_of T.seen O.seen caller.old) }
+    ensures { Carries (option_map data_of) (declare kinds.StaticLibrary (arguments_data arguments.now))
+        (state_of T.seen O.seen caller.old) result (state_of T.seen O.seen caller.new) }
+{
+    declare(caller, Kind::StaticLibrary, arguments)
+}
+
+/// `shared_library(name, sources..)`: E9, E14, E21, E11, E22 in this order.
+pub fn shared_library<T: Tree, O: Outputs>(
+    caller: &mut Caller<'_, T, O>,
+    arguments: &Arguments,
+) -> Result<Option<Value>, Stop>
+    requires { HasRoom (state_of T.seen O.seen caller.old) }
+    ensures { Carries (option_map data_of) (declare kinds.SharedLibrary (arguments_data arguments.now))
+        (state_of T.seen O.seen caller.old) result (state_of T.seen O.seen caller.new) }
+{
+    declare(caller, Kind::SharedLibrary, arguments)
+}
+
+// What `library` makes where the option `default_library` has this value.
+fn library_kind(value: Option<&OptionValue>) -> Kind
+    ensures { result ≡ library_kind (option_map (λ v. value_in v.now) value.entry) }
+{
+    match value {
+        Some(OptionValue::Combo(choice)) => {
+            if choice.as_str() == "static" {
+                Kind::StaticLibrary
+            } else {
+                Kind::SharedLibrary
+            }
+        }
+        _ => Kind::SharedLibrary,
+    }
+}
+
+/// `library(name, sources..)`, whose kind the option `default_library` says: E9, E14, E21, E11, E22 in this order.
+pub fn library<T: Tree, O: Outputs>(
+    caller: &mut Caller<'_, T, O>,
+    arguments: &Arguments,
+) -> Result<Option<Value>, Stop>
+    requires { HasRoom (state_of T.seen O.seen caller.old) }
+    ensures { Carries (option_map data_of) (library (arguments_data arguments.now))
+        (state_of T.seen O.seen caller.old) result (state_of T.seen O.seen caller.new) }
+{
+    let kind = library_kind(caller.store.option("default_library"));
+    declare(caller, kind, arguments)
 }

@@ -1,10 +1,25 @@
 //! The functions of the page "Reference manual" that declare targets, and those that name what targets are made of.
 #![tactic(auto)]
 
+mod build_target;
+mod command;
+mod custom;
+mod custom_call;
+mod custom_installs;
 mod declaring;
+mod dependencies;
+mod here;
+mod installs;
+mod project_words;
 mod rows;
+mod sources;
 mod tree;
 
-pub use declaring::declare_target;
-pub use rows::{files_row, include_directories_row, target_row};
+pub use custom_call::custom_target;
+pub use declaring::{executable, library, shared_library, static_library};
+pub use project_words::{add_project_arguments, add_project_link_arguments};
+pub use rows::{
+    custom_target_row, files_row, include_directories_row, project_words_row, shared_library_row,
+    target_row,
+};
 pub use tree::{files, include_directories};

@@ -5,7 +5,7 @@ use Rattle.project.specs.World.{WorldData}
 use Rattle.targets.specs.View.{target_view}
 use Rattle.world.specs.Deed.{need}
 use Rattle.world.proofs.Answering.{carries_as, carries_none, carries_read}
-use Rattle.target_calls.specs.PlainTargets.{required_fit}
+use Rattle.target_calls.specs.Targets.{required_fit}
 use Rattle.target_calls.proofs.declaring.require_fit.Goals as goal
 
 pub returns-in_err-fits : goal.returns-in_err-fits

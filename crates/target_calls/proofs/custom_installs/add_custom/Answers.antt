@@ -1,0 +1,38 @@
+use Rattle.std.proofs.Common.{map, string_bytes, ap, refl, ◌∙◌}
+use Rattle.arguments.specs.Arguments.{arguments_data}
+use Rattle.targets.specs.View.{target_view}
+use Rattle.world.proofs.Answering.{carries_as, carries_give, carries_none, carries_read, carries_stop, carries_then}
+use Rattle.target_calls.specs.CustomInstalls.{WayData, add_custom, all_noted, installed_names, way_of}
+use Rattle.target_calls.specs.CustomInstallsView.{way_view}
+use Rattle.target_calls.specs.Installs.{FoldersData}
+use Rattle.target_calls.proofs.custom_installs.add_custom.Goals as goal
+
+pub returns-in_err-way : goal.returns-in_err-way
+returns-in_err-way g c = carries_none c.from_residual.ensures.1
+
+pub returns-in_err-names : goal.returns-in_err-names
+returns-in_err-names g c = carries_none c.from_residual-in_err-names.ensures.1
+
+pub returns-in_err-number : goal.returns-in_err-number
+unfolding add_custom
+returns-in_err-number g c = carries_read (carries_stop c.in_err-number.ensures c.from_residual-in_err-number.ensures.1)
+
+pub returns-in_err-note_all : goal.returns-in_err-note_all
+unfolding add_custom
+returns-in_err-note_all g c =
+    let way = c.in_ok-way.ensures
+    ∙ ap (λ (f : FoldersData). way_of f (arguments_data c.args.arguments.now)) c.folders_in-folders.ensures in
+    let noted = ap (all_noted (way_view c.in_ok-way.way)) (ap (map string_bytes) c.deref.ensures.value ∙ c.in_ok-names.ensures)
+    ∙ ap (λ (w : WayData). all_noted w (installed_names (target_view c.args.target))) way in
+    carries_read (carries_then {x = c.in_ok-number.number} c.in_ok-number.ensures
+    (carries_stop (carries_as noted c.in_err-note_all.ensures) c.from_residual-in_err-note_all.ensures.1))
+
+pub returns : goal.returns
+unfolding add_custom
+returns g c =
+    let way = c.in_ok-way.ensures
+    ∙ ap (λ (f : FoldersData). way_of f (arguments_data c.args.arguments.now)) c.folders_in-folders.ensures in
+    let noted = ap (all_noted (way_view c.in_ok-way.way)) (ap (map string_bytes) c.deref.ensures.value ∙ c.in_ok-names.ensures)
+    ∙ ap (λ (w : WayData). all_noted w (installed_names (target_view c.args.target))) way in
+    carries_read (carries_then {x = c.in_ok-number.number} c.in_ok-number.ensures
+    (carries_then (carries_as noted c.in_ok-note_all.ensures) (carries_give refl)))

@@ -1,0 +1,9 @@
+use Rattle.std.proofs.Common.{◌≡◌, map, take}
+use Rattle.std.specs.Prelude.{flat_map}
+use Rattle.edge.specs.Texts.{texts}
+use Rattle.target_arguments.specs.SourcesView.{named_view}
+use Rattle.target_calls.specs.Sources.{file_in}
+use Rattle.target_calls.proofs.sources.files_among.Given as goal
+
+abbrev pub invariant-loop-one : goal.invariant-loop-one
+invariant-loop-one l = texts l.files.items ≡ flat_map file_in (map named_view (take l.one-index l.named))

@@ -1,0 +1,8 @@
+-- What a call declares, without where it lies in memory.
+use Rattle.edge.specs.Texts.{texts}
+use Rattle.targets.specs.View.{target_view}
+use Rattle.target_calls.specs.BuildTargets.{NamedTargetData}
+use Rattle.target_calls.specs.declared.build_target.NamedTarget.{NamedTarget}
+
+abbrev pub named_target_view : NamedTarget → NamedTargetData
+named_target_view d = record { target = target_view d.target; files = texts d.files.items }

@@ -1,0 +1,102 @@
+-- The command of a custom target.
+use Rattle.std.specs.Prelude.{ℕ, Bool, true, false, List, [], ◌∷◌, ◌++◌, codes, Option, Some, None, option_map, if◌then◌else◌, ◌&&◌, not}
+use Rattle.data.specs.Data.{Data, text, object}
+use Rattle.data.specs.declared.object.Object.{Object}
+use Rattle.data.specs.declared.object.Object.TheVariants as objects
+use Rattle.data.specs.declared.object.Program.{Program}
+use Rattle.data.specs.declared.object.Program.TheVariants as programs
+use Rattle.edge.specs.Paths.{source_path}
+use Rattle.edge.specs.Texts.{Path, Text}
+use Rattle.placeholders.specs.Holes.{PlaceData, words_of}
+use Rattle.project.specs.Adding.{has_slash}
+use Rattle.targets.specs.Data.{BuildData, SourceData, Tree, Built, Made}
+use Rattle.targets.specs.Files.{file_path}
+use Rattle.targets.specs.Libraries.{build_at}
+use Rattle.targets.specs.declared.target.Kind.{Kind}
+use Rattle.targets.specs.declared.target.Kind.TheVariants as kinds
+use Rattle.target_calls.specs.Here.{HereData}
+use Rattle.target_calls.specs.Sources.{one_made, output_at, outputs_at}
+
+-- the words of a part of the command, and what has to be there for it
+pub record PartData : Type 0 where
+  pub words : List Text
+  pub needs : List SourceData
+
+abbrev pub words_alone : List Text → PartData
+words_alone ws = record { words = ws; needs = [] }
+
+abbrev pub one_path : Path → SourceData → PartData
+one_path path need = record { words = path ∷ []; needs = need ∷ [] }
+
+-- a program that was not found can't stand in a command
+abbrev pub of_program : ℕ → Program → Option PartData
+of_program depth programs.NotFound = None
+of_program depth (programs.Words words) = Some (words_alone words)
+of_program depth (programs.File path) = Some (words_alone (source_path depth path ∷ []))
+
+abbrev pub is_executable : Kind → Bool
+is_executable kinds.Executable = true
+is_executable _ = false
+
+-- a program of the build folder itself is called as `./prog`
+abbrev pub called : BuildData → Path
+called t = if is_executable t.kind && not (has_slash (file_path t)) then codes "./" ++ file_path t else file_path t
+
+abbrev pub of_build_target : BuildData → PartData
+of_build_target t = one_path (called t) (one_made (file_path t))
+
+abbrev pub of_outputs : List Path → PartData
+of_outputs paths = record { words = paths; needs = Made paths ∷ [] }
+
+abbrev pub of_output : Path → PartData
+of_output path = one_path path (one_made path)
+
+abbrev pub of_file : ℕ → Path → Bool → PartData
+of_file depth path true = one_path path (Built path)
+of_file depth path false = one_path (source_path depth path) (Tree path)
+
+abbrev pub build_target_at : HereData → ℕ → Option PartData
+build_target_at here number = option_map of_build_target (build_at here.earlier number)
+
+abbrev pub outputs_named : HereData → ℕ → Option PartData
+outputs_named here number = option_map of_outputs (outputs_at here.earlier number)
+
+abbrev pub output_named : HereData → ℕ → ℕ → Option PartData
+output_named here number place = option_map of_output (output_at here.earlier number place)
+
+-- what an object is in a command, or none where it can't stand there
+abbrev pub of_object : HereData → Object → Option PartData
+of_object here (objects.Program program) = of_program here.depth program
+of_object here (objects.File path is_built) = Some (of_file here.depth path is_built)
+of_object here (objects.BuildTarget number) = build_target_at here number
+of_object here (objects.CustomTarget number count) = outputs_named here number
+of_object here (objects.CustomOutput target place) = output_named here target place
+of_object here _ = None
+
+abbrev pub of_text : PlaceData → Text → Option PartData
+of_text place t = option_map words_alone (words_of place t)
+
+-- a part of the command: a text with placeholders, or an object
+abbrev pub part_of : HereData → PlaceData → Data → Option PartData
+part_of here place (text t) = of_text place t
+part_of here place (object o) = of_object here o
+part_of here place _ = None
+
+abbrev pub joined : PartData → PartData → PartData
+joined p q = record { words = p.words ++ q.words; needs = p.needs ++ q.needs }
+
+abbrev pub with_part : Option PartData → (PartData → Option PartData) → Option PartData
+with_part None next = None
+with_part (Some p) next = next p
+
+abbrev pub parts_behind : HereData → PlaceData → PartData → List Data → Option PartData
+parts_behind here place whole [] = Some whole
+parts_behind here place whole (d ∷ ds) =
+    with_part (part_of here place d) (λ p. parts_behind here place (joined whole p) ds)
+
+abbrev pub no_part : PartData
+no_part = record { words = []; needs = [] }
+
+-- the command that values say, all of it, or none
+abbrev pub command_of : HereData → PlaceData → List Data → Option PartData
+command_of here place ds = parts_behind here place no_part ds

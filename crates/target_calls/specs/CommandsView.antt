@@ -1,0 +1,9 @@
+-- A part of a command, without where it lies in memory.
+use Rattle.std.specs.Prelude.{map}
+use Rattle.edge.specs.Texts.{texts}
+use Rattle.targets.specs.View.{source_view}
+use Rattle.target_calls.specs.Commands.{PartData}
+use Rattle.target_calls.specs.declared.command.Part.{Part}
+
+abbrev pub part_view : Part → PartData
+part_view p = record { words = texts p.words.items; needs = map source_view p.needs.items }

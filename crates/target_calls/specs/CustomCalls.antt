@@ -1,0 +1,28 @@
+-- `custom_target`.
+use Rattle.std.specs.Prelude.{[], Option, Some, codes, ok_or}
+use Rattle.arguments.specs.Arguments.{ArgumentsData}
+use Rattle.data.specs.Data.{Data, object}
+use Rattle.data.specs.declared.object.Object.TheVariants as objects
+use Rattle.faults.specs.declared.refusal.Refusal.TheVariants as refusals
+use Rattle.world.specs.Deed.{Deed, give, read, ◌>>=◌, fitting}
+use Rattle.target_calls.specs.BuildTargets.{NamedTargetData}
+use Rattle.target_calls.specs.CustomInstalls.{add_custom}
+use Rattle.target_calls.specs.CustomTargets.{count_named, declared_custom}
+use Rattle.target_calls.specs.Files.{all_required}
+use Rattle.target_calls.specs.Here.{here_of}
+use Rattle.target_calls.specs.Targets.{required_fit}
+
+-- what the arguments say: E9 where they say no target
+unfoldable pub said_custom : ArgumentsData → Deed NamedTargetData
+said_custom a = do
+  facts ← read
+  fitting (ok_or (declared_custom (here_of facts) a) refusals.Arguments)
+
+-- `custom_target(name)`: E9; E14 of the first missing file in the order in which the keywords are written; E21, E11, E22
+unfoldable pub custom_target : ArgumentsData → Deed (Option Data)
+custom_target a = do
+  d ← said_custom a
+  _ ← required_fit d.target
+  _ ← all_required d.files
+  n ← add_custom a d.target
+  give (Some (object (objects.CustomTarget n (count_named (codes "output") a))))

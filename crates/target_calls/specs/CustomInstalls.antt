@@ -1,0 +1,54 @@
+-- Where the outputs of a custom target go when it is installed.
+use Rattle.std.specs.Prelude.{ℕ, List, [], ◌∷◌, unwrap_or, if◌then◌else◌}
+use Rattle.arguments.specs.Arguments.{ArgumentsData}
+use Rattle.edge.specs.Texts.{Path, Text}
+use Rattle.operators.specs.Texts.{path_below}
+use Rattle.project.specs.World.{InstallData}
+use Rattle.targets.specs.Data.{Build, Custom, CustomData, TargetData}
+use Rattle.targets.specs.Files.{path_in}
+use Rattle.world.specs.Declaring.{add_install, add_target}
+use Rattle.world.specs.Deed.{Deed, give, read, ◌>>=◌}
+use Rattle.target_calls.specs.Installs.{FoldersData, folder_given, folders_in}
+
+-- the build folder, the folder of the definition file, and the folder that files go to
+pub record WayData : Type 0 where
+  pub build_root : Path
+  pub folder : Path
+  pub destination : Path
+
+-- files go to `install_dir` below `prefix`, or to `install_dir` alone where that is absolute
+abbrev pub way_of : FoldersData → ArgumentsData → WayData
+way_of folders a = record {
+  build_root = folders.build_root;
+  folder = folders.folder;
+  destination = path_below folders.prefix (unwrap_or (folder_given a) []);
+}
+
+abbrev pub output_install : WayData → Text → InstallData
+output_install way name = record {
+  source = path_below way.build_root (path_in way.folder name);
+  destination = path_below way.destination name;
+}
+
+abbrev pub custom_names : CustomData → List Text
+custom_names t = if t.is_installed then t.outputs else []
+
+-- the outputs that are installed
+abbrev pub installed_names : TargetData → List Text
+installed_names (Build t) = []
+installed_names (Custom t) = custom_names t
+
+-- the project takes note of each
+unfoldable pub all_noted : WayData → List Text → Deed (Unit {0})
+all_noted way [] = give tt
+all_noted way (name ∷ names) = do
+  _ ← add_install (output_install way name)
+  all_noted way names
+
+-- the target is declared, and where its outputs go is noted
+unfoldable pub add_custom : ArgumentsData → TargetData → Deed ℕ
+add_custom a t = do
+  facts ← read
+  n ← add_target t
+  _ ← all_noted (way_of (folders_in facts) a) (installed_names t)
+  give n

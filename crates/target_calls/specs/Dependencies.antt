@@ -1,0 +1,60 @@
+-- What dependencies bring to a target.
+use Rattle.std.specs.Prelude.{true, false, List, [], ◌∷◌, ◌++◌, map, Option, Some, None, option_map, if◌then◌else◌}
+use Rattle.data.specs.Data.{Data, object}
+use Rattle.data.specs.declared.object.Dependency.{Dependency}
+use Rattle.data.specs.declared.object.Object.{Object}
+use Rattle.data.specs.declared.object.Object.TheVariants as objects
+use Rattle.data.specs.declared.object.Source.{Source}
+use Rattle.data.specs.declared.object.Source.TheVariants as source
+use Rattle.targets.specs.Data.{ListsData, SourceData}
+use Rattle.targets.specs.Libraries.{LinkedData}
+use Rattle.target_arguments.specs.Sources.{NamedData, tree, built, outputs, output}
+use Rattle.target_calls.specs.Sources.{sources_in}
+
+-- a source of a dependency, as a call names it
+abbrev pub named_of : Source → NamedData
+named_of (source.File path true) = built path
+named_of (source.File path false) = tree path
+named_of (source.CustomTarget number count) = outputs number
+named_of (source.CustomOutput target place) = output target place
+
+abbrev pub with_sources : Dependency → List SourceData → ListsData
+with_sources d ss = record {
+  sources = ss;
+  include_folders = d.include_directories;
+  compile_args = d.compile_args;
+  link_args = d.link_args;
+  link_with = d.link_with;
+}
+
+-- what one dependency brings
+abbrev pub lists_of : List LinkedData → Dependency → Option ListsData
+lists_of earlier d = option_map (with_sources d) (sources_in earlier (map named_of d.sources))
+
+abbrev pub found_in_object : Object → Option Dependency
+found_in_object (objects.Dependency d) = if d.is_found then Some d else None
+found_in_object _ = None
+
+-- the dependency that a value is, where it was found
+abbrev pub found_in : Data → Option Dependency
+found_in (object o) = found_in_object o
+found_in _ = None
+
+abbrev pub with_lists : Option ListsData → (ListsData → Option (List ListsData)) → Option (List ListsData)
+with_lists None next = None
+with_lists (Some l) next = next l
+
+-- one that was not found brings nothing
+abbrev pub with_found :
+    List LinkedData → List ListsData → Option Dependency → (List ListsData → Option (List ListsData)) → Option (List ListsData)
+with_found earlier ls None next = next ls
+with_found earlier ls (Some d) next = with_lists (lists_of earlier d) (λ l. next (ls ++ l ∷ []))
+
+-- lists, and behind them what the dependencies that values are bring
+abbrev pub lists_behind : List LinkedData → List ListsData → List Data → Option (List ListsData)
+lists_behind earlier ls [] = Some ls
+lists_behind earlier ls (v ∷ vs) = with_found earlier ls (found_in v) (λ ms. lists_behind earlier ms vs)
+
+-- what the dependencies that values are bring, or none where one of them has a source that no target makes
+abbrev pub dependencies_of : List LinkedData → List Data → Option (List ListsData)
+dependencies_of earlier vs = lists_behind earlier [] vs

@@ -1,0 +1,22 @@
+-- Where a call stands: in which folder of the tree, and behind which targets.
+use Rattle.std.specs.Prelude.{ℕ, List}
+use Rattle.edge.specs.Texts.{Path}
+use Rattle.targets.specs.Libraries.{LinkedData, linked_of}
+use Rattle.world.specs.World.{Facts}
+
+pub record HereData : Type 0 where
+  -- how many folders the build folder lies below the source root
+  pub depth : ℕ
+  -- an absolute path
+  pub source_root : Path
+  -- the folder of the definition file, empty for the root
+  pub folder : Path
+  pub earlier : List LinkedData
+
+abbrev pub here_of : Facts → HereData
+here_of facts = record {
+  depth = facts.settings.depth;
+  source_root = facts.settings.source_root;
+  folder = facts.folder;
+  earlier = linked_of facts.project.targets;
+}

@@ -1,0 +1,73 @@
+-- Where targets go when they are installed.
+use Rattle.std.specs.Prelude.{List, [], Option, Some, None, codes, option_and_then, unwrap_or, if◌then◌else◌}
+use Rattle.arguments.specs.Arguments.{ArgumentsData}
+use Rattle.arguments.specs.Given.{keyword}
+use Rattle.data.specs.Data.{text_in}
+use Rattle.edge.specs.Texts.{Path, Text}
+use Rattle.operators.specs.Texts.{path_below}
+use Rattle.option_values.specs.Values as option
+use Rattle.options.specs.Resolves.{value_named}
+use Rattle.options.specs.Settings.{Setting}
+use Rattle.project.specs.World.{InstallData}
+use Rattle.targets.specs.Data.{Build, BuildData, Custom, TargetData}
+use Rattle.targets.specs.Files.{file_name, file_path}
+use Rattle.targets.specs.declared.target.Kind.{Kind}
+use Rattle.targets.specs.declared.target.Kind.TheVariants as kinds
+use Rattle.world.specs.Declaring.{add_install}
+use Rattle.world.specs.Deed.{Deed, give}
+use Rattle.world.specs.World.{Facts}
+
+-- the build folder, the folder of the definition file, and the folders of the options `prefix`, `bindir` and `libdir`
+pub record FoldersData : Type 0 where
+  pub build_root : Path
+  pub folder : Path
+  pub prefix : Path
+  pub bindir : Path
+  pub libdir : Path
+
+abbrev pub text_of : Option option.Value → Text
+text_of (Some (option.Text text)) = text
+text_of _ = []
+
+abbrev pub option_text : List Setting → Text → Text
+option_text options name = text_of (value_named options name)
+
+abbrev pub folders_in : Facts → FoldersData
+folders_in facts = record {
+  build_root = facts.settings.build_root;
+  folder = facts.folder;
+  prefix = option_text facts.options (codes "prefix");
+  bindir = option_text facts.options (codes "bindir");
+  libdir = option_text facts.options (codes "libdir");
+}
+
+-- programs go to `bindir`, libraries to `libdir`
+abbrev pub usual_folder : FoldersData → Kind → Path
+usual_folder folders kinds.Executable = folders.bindir
+usual_folder folders _ = folders.libdir
+
+abbrev pub folder_given : ArgumentsData → Option Path
+folder_given a = option_and_then text_in (keyword (codes "install_dir") a)
+
+-- the folder that the keyword `install_dir` says, else the usual one
+abbrev pub install_folder : FoldersData → ArgumentsData → Kind → Path
+install_folder folders a kind = unwrap_or (folder_given a) (usual_folder folders kind)
+
+-- the target's file goes to the folder below `prefix`, or to the folder alone where that is absolute; symbolic links are not listed
+abbrev pub build_install : FoldersData → ArgumentsData → BuildData → InstallData
+build_install folders a t = record {
+  source = path_below folders.build_root (file_path t);
+  destination = path_below (path_below folders.prefix (install_folder folders a t.kind)) (file_name t);
+}
+
+abbrev pub asked_install : FoldersData → ArgumentsData → BuildData → Option InstallData
+asked_install folders a t = if t.is_installed then Some (build_install folders a t) else None
+
+abbrev pub install_of : FoldersData → ArgumentsData → TargetData → Option InstallData
+install_of folders a (Build t) = asked_install folders a t
+install_of folders a (Custom t) = None
+
+-- the project takes note of it, where there is one
+unfoldable pub noted : Option InstallData → Deed (Unit {0})
+noted None = give tt
+noted (Some install) = add_install install

@@ -1,0 +1,42 @@
+-- The sources of a target: files, and the outputs of earlier targets.
+use Rattle.std.specs.Prelude.{ℕ, List, [], ◌∷◌, ◌++◌, Option, Some, None, option_map, option_and_then, slice_get}
+use Rattle.edge.specs.Texts.{Path}
+use Rattle.targets.specs.Data.{SourceData, Tree, Built, Made}
+use Rattle.targets.specs.Libraries.{LinkedData}
+use Rattle.target_arguments.specs.Sources.{NamedData, tree, built, outputs, output}
+
+-- the outputs of the target with a number
+abbrev pub outputs_at : List LinkedData → ℕ → Option (List Path)
+outputs_at earlier number = option_map (λ l. l.paths) (slice_get earlier number)
+
+-- one of them
+abbrev pub output_at : List LinkedData → ℕ → ℕ → Option Path
+output_at earlier number place = option_and_then (λ paths. slice_get paths place) (outputs_at earlier number)
+
+abbrev pub one_made : Path → SourceData
+one_made path = Made (path ∷ [])
+
+-- the source that is named, or none where it is an output that no target has
+abbrev pub source_in : List LinkedData → NamedData → Option SourceData
+source_in earlier (tree path) = Some (Tree path)
+source_in earlier (built path) = Some (Built path)
+source_in earlier (outputs number) = option_map Made (outputs_at earlier number)
+source_in earlier (output number place) = option_map one_made (output_at earlier number place)
+
+abbrev pub with_source : Option SourceData → (SourceData → Option (List SourceData)) → Option (List SourceData)
+with_source None next = None
+with_source (Some s) next = next s
+
+-- sources, and behind them those that are named
+abbrev pub sources_behind : List LinkedData → List SourceData → List NamedData → Option (List SourceData)
+sources_behind earlier ss [] = Some ss
+sources_behind earlier ss (n ∷ ns) = with_source (source_in earlier n) (λ s. sources_behind earlier (ss ++ s ∷ []) ns)
+
+-- the sources that are named, all of them, or none
+abbrev pub sources_in : List LinkedData → List NamedData → Option (List SourceData)
+sources_in earlier ns = sources_behind earlier [] ns
+
+-- the file of the tree that a source is
+abbrev pub file_in : NamedData → List Path
+file_in (tree path) = path ∷ []
+file_in _ = []

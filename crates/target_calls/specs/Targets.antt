@@ -1,0 +1,59 @@
+-- Functions that declare an executable or a library.
+use Rattle.std.specs.Prelude.{ℕ, [], Option, Some, bytes_eq, codes, ok_or, if◌then◌else◌}
+use Rattle.arguments.specs.Arguments.{ArgumentsData}
+use Rattle.data.specs.Data.{Data, object}
+use Rattle.data.specs.declared.object.Object.TheVariants as objects
+use Rattle.faults.specs.declared.refusal.Refusal.TheVariants as refusals
+use Rattle.option_values.specs.Values as option
+use Rattle.options.specs.Resolves.{value_named}
+use Rattle.project.specs.Adding.{is_fit}
+use Rattle.targets.specs.Data.{TargetData}
+use Rattle.targets.specs.declared.target.Kind.{Kind}
+use Rattle.targets.specs.declared.target.Kind.TheVariants as kinds
+use Rattle.world.specs.Declaring.{add_target}
+use Rattle.world.specs.Deed.{Deed, give, read, ◌>>=◌, fitting, need}
+use Rattle.target_calls.specs.BuildTargets.{NamedTargetData, declared}
+use Rattle.target_calls.specs.Files.{all_required}
+use Rattle.target_calls.specs.Here.{here_of}
+use Rattle.target_calls.specs.Installs.{folders_in, install_of, noted}
+
+-- what the arguments say: E9 where they say no target
+unfoldable pub said : Kind → ArgumentsData → Deed NamedTargetData
+said kind a = do
+  facts ← read
+  fitting (ok_or (declared (here_of facts) kind a) refusals.Arguments)
+
+-- the project can have the target, by its names, sources and libraries (E9)
+unfoldable pub required_fit : TargetData → Deed (Unit {0})
+required_fit t = do
+  facts ← read
+  need (is_fit facts.project t) refusals.Arguments []
+
+-- the target is declared, and where its file goes is noted
+unfoldable pub add_installed : ArgumentsData → TargetData → Deed ℕ
+add_installed a t = do
+  facts ← read
+  n ← add_target t
+  _ ← noted (install_of (folders_in facts) a t)
+  give n
+
+-- `executable`, `static_library` and `shared_library`, by the kind: E9; E14 of the first missing file in the order of the arguments; E21,
+-- E11, E22
+unfoldable pub declare : Kind → ArgumentsData → Deed (Option Data)
+declare kind a = do
+  d ← said kind a
+  _ ← required_fit d.target
+  _ ← all_required d.files
+  n ← add_installed a d.target
+  give (Some (object (objects.BuildTarget n)))
+
+-- what `library` makes where the option `default_library` has this value
+abbrev pub library_kind : Option option.Value → Kind
+library_kind (Some (option.Combo choice)) = if bytes_eq choice (codes "static") then kinds.StaticLibrary else kinds.SharedLibrary
+library_kind _ = kinds.SharedLibrary
+
+-- `library`
+unfoldable pub library : ArgumentsData → Deed (Option Data)
+library a = do
+  facts ← read
+  declare (library_kind (value_named facts.options (codes "default_library"))) a

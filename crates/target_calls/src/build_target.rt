@@ -1,0 +1,203 @@
+//! An executable or a library as the arguments of a call say it.
+ghost use Rattle.std.specs.Prelude.{◌≡◌, IfOk, map, option_map, string_bytes};
+ghost use Rattle.arguments.specs.Arguments.{arguments_data};
+ghost use Rattle.data.specs.View.{data_of};
+ghost use Rattle.targets.specs.View.{build_view, lists_view, source_view};
+ghost use Rattle.target_arguments.specs.SourcesView.{named_view, named_views};
+ghost use Rattle.target_calls.specs.BuildTargets.{build_target, declared, declared_from, named_sources, number_in, own_lists};
+ghost use Rattle.target_calls.specs.BuildTargets.{source_values, soversion_given, version_fits, version_given};
+ghost use Rattle.target_calls.specs.BuildTargetsView.{named_target_view};
+ghost use Rattle.target_calls.specs.HereView.{here_view};
+
+use crate::dependencies::dependencies_of;
+use crate::here::Here;
+use crate::sources::{files_among, sources_in};
+use arguments::Arguments;
+use data::{Text, Value};
+use std::alloc::{AllocError, Global};
+use std::rc::Rc;
+use target_arguments::{NamedSource, folders_of, is_library_version, numbers_of, sources_of};
+use targets::{BuildTarget, Kind, Lists, Source, Target};
+
+/// What a call declares.
+#[derive(Drop)]
+pub struct NamedTarget {
+    pub target: Target,
+    /// The files of the tree that the call asks for, in the order of the arguments.
+    pub files: Vec<String>,
+}
+
+// ---- the keywords of a shared library
+
+fn version_given(arguments: &Arguments) -> Option<&Text>
+    ensures { option_map (λ t. t.now) result ≡ version_given (arguments_data arguments.now) }
+{
+    match arguments.keyword("version") {
+        Some(value) => value.as_text(),
+        None => None,
+    }
+}
+
+fn version_of(alloc: Global, arguments: &Arguments) -> Result<Option<String>, AllocError>
+    ensures { IfOk result (λ v. option_map string_bytes v ≡ version_given (arguments_data arguments.now)) }
+{
+    match version_given(arguments) {
+        Some(version) => Ok(Some(String::from_str(alloc, version.as_str())?)),
+        None => Ok(None),
+    }
+}
+
+// One to three numbers with dots, where it is given.
+fn version_fits(alloc: Global, arguments: &Arguments) -> Result<bool, AllocError>
+    ensures { IfOk result (λ fits. fits ≡ version_fits (version_given (arguments_data arguments.now))) }
+{
+    match version_given(arguments) {
+        Some(version) => is_library_version(alloc, version.as_str()),
+        None => Ok(true),
+    }
+}
+
+// A text, or an integer by its decimal digits.
+fn number_in(alloc: Global, value: &Value) -> Result<Option<String>, AllocError>
+    ensures { IfOk result (λ n. option_map string_bytes n ≡ number_in (data_of value.now)) }
+{
+    match value {
+        Value::Text(text) => Ok(Some(String::from_str(alloc, text.as_str())?)),
+        Value::Integer(number) => {
+            let digits = format!(in alloc; "{}", *number)?;
+            Ok(Some(digits))
+        }
+        _ => Ok(None),
+    }
+}
+
+fn soversion_of(alloc: Global, arguments: &Arguments) -> Result<Option<String>, AllocError>
+    ensures { IfOk result (λ n. option_map string_bytes n ≡ soversion_given (arguments_data arguments.now)) }
+{
+    match arguments.keyword("soversion") {
+        Some(value) => number_in(alloc, value),
+        None => Ok(None),
+    }
+}
+
+// ---- lists
+
+// What the sources are said to be: behind the name of the target, then by keyword.
+fn source_values<'v>(alloc: Global, arguments: &'v Arguments) -> Result<Vec<&'v Value>, AllocError>
+    ensures { IfOk result (λ vs. map (λ v. data_of v.now) vs.items ≡ source_values (arguments_data arguments.now)) }
+{
+    let mut values = arguments.leaves_behind(alloc, 1)?;
+    let mut more = arguments.leaves(alloc, "sources")?;
+    values.append(&mut more)?;
+    Ok(values)
+}
+
+// The sources that the call names.
+fn named_sources(
+    here: &Here<'_>,
+    arguments: &Arguments,
+) -> Result<Option<Vec<NamedSource>>, AllocError>
+    ensures { IfOk result (λ ns. option_map named_views ns ≡ named_sources (here_view here.now) (arguments_data arguments.now)) }
+{
+    let values = source_values(here.alloc, arguments)?;
+    sources_of(here.alloc, here.source_root, here.folder, &values)
+}
+
+// What the target lists of its own, beside these sources.
+fn own_lists(
+    here: &Here<'_>,
+    arguments: &Arguments,
+    sources: Vec<Source>,
+) -> Result<Option<Lists>, AllocError>
+    ensures { IfOk result (λ l. option_map lists_view l
+        ≡ own_lists (here_view here.now) (arguments_data arguments.now) (map source_view sources.items)) }
+{
+    let folders = arguments.leaves(here.alloc, "include_directories")?;
+    let Some(include_folders) = folders_of(here.alloc, here.source_root, here.folder, &folders)?
+    else {
+        return Ok(None);
+    };
+    let libraries = arguments.leaves(here.alloc, "link_with")?;
+    let Some(link_with) = numbers_of(here.alloc, &libraries)? else {
+        return Ok(None);
+    };
+    Ok(Some(Lists {
+        sources,
+        include_folders,
+        compile_args: arguments.texts(here.alloc, "c_args")?,
+        link_args: arguments.texts(here.alloc, "link_args")?,
+        link_with,
+    }))
+}
+
+// ---- the target
+
+fn build_target(
+    here: &Here<'_>,
+    kind: Kind,
+    arguments: &Arguments,
+    own: Lists,
+    dependencies: Vec<Rc<Lists>>,
+) -> Result<BuildTarget, AllocError>
+    ensures { IfOk result (λ t. build_view t ≡ build_target (here_view here.now) kind (arguments_data arguments.now)
+        (lists_view own) (map (λ l. lists_view l.value) dependencies.items)) }
+{
+    Ok(BuildTarget {
+        kind,
+        folder: String::from_str(here.alloc, here.folder)?,
+        name: String::from_str(here.alloc, arguments.text_at(0))?,
+        own,
+        dependencies,
+        version: version_of(here.alloc, arguments)?,
+        soversion: soversion_of(here.alloc, arguments)?,
+        is_default: arguments.flag("build_by_default", true),
+        is_installed: arguments.flag("install", false),
+    })
+}
+
+// What a call declares that names these sources.
+fn declared_from(
+    here: &Here<'_>,
+    kind: Kind,
+    arguments: &Arguments,
+    named: &[NamedSource],
+) -> Result<Option<NamedTarget>, AllocError>
+    ensures { IfOk result (λ d. option_map named_target_view d
+        ≡ declared_from (here_view here.now) kind (arguments_data arguments.now) (map named_view named.now)) }
+{
+    let Some(sources) = sources_in(here.alloc, here.earlier, named)? else {
+        return Ok(None);
+    };
+    let Some(own) = own_lists(here, arguments, sources)? else {
+        return Ok(None);
+    };
+    let values = arguments.leaves(here.alloc, "dependencies")?;
+    let Some(dependencies) = dependencies_of(here.alloc, here.earlier, &values)? else {
+        return Ok(None);
+    };
+    let target = build_target(here, kind, arguments, own, dependencies)?;
+    let files = files_among(here.alloc, named)?;
+    Ok(Some(NamedTarget {
+        target: Target::Build(target),
+        files,
+    }))
+}
+
+/// What a call declares, or none where its arguments say no target: a path leads out of the tree, or `version` is none.
+#[tactic(auto, unfolding(crate::specs::BuildTargets::declared))]
+pub fn declared(
+    here: &Here<'_>,
+    kind: Kind,
+    arguments: &Arguments,
+) -> Result<Option<NamedTarget>, AllocError>
+    ensures { IfOk result (λ d. option_map named_target_view d ≡ declared (here_view here.now) kind (arguments_data arguments.now)) }
+{
+    let fits = version_fits(here.alloc, arguments)?;
+    if !fits {
+        return Ok(None);
+    }
+    let Some(named) = named_sources(here, arguments)? else {
+        return Ok(None);
+    };
+    declared_from(here, kind, arguments, &named)
+}

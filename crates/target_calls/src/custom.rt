@@ -1,0 +1,387 @@
+//! A custom target as the arguments of a call say it.
+ghost use Rattle.std.specs.Prelude.{◌≡◌, ◌++◌, IfOk, flat_map, map, option_map, string_bytes};
+ghost use Rattle.arguments.specs.Arguments.{arguments_data, named_data};
+ghost use Rattle.data.specs.View.{data_of};
+ghost use Rattle.edge.specs.Texts.{texts};
+ghost use Rattle.placeholders.specs.Holes.{first_of};
+ghost use Rattle.placeholders.specs.View.{place_view};
+ghost use Rattle.targets.specs.Files.{path_in as path_of_file};
+ghost use Rattle.targets.specs.View.{custom_view, source_view};
+ghost use Rattle.target_arguments.specs.SourcesView.{named_view};
+ghost use Rattle.target_calls.specs.BuildTargetsView.{named_target_view};
+ghost use Rattle.target_calls.specs.CommandsView.{part_view};
+ghost use Rattle.target_calls.specs.CustomTargets.{build_folder, call_fits, captures_one, count_named, custom_from, custom_target};
+ghost use Rattle.target_calls.specs.CustomTargets.{declared_custom, declared_files, has_place, is_made, is_source_keyword, longest};
+ghost use Rattle.target_calls.specs.CustomTargets.{names_in, names_of, place_of, place_with, source_folder, sources_by, whole_command};
+ghost use Rattle.target_calls.specs.CustomTargets.{written, written_files, written_in};
+ghost use Rattle.target_calls.specs.CustomTargetsView.{names_view};
+ghost use Rattle.target_calls.specs.HereView.{here_view};
+
+use crate::build_target::NamedTarget;
+use crate::command::{Part, command_of};
+use crate::here::Here;
+use crate::installs::folder_given;
+use crate::sources::{files_among, sources_in};
+use arguments::{Arguments, Named};
+use data::Value;
+use edge::{copies, source_path, source_root};
+use placeholders::{Place, Scope, filled};
+use std::alloc::{AllocError, Global};
+use target_arguments::{opened, sources_of};
+use targets::{CustomTarget, Source, Target, path_in, source_paths};
+
+/// Names of files of the folder.
+#[derive(Drop)]
+pub struct Names {
+    pub outputs: Vec<String>,
+    pub depfile: Option<String>,
+}
+
+// ---- what may be given
+
+/// How many items a keyword gives, its lists opened.
+pub fn count_named(alloc: Global, arguments: &Arguments, name: &str) -> Result<usize, AllocError>
+    ensures { IfOk result (λ n. n ≡ count_named name.now (arguments_data arguments.now)) }
+{
+    let leaves = arguments.leaves(alloc, name)?;
+    Ok(leaves.len())
+}
+
+// The longest of the lists that the call gives.
+fn longest(alloc: Global, arguments: &Arguments) -> Result<usize, AllocError>
+    ensures { IfOk result (λ n. n ≡ longest (arguments_data arguments.now)) }
+{
+    let outputs = count_named(alloc, arguments, "output")?;
+    let words = count_named(alloc, arguments, "command")?;
+    let inputs = count_named(alloc, arguments, "input")?;
+    let files = count_named(alloc, arguments, "depend_files")?;
+    let targets = count_named(alloc, arguments, "depends")?;
+    Ok(outputs.max(words.max(inputs.max(files.max(targets)))))
+}
+
+// What is printed goes to one output.
+fn captures_one(alloc: Global, arguments: &Arguments) -> Result<bool, AllocError>
+    ensures { IfOk result (λ b. b ≡ captures_one (arguments_data arguments.now)) }
+{
+    let outputs = count_named(alloc, arguments, "output")?;
+    Ok(!arguments.flag("capture", false) || outputs == 1)
+}
+
+// What is installed goes to a folder.
+fn has_place(arguments: &Arguments) -> bool
+    ensures { result ≡ has_place (arguments_data arguments.now) }
+{
+    !arguments.flag("install", false) || folder_given(arguments).is_some()
+}
+
+// At least one output and one word of a command.
+fn is_made(alloc: Global, arguments: &Arguments) -> Result<bool, AllocError>
+    ensures { IfOk result (λ b. b ≡ is_made (arguments_data arguments.now)) }
+{
+    let outputs = count_named(alloc, arguments, "output")?;
+    let words = count_named(alloc, arguments, "command")?;
+    Ok(0 < outputs && 0 < words)
+}
+
+fn call_fits(alloc: Global, arguments: &Arguments) -> Result<bool, AllocError>
+    ensures { IfOk result (λ b. b ≡ call_fits (arguments_data arguments.now)) }
+{
+    let made = is_made(alloc, arguments)?;
+    let one = captures_one(alloc, arguments)?;
+    Ok(made && one && has_place(arguments))
+}
+
+// ---- sources
+
+fn is_source_keyword(name: &str) -> bool
+    ensures { result ≡ is_source_keyword name.now }
+{
+    name == "input" || name == "depend_files"
+}
+
+fn push_written<'v>(
+    values: &mut Vec<&'v Value>,
+    alloc: Global,
+    named: &'v Named,
+) -> Result<(), AllocError>
+    ensures { IfOk result (λ _. map (λ v. data_of v.now) values.new.items
+        ≡ map (λ v. data_of v.now) values.old.items ++ written_in (named_data named.now)) }
+{
+    if is_source_keyword(named.name.as_str()) {
+        let mut more = opened(alloc, &named.value)?;
+        values.append(&mut more)?;
+    }
+    Ok(())
+}
+
+// What the call says of sources, in the order in which its keywords are written.
+fn written(alloc: Global, arguments: &Arguments) -> Result<Vec<&Value>, AllocError>
+    ensures { IfOk result (λ vs. map (λ v. data_of v.now) vs.items ≡ written (arguments_data arguments.now)) }
+{
+    let mut values = Vec::new(alloc);
+    for named in &arguments.named {
+        push_written(&mut values, alloc, named)?;
+    }
+    Ok(values)
+}
+
+// The files of the tree among the sources.
+fn written_files(here: &Here<'_>, arguments: &Arguments) -> Result<Option<Vec<String>>, AllocError>
+    ensures { IfOk result (λ fs. option_map (λ v. texts v.items) fs ≡ written_files (here_view here.now) (arguments_data arguments.now)) }
+{
+    let values = written(here.alloc, arguments)?;
+    match sources_of(here.alloc, here.source_root, here.folder, &values)? {
+        Some(named) => Ok(Some(files_among(here.alloc, &named)?)),
+        None => Ok(None),
+    }
+}
+
+// The sources that a keyword names.
+fn sources_by(
+    here: &Here<'_>,
+    arguments: &Arguments,
+    name: &str,
+) -> Result<Option<Vec<Source>>, AllocError>
+    ensures { IfOk result (λ ss. option_map (λ v. map source_view v.items) ss
+        ≡ sources_by (here_view here.now) (arguments_data arguments.now) name.now) }
+{
+    let values = arguments.leaves(here.alloc, name)?;
+    match sources_of(here.alloc, here.source_root, here.folder, &values)? {
+        Some(named) => sources_in(here.alloc, here.earlier, &named),
+        None => Ok(None),
+    }
+}
+
+// ---- names
+
+fn build_folder(alloc: Global, folder: &str) -> Result<String, AllocError>
+    ensures { IfOk result (λ s. string_bytes s ≡ build_folder folder.now) }
+{
+    if folder.is_empty() {
+        String::from_str(alloc, ".")
+    } else {
+        String::from_str(alloc, folder)
+    }
+}
+
+fn source_folder(alloc: Global, depth: usize, folder: &str) -> Result<String, AllocError>
+    ensures { IfOk result (λ s. string_bytes s ≡ source_folder depth folder.now) }
+{
+    if folder.is_empty() {
+        source_root(alloc, depth)
+    } else {
+        source_path(alloc, depth, folder)
+    }
+}
+
+// What the placeholders of the call are seen from.
+fn place_with(
+    here: &Here<'_>,
+    inputs: &[String],
+    outputs: Vec<String>,
+    depfile: Option<String>,
+) -> Result<Place, AllocError>
+    ensures { IfOk result (λ p. place_view p
+        ≡ place_with (here_view here.now) (texts inputs.now) (texts outputs.items) (option_map string_bytes depfile)) }
+{
+    Ok(Place {
+        inputs: copies(here.alloc, inputs)?,
+        outputs,
+        depfile,
+        build_folder: build_folder(here.alloc, here.folder)?,
+        source_folder: source_folder(here.alloc, here.depth, here.folder)?,
+        source_root: source_root(here.alloc, here.depth)?,
+    })
+}
+
+// Names of files, their placeholders replaced.
+fn names_in(
+    alloc: Global,
+    place: &Place,
+    texts: &[String],
+) -> Result<Option<Vec<String>>, AllocError>
+    ensures { IfOk result (λ ns. option_map (λ v. map string_bytes v.items) ns
+        ≡ names_in (place_view place.now) (map string_bytes texts.now)) }
+{
+    let mut names = Vec::new(alloc);
+    for text in texts {
+        match filled(alloc, Scope::FileName, place, text)? {
+            Some(name) => names.push(name)?,
+            None => return Ok(None),
+        }
+    }
+    Ok(Some(names))
+}
+
+fn first_of(names: &[String]) -> Result<Option<String>, AllocError>
+    ensures { IfOk result (λ n. option_map string_bytes n ≡ first_of (texts names.now)) }
+{
+    match names {
+        [] => Ok(None),
+        [name, ..] => Ok(Some(name.clone()?)),
+    }
+}
+
+// The outputs and the depfile, which see the inputs alone.
+fn names_of(
+    alloc: Global,
+    place: &Place,
+    arguments: &Arguments,
+) -> Result<Option<Names>, AllocError>
+    ensures { IfOk result (λ n. option_map names_view n ≡ names_of (place_view place.now) (arguments_data arguments.now)) }
+{
+    let outputs = arguments.texts(alloc, "output")?;
+    let Some(outputs) = names_in(alloc, place, &outputs)? else {
+        return Ok(None);
+    };
+    let depfile = arguments.texts(alloc, "depfile")?;
+    let Some(depfile) = names_in(alloc, place, &depfile)? else {
+        return Ok(None);
+    };
+    let depfile = first_of(&depfile)?;
+    Ok(Some(Names { outputs, depfile }))
+}
+
+fn paths_in(alloc: Global, folder: &str, names: &[String]) -> Result<Vec<String>, AllocError>
+    ensures { IfOk result (λ v. texts v.items ≡ map (path_of_file folder.now) (texts names.now)) }
+{
+    let mut paths = Vec::new(alloc);
+    for name in names {
+        paths.push(path_in(alloc, folder, name)?)?;
+    }
+    Ok(paths)
+}
+
+fn path_of(alloc: Global, folder: &str, name: &Option<String>) -> Result<Option<String>, AllocError>
+    ensures { IfOk result (λ p. option_map string_bytes p
+        ≡ option_map (path_of_file folder.now) (option_map string_bytes name.now)) }
+{
+    match name {
+        Some(name) => Ok(Some(path_in(alloc, folder, name)?)),
+        None => Ok(None),
+    }
+}
+
+fn place_of(here: &Here<'_>, inputs: &[String], names: &Names) -> Result<Place, AllocError>
+    ensures { IfOk result (λ p. place_view p ≡ place_of (here_view here.now) (texts inputs.now) (names_view names.now)) }
+{
+    let outputs = paths_in(here.alloc, here.folder, &names.outputs)?;
+    let depfile = path_of(here.alloc, here.folder, &names.depfile)?;
+    place_with(here, inputs, outputs, depfile)
+}
+
+// ---- the target
+
+fn custom_target(
+    here: &Here<'_>,
+    arguments: &Arguments,
+    names: Names,
+    inputs: Vec<Source>,
+    command: Part,
+) -> Result<CustomTarget, AllocError>
+    ensures { IfOk result (λ t. custom_view t ≡ custom_target (here_view here.now) (arguments_data arguments.now)
+        (names_view names) (map source_view inputs.items) (part_view command)) }
+{
+    let is_installed = arguments.flag("install", false);
+    Ok(CustomTarget {
+        name: String::from_str(here.alloc, arguments.text_at(0))?,
+        folder: String::from_str(here.alloc, here.folder)?,
+        outputs: names.outputs,
+        inputs,
+        needs: command.needs,
+        words: command.words,
+        captures: arguments.flag("capture", false),
+        depfile: names.depfile,
+        longest: longest(here.alloc, arguments)?,
+        is_default: arguments.flag("build_by_default", is_installed),
+        is_installed,
+    })
+}
+
+// The command, and what has to be there: files and targets in it, then `depends`, then `depend_files`.
+fn whole_command(
+    here: &Here<'_>,
+    arguments: &Arguments,
+    place: &Place,
+) -> Result<Option<Part>, AllocError>
+    ensures { IfOk result (λ p. option_map part_view p
+        ≡ whole_command (here_view here.now) (arguments_data arguments.now) (place_view place.now)) }
+{
+    let words = arguments.leaves(here.alloc, "command")?;
+    let Some(mut command) = command_of(here, place, &words)? else {
+        return Ok(None);
+    };
+    let targets = arguments.leaves(here.alloc, "depends")?;
+    let Some(mut depends) = command_of(here, place, &targets)? else {
+        return Ok(None);
+    };
+    let Some(mut files) = sources_by(here, arguments, "depend_files")? else {
+        return Ok(None);
+    };
+    depends.needs.append(&mut files)?;
+    command.needs.append(&mut depends.needs)?;
+    Ok(Some(command))
+}
+
+fn custom_from(
+    here: &Here<'_>,
+    arguments: &Arguments,
+    inputs: Vec<Source>,
+) -> Result<Option<CustomTarget>, AllocError>
+    ensures { IfOk result (λ t. option_map custom_view t
+        ≡ custom_from (here_view here.now) (arguments_data arguments.now) (map source_view inputs.items)) }
+{
+    let paths = source_paths(here.alloc, here.depth, &inputs)?;
+    let from_inputs = place_with(here, &paths, Vec::new(here.alloc), None)?;
+    let Some(names) = names_of(here.alloc, &from_inputs, arguments)? else {
+        return Ok(None);
+    };
+    let place = place_of(here, &paths, &names)?;
+    let Some(command) = whole_command(here, arguments, &place)? else {
+        return Ok(None);
+    };
+    let target = custom_target(here, arguments, names, inputs, command)?;
+    Ok(Some(target))
+}
+
+fn declared_files(
+    here: &Here<'_>,
+    arguments: &Arguments,
+    inputs: Vec<Source>,
+    files: Vec<String>,
+) -> Result<Option<NamedTarget>, AllocError>
+    ensures { IfOk result (λ t. option_map named_target_view t
+        ≡ declared_files (here_view here.now) (arguments_data arguments.now) (map source_view inputs.items) (texts files.items)) }
+{
+    match custom_from(here, arguments, inputs)? {
+        Some(target) => Ok(Some(NamedTarget {
+            target: Target::Custom(target),
+            files,
+        })),
+        None => Ok(None),
+    }
+}
+
+/// What a call of `custom_target` declares, or none where its arguments say no target: a list that is empty, a path that leads out of the
+/// tree, a placeholder that stands for nothing, a program that was not found, several outputs for what is printed, or no folder for what
+/// is installed.
+#[tactic(auto, unfolding(crate::specs::CustomTargets::declared_custom))]
+pub fn declared_custom(
+    here: &Here<'_>,
+    arguments: &Arguments,
+) -> Result<Option<NamedTarget>, AllocError>
+    ensures { IfOk result (λ t. option_map named_target_view t
+        ≡ declared_custom (here_view here.now) (arguments_data arguments.now)) }
+{
+    let fits = call_fits(here.alloc, arguments)?;
+    if !fits {
+        return Ok(None);
+    }
+    let Some(files) = written_files(here, arguments)? else {
+        return Ok(None);
+    };
+    let Some(inputs) = sources_by(here, arguments, "input")? else {
+        return Ok(None);
+    };
+    declared_files(here, arguments, inputs, files)
+}

@@ -1,0 +1,54 @@
+//! `custom_target`.
+ghost use Rattle.std.specs.Prelude.{◌≡◌, option_map};
+ghost use Rattle.arguments.specs.Arguments.{arguments_data};
+ghost use Rattle.data.specs.View.{data_of};
+ghost use Rattle.world.specs.Answering.{Carries, HasRoom};
+ghost use Rattle.world.specs.Caller.{state_of};
+ghost use Rattle.target_calls.specs.BuildTargetsView.{named_target_view};
+ghost use Rattle.target_calls.specs.CustomCalls.{custom_target, said_custom};
+
+use crate::build_target::NamedTarget;
+use crate::custom::{count_named, declared_custom};
+use crate::custom_installs::add_custom;
+use crate::declaring::require_fit;
+use crate::here::here_of;
+use crate::tree::require_all;
+use arguments::Arguments;
+use data::{Object, Value};
+use faults::Refusal;
+use ports::{Outputs, Tree};
+use world::{Caller, Stop};
+
+// What the arguments say, or the refusal of arguments that say no target.
+fn said_custom<T: Tree, O: Outputs>(
+    caller: &Caller<'_, T, O>,
+    arguments: &Arguments,
+) -> Result<NamedTarget, Stop>
+    ensures { Carries named_target_view (said_custom (arguments_data arguments.now))
+        (state_of T.seen O.seen caller.now) result (state_of T.seen O.seen caller.now) }
+{
+    let here = here_of(caller);
+    let found = declared_custom(&here, arguments)?;
+    match found {
+        Some(target) => Ok(target),
+        None => caller.refuse(Refusal::Arguments, ""),
+    }
+}
+
+/// `custom_target(name)`: E9, E14, E21, E11, E22 in this order.
+pub fn custom_target<T: Tree, O: Outputs>(
+    caller: &mut Caller<'_, T, O>,
+    arguments: &Arguments,
+) -> Result<Option<Value>, Stop>
+    requires { HasRoom (state_of T.seen O.seen caller.old) }
+    ensures { Carries (option_map data_of) (custom_target (arguments_data arguments.now))
+        (state_of T.seen O.seen caller.old) result (state_of T.seen O.seen caller.new) }
+{
+    let outputs = count_named(caller.alloc, arguments, "output")?;
+    let named = said_custom(caller, arguments)?;
+    require_fit(caller, &named.target)?;
+    require_all(caller, &named.files)?;
+    let number = add_custom(caller, arguments, named.target)?;
+    let value = Value::of_object(caller.alloc, Object::CustomTarget { number, outputs })?;
+    Ok(Some(value))
+}

@@ -1,0 +1,116 @@
+//! Where the outputs of a custom target go when it is installed.
+ghost use Rattle.std.specs.Prelude.{◌≡◌, IfOk, [], string_bytes, unwrap_or};
+ghost use Rattle.arguments.specs.Arguments.{arguments_data};
+ghost use Rattle.edge.specs.Texts.{texts};
+ghost use Rattle.project.specs.View.{install_view};
+ghost use Rattle.targets.specs.View.{custom_view, target_view};
+ghost use Rattle.world.specs.Answering.{Carries};
+ghost use Rattle.world.specs.Caller.{state_of};
+ghost use Rattle.target_calls.specs.CustomInstalls.{add_custom, all_noted, custom_names, installed_names, output_install, way_of};
+ghost use Rattle.target_calls.specs.CustomInstallsView.{way_view};
+ghost use Rattle.target_calls.specs.Installs.{folder_given as folder_named};
+ghost use Rattle.target_calls.specs.InstallsView.{folders_view};
+
+use crate::installs::{Folders, folder_given, folders_in};
+use arguments::Arguments;
+use edge::copies;
+use operators::path_below;
+use ports::{Outputs, Tree};
+use project::Install;
+use std::alloc::{AllocError, Global};
+use targets::{CustomTarget, Target, path_in};
+use world::{Caller, Stop};
+
+/// Which way outputs go.
+#[derive(Drop)]
+pub struct Way {
+    /// An absolute path.
+    pub build_root: String,
+    /// The folder of the definition file, `""` for the root.
+    pub folder: String,
+    /// The folder that they go to.
+    pub destination: String,
+}
+
+fn folder_or_none(arguments: &Arguments) -> &str
+    ensures { result.now ≡ unwrap_or (folder_named (arguments_data arguments.now)) [] }
+{
+    match folder_given(arguments) {
+        Some(folder) => folder.as_str(),
+        None => "",
+    }
+}
+
+fn way_of(folders: &Folders<'_>, arguments: &Arguments) -> Result<Way, AllocError>
+    ensures { IfOk result (λ w. way_view w ≡ way_of (folders_view folders.now) (arguments_data arguments.now)) }
+{
+    let alloc = folders.alloc;
+    Ok(Way {
+        build_root: String::from_str(alloc, folders.build_root)?,
+        folder: String::from_str(alloc, folders.folder)?,
+        destination: path_below(alloc, folders.prefix, folder_or_none(arguments))?,
+    })
+}
+
+fn output_install(alloc: Global, way: &Way, name: &str) -> Result<Install, AllocError>
+    ensures { IfOk result (λ i. install_view i ≡ output_install (way_view way.now) name.now) }
+{
+    let path = path_in(alloc, &way.folder, name)?;
+    Ok(Install {
+        source: path_below(alloc, &way.build_root, &path)?,
+        destination: path_below(alloc, &way.destination, name)?,
+    })
+}
+
+fn custom_names(alloc: Global, target: &CustomTarget) -> Result<Vec<String>, AllocError>
+    ensures { IfOk result (λ v. texts v.items ≡ custom_names (custom_view target.now)) }
+{
+    if target.is_installed {
+        copies(alloc, &target.outputs)
+    } else {
+        Ok(Vec::new(alloc))
+    }
+}
+
+// The outputs that are installed.
+fn installed_names(alloc: Global, target: &Target) -> Result<Vec<String>, AllocError>
+    ensures { IfOk result (λ v. texts v.items ≡ installed_names (target_view target.now)) }
+{
+    match target {
+        Target::Build(_) => Ok(Vec::new(alloc)),
+        Target::Custom(target) => custom_names(alloc, target),
+    }
+}
+
+// Notes where each output goes.
+fn note_all<T: Tree, O: Outputs>(
+    caller: &mut Caller<'_, T, O>,
+    way: &Way,
+    names: &[String],
+) -> Result<(), Stop>
+    ensures { Carries (λ u. u) (all_noted (way_view way.now) (texts names.now))
+        (state_of T.seen O.seen caller.old) result (state_of T.seen O.seen caller.new) }
+{
+    for name in names {
+        let install = output_install(caller.alloc, way, name.as_str())?;
+        caller.add_install(install)?;
+    }
+    Ok(())
+}
+
+/// Declares a custom target, and notes where its outputs go.
+pub fn add_custom<T: Tree, O: Outputs>(
+    caller: &mut Caller<'_, T, O>,
+    arguments: &Arguments,
+    target: Target,
+) -> Result<usize, Stop>
+    ensures { Carries (λ n. n) (add_custom (arguments_data arguments.now) (target_view target))
+        (state_of T.seen O.seen caller.old) result (state_of T.seen O.seen caller.new) }
+{
+    let folders = folders_in(caller);
+    let way = way_of(&folders, arguments)?;
+    let names = installed_names(caller.alloc, &target)?;
+    let number = caller.add_target(target)?;
+    note_all(caller, &way, &names)?;
+    Ok(number)
+}

@@ -1,0 +1,123 @@
+//! What dependencies bring to a target.
+ghost use Rattle.std.specs.Prelude.{◌≡◌, IfOk, map, option_map, string_bytes};
+ghost use Rattle.data.specs.View.{data_of};
+ghost use Rattle.targets.specs.View.{linked_view, lists_view};
+ghost use Rattle.target_arguments.specs.SourcesView.{named_view};
+ghost use Rattle.target_calls.specs.Dependencies.{dependencies_of, found_in, lists_of, named_of};
+
+use crate::sources::sources_in;
+use data::{Dependency, Object, Text, Value};
+use std::alloc::{AllocError, Global};
+use std::rc::Rc;
+use target_arguments::NamedSource;
+use targets::{Linked, Lists};
+
+fn named_of(alloc: Global, source: &data::Source) -> Result<NamedSource, AllocError>
+    ensures { IfOk result (λ n. named_view n ≡ named_of source.now) }
+{
+    match source {
+        data::Source::File { path, is_built } => {
+            if *is_built {
+                Ok(NamedSource::Built(path.clone()?))
+            } else {
+                Ok(NamedSource::Tree(String::from_str(alloc, path.as_str())?))
+            }
+        }
+        data::Source::CustomTarget { number, .. } => Ok(NamedSource::Outputs(*number)),
+        data::Source::CustomOutput { target, output } => Ok(NamedSource::Output {
+            target: *target,
+            place: *output,
+        }),
+    }
+}
+
+fn all_named(alloc: Global, sources: &[data::Source]) -> Result<Vec<NamedSource>, AllocError>
+    ensures { IfOk result (λ v. map named_view v.items ≡ map named_of sources.now) }
+{
+    let mut named = Vec::new(alloc);
+    for source in sources {
+        named.push(named_of(alloc, source)?)?;
+    }
+    Ok(named)
+}
+
+/// Texts as strings of their own.
+pub fn strings(alloc: Global, texts: &[Text]) -> Result<Vec<String>, AllocError>
+    ensures { IfOk result (λ v. map string_bytes v.items ≡ texts.now) }
+{
+    let mut strings = Vec::new(alloc);
+    for text in texts {
+        strings.push(String::from_str(alloc, text.as_str())?)?;
+    }
+    Ok(strings)
+}
+
+// What one dependency brings.
+fn lists_of(
+    alloc: Global,
+    earlier: &[Linked],
+    dependency: &Dependency,
+) -> Result<Option<Lists>, AllocError>
+    ensures { IfOk result (λ l. option_map lists_view l ≡ lists_of (map linked_view earlier.now) dependency.now) }
+{
+    let named = all_named(alloc, dependency.sources.as_slice())?;
+    let Some(sources) = sources_in(alloc, earlier, &named)? else {
+        return Ok(None);
+    };
+    let mut link_with = Vec::new(alloc);
+    link_with.extend_from_slice(dependency.link_with.as_slice())?;
+    Ok(Some(Lists {
+        sources,
+        include_folders: strings(alloc, dependency.include_directories.as_slice())?,
+        compile_args: strings(alloc, dependency.compile_args.as_slice())?,
+        link_args: strings(alloc, dependency.link_args.as_slice())?,
+        link_with,
+    }))
+}
+
+fn found_in_object(object: &Object) -> Option<&Dependency>
+    ensures { option_map (λ d. d.now) result ≡ Rattle.target_calls.specs.Dependencies.found_in_object object.now }
+{
+    match object {
+        Object::Dependency(dependency) => {
+            if dependency.is_found {
+                Some(dependency)
+            } else {
+                None
+            }
+        }
+        _ => None,
+    }
+}
+
+// The dependency that a value is, where it was found.
+fn found_in(value: &Value) -> Option<&Dependency>
+    ensures { option_map (λ d. d.now) result ≡ found_in (data_of value.now) }
+{
+    match value {
+        Value::Object(object) => found_in_object(object),
+        _ => None,
+    }
+}
+
+/// What the dependencies that values are bring; one that was not found brings nothing. None where one has a source that no target
+/// makes.
+pub fn dependencies_of(
+    alloc: Global,
+    earlier: &[Linked],
+    values: &[&Value],
+) -> Result<Option<Vec<Rc<Lists>>>, AllocError>
+    ensures { IfOk result (λ ls. option_map (λ v. map (λ l. lists_view l.value) v.items) ls
+        ≡ dependencies_of (map linked_view earlier.now) (map (λ v. data_of v.now) values.now)) }
+{
+    let mut all = Vec::new(alloc);
+    for value in values {
+        if let Some(dependency) = found_in(value) {
+            match lists_of(alloc, earlier, dependency)? {
+                Some(lists) => all.push(Rc::new(alloc, lists)?)?,
+                None => return Ok(None),
+            }
+        }
+    }
+    Ok(Some(all))
+}

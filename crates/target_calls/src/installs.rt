@@ -1,0 +1,149 @@
+//! Where targets go when they are installed.
+ghost use Rattle.std.specs.Prelude.{◌≡◌, IfOk, option_map};
+ghost use Rattle.arguments.specs.Arguments.{arguments_data};
+ghost use Rattle.project.specs.View.{install_view};
+ghost use Rattle.targets.specs.View.{build_view, target_view};
+ghost use Rattle.world.specs.Answering.{Carries};
+ghost use Rattle.world.specs.Caller.{state_of};
+ghost use Rattle.target_calls.specs.Installs.{asked_install, build_install, folder_given, folders_in, install_folder, install_of, noted};
+ghost use Rattle.target_calls.specs.Installs.{option_text, usual_folder};
+ghost use Rattle.target_calls.specs.InstallsView.{folders_view};
+
+use arguments::Arguments;
+use data::Text;
+use operators::path_below;
+use options::OptionValue;
+use ports::{Outputs, Tree};
+use project::Install;
+use std::alloc::{AllocError, Global};
+use targets::{BuildTarget, Kind, Target, file_name, file_path};
+use world::{Caller, Stop, Store};
+
+/// The build folder, and the folders of options that installed files go to.
+#[derive(Clone, Copy)]
+pub struct Folders<'a> {
+    pub alloc: Global,
+    /// An absolute path.
+    pub build_root: &'a str,
+    /// The folder of the definition file, `""` for the root.
+    pub folder: &'a str,
+    pub prefix: &'a str,
+    pub bindir: &'a str,
+    pub libdir: &'a str,
+}
+
+// The text that an option has.
+fn option_text<'s>(store: &'s Store, name: &str) -> &'s str
+    ensures { result.now ≡ option_text store.now.options name.now }
+{
+    match store.option(name) {
+        Some(OptionValue::Text(text)) => text.as_str(),
+        _ => "",
+    }
+}
+
+/// The folders of the present project.
+pub fn folders_in<'c, T: Tree, O: Outputs>(caller: &'c Caller<'_, T, O>) -> Folders<'c>
+    ensures { folders_view result ≡ folders_in (state_of T.seen O.seen caller.now).world.facts }
+{
+    Folders {
+        alloc: caller.alloc,
+        build_root: caller.store.settings().build_root.as_str(),
+        folder: caller.store.folder(),
+        prefix: option_text(caller.store, "prefix"),
+        bindir: option_text(caller.store, "bindir"),
+        libdir: option_text(caller.store, "libdir"),
+    }
+}
+
+// Programs go to `bindir`, libraries to `libdir`.
+fn usual_folder<'f>(folders: &Folders<'f>, kind: Kind) -> &'f str
+    ensures { result.now ≡ usual_folder (folders_view folders.now) kind }
+{
+    match kind {
+        Kind::Executable => folders.bindir,
+        Kind::StaticLibrary | Kind::SharedLibrary => folders.libdir,
+    }
+}
+
+/// What the keyword `install_dir` says.
+pub fn folder_given(arguments: &Arguments) -> Option<&Text>
+    ensures { option_map (λ t. t.now) result ≡ folder_given (arguments_data arguments.now) }
+{
+    match arguments.keyword("install_dir") {
+        Some(value) => value.as_text(),
+        None => None,
+    }
+}
+
+fn install_folder<'f>(folders: &Folders<'f>, arguments: &'f Arguments, kind: Kind) -> &'f str
+    ensures { result.now ≡ install_folder (folders_view folders.now) (arguments_data arguments.now) kind }
+{
+    match folder_given(arguments) {
+        Some(folder) => folder.as_str(),
+        None => usual_folder(folders, kind),
+    }
+}
+
+fn build_install(
+    folders: &Folders<'_>,
+    arguments: &Arguments,
+    target: &BuildTarget,
+) -> Result<Install, AllocError>
+    ensures { IfOk result (λ i. install_view i
+        ≡ build_install (folders_view folders.now) (arguments_data arguments.now) (build_view target.now)) }
+{
+    let alloc = folders.alloc;
+    let file = file_path(alloc, target)?;
+    let name = file_name(alloc, target)?;
+    let folder = install_folder(folders, arguments, target.kind);
+    let below = path_below(alloc, folders.prefix, folder)?;
+    Ok(Install {
+        source: path_below(alloc, folders.build_root, &file)?,
+        destination: path_below(alloc, &below, &name)?,
+    })
+}
+
+fn asked_install(
+    folders: &Folders<'_>,
+    arguments: &Arguments,
+    target: &BuildTarget,
+) -> Result<Option<Install>, AllocError>
+    ensures { IfOk result (λ i. option_map install_view i
+        ≡ asked_install (folders_view folders.now) (arguments_data arguments.now) (build_view target.now)) }
+{
+    if target.is_installed {
+        Ok(Some(build_install(folders, arguments, target)?))
+    } else {
+        Ok(None)
+    }
+}
+
+/// Where the target's file goes, if it is installed.
+pub fn install_of(
+    folders: &Folders<'_>,
+    arguments: &Arguments,
+    target: &Target,
+) -> Result<Option<Install>, AllocError>
+    ensures { IfOk result (λ i. option_map install_view i
+        ≡ install_of (folders_view folders.now) (arguments_data arguments.now) (target_view target.now)) }
+{
+    match target {
+        Target::Build(target) => asked_install(folders, arguments, target),
+        Target::Custom(_) => Ok(None),
+    }
+}
+
+/// Notes where a file goes, if it is installed.
+pub fn note<T: Tree, O: Outputs>(
+    caller: &mut Caller<'_, T, O>,
+    install: Option<Install>,
+) -> Result<(), Stop>
+    ensures { Carries (λ u. u) (noted (option_map install_view install))
+        (state_of T.seen O.seen caller.old) result (state_of T.seen O.seen caller.new) }
+{
+    match install {
+        Some(install) => caller.add_install(install),
+        None => Ok(()),
+    }
+}

@@ -1,0 +1,97 @@
+//! `add_project_arguments` and `add_project_link_arguments`.
+ghost use Rattle.std.specs.Prelude.{◌≡◌, IfOk, map, option_map, string_bytes};
+ghost use Rattle.std.specs.List.{list_all};
+ghost use Rattle.arguments.specs.Arguments.{arguments_data};
+ghost use Rattle.arguments.specs.Flat.{flat_all};
+ghost use Rattle.data.specs.View.{data_of};
+ghost use Rattle.edge.specs.Texts.{texts};
+ghost use Rattle.world.specs.Answering.{Carries};
+ghost use Rattle.world.specs.Caller.{state_of};
+ghost use Rattle.target_calls.specs.ProjectWords.{add_project_arguments, add_project_link_arguments, are_c, is_c, required_c};
+
+use arguments::Arguments;
+use data::Value;
+use faults::Refusal;
+use ports::{Outputs, Tree};
+use std::alloc::{AllocError, Global};
+use world::{Caller, Stop};
+
+fn all_c(languages: &[String]) -> bool
+    ensures { result ≡ list_all is_c (texts languages.now) }
+{
+    for language in languages {
+        if language.as_str() != "c" {
+            return false;
+        }
+    }
+    true
+}
+
+// At least one language, and each is `c`.
+fn are_c(languages: &[String]) -> bool
+    ensures { result ≡ are_c (texts languages.now) }
+{
+    match languages {
+        [] => false,
+        _ => all_c(languages),
+    }
+}
+
+fn copies(alloc: Global, texts: &[&str]) -> Result<Vec<String>, AllocError>
+    ensures { IfOk result (λ v. map string_bytes v.items ≡ map (λ t. t.now) texts.now) }
+{
+    let mut own = Vec::new(alloc);
+    for text in texts {
+        own.push(String::from_str(alloc, text)?)?;
+    }
+    Ok(own)
+}
+
+// The words that the call gives.
+fn words(alloc: Global, arguments: &Arguments) -> Result<Vec<String>, AllocError>
+    ensures { IfOk result (λ v. texts v.items ≡ flat_all (map data_of arguments.now.positional.items)) }
+{
+    let found = arguments.all_texts(alloc)?;
+    copies(alloc, &found)
+}
+
+// Refuses words that are not for C.
+fn require_c<T: Tree, O: Outputs>(
+    caller: &Caller<'_, T, O>,
+    arguments: &Arguments,
+) -> Result<(), Stop>
+    ensures { Carries (λ u. u) (required_c (arguments_data arguments.now)) (state_of T.seen O.seen caller.now) result
+        (state_of T.seen O.seen caller.now) }
+{
+    let languages = arguments.texts(caller.alloc, "language")?;
+    let is_so = are_c(&languages);
+    caller.need(is_so, Refusal::Arguments, "")
+}
+
+/// `add_project_arguments(texts..)`: E9, E21, E24 in this order.
+pub fn add_project_arguments<T: Tree, O: Outputs>(
+    caller: &mut Caller<'_, T, O>,
+    arguments: &Arguments,
+) -> Result<Option<Value>, Stop>
+    ensures { Carries (option_map data_of) (add_project_arguments (arguments_data arguments.now))
+        (state_of T.seen O.seen caller.old) result (state_of T.seen O.seen caller.new) }
+{
+    require_c(caller, arguments)?;
+    let words = words(caller.alloc, arguments)?;
+    caller.add_arguments(&words)?;
+    Ok(None)
+}
+
+/// `add_project_link_arguments(texts..)`: E9, E21, E24 in this order.
+pub fn add_project_link_arguments<T: Tree, O: Outputs>(
+    caller: &mut Caller<'_, T, O>,
+    arguments: &Arguments,
+) -> Result<Option<Value>, Stop>
+    ensures { Carries (option_map data_of) (add_project_link_arguments (arguments_data arguments.now))
+        (state_of T.seen O.seen caller.old) result (state_of T.seen O.seen caller.new) }
+{
+    require_c(caller, arguments)?;
+    let words = words(caller.alloc, arguments)?;
+    caller.add_link_arguments(&words)?;
+    Ok(None)
+}

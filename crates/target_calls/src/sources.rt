@@ -1,0 +1,133 @@
+//! The sources of a target.
+ghost use Rattle.std.specs.Prelude.{◌≡◌, ◌++◌, IfOk, flat_map, map, option_map, string_bytes};
+ghost use Rattle.edge.specs.Texts.{texts};
+ghost use Rattle.targets.specs.Data.{Made};
+ghost use Rattle.targets.specs.View.{linked_view, source_view};
+ghost use Rattle.target_arguments.specs.SourcesView.{named_view};
+ghost use Rattle.target_calls.specs.Sources.{file_in, one_made, output_at, outputs_at, source_in, sources_in};
+
+use edge::copies;
+use std::alloc::{AllocError, Global};
+use std::rc::Rc;
+use target_arguments::NamedSource;
+use targets::{Linked, Source};
+
+/// The outputs of the target with a number.
+pub fn outputs_at(earlier: &[Linked], number: usize) -> Option<&[String]>
+    ensures { option_map (λ ps. texts ps.now) result ≡ outputs_at (map linked_view earlier.now) number }
+{
+    match earlier.get(number) {
+        Some(linked) => Some(linked.paths.as_slice()),
+        None => None,
+    }
+}
+
+/// The output at a place of the target with a number.
+pub fn output_at(earlier: &[Linked], number: usize, place: usize) -> Option<&str>
+    ensures { option_map (λ p. p.now) result ≡ output_at (map linked_view earlier.now) number place }
+{
+    match outputs_at(earlier, number)?.get(place) {
+        Some(path) => Some(path.as_str()),
+        None => None,
+    }
+}
+
+/// Outputs of one target.
+pub fn made_of(alloc: Global, paths: &[String]) -> Result<Source, AllocError>
+    ensures { IfOk result (λ s. source_view s ≡ Made (texts paths.now)) }
+{
+    let paths = copies(alloc, paths)?;
+    Ok(Source::Made(Rc::new(alloc, paths)?))
+}
+
+/// One output of a target.
+pub fn one_made_of(alloc: Global, path: &str) -> Result<Source, AllocError>
+    ensures { IfOk result (λ s. source_view s ≡ one_made path.now) }
+{
+    let mut paths = Vec::new(alloc);
+    paths.push(String::from_str(alloc, path)?)?;
+    Ok(Source::Made(Rc::new(alloc, paths)?))
+}
+
+fn all_made(alloc: Global, earlier: &[Linked], number: usize) -> Result<Option<Source>, AllocError>
+    ensures { IfOk result (λ s. option_map source_view s ≡ option_map Made (outputs_at (map linked_view earlier.now) number)) }
+{
+    match outputs_at(earlier, number) {
+        Some(outputs) => Ok(Some(made_of(alloc, outputs)?)),
+        None => Ok(None),
+    }
+}
+
+fn one_made(
+    alloc: Global,
+    earlier: &[Linked],
+    number: usize,
+    place: usize,
+) -> Result<Option<Source>, AllocError>
+    ensures { IfOk result (λ s. option_map source_view s
+        ≡ option_map one_made (output_at (map linked_view earlier.now) number place)) }
+{
+    match output_at(earlier, number, place) {
+        Some(output) => Ok(Some(one_made_of(alloc, output)?)),
+        None => Ok(None),
+    }
+}
+
+fn source_in(
+    alloc: Global,
+    earlier: &[Linked],
+    named: &NamedSource,
+) -> Result<Option<Source>, AllocError>
+    ensures { IfOk result (λ s. option_map source_view s ≡ source_in (map linked_view earlier.now) (named_view named.now)) }
+{
+    match named {
+        NamedSource::Tree(path) => Ok(Some(Source::Tree(path.clone()?))),
+        NamedSource::Built(path) => {
+            Ok(Some(Source::Built(String::from_str(alloc, path.as_str())?)))
+        }
+        NamedSource::Outputs(number) => all_made(alloc, earlier, *number),
+        NamedSource::Output { target, place } => one_made(alloc, earlier, *target, *place),
+    }
+}
+
+/// The sources that are named, or none where one is an output that no target has.
+pub fn sources_in(
+    alloc: Global,
+    earlier: &[Linked],
+    named: &[NamedSource],
+) -> Result<Option<Vec<Source>>, AllocError>
+    ensures { IfOk result (λ ss. option_map (λ v. map source_view v.items) ss
+        ≡ sources_in (map linked_view earlier.now) (map named_view named.now)) }
+{
+    let mut sources = Vec::new(alloc);
+    for one in named {
+        match source_in(alloc, earlier, one)? {
+            Some(source) => sources.push(source)?,
+            None => return Ok(None),
+        }
+    }
+    Ok(Some(sources))
+}
+
+fn push_file(files: &mut Vec<String>, named: &NamedSource) -> Result<(), AllocError>
+    ensures { IfOk result (λ _. texts files.new.items ≡ texts files.old.items ++ file_in (named_view named.now)) }
+{
+    match named {
+        NamedSource::Tree(path) => {
+            files.push(path.clone()?)?;
+            Ok(())
+        }
+        NamedSource::Built(_) | NamedSource::Outputs(_) | NamedSource::Output { .. } => Ok(()),
+    }
+}
+
+/// The files of the tree among sources.
+pub fn files_among(alloc: Global, named: &[NamedSource]) -> Result<Vec<String>, AllocError>
+    ensures { IfOk result (λ v. texts v.items ≡ flat_map file_in (map named_view named.now)) }
+{
+    let mut files = Vec::new(alloc);
+    for one in named {
+        push_file(&mut files, one)?;
+    }
+    Ok(files)
+}
