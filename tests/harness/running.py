@@ -188,8 +188,11 @@ def parts_of(case, jobs):
         elif it.word == "pieces":
             parts += [(f"in pieces of {piece}", piece, 0, 1) for piece in it.text.split()]
         elif it.word == "fail":
-            kinds = it.text.split() or ["memory", "device"]
-            parts += [(f"each call of {kind} fails", kind, share, jobs) for kind in kinds for share in range(jobs)]
+            kinds, begun, output = it.text.partition(" begun ")
+            # What only one of the runs shows is looked for in all of them.
+            shares = 1 if begun else jobs
+            for kind in kinds.split() or ["memory", "device"]:
+                parts += [(f"each call of {kind} fails", kind + begun + output, share, shares) for share in range(shares)]
     return parts
 
 
@@ -253,7 +256,9 @@ def in_pieces(room, whole, piece):
 
 
 def each_fails(room, whole, kind, share, shares):
-    """Whichever call of a kind fails, a beginning of the whole run comes, with the status of that kind."""
+    """Whichever call of a kind fails, a beginning of the whole run comes, with the status of that kind; one of them where 'begun' says so."""
+    kind, _, begun = kind.partition(" begun ")
+    is_seen = not begun
     calls = whole.counts[kind == "device"]
     if not 0 < calls <= MOST_CALLS:
         return [f"the run makes {calls} calls of {kind}"]
@@ -262,7 +267,8 @@ def each_fails(room, whole, kind, share, shares):
         why = differs_from_failing(came, whole, kind)
         if why:
             return [f"call {number} of {calls} ({came.failed or 'which did not come'}) fails: {why}"]
-    return []
+        is_seen |= came.status in SAID and begun + UNENDED in came.outputs
+    return [] if is_seen else [f"none of the {calls} runs ends while {begun} is begun"]
 
 
 def differs_from_failing(came, whole, kind):
