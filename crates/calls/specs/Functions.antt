@@ -5,13 +5,12 @@ use Rattle.faults.specs.declared.refusal.Refusal.TheVariants as refusals
 use Rattle.arguments.specs.Arguments.{ArgumentsData}
 use Rattle.arguments.specs.Disablers.{gives_disabler}
 use Rattle.arguments.specs.Row.{checked}
-use Rattle.target_calls.specs.PlainTargets.{declare_target}
-use Rattle.targets.specs.declared.target.Kind.TheVariants.{Executable}
 use Rattle.world.specs.Deed.{Deed, give, refuse, ◌>>=◌, fitting}
 use Rattle.calls.specs.Disablers.{give_disabler, tell_disabler}
 use Rattle.calls.specs.JoinPaths.{join_paths}
 use Rattle.calls.specs.Messages.{message, warning, error, assert}
 use Rattle.calls.specs.Project.{project}
+use Rattle.calls.specs.ProjectFunctions.{project_function}
 use Rattle.calls.specs.Range.{range}
 use Rattle.calls.specs.Rows.{row_of}
 use Rattle.calls.specs.Variables.{set_variable, get_variable, is_variable, unset_variable}
@@ -23,12 +22,12 @@ abbrev pub does : Function → ArgumentsData → Deed (Option Data)
 does functions.Assert a = assert a
 does functions.Disabler a = give_disabler
 does functions.Error a = error a
-does functions.Executable a = declare_target Executable a
 does functions.GetVariable a = get_variable a
 does functions.IsDisabler a = tell_disabler a
 does functions.IsVariable a = is_variable a
 does functions.JoinPaths a = join_paths a
 does functions.Message a = message a
+does (functions.OfProject f) a = project_function f a
 does functions.Project a = project a
 does functions.Range a = range a
 does functions.SetVariable a = set_variable a

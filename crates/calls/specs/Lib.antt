@@ -4,6 +4,7 @@ pub mod JoinPaths
 pub mod Messages
 pub mod Names
 pub mod Project
+pub mod ProjectFunctions
 pub mod Range
 pub mod Rows
 pub mod Variables

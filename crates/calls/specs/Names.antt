@@ -1,10 +1,12 @@
 -- The names that the language gives a meaning to.
-use Rattle.std.specs.Prelude.{ℕ, List, [], ◌∷◌, Bool, false, not, ◌||◌, ◌&&◌, ◌==◌, codes, if◌then◌else◌, Option, Some, None}
+use Rattle.std.specs.Prelude.{ℕ, List, [], ◌∷◌, Bool, false, not, ◌||◌, ◌&&◌, ◌==◌, codes, if◌then◌else◌, Option, Some, None, option_map}
 use Rattle.std.specs.Char.{is_ascii_alphabetic, is_ascii_alphanumeric}
 use Rattle.std.specs.List.{list_any, list_all}
 use Rattle.std.specs.Str.{bytes_eq}
 use Rattle.calls.specs.declared.function.Function.{Function}
 use Rattle.calls.specs.declared.function.Function.TheVariants as functions
+use Rattle.calls.specs.declared.function.ProjectFunction.{ProjectFunction}
+use Rattle.calls.specs.declared.function.ProjectFunction.TheVariants as project
 
 -- the variables that stand for things of the run: no definition file sets them
 abbrev pub predefined_names : List (List ℕ)
@@ -32,17 +34,29 @@ is_name text = begins_name text && (list_all is_name_byte text && not (list_any 
 -- the functions of Meson that are left out, so far or for good
 abbrev pub left_out_names : List (List ℕ)
 left_out_names =
-    codes "add_global_arguments" ∷ codes "add_global_link_arguments" ∷ codes "add_languages" ∷ codes "add_project_arguments"
-    ∷ codes "add_project_link_arguments" ∷ codes "add_test_setup" ∷ codes "alias_target" ∷ codes "benchmark" ∷ codes "both_libraries"
-    ∷ codes "build_target" ∷ codes "configuration_data" ∷ codes "configure_file" ∷ codes "custom_target" ∷ codes "debug"
-    ∷ codes "declare_dependency" ∷ codes "dependency" ∷ codes "environment" ∷ codes "files" ∷ codes "find_program" ∷ codes "generator"
-    ∷ codes "get_option" ∷ codes "import" ∷ codes "include_directories" ∷ codes "install_data" ∷ codes "install_emptydir"
-    ∷ codes "install_headers" ∷ codes "install_man" ∷ codes "install_subdir" ∷ codes "install_symlink" ∷ codes "library"
-    ∷ codes "run_command" ∷ codes "run_target" ∷ codes "shared_library" ∷ codes "shared_module" ∷ codes "static_library"
-    ∷ codes "subproject" ∷ codes "summary" ∷ codes "test" ∷ codes "vcs_tag" ∷ []
+    codes "add_global_arguments" ∷ codes "add_global_link_arguments" ∷ codes "add_languages" ∷ codes "add_test_setup"
+    ∷ codes "alias_target" ∷ codes "benchmark" ∷ codes "both_libraries" ∷ codes "build_target" ∷ codes "configuration_data"
+    ∷ codes "configure_file" ∷ codes "debug" ∷ codes "declare_dependency" ∷ codes "dependency" ∷ codes "environment"
+    ∷ codes "find_program" ∷ codes "generator" ∷ codes "get_option" ∷ codes "import" ∷ codes "install_data" ∷ codes "install_emptydir"
+    ∷ codes "install_headers" ∷ codes "install_man" ∷ codes "install_subdir" ∷ codes "install_symlink" ∷ codes "run_command"
+    ∷ codes "run_target" ∷ codes "shared_module" ∷ codes "subproject" ∷ codes "summary" ∷ codes "test" ∷ codes "vcs_tag" ∷ []
 
 abbrev pub is_left_out : List ℕ → Bool
 is_left_out name = list_any (bytes_eq name) left_out_names
+
+-- the function of a name that says something of the project
+abbrev pub project_function_named : List ℕ → Option ProjectFunction
+project_function_named name =
+    if bytes_eq name (codes "add_project_arguments") then Some project.AddProjectArguments
+    else if bytes_eq name (codes "add_project_link_arguments") then Some project.AddProjectLinkArguments
+    else if bytes_eq name (codes "custom_target") then Some project.CustomTarget
+    else if bytes_eq name (codes "executable") then Some project.Executable
+    else if bytes_eq name (codes "files") then Some project.Files
+    else if bytes_eq name (codes "include_directories") then Some project.IncludeDirectories
+    else if bytes_eq name (codes "library") then Some project.Library
+    else if bytes_eq name (codes "shared_library") then Some project.SharedLibrary
+    else if bytes_eq name (codes "static_library") then Some project.StaticLibrary
+    else None
 
 -- the function of a name
 abbrev pub function_named : List ℕ → Option Function
@@ -50,7 +64,6 @@ function_named name =
     if bytes_eq name (codes "assert") then Some functions.Assert
     else if bytes_eq name (codes "disabler") then Some functions.Disabler
     else if bytes_eq name (codes "error") then Some functions.Error
-    else if bytes_eq name (codes "executable") then Some functions.Executable
     else if bytes_eq name (codes "get_variable") then Some functions.GetVariable
     else if bytes_eq name (codes "is_disabler") then Some functions.IsDisabler
     else if bytes_eq name (codes "is_variable") then Some functions.IsVariable
@@ -63,4 +76,4 @@ function_named name =
     else if bytes_eq name (codes "subdir_done") then Some functions.SubdirDone
     else if bytes_eq name (codes "unset_variable") then Some functions.UnsetVariable
     else if bytes_eq name (codes "warning") then Some functions.Warning
-    else None
+    else option_map functions.OfProject (project_function_named name)

@@ -3,7 +3,7 @@ use Rattle.std.specs.Prelude.{ℕ, List, [], ◌∷◌, Some, None, codes}
 use Rattle.arguments.specs.declared.row.Kind.{Kind}
 use Rattle.arguments.specs.declared.row.Kind.TheVariants.{Any, Boolean, Integer, Text, Texts, Dependencies}
 use Rattle.arguments.specs.Row.{RowData, optional}
-use Rattle.target_calls.specs.Rows.{target_row}
+use Rattle.calls.specs.ProjectFunctions.{project_function_row}
 use Rattle.calls.specs.declared.function.Function.{Function}
 use Rattle.calls.specs.declared.function.Function.TheVariants as functions
 
@@ -53,12 +53,12 @@ abbrev pub row_of : Function → RowData
 row_of functions.Assert = values (Boolean ∷ Text ∷ []) 1
 row_of functions.Disabler = values [] 0
 row_of functions.Error = any_values
-row_of functions.Executable = target_row
 row_of functions.GetVariable = values (Text ∷ Any ∷ []) 1
 row_of functions.IsDisabler = values (Any ∷ []) 1
 row_of functions.IsVariable = values (Text ∷ []) 1
 row_of functions.JoinPaths = some_texts
 row_of functions.Message = any_values
+row_of (functions.OfProject f) = project_function_row f
 row_of functions.Project = project_row
 row_of functions.Range = values (Integer ∷ Integer ∷ Integer ∷ []) 1
 row_of functions.SetVariable = values (Text ∷ Any ∷ []) 2

@@ -14,6 +14,7 @@ use crate::function::Function;
 use crate::join_paths::join_paths;
 use crate::messages::{assert, error, message, warning};
 use crate::project_call::project;
+use crate::project_functions::project_function;
 use crate::range::range;
 use crate::rows::row;
 use crate::variables::{get_variable, is_variable, set_variable, unset_variable};
@@ -21,8 +22,6 @@ use arguments::{Arguments, check, gives_disabler};
 use data::Value;
 use faults::Refusal;
 use ports::{Outputs, Tree};
-use target_calls::declare_target;
-use targets::Kind;
 use world::{Caller, Stop};
 
 fn takes_disablers(function: Function) -> bool
@@ -73,12 +72,12 @@ fn act<T: Tree, O: Outputs>(
         Function::Assert => assert(caller, arguments),
         Function::Disabler => disabler(caller),
         Function::Error => error(caller, arguments),
-        Function::Executable => declare_target(caller, Kind::Executable, arguments),
         Function::GetVariable => get_variable(caller, arguments),
         Function::IsDisabler => is_disabler(caller, arguments),
         Function::IsVariable => is_variable(caller, arguments),
         Function::JoinPaths => join_paths(caller, arguments),
         Function::Message => message(caller, arguments),
+        Function::OfProject(function) => project_function(caller, function, arguments),
         Function::Project => project(caller, arguments),
         Function::Range => range(caller, arguments),
         Function::SetVariable => set_variable(caller, arguments),

@@ -6,12 +6,13 @@ pub enum Function {
     Assert,
     Disabler,
     Error,
-    Executable,
     GetVariable,
     IsDisabler,
     IsVariable,
     JoinPaths,
     Message,
+    /// One that says something of the project.
+    OfProject(ProjectFunction),
     Project,
     Range,
     SetVariable,
@@ -19,4 +20,18 @@ pub enum Function {
     SubdirDone,
     UnsetVariable,
     Warning,
+}
+
+/// A function that says something of the project: its targets, and the words of their commands.
+#[derive(Clone, Copy, PartialEq, Eq)]
+pub enum ProjectFunction {
+    AddProjectArguments,
+    AddProjectLinkArguments,
+    CustomTarget,
+    Executable,
+    Files,
+    IncludeDirectories,
+    Library,
+    SharedLibrary,
+    StaticLibrary,
 }

@@ -10,11 +10,12 @@ mod join_paths;
 mod messages;
 mod names;
 mod project_call;
+mod project_functions;
 mod range;
 mod rows;
 mod variables;
 
 pub use calling::{call, is_turned_off};
-pub use function::Function;
+pub use function::{Function, ProjectFunction};
 pub use names::{function_named, is_left_out, is_name, is_predefined};
 pub use rows::{any_values, row};

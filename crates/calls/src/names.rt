@@ -1,10 +1,11 @@
 //! The names that the language gives a meaning to.
-ghost use Rattle.std.specs.Prelude.{◌≡◌};
+ghost use Rattle.std.specs.Prelude.{◌≡◌, option_map};
 ghost use Rattle.std.specs.List.{list_all, list_any};
 ghost use Rattle.std.specs.Str.{bytes_eq};
-ghost use Rattle.calls.specs.Names.{begins_name, function_named, is_left_out, is_name, is_name_byte, is_predefined};
+ghost use Rattle.calls.specs.Names.{begins_name, function_named, is_left_out, is_name, is_name_byte, is_predefined, project_function_named};
+ghost use Rattle.calls.specs.declared.function.Function.TheVariants as functions;
 
-use crate::function::Function;
+use crate::function::{Function, ProjectFunction};
 
 /// The words that are no names.
 const KEYWORDS: [&str; 14] = [
@@ -28,12 +29,10 @@ const KEYWORDS: [&str; 14] = [
 const PREDEFINED: [&str; 4] = ["meson", "host_machine", "build_machine", "target_machine"];
 
 /// The functions of Meson that are left out, in the order of the alphabet.
-const LEFT_OUT: [&str; 39] = [
+const LEFT_OUT: [&str; 31] = [
     "add_global_arguments",
     "add_global_link_arguments",
     "add_languages",
-    "add_project_arguments",
-    "add_project_link_arguments",
     "add_test_setup",
     "alias_target",
     "benchmark",
@@ -41,29 +40,23 @@ const LEFT_OUT: [&str; 39] = [
     "build_target",
     "configuration_data",
     "configure_file",
-    "custom_target",
     "debug",
     "declare_dependency",
     "dependency",
     "environment",
-    "files",
     "find_program",
     "generator",
     "get_option",
     "import",
-    "include_directories",
     "install_data",
     "install_emptydir",
     "install_headers",
     "install_man",
     "install_subdir",
     "install_symlink",
-    "library",
     "run_command",
     "run_target",
-    "shared_library",
     "shared_module",
-    "static_library",
     "subproject",
     "summary",
     "test",
@@ -128,8 +121,6 @@ pub fn function_named(name: &str) -> Option<Function>
         Some(Function::Disabler)
     } else if name == "error" {
         Some(Function::Error)
-    } else if name == "executable" {
-        Some(Function::Executable)
     } else if name == "get_variable" {
         Some(Function::GetVariable)
     } else if name == "is_disabler" {
@@ -154,6 +145,39 @@ pub fn function_named(name: &str) -> Option<Function>
         Some(Function::UnsetVariable)
     } else if name == "warning" {
         Some(Function::Warning)
+    } else {
+        of_project(project_function_named(name))
+    }
+}
+
+fn of_project(function: Option<ProjectFunction>) -> Option<Function>
+    ensures { result ≡ option_map functions.OfProject function }
+{
+    Some(Function::OfProject(function?))
+}
+
+// The function of a name that says something of the project.
+fn project_function_named(name: &str) -> Option<ProjectFunction>
+    ensures { result ≡ project_function_named name.now }
+{
+    if name == "add_project_arguments" {
+        Some(ProjectFunction::AddProjectArguments)
+    } else if name == "add_project_link_arguments" {
+        Some(ProjectFunction::AddProjectLinkArguments)
+    } else if name == "custom_target" {
+        Some(ProjectFunction::CustomTarget)
+    } else if name == "executable" {
+        Some(ProjectFunction::Executable)
+    } else if name == "files" {
+        Some(ProjectFunction::Files)
+    } else if name == "include_directories" {
+        Some(ProjectFunction::IncludeDirectories)
+    } else if name == "library" {
+        Some(ProjectFunction::Library)
+    } else if name == "shared_library" {
+        Some(ProjectFunction::SharedLibrary)
+    } else if name == "static_library" {
+        Some(ProjectFunction::StaticLibrary)
     } else {
         None
     }

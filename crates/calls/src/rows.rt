@@ -4,8 +4,8 @@ ghost use Rattle.arguments.specs.RowView.{row_data};
 ghost use Rattle.calls.specs.Rows.{project_row, row_of, some_texts, subdir_row, values};
 
 use crate::function::Function;
+use crate::project_functions::project_function_row;
 use arguments::{Keyword, Kind, Row};
-use target_calls::target_row;
 
 static PROJECT: [Keyword; 3] = [
     Keyword {
@@ -39,11 +39,11 @@ pub fn row(function: Function) -> Row
         Function::Assert => values(&[Kind::Boolean, Kind::Text], 1),
         Function::Disabler | Function::SubdirDone => values(&[], 0),
         Function::Error | Function::Message | Function::Warning => any_values(),
-        Function::Executable => target_row(),
         Function::GetVariable => values(&[Kind::Text, Kind::Any], 1),
         Function::IsDisabler => values(&[Kind::Any], 1),
         Function::IsVariable | Function::UnsetVariable => values(&[Kind::Text], 1),
         Function::JoinPaths => some_texts(),
+        Function::OfProject(function) => project_function_row(function),
         Function::Project => project_row(),
         Function::Range => values(&[Kind::Integer, Kind::Integer, Kind::Integer], 1),
         Function::SetVariable => values(&[Kind::Text, Kind::Any], 2),

@@ -2,7 +2,7 @@
 ghost use Rattle.std.specs.Prelude.{◌<◌};
 
 use crate::expected::{Expected, outputs};
-use crate::given::{EMPTY, Given, SMALLEST, run_over, strings, tree_of};
+use crate::given::{EMPTY, Given, SMALLEST, SMALLEST_BUILD_FILE, run_over, strings, tree_of};
 use meson::Status;
 use ports::{MemOutputs, OutputCall, Outputs, Tree, TreeCall};
 use std::alloc::{AllocError, Global};
@@ -64,7 +64,7 @@ fn run_from_tree(
 }
 
 // More than the calls of one kind in each run of these tests.
-const CALLS: u64 = 2048;
+const CALLS: u64 = 4096;
 
 // How many calls of a kind a run makes of its outputs, where the run goes right whichever of them fails.
 fn calls_of_outputs(
@@ -104,15 +104,15 @@ fn calls_of_tree(
     Ok(None)
 }
 
-// The bytes of the output, its begin and its end.
+// The 777 bytes of `build.ninja` and the 1236 of the document, the begin and the end of both.
 #[test]
 fn each_call_of_the_outputs_fails(rt: HostRuntime) -> Result<(), Fail> {
     for (call, calls) in [
-        (OutputCall::Open, 1),
-        (OutputCall::Close, 1),
+        (OutputCall::Open, 2),
+        (OutputCall::Close, 2),
         (OutputCall::Log, 0),
         (OutputCall::Fault, 0),
-        (OutputCall::Any, 779),
+        (OutputCall::Any, 2017),
     ] {
         let made = calls_of_outputs(rt.alloc(), &SMALLEST, 1, call)?;
         assert_eq!(rt; made, Some(calls), "calls of {call:?}");
@@ -157,6 +157,18 @@ fn each_call_of_the_tree_fails_in_larger_pieces(rt: HostRuntime) -> Result<(), F
         assert!(rt; calls_of_tree(rt.alloc(), &SMALLEST, piece, TreeCall::Any)?.is_some());
     }
     assert!(rt; calls_of_tree(rt.alloc(), &EMPTY, 1, TreeCall::Any)?.is_some());
+    Ok(())
+}
+
+// `build.ninja` is whole and closed before the document is begun.
+#[test]
+fn the_document_is_not_begun(rt: HostRuntime) -> Result<(), Fail> {
+    let mut tree = tree_of(rt.alloc(), &SMALLEST)?;
+    let mut out = outputs(rt.alloc())?.with_plan(usize::MAX, Some((OutputCall::Open, 2)));
+    let status = run_over(rt.alloc(), &mut tree, &mut out)?;
+    assert_eq!(rt; status, Status::Device);
+    assert_eq!(rt; out.event_count(), SMALLEST_BUILD_FILE.len() + 2);
+    assert!(rt; SMALLEST.expected.is_begun(&out));
     Ok(())
 }
 

@@ -9,14 +9,17 @@ use std::alloc::{AllocError, Global};
 /// The events of a run that meets no failure of a device.
 #[derive(Clone, Copy)]
 pub enum Expected<'a> {
-    /// `build.ninja` is written with this text.
-    BuildFile(&'a str),
+    /// `build.ninja` and the introspection document are written with these texts.
+    Outputs {
+        build_file: &'a str,
+        document: &'a str,
+    },
     /// This line tells a fault, and nothing else is written.
     Fault(&'a str),
 }
 
-fn event_of_build_file(text: &[u8], at: usize) -> Option<Event<&[u8]>> {
-    let name = b"build.ninja".as_slice();
+// The event at this place of those of one output with this text.
+fn event_of_output<'a>(name: &'static [u8], text: &'a [u8], at: usize) -> Option<Event<&'a [u8]>> {
     if at == 0 {
         Some(Event::Open(name))
     } else if at <= text.len() {
@@ -28,18 +31,34 @@ fn event_of_build_file(text: &[u8], at: usize) -> Option<Event<&[u8]>> {
     }
 }
 
+fn event_of_outputs<'a>(
+    build_file: &'a [u8],
+    document: &'a [u8],
+    at: usize,
+) -> Option<Event<&'a [u8]>> {
+    let behind = build_file.len() + 2;
+    if at < behind {
+        event_of_output(b"build.ninja", build_file, at)
+    } else {
+        event_of_output(b"meson-info/introspect.json", document, at - behind)
+    }
+}
+
 impl<'a> Expected<'a> {
     /// The event at this place.
     pub fn event(self, at: usize) -> Option<Event<&'a [u8]>> {
         match self {
-            Expected::BuildFile(text) => event_of_build_file(text.as_bytes(), at),
+            Expected::Outputs {
+                build_file,
+                document,
+            } => event_of_outputs(build_file.as_bytes(), document.as_bytes(), at),
             Expected::Fault(line) => line.as_bytes().get(at).map(|byte| Event::Fault(*byte)),
         }
     }
 
     pub fn status(self) -> Status {
         match self {
-            Expected::BuildFile(_) => Status::Done,
+            Expected::Outputs { .. } => Status::Done,
             Expected::Fault(_) => Status::Fault,
         }
     }
@@ -59,5 +78,5 @@ impl<'a> Expected<'a> {
 pub fn outputs(alloc: Global) -> Result<MemOutputs, AllocError>
     ensures { IfOk result (λ out. (mem_outputs_seen out).failures ≡ 0) }
 {
-    MemOutputs::new(alloc, 2048)
+    MemOutputs::new(alloc, 4096)
 }

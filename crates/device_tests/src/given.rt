@@ -1,4 +1,4 @@
-//! The projects that are run, and their text of `build.ninja`.
+//! The projects that are run, and their outputs.
 ghost use Rattle.ports.specs.Endings.{HasRoom};
 ghost use Rattle.std.specs.Prelude.{◌≡◌, IfOk};
 ghost use Rattle.ports.specs.MemTree.{mem_tree_seen};
@@ -64,11 +64,43 @@ build all: phony prog\n\
 default all\n\
 ";
 
+/// The introspection document of the smallest project.
+pub const SMALLEST_DOCUMENT: &str = "{\"buildoptions\":[\
+{\"name\":\"prefix\",\"type\":\"string\",\"value\":\"/usr/local\"},\
+{\"name\":\"bindir\",\"type\":\"string\",\"value\":\"bin\"},\
+{\"name\":\"libdir\",\"type\":\"string\",\"value\":\"lib\"},\
+{\"name\":\"includedir\",\"type\":\"string\",\"value\":\"include\"},\
+{\"name\":\"datadir\",\"type\":\"string\",\"value\":\"share\"},\
+{\"name\":\"mandir\",\"type\":\"string\",\"value\":\"share/man\"},\
+{\"name\":\"sysconfdir\",\"type\":\"string\",\"value\":\"etc\"},\
+{\"name\":\"buildtype\",\"type\":\"combo\",\"value\":\"debug\"},\
+{\"name\":\"debug\",\"type\":\"boolean\",\"value\":true},\
+{\"name\":\"optimization\",\"type\":\"combo\",\"value\":\"0\"},\
+{\"name\":\"warning_level\",\"type\":\"combo\",\"value\":\"1\"},\
+{\"name\":\"werror\",\"type\":\"boolean\",\"value\":false},\
+{\"name\":\"c_std\",\"type\":\"combo\",\"value\":\"none\"},\
+{\"name\":\"default_library\",\"type\":\"combo\",\"value\":\"shared\"},\
+{\"name\":\"c_args\",\"type\":\"array\",\"value\":[]},\
+{\"name\":\"c_link_args\",\"type\":\"array\",\"value\":[]},\
+{\"name\":\"auto_features\",\"type\":\"feature\",\"value\":\"auto\"}\
+],\
+\"buildsystem_files\":{\"absent\":[\"meson.options\",\"meson_options.txt\"],\"present\":[\"meson.build\",\"main.c\"]},\
+\"dependencies\":[],\
+\"installed\":{},\
+\"projectinfo\":{\"license\":[],\"name\":\"p\",\"version\":\"undefined\"},\
+\"targets\":[{\"build_by_default\":true,\"defined_in\":\"meson.build\",\
+\"filename\":[\"prog\"],\"installed\":false,\"name\":\"prog\",\"type\":\"executable\"}],\
+\"tests\":[]}\
+";
+
 /// The smallest project of one program.
 pub const SMALLEST: Given<'static> = Given {
     definitions: SMALLEST_PROJECT,
     others: &["main.c"],
-    expected: Expected::BuildFile(SMALLEST_BUILD_FILE),
+    expected: Expected::Outputs {
+        build_file: SMALLEST_BUILD_FILE,
+        document: SMALLEST_DOCUMENT,
+    },
 };
 
 /// An empty definition file.

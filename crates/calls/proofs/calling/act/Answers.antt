@@ -40,8 +40,8 @@ returns-in-Warning g c = carries_as (ap (λ f. does f (arguments_data c.args.arg
 pub returns-in-SubdirDone : goal.returns-in-SubdirDone
 returns-in-SubdirDone g c = carries_as (ap (λ f. does f (arguments_data c.args.arguments.now)) (sym c.in-SubdirDone.is)) (carries_give refl)
 
-pub returns-in-Executable : goal.returns-in-Executable
-returns-in-Executable g c = carries_as (ap (λ f. does f (arguments_data c.args.arguments.now)) (sym c.in-Executable.is)) c.declare_target.ensures
+pub returns-in-OfProject : goal.returns-in-OfProject
+returns-in-OfProject g c = carries_as (ap (λ f. does f (arguments_data c.args.arguments.now)) (sym c.in-OfProject.is)) c.project_function.ensures
 
 pub returns-in-JoinPaths : goal.returns-in-JoinPaths
 returns-in-JoinPaths g c = carries_as (ap (λ f. does f (arguments_data c.args.arguments.now)) (sym c.in-JoinPaths.is)) c.join_paths.ensures

@@ -1,0 +1,58 @@
+//! The functions that say something of the project.
+ghost use Rattle.std.specs.Prelude.{◌≡◌, option_map};
+ghost use Rattle.data.specs.View.{data_of};
+ghost use Rattle.arguments.specs.Arguments.{arguments_data};
+ghost use Rattle.arguments.specs.RowView.{row_data};
+ghost use Rattle.world.specs.Answering.{Carries, HasRoom};
+ghost use Rattle.world.specs.Caller.{state_of};
+ghost use Rattle.calls.specs.ProjectFunctions.{project_function, project_function_row};
+
+use crate::function::ProjectFunction;
+use arguments::{Arguments, Row};
+use data::Value;
+use ports::{Outputs, Tree};
+use target_calls::{
+    add_project_arguments, add_project_link_arguments, custom_target, custom_target_row,
+    executable, files, files_row, include_directories, include_directories_row, library,
+    project_words_row, shared_library, shared_library_row, static_library, target_row,
+};
+use world::{Caller, Stop};
+
+/// What a function takes.
+pub fn project_function_row(function: ProjectFunction) -> Row
+    ensures { row_data result ≡ project_function_row function }
+{
+    match function {
+        ProjectFunction::AddProjectArguments | ProjectFunction::AddProjectLinkArguments => {
+            project_words_row()
+        }
+        ProjectFunction::CustomTarget => custom_target_row(),
+        ProjectFunction::Executable | ProjectFunction::StaticLibrary => target_row(),
+        ProjectFunction::Files => files_row(),
+        ProjectFunction::IncludeDirectories => include_directories_row(),
+        ProjectFunction::Library | ProjectFunction::SharedLibrary => shared_library_row(),
+    }
+}
+
+/// What a function does with arguments that its row has let through: it gives a value, or nothing.
+pub fn project_function<T: Tree, O: Outputs>(
+    caller: &mut Caller<'_, T, O>,
+    function: ProjectFunction,
+    arguments: &Arguments,
+) -> Result<Option<Value>, Stop>
+    requires { HasRoom (state_of T.seen O.seen caller.old) }
+    ensures { Carries (option_map data_of) (project_function function (arguments_data arguments.now)) (state_of T.seen O.seen caller.old)
+        result (state_of T.seen O.seen caller.new) }
+{
+    match function {
+        ProjectFunction::AddProjectArguments => add_project_arguments(caller, arguments),
+        ProjectFunction::AddProjectLinkArguments => add_project_link_arguments(caller, arguments),
+        ProjectFunction::CustomTarget => custom_target(caller, arguments),
+        ProjectFunction::Executable => executable(caller, arguments),
+        ProjectFunction::Files => files(caller, arguments),
+        ProjectFunction::IncludeDirectories => include_directories(caller, arguments),
+        ProjectFunction::Library => library(caller, arguments),
+        ProjectFunction::SharedLibrary => shared_library(caller, arguments),
+        ProjectFunction::StaticLibrary => static_library(caller, arguments),
+    }
+}
