@@ -12,4 +12,4 @@ returns-in_err-is_so g c = carries_none c.from_residual-in_err-is_so.ensures.1
 
 pub returns : goal.returns
 unfolding checked_for
-returns g c = carries_read (carries_as (cc (c.requirement.ensures, c.in_ok-is_so.ensures, c.machine.ensures, c.deref.ensures.value, c.in_ok-texts.ensures, c.text_at.ensures)) c.required_as.ensures)
+returns g c = carries_read (carries_as (cc (c.requirement-requirement.ensures, c.in_ok-is_so.ensures, c.machine.ensures, c.deref.ensures.value, c.in_ok-texts.ensures, c.text_at.ensures)) c.required_as.ensures)
