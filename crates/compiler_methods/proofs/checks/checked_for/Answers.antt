@@ -1,7 +1,5 @@
-use Rattle.std.proofs.Common.{◌≡◌, map, ap, ◌∙◌}
 use Rattle.world.proofs.Answering.{carries_as, carries_none, carries_read}
-use Rattle.compiler_methods.specs.Checks.{checked_for, required_as}
-use Rattle.compiler_methods.specs.Said.{is_true}
+use Rattle.compiler_methods.specs.Checks.{checked_for}
 use Rattle.compiler_methods.proofs.checks.checked_for.Goals as goal
 
 pub returns-in_err-texts : goal.returns-in_err-texts
