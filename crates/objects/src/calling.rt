@@ -17,7 +17,7 @@ use crate::features::{FeatureMethod, feature_answer};
 use crate::machines::{MachineMethod, machine_answer};
 use crate::meson_object::{MesonMethod, meson_answer};
 use crate::programs::{ProgramMethod, program_answer};
-use crate::targets::{TargetMethod, build_answer, custom_answer, output_answer};
+use crate::target_methods::{TargetMethod, build_answer, custom_answer, output_answer};
 use arguments::{Arguments, Kind, Row, check};
 use compiler_methods::{compiler_method, has_compiler_method};
 use configuration_calls::{configuration_method, has_configuration_method};

@@ -5,7 +5,7 @@ use Rattle.data.specs.declared.object.Object.TheVariants as objects
 use Rattle.data.proofs.ItemsLemmas.{items_append_assoc, items_append_none, items_of-push}
 use Rattle.objects.specs.Targets.{outputs_from}
 use Rattle.objects.proofs.Outputs.{first_of, none_of}
-use Rattle.objects.proofs.targets.outputs.Goals as goal
+use Rattle.objects.proofs.target_methods.outputs.Goals as goal
 
 pub loop-output-preserved : goal.loop-output-preserved
 loop-output-preserved c =
