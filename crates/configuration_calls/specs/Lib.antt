@@ -1,0 +1,7 @@
+pub mod ConfigurationData
+pub mod ConfigureFile
+pub mod Contents
+pub mod Given
+pub mod Methods
+pub mod Rows
+pub mod Written

@@ -1,0 +1,13 @@
+//! Configuration data and the files that are made of it: `configuration_data` and `configure_file` of the page "Reference manual", and the
+//! methods of its type `cfg_data`.
+#![tactic(auto)]
+
+mod data_call;
+mod file_call;
+mod methods;
+mod rows;
+
+pub use data_call::{configuration_data, copied};
+pub use file_call::{configure_file, has_meson_format};
+pub use methods::{configuration_method, has_configuration_method};
+pub use rows::{configuration_data_row, configure_file_row, other_format_row};
