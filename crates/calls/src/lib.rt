@@ -9,7 +9,6 @@ mod function;
 mod join_paths;
 mod messages;
 mod names;
-mod project_call;
 mod range;
 mod rows;
 mod variables;
