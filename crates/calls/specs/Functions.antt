@@ -9,8 +9,8 @@ use Rattle.world.specs.Deed.{Deed, give, refuse, ◌>>=◌, fitting}
 use Rattle.calls.specs.Disablers.{give_disabler, tell_disabler}
 use Rattle.calls.specs.JoinPaths.{join_paths}
 use Rattle.calls.specs.Messages.{message, warning, error, assert}
-use Rattle.calls.specs.Project.{project}
 use Rattle.calls.specs.ProjectFunctions.{project_function}
+use Rattle.project_calls.specs.Project.{project}
 use Rattle.calls.specs.Range.{range}
 use Rattle.calls.specs.Rows.{row_of}
 use Rattle.calls.specs.Variables.{set_variable, get_variable, is_variable, unset_variable}

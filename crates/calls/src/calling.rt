@@ -13,7 +13,6 @@ use crate::disablers::{disabler, is_disabler};
 use crate::function::Function;
 use crate::join_paths::join_paths;
 use crate::messages::{assert, error, message, warning};
-use crate::project_call::project;
 use crate::project_functions::project_function;
 use crate::range::range;
 use crate::rows::row;
@@ -22,6 +21,7 @@ use arguments::{Arguments, check, gives_disabler};
 use data::Value;
 use faults::Refusal;
 use ports::{Outputs, Tree};
+use project_calls::project;
 use world::{Caller, Stop};
 
 fn takes_disablers(function: Function) -> bool
