@@ -1,0 +1,16 @@
+use Rattle.std.proofs.Common.{Some, map, ap, ◌∙◌}
+use Rattle.data.specs.Data.{integer}
+use Rattle.world.proofs.Answering.{carries_give, carries_none, carries_read}
+use Rattle.compiler_methods.specs.Methods.{number}
+use Rattle.compiler_methods.specs.Said.{number_of}
+use Rattle.compiler_methods.proofs.calling.number.Goals as goal
+
+pub returns-in_err-texts : goal.returns-in_err-texts
+returns-in_err-texts g c = carries_none c.from_residual.ensures.1
+
+pub returns-in_err-number : goal.returns-in_err-number
+returns-in_err-number g c = carries_none c.from_residual-in_err-number.ensures.1
+
+pub returns : goal.returns
+unfolding number
+returns g c = carries_read (carries_give (ap (λ n. Some (integer n)) ?))
