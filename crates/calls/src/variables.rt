@@ -1,10 +1,12 @@
 //! The functions that name a variable by a text.
-ghost use Rattle.std.specs.Prelude.{◌≡◌, not, ◌&&◌, ◌||◌, is_some, option_map};
+ghost use Rattle.std.specs.Prelude.{◌≡◌, not, ◌&&◌, ◌||◌, is_some, option_map, IfOk};
+ghost use Rattle.data.specs.Data.{object};
 ghost use Rattle.data.specs.View.{data_of};
 ghost use Rattle.arguments.specs.Arguments.{arguments_data};
 ghost use Rattle.world.specs.Answering.{Carries};
 ghost use Rattle.world.specs.Caller.{state_of};
 ghost use Rattle.calls.specs.Names.{is_predefined};
+ghost use Rattle.predefined.specs.Predefined.{predefined};
 ghost use Rattle.calls.specs.Variables.{get_variable, is_settable, is_variable, set_or, set_to, set_variable, unset_variable};
 ghost use Rattle.calls.specs.Variables.{value_or, variable_or};
 
