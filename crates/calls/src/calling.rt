@@ -22,7 +22,7 @@ use configuration_calls::{has_meson_format, other_format_row};
 use data::Value;
 use faults::Refusal;
 use ports::{Outputs, Tree};
-use project_calls::{project, project};
+use project_calls::project;
 use world::{Caller, Stop};
 
 fn takes_disablers(function: Function) -> bool

@@ -98,7 +98,7 @@ fn set_or<T: Tree, O: Outputs>(
     name: &str,
     fallback: Option<&Value>,
 ) -> Result<Option<Value>, Stop>
-    ensures { Carries (option_map data_of) (set_or name.now (option_map (λ v. data_of v.now) fallback))
+    ensures { Carries (option_map data_of) (set_or name.now (option_map (λ v. data_of v.now) fallback.entry))
         (state_of T.seen O.seen caller.now) result (state_of T.seen O.seen caller.now) }
 {
     let value = caller.store.find(name)?;
@@ -119,7 +119,7 @@ fn variable_or<T: Tree, O: Outputs>(
     name: &str,
     fallback: Option<&Value>,
 ) -> Result<Option<Value>, Stop>
-    ensures { Carries (option_map data_of) (variable_or (is_predefined name.now) name.now (option_map (λ v. data_of v.now) fallback))
+    ensures { Carries (option_map data_of) (variable_or (is_predefined name.now) name.now (option_map (λ v. data_of v.now) fallback.entry))
         (state_of T.seen O.seen caller.now) result (state_of T.seen O.seen caller.now) }
 {
     if is_predefined(name) {
