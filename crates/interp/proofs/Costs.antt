@@ -57,11 +57,11 @@ use Rattle.interp.specs.declared.acting.Action.TheVariants.{Call, Enter, Leave}
 use Rattle.interp.specs.Acting.{WayData, Ends, Enters, action_of, acted_by, by_way, done_by, performed, subdir_by}
 use Rattle.interp.specs.Statements.{configuration_in, own_by, own, added, appended, summed, assigned_by, assigned, Round, looped, limited, item_rounds, entry_rounds, bound, on_next, after_round, rounds_of, walked, stated, does, branches_of, do_all}
 use Rattle.interp.specs.Folders.{opened_by, opened, fresh_by, fresh, go_to, go_back, folder}
-use Rattle.interp.specs.Files.{most_bytes, refuse_line, tree_or_fault, spelled_by, spelled}
+use Rattle.definition_files.specs.Files.{most_bytes, refuse_line, tree_or_fault, spelled_by, spelled}
 use Rattle.interp.specs.Evaluation.{begun_by, is_project, begins, begins_all, root, no_machine_file, evaluation}
 use Rattle.interp.specs.Laws.{StepsWithinCost}
 use Rattle.interp.proofs.Paths.{not_opened, is_definition}
-use Rattle.calls.specs.Project.{refuse_at}
+use Rattle.definition_files.specs.Places.{refuse_at}
 
 module _ (files : Files) where
   more : {A : Type 0} {p : Plan A} {c d : ℕ} → c ≤ d → Takes file_cost files c p → Takes file_cost files d p

@@ -8,7 +8,6 @@ pub mod Looping
 pub mod Opening
 mod Pairs
 mod Paths
-mod Pieces
 pub mod Places
 pub mod Reading
 pub mod Spelling

@@ -13,7 +13,7 @@ use Rattle.interp.specs.Blocks.{expressions_by, statements_by}
 use Rattle.std.proofs.lemmas.Bool.{false≢true, eqb-true}
 use Rattle.faults.specs.Faults.{plain_fault}
 use Rattle.faults.specs.declared.refusal.Refusal.TheVariants as refusals
-use Rattle.calls.specs.Project.{refuse_at}
+use Rattle.definition_files.specs.Places.{refuse_at}
 use Rattle.world.specs.Answering.{Refuses}
 use Rattle.world.specs.Deed.{Files}
 use Rattle.ports.specs.Outputs.{OutputState}

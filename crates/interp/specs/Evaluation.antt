@@ -3,7 +3,7 @@ use Rattle.std.specs.Prelude.{ℕ, Bool, true, false, List, [], ◌∷◌, codes
 use Rattle.grammar.specs.ExpressionTree.{ExpressionTree, FunctionTree}
 use Rattle.grammar.specs.Tree.{StatementTree, AssignTree, AppendTree, ValueTree, BreakTree, ContinueTree, IfTree, ForeachTree, Statements, NoStatement, MoreStatements}
 use Rattle.faults.specs.declared.refusal.Refusal.TheVariants as refusals
-use Rattle.calls.specs.Project.{refuse_at}
+use Rattle.definition_files.specs.Places.{refuse_at}
 use Rattle.world.specs.Deed.{Deed, give as give_deed}
 use Rattle.world.specs.Plan.{Plan, deed, ruled, ◌>>=◌, give, refuse}
 use Rattle.interp.specs.Folders.{opened, folder}

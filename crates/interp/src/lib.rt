@@ -20,7 +20,6 @@ mod loops;
 mod meaning;
 mod names;
 mod open;
-mod read;
 mod running;
 mod stated;
 mod unwinding;

@@ -1,0 +1,11 @@
+pub mod DeclareDependency
+pub mod Dependency
+pub mod Destinations
+pub mod Installs
+pub mod JoinedLists
+pub mod OwnLists
+pub mod Place
+pub mod Programs
+pub mod Rows
+pub mod TestCommands
+pub mod Tests
