@@ -1,5 +1,5 @@
 -- What tests and operations answer.
-use Rattle.std.proofs.Common.{◌≡◌, ℕ, List, Result, Ok, Err, IfOk, sym, subst}
+use Rattle.std.proofs.Common.{◌≡◌, Result, Ok, Err, IfOk, sym, subst}
 use Rattle.std.specs.declared.alloc.AllocError.{AllocError}
 use Rattle.data.specs.Data.{Data}
 use Rattle.data.specs.Tables.{Answers}

@@ -1,5 +1,5 @@
 -- What the machine file says in place of a compiler that is asked.
-use Rattle.std.specs.Prelude.{ℕ, ℤ, pos, negsuc, Bool, true, false, List, unwrap_or, codes}
+use Rattle.std.specs.Prelude.{ℕ, ℤ, negsuc, Bool, false, List, unwrap_or, codes}
 use Rattle.std.specs.Option.{option_and_then}
 use Rattle.machine_file.specs.Files.{Section}
 use Rattle.machine_file.specs.Lookups.{check_at, value_at}

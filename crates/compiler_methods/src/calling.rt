@@ -3,7 +3,7 @@ ghost use Rattle.std.specs.Prelude.{◌≡◌, IfOk, OnOk, Some, map, option_map
 ghost use Rattle.arguments.specs.Arguments.{arguments_data};
 ghost use Rattle.arguments.specs.Given.{text_or_none};
 ghost use Rattle.arguments.specs.Row.{checked};
-ghost use Rattle.data.specs.Data.{items_append, list, text};
+ghost use Rattle.data.specs.Data.{integer, items_append, list, text};
 ghost use Rattle.data.specs.Limits.{within};
 ghost use Rattle.data.specs.Tables.{Answers};
 ghost use Rattle.data.specs.View.{data_of, items_of};
@@ -14,6 +14,7 @@ ghost use Rattle.world.specs.Deed.{fitting};
 ghost use Rattle.compiler_methods.specs.Methods.{called, compiler_method, does, get_id, get_supported_arguments, is_supported, kept, number};
 ghost use Rattle.compiler_methods.specs.Methods.{supported, version};
 ghost use Rattle.compiler_methods.specs.Rows.{row_of};
+ghost use Rattle.compiler_methods.specs.Said.{number_of};
 
 use crate::checks::{check, find_library};
 use crate::names::CompilerMethod;
@@ -50,6 +51,24 @@ fn version<T: Tree, O: Outputs>(caller: &Caller<'_, T, O>) -> Result<Option<Valu
     Ok(Some(value))
 }
 
+fn integer_value(number: i64) -> Value
+    ensures { data_of result ≡ integer number }
+{
+    Value::Integer(number as i128)
+}
+
+fn number_value(
+    alloc: Global,
+    machine: &Machine,
+    method: &str,
+    texts: &[&str],
+) -> Result<Value, AllocError>
+    ensures { IfOk result (λ v. data_of v ≡ integer (number_of (machine_in machine.now) method.now (map (λ t. t.now) texts.now))) }
+{
+    let number = number_of(alloc, machine, method, texts)?;
+    Ok(integer_value(number))
+}
+
 // `sizeof(type)` and `alignment(type)`: -1 where the machine file says nothing.
 fn number<T: Tree, O: Outputs>(
     caller: &Caller<'_, T, O>,
@@ -60,8 +79,8 @@ fn number<T: Tree, O: Outputs>(
         (state_of T.seen O.seen caller.now) }
 {
     let texts = arguments.all_texts(caller.alloc)?;
-    let number = number_of(caller.alloc, caller.store.machine(), method, &texts)?;
-    Ok(Some(Value::Integer(number as i128)))
+    let number = number_value(caller.alloc, caller.store.machine(), method, &texts)?;
+    Ok(Some(number))
 }
 
 // ---- the arguments that the compiler takes

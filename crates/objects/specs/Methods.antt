@@ -3,6 +3,7 @@ use Rattle.std.specs.Prelude.{ℕ, Bool, false, List, Option, Some, is_some, Res
 use Rattle.arguments.specs.Arguments.{ArgumentsData}
 use Rattle.arguments.specs.Row.{checked}
 use Rattle.compiler_methods.specs.Methods as compilers
+use Rattle.configuration_calls.specs.Methods as configurations
 use Rattle.data.specs.Data.{Data}
 use Rattle.data.specs.declared.object.Object.{Object}
 use Rattle.data.specs.declared.object.Object.TheVariants as objects
@@ -29,6 +30,7 @@ has_method (objects.CustomOutput target output) name = is_some (targets.output_n
 has_method (objects.Machine m) name = is_some (machines.named name)
 has_method objects.Meson name = is_some (meson.named name)
 has_method objects.Compiler name = compilers.has_method name
+has_method (objects.ConfigurationData number) name = configurations.has_method name
 has_method _ name = false
 
 -- what a method tells of its receiver and the facts of the run
@@ -54,4 +56,5 @@ tell o name a = do
 -- a method of an object on its arguments: it gives a value, or nothing
 unfoldable pub object_method : Object → List ℕ → ArgumentsData → Deed (Option Data)
 object_method objects.Compiler name a = compilers.compiler_method name a
+object_method (objects.ConfigurationData number) name a = configurations.configuration_method number name a
 object_method o name a = tell o name a

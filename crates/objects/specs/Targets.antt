@@ -13,8 +13,8 @@ use Rattle.targets.specs.Data.{TargetData, Build, Custom}
 use Rattle.targets.specs.Files.{file_path, path_in}
 use Rattle.targets.specs.Libraries.{LinkedData, linked_of}
 use Rattle.world.specs.World.{Facts}
-use Rattle.objects.specs.declared.targets.TargetMethod.{TargetMethod}
-use Rattle.objects.specs.declared.targets.TargetMethod.TheVariants.{FullPath, Name, ToList}
+use Rattle.objects.specs.declared.target_methods.TargetMethod.{TargetMethod}
+use Rattle.objects.specs.declared.target_methods.TargetMethod.TheVariants.{FullPath, Name, ToList}
 
 -- ---- names
 

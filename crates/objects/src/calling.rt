@@ -17,9 +17,10 @@ use crate::features::{FeatureMethod, feature_answer};
 use crate::machines::{MachineMethod, machine_answer};
 use crate::meson_object::{MesonMethod, meson_answer};
 use crate::programs::{ProgramMethod, program_answer};
-use crate::targets::{TargetMethod, build_answer, custom_answer, output_answer};
+use crate::target_methods::{TargetMethod, build_answer, custom_answer, output_answer};
 use arguments::{Arguments, Kind, Row, check};
 use compiler_methods::{compiler_method, has_compiler_method};
+use configuration_calls::{configuration_method, has_configuration_method};
 use data::{Object, Refusal, Value};
 use ports::{Outputs, Tree};
 use std::alloc::{AllocError, Global};
@@ -39,6 +40,7 @@ pub fn has_object_method(object: &Object, name: &str) -> bool
         Object::Machine(_) => MachineMethod::named(name).is_some(),
         Object::Meson => MesonMethod::named(name).is_some(),
         Object::Compiler => has_compiler_method(name),
+        Object::ConfigurationData(_) => has_configuration_method(name),
         _ => false,
     }
 }
@@ -160,6 +162,9 @@ pub fn object_method<T: Tree, O: Outputs>(
 {
     match object {
         Object::Compiler => compiler_method(caller, name, arguments),
+        Object::ConfigurationData(number) => {
+            configuration_method(caller, *number, name, arguments)
+        }
         _ => tell(caller, object, name, arguments),
     }
 }

@@ -8,7 +8,7 @@ pub returns-in-Check : goal.returns-in-Check
 returns-in-Check g c = carries_as (ap (λ m. does m c.args.name.now (arguments_data c.args.arguments.now)) (sym c.in-Check.is)) c.check.ensures
 
 pub returns-in-CheckInside : goal.returns-in-CheckInside
-returns-in-CheckInside g c = carries_as (ap (λ m. does m c.args.name.now (arguments_data c.args.arguments.now)) (sym c.in-CheckInside.is)) c.check-2.ensures
+returns-in-CheckInside g c = carries_as (ap (λ m. does m c.args.name.now (arguments_data c.args.arguments.now)) (sym c.in-CheckInside.is)) c.check-in-CheckInside.ensures
 
 pub returns-in-FindLibrary : goal.returns-in-FindLibrary
 returns-in-FindLibrary g c = carries_as (ap (λ m. does m c.args.name.now (arguments_data c.args.arguments.now)) (sym c.in-FindLibrary.is)) c.find_library.ensures

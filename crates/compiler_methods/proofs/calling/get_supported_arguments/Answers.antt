@@ -15,8 +15,20 @@ returns-in_err-answer g c = carries_none c.from_residual-in_err-answer.ensures.1
 
 pub returns-in_err-value : goal.returns-in_err-value
 unfolding get_supported_arguments
-returns-in_err-value g c = ?
+returns-in_err-value g c =
+    carries_read (carries_stop
+    (carries_as (ap (λ m. answered (within (list (supported m (map (λ v. data_of v.now) c.deref.result.now))))) c.machine.ensures
+    ∙ ap (λ vs. answered (within (list (supported c.args.caller.now.store.now.machine (map (λ v. data_of v.now) vs))))) c.deref.ensures.value
+    ∙ ap (λ ds. answered (within (list (supported c.args.caller.now.store.now.machine ds)))) c.in_ok-values.ensures)
+    (carries_value _ _ c.in_ok-answer.ensures c.in_err-value.ensures))
+    c.from_residual-in_err-value.ensures.1)
 
 pub returns : goal.returns
 unfolding get_supported_arguments
-returns g c = ?
+returns g c =
+    carries_read (carries_then {x = c.in_ok-value.value}
+    (carries_as (ap (λ m. answered (within (list (supported m (map (λ v. data_of v.now) c.deref.result.now))))) c.machine.ensures
+    ∙ ap (λ vs. answered (within (list (supported c.args.caller.now.store.now.machine (map (λ v. data_of v.now) vs))))) c.deref.ensures.value
+    ∙ ap (λ ds. answered (within (list (supported c.args.caller.now.store.now.machine ds)))) c.in_ok-values.ensures)
+    (carries_value _ _ c.in_ok-answer.ensures c.in_ok-value.ensures))
+    (carries_give refl))

@@ -13,4 +13,9 @@ returns-in_err-number g c = carries_none c.from_residual-in_err-number.ensures.1
 
 pub returns : goal.returns
 unfolding number
-returns g c = carries_read (carries_give (ap (λ n. Some (integer n)) ?))
+returns g c =
+    let machine = c.args.caller.now.store.now.machine in
+    carries_read (carries_give (ap Some (c.in_ok-number.ensures
+    ∙ ap (λ m. integer (number_of m c.args.method.now (map (λ t. t.now) c.deref.result.now))) c.machine.ensures
+    ∙ ap (λ ts. integer (number_of machine c.args.method.now (map (λ t. t.now) ts))) c.deref.ensures.value
+    ∙ ap (λ ts. integer (number_of machine c.args.method.now ts)) c.in_ok-texts.ensures)))

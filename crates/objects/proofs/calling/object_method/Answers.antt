@@ -1,6 +1,22 @@
+use Rattle.std.proofs.Common.{ap, sym}
+use Rattle.arguments.specs.Arguments.{arguments_data}
+use Rattle.world.proofs.Answering.{carries_as}
 use Rattle.objects.specs.Methods.{object_method}
+use Rattle.objects.proofs.Kinds.{others_tell}
 use Rattle.objects.proofs.calling.object_method.Goals as goal
 
 pub returns-in-Compiler : goal.returns-in-Compiler
 unfolding object_method
-returns-in-Compiler g c = ?
+returns-in-Compiler g c =
+    carries_as (ap (λ o. object_method o c.args.name.now (arguments_data c.args.arguments.now)) (sym c.in-Compiler.is)) c.compiler_method.ensures
+
+pub returns-in-ConfigurationData : goal.returns-in-ConfigurationData
+unfolding object_method
+returns-in-ConfigurationData g c =
+    carries_as (ap (λ o. object_method o c.args.name.now (arguments_data c.args.arguments.now)) (sym c.in-ConfigurationData.is))
+    c.configuration_method.ensures
+
+pub returns-in_default : goal.returns-in_default
+returns-in_default g c =
+    carries_as (others_tell c.args.object.now c.args.name.now (arguments_data c.args.arguments.now) c.in_default.not-Compiler
+    c.in_default.not-ConfigurationData) c.tell.ensures
