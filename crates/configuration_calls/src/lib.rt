@@ -2,6 +2,7 @@
 //! methods of its type `cfg_data`.
 #![tactic(auto)]
 
+mod contents;
 mod data_call;
 mod file_call;
 mod methods;
