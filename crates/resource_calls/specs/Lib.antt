@@ -6,6 +6,7 @@ pub mod JoinedLists
 pub mod OwnLists
 pub mod Place
 pub mod Programs
+pub mod Required
 pub mod Rows
 pub mod TestCommands
 pub mod Tests

@@ -9,6 +9,7 @@ mod dependencies;
 mod destinations;
 mod installs;
 mod programs;
+mod required;
 mod rows;
 mod testing;
 
