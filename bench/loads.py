@@ -108,6 +108,55 @@ def folders(folder, count):
     return count
 
 
+# Projects of many targets.
+
+SOURCES_A_PROGRAM = 10
+
+
+def programs(folder, count):
+    """So many sources, ten for each program."""
+    for i in range(count):
+        write(folder, f"s{i}.c", "")
+    named = [f"'s{i}.c'" for i in range(count)]
+    lines = (f"executable('p{i}', {', '.join(named[i : i + SOURCES_A_PROGRAM])})\n" for i in range(0, count, SOURCES_A_PROGRAM))
+    write(folder, "meson.build", "project('p','c')\n" + "".join(lines))
+    return count
+
+
+def one_program(folder, count):
+    """One program of so many sources."""
+    for i in range(count):
+        write(folder, f"s{i}.c", "")
+    write(folder, "meson.build", "project('p','c')\nexecutable('p',\n" + "".join(f"  's{i}.c',\n" for i in range(count)) + ")\n")
+    return count
+
+
+def chain(folder, count):
+    """So many static libraries, each over the one before, and a program over the last."""
+    write(folder, "x.c", "")
+    lines = "".join(f"l = static_library('l{i}', 'x.c', link_with: l)\n" for i in range(count))
+    write(folder, "meson.build", f"project('p','c')\nl = []\n{lines}executable('p', 'x.c', link_with: l)\n")
+    return count
+
+
+def ladder(folder, count):
+    """So many static libraries, each over the two before, and a program over the last two."""
+    write(folder, "x.c", "")
+    step = "a = b\nb = c\n"
+    lines = "".join(f"c = static_library('l{i}', 'x.c', link_with: [a, b])\n{step}" for i in range(count))
+    write(folder, "meson.build", f"project('p','c')\na = []\nb = []\n{lines}executable('p', 'x.c', link_with: [a, b])\n")
+    return count
+
+
+def custom_targets(folder, count):
+    """So many custom targets, each with an input of its own, and with the output of the one before in its command."""
+    line = "g = custom_target('g{0}', input: 'g{0}.in', output: 'g{0}.out', command: ['gen', '@INPUT@', '@OUTPUT@', g])\n"
+    for i in range(count):
+        write(folder, f"g{i}.in", "")
+    write(folder, "meson.build", "project('p','c')\ng = []\n" + "".join(line.format(i) for i in range(count)))
+    return count
+
+
 # Keys of 32 characters: plain ones, and ones that collide in the hash that the tables of `indexmap` take by themselves. It reads 16 bytes
 # at a time; after a prefix whose state is itself a text, that text makes the product zero, and the last eight bytes change nothing.
 

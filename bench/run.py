@@ -108,6 +108,17 @@ GROUPS = {
         ],
         beside=setup_otherwise, beside_rounds=1,
     ),
+    "project": Group(
+        "whole runs: projects of many sources, libraries and custom targets", "one", lambda load, size: [MESON, "setup", "build"],
+        [
+            Load("programs", (2_000, 20_000), loads.programs, growth=1.5),
+            Load("one_program", (800, 8_000), loads.one_program, growth=1.5),
+            Load("chain", (400, 4_000), loads.chain, growth=1.5),
+            Load("ladder", (400, 4_000), loads.ladder, growth=1.5),
+            Load("custom_targets", (500, 5_000), loads.custom_targets, growth=1.5),
+        ],
+        rounds=3, beside=setup_otherwise, beside_rounds=1,
+    ),
     "hostile": Group(
         "whole runs: tables whose keys collide in a hash that is quick", "a key", lambda load, size: [MESON, "setup", "build"],
         [

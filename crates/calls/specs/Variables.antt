@@ -1,12 +1,12 @@
 -- The functions that name a variable by a text.
 use Rattle.std.specs.Prelude.{ℕ, Bool, true, false, not, ◌||◌, ◌&&◌, List, [], Option, Some, None, is_some}
-use Rattle.data.specs.Data.{Data, boolean, object}
+use Rattle.data.specs.Data.{Data, boolean}
 use Rattle.faults.specs.declared.refusal.Refusal.TheVariants as refusals
 use Rattle.arguments.specs.Arguments.{ArgumentsData}
 use Rattle.arguments.specs.Given.{argument, text_at}
 use Rattle.predefined.specs.Predefined.{predefined}
 use Rattle.world.specs.World.{with_variable}
-use Rattle.world.specs.Deed.{Deed, give, refuse, read, change, ◌>>=◌, need}
+use Rattle.world.specs.Deed.{Deed, give, refuse, read, change, ◌>>=◌, answered, need}
 use Rattle.calls.specs.Names.{is_name, is_predefined}
 
 -- a name that definition files may set
@@ -36,9 +36,15 @@ set_or name fallback = do
   facts ← read
   value_or name (facts.variables name) fallback
 
--- a name that every run has stands for its object
+-- what a name stands for that every run has
+unfoldable pub thing : List ℕ → Deed (Option Data)
+thing name = do
+  facts ← read
+  d ← answered (predefined facts.machine name)
+  give (Some d)
+
 unfoldable pub variable_or : Bool → List ℕ → Option Data → Deed (Option Data)
-variable_or true name fallback = give (Some (object (predefined name)))
+variable_or true name fallback = thing name
 variable_or false name fallback = set_or name fallback
 
 -- `get_variable(name, fallback)`

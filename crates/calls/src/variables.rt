@@ -1,14 +1,12 @@
 //! The functions that name a variable by a text.
-ghost use Rattle.std.specs.Prelude.{◌≡◌, not, ◌&&◌, ◌||◌, is_some, option_map, IfOk};
-ghost use Rattle.data.specs.Data.{object};
+ghost use Rattle.std.specs.Prelude.{◌≡◌, not, ◌&&◌, ◌||◌, is_some, option_map};
 ghost use Rattle.data.specs.View.{data_of};
 ghost use Rattle.arguments.specs.Arguments.{arguments_data};
 ghost use Rattle.world.specs.Answering.{Carries};
 ghost use Rattle.world.specs.Caller.{state_of};
 ghost use Rattle.calls.specs.Names.{is_predefined};
-ghost use Rattle.predefined.specs.Predefined.{predefined};
 ghost use Rattle.calls.specs.Variables.{get_variable, is_settable, is_variable, set_or, set_to, set_variable, unset_variable};
-ghost use Rattle.calls.specs.Variables.{value_or, variable_or};
+ghost use Rattle.calls.specs.Variables.{thing, value_or, variable_or};
 
 use crate::names::{is_name, is_predefined};
 use arguments::Arguments;
@@ -16,7 +14,6 @@ use data::Value;
 use faults::Refusal;
 use ports::{Outputs, Tree};
 use predefined::predefined;
-use std::alloc::{AllocError, Global};
 use world::{Caller, Stop};
 
 // Whether it is a name that definition files may set.
@@ -105,12 +102,14 @@ fn set_or<T: Tree, O: Outputs>(
     value_or(caller, name, value, fallback)
 }
 
-// The object of a name that every run has.
-fn object_named(alloc: Global, name: &str) -> Result<Value, AllocError>
-    ensures { IfOk result (λ v. data_of v ≡ object (predefined name.now)) }
+// What a name stands for that every run has.
+fn thing<T: Tree, O: Outputs>(caller: &Caller<'_, T, O>, name: &str) -> Result<Option<Value>, Stop>
+    ensures { Carries (option_map data_of) (thing name.now) (state_of T.seen O.seen caller.now) result
+        (state_of T.seen O.seen caller.now) }
 {
-    let object = predefined(alloc, name)?;
-    Value::of_object(alloc, object)
+    let answer = predefined(caller.alloc, caller.store.machine(), name)?;
+    let value = caller.answered(answer)?;
+    Ok(Some(value))
 }
 
 // The value of a variable, or else a fallback. A name that every run has stands for its object.
@@ -123,8 +122,7 @@ fn variable_or<T: Tree, O: Outputs>(
         (state_of T.seen O.seen caller.now) result (state_of T.seen O.seen caller.now) }
 {
     if is_predefined(name) {
-        let value = object_named(caller.alloc, name)?;
-        Ok(Some(value))
+        thing(caller, name)
     } else {
         set_or(caller, name, fallback)
     }

@@ -44,7 +44,7 @@ library_argument name = codes "-l" ++ name
 -- the dependency that a library is: it has no version, and one argument for the linker
 abbrev pub library : Bool → List ℕ → Result Dependency Refusal
 library true name = found name (codes "unknown") [] (library_argument name ∷ [])
-library false name = Ok (missing name)
+library false name = missing name
 
 abbrev pub dependency_data : Result Dependency Refusal → Result Data Refusal
 dependency_data (Ok d) = Ok (object (objects.Dependency d))

@@ -87,9 +87,9 @@ fn library(
 {
     if is_so {
         let link_args = [library_argument(alloc, name.as_str())?];
-        found_dependency(alloc, name, "unknown", &[], &link_args)
+        found_dependency(alloc, name.as_str(), "unknown", &[], &link_args)
     } else {
-        missing_dependency(alloc, name)
+        missing_dependency(alloc, name.as_str())
     }
 }
 

@@ -1,10 +1,12 @@
 -- `configure_file`: a file that is made while the definition files are read.
-use Rattle.std.specs.Prelude.{ℕ, Bool, true, false, List, [], ◌∷◌, Option, Some, None, codes, bytes_eq, ok_or, option_and_then, option_map}
+use Rattle.std.specs.Prelude.{ℕ, Bool, true, false, List, [], ◌∷◌, Option, Some, None, codes, bytes_eq, is_some, ok_or, option_and_then, option_map}
+use Rattle.std.specs.Prelude.{if◌then◌else◌}
 use Rattle.arguments.specs.Arguments.{ArgumentsData}
 use Rattle.arguments.specs.Given.{keyword, text_of}
-use Rattle.arguments.specs.Leaves.{leaves}
+use Rattle.arguments.specs.Leaves.{leaves_named}
 use Rattle.data.specs.Data.{Data, object, text, text_in}
 use Rattle.data.specs.Limits.{within_bytes}
+use Rattle.data.specs.declared.object.Object.{Object}
 use Rattle.data.specs.declared.object.Object.TheVariants as objects
 use Rattle.edge.specs.Texts.{Path, Text}
 use Rattle.faults.specs.declared.refusal.Refusal.TheVariants as refusals
@@ -38,10 +40,16 @@ fits_format (Some d) = is_meson d
 abbrev pub has_meson_format : ArgumentsData → Bool
 has_meson_format a = fits_format (keyword (codes "format") a)
 
--- the file of the tree that a value names in a definition file of a folder; a file that is built is none
+-- a file of the tree; one that is built is none
+abbrev pub tree_file : Object → Option Path
+tree_file (objects.File path true) = None
+tree_file (objects.File path false) = Some path
+tree_file _ = None
+
+-- the file of the tree that a value names in a definition file of a folder
 abbrev pub file_named : (source_root folder : Path) → Data → Option Path
 file_named source_root folder (text t) = tree_path source_root folder t
-file_named source_root folder (object (objects.File path false)) = Some path
+file_named source_root folder (object o) = tree_file o
 file_named source_root folder _ = None
 
 -- that of just one value
@@ -50,21 +58,21 @@ one_file source_root folder (d ∷ []) = file_named source_root folder d
 one_file source_root folder _ = None
 
 -- the path that `input` names, which may be left out; none where it names no file, or several
-abbrev pub input_named : (source_root folder : Path) → Option Data → Option (Option Path)
-input_named source_root folder None = Some None
-input_named source_root folder (Some d) = option_map Some (one_file source_root folder (leaves d))
+abbrev pub input_named : (source_root folder : Path) → ArgumentsData → Option (Option Path)
+input_named source_root folder a =
+    if is_some (keyword (codes "input") a) then option_map Some (one_file source_root folder (leaves_named (codes "input") a)) else Some None
 
 -- the template: E9 where `input` names none
 unfoldable pub input_given : ArgumentsData → Deed (Option Path)
 input_given a = do
   facts ← read
-  fitting (ok_or (input_named facts.settings.source_root facts.folder (keyword (codes "input") a)) refusals.Arguments)
+  fitting (ok_or (input_named facts.settings.source_root facts.folder a) refusals.Arguments)
 
 -- the values of `configuration`: E9 where they are no configuration data
 unfoldable pub values_given : ArgumentsData → Deed GivenData
 values_given a = do
   facts ← read
-  fitting (ok_or (option_and_then (given_by facts.configurations) (keyword (codes "configuration") a)) refusals.Arguments)
+  fitting (ok_or (option_and_then (given_by facts) (keyword (codes "configuration") a)) refusals.Arguments)
 
 -- ---- where the output is installed
 
@@ -86,11 +94,14 @@ unfoldable pub noted : Option InstallData → Deed (Unit {0})
 noted None = give tt
 noted (Some install) = add_install install
 
+abbrev pub install_dir : ArgumentsData → Option Path
+install_dir a = option_and_then text_in (keyword (codes "install_dir") a)
+
 -- the output is installed where `install_dir` says so
 unfoldable pub installed : (path : Path) → ArgumentsData → Deed (Unit {0})
 installed path a = do
   facts ← read
-  noted (option_map (install_at facts path (text_of (codes "output") a)) (option_and_then text_in (keyword (codes "install_dir") a)))
+  noted (option_map (install_at facts path (text_of (codes "output") a)) (install_dir a))
 
 -- ---- the call
 

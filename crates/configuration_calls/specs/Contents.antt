@@ -1,9 +1,8 @@
 -- Values of the language in configuration data.
-use Rattle.std.specs.Prelude.{ℕ, ◌-◌, Bool, false, ◌&&◌, ◌==◌, nat_lt, List, [], ◌∷◌, length, take, drop, slice_index, Option, Some, None, if◌then◌else◌}
-use Rattle.std.specs.Prelude.{option_map, Result, Ok, Err}
+use Rattle.std.specs.Prelude.{ℕ, false, ◌==◌, List, [], ◌∷◌, Option, Some, None, option_map, unwrap_or, Result, Ok, Err, if◌then◌else◌}
 use Rattle.data.specs.Data.{Data, boolean, integer, text, list, Entries as DictionaryEntries, Items, no_items, item, items_append}
 use Rattle.data.specs.Data.{entry_values, keys_in}
-use Rattle.data.specs.Limits.{within, within_bytes}
+use Rattle.data.specs.Limits.{within}
 use Rattle.data.specs.declared.refusal.Refusal.{Refusal}
 use Rattle.data.specs.declared.refusal.Refusal.TheVariants as refusal
 use Rattle.template.specs.Config.{Bytes, Configuration, Content, Entries, Flag, Number, with_value}
@@ -47,31 +46,39 @@ entries_in es = all_set [] (keys_in es) (entry_values es)
 -- ---- what is asked of a name
 
 -- the value, or else the fallback; E10 where there is neither
+abbrev pub fallback_or_none : Option Data → Result Data Refusal
+fallback_or_none None = Err refusal.Absent
+fallback_or_none (Some d) = Ok d
+
 abbrev pub found_or : Option Content → Option Data → Result Data Refusal
 found_or (Some content) fallback = within (data_in content)
-found_or None (Some d) = Ok d
-found_or None None = Err refusal.Absent
+found_or None fallback = fallback_or_none fallback
 
--- a quote stands first and another one last
-abbrev pub is_quoted : List ℕ → Bool
-is_quoted t = nat_lt 1 (length t) && (slice_index t 0 == 34 && slice_index t (length t - 1) == 34)
+-- what stands before a last quote
+abbrev pub before_quote : List ℕ → Option (List ℕ)
+before_quote [] = None
+before_quote (b ∷ []) = if b == 34 then Some [] else None
+before_quote (b ∷ c ∷ t) = option_map (λ u. b ∷ u) (before_quote (c ∷ t))
 
--- a text without these two
+-- a text without a quote at its beginning and another one at its end, where both are there
 abbrev pub unquoted_text : List ℕ → List ℕ
-unquoted_text t = if is_quoted t then take (length t - 2) (drop 1 t) else t
+unquoted_text [] = []
+unquoted_text (b ∷ t) = if b == 34 then unwrap_or (before_quote t) (b ∷ t) else b ∷ t
 
 abbrev pub unquoted : Content → Content
 unquoted (Bytes t) = Bytes (unquoted_text t)
 unquoted (Flag b) = Flag b
 unquoted (Number z) = Number z
 
-abbrev pub unquoted_data : Data → Data
-unquoted_data (text t) = text (unquoted_text t)
-unquoted_data d = d
+abbrev pub unquoted_fallback : Option Data → Result Data Refusal
+unquoted_fallback None = Err refusal.Absent
+unquoted_fallback (Some (text t)) = within (text (unquoted_text t))
+unquoted_fallback (Some d) = Ok d
 
--- the same of the texts without their quotes
+-- the same of texts without these quotes, the fallback too
 abbrev pub found_unquoted : Option Content → Option Data → Result Data Refusal
-found_unquoted content fallback = found_or (option_map unquoted content) (option_map unquoted_data fallback)
+found_unquoted (Some content) fallback = within (data_in (unquoted content))
+found_unquoted None fallback = unquoted_fallback fallback
 
 -- ---- names as values
 
@@ -82,7 +89,7 @@ and_then (Err refusal) next = Err refusal
 -- items, and behind them texts, each within the limit of a text
 abbrev pub texts_behind : Items → List (List ℕ) → Result Items Refusal
 texts_behind ds [] = Ok ds
-texts_behind ds (t ∷ ts) = and_then (within_bytes t) (λ u. texts_behind (items_append ds (item (text u) no_items)) ts)
+texts_behind ds (t ∷ ts) = and_then (within (text t)) (λ d. texts_behind (items_append ds (item d no_items)) ts)
 
 -- the list of these texts
 abbrev pub texts_list : List (List ℕ) → Result Data Refusal

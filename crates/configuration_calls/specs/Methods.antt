@@ -5,12 +5,12 @@ use Rattle.arguments.specs.Given.{argument, flag_at, text_at}
 use Rattle.arguments.specs.Row.{checked}
 use Rattle.data.specs.Data.{Data, boolean}
 use Rattle.faults.specs.declared.refusal.Refusal.TheVariants as refusals
-use Rattle.template.specs.Config.{Entries, Number, names, value_of}
+use Rattle.template.specs.Config.{Content, Number, names, value_of}
 use Rattle.template.specs.Line.{is_name}
 use Rattle.world.specs.Configuring.{configuration_at, merge_configured, set_configured, set_quoted}
 use Rattle.world.specs.Deed.{Deed, give, refuse, read, ◌>>=◌, answered, fitting, need}
 use Rattle.configuration_calls.specs.Contents.{content_in, found_or, found_unquoted, texts_list}
-use Rattle.configuration_calls.specs.Given.{number_in}
+use Rattle.configuration_calls.specs.Given.{entries_of, number_in}
 use Rattle.configuration_calls.specs.Rows.{row_of}
 use Rattle.configuration_calls.specs.declared.methods.Method.{Method}
 use Rattle.configuration_calls.specs.declared.methods.Method.TheVariants as methods
@@ -37,63 +37,68 @@ name_given a = do
   _ ← need (is_name (text_at 0 a)) refusals.Arguments []
   give (text_at 0 a)
 
--- the values of the data with a number
-unfoldable pub entries_at : ℕ → Deed Entries
-entries_at number = do
-  facts ← read
-  give (configuration_at number facts.configurations).entries
-
 -- `get(name, fallback)`: E10 where the name stands for nothing and no fallback is given
 unfoldable pub get : ℕ → ArgumentsData → Deed (Option Data)
 get number a = do
   name ← name_given a
-  entries ← entries_at number
-  d ← answered (found_or (value_of entries name) (argument 1 a))
+  facts ← read
+  d ← answered (found_or (value_of (entries_of facts number) name) (argument 1 a))
   give (Some d)
 
 -- `get_unquoted(name, fallback)`: the same, of a text without the quotes at its ends
 unfoldable pub get_unquoted : ℕ → ArgumentsData → Deed (Option Data)
 get_unquoted number a = do
   name ← name_given a
-  entries ← entries_at number
-  d ← answered (found_unquoted (value_of entries name) (argument 1 a))
+  facts ← read
+  d ← answered (found_unquoted (value_of (entries_of facts number) name) (argument 1 a))
   give (Some d)
 
 -- `has(name)`: whether the name stands for anything
 unfoldable pub has : ℕ → ArgumentsData → Deed (Option Data)
 has number a = do
   name ← name_given a
-  entries ← entries_at number
-  give (Some (boolean (is_some (value_of entries name))))
+  facts ← read
+  give (Some (boolean (is_some (value_of (entries_of facts number) name))))
 
 -- `keys()`: the names, by the order of their bytes
 unfoldable pub keys : ℕ → Deed (Option Data)
 keys number = do
-  entries ← entries_at number
-  d ← answered (texts_list (names entries))
+  facts ← read
+  d ← answered (texts_list (names (entries_of facts number)))
   give (Some d)
+
+-- the data that a call is given
+unfoldable pub other_given : ArgumentsData → Deed ℕ
+other_given a = fitting (ok_or (option_and_then number_in (argument 0 a)) refusals.Arguments)
 
 -- `merge_from(other)`: each name of the other data gets the value that it has there
 unfoldable pub merge_from : ℕ → ArgumentsData → Deed (Option Data)
 merge_from number a = do
-  other ← fitting (ok_or (option_and_then number_in (argument 0 a)) refusals.Arguments)
+  other ← other_given a
   facts ← read
   _ ← merge_configured number (configuration_at other facts.configurations)
   give None
+
+-- what a call gives a name: a text, an integer or a truth value
+unfoldable pub content_given : ArgumentsData → Deed Content
+content_given a = fitting (ok_or (option_and_then content_in (argument 1 a)) refusals.Arguments)
 
 -- `set(name, value)`
 unfoldable pub set : ℕ → ArgumentsData → Deed (Option Data)
 set number a = do
   name ← name_given a
-  content ← fitting (ok_or (option_and_then content_in (argument 1 a)) refusals.Arguments)
+  content ← content_given a
   _ ← set_configured number name content
   give None
+
+abbrev pub one_or_zero : Bool → Content
+one_or_zero is_so = Number (pos (if is_so then 1 else 0))
 
 -- `set10(name, condition)`: 1 where it is true, else 0
 unfoldable pub set10 : ℕ → ArgumentsData → Deed (Option Data)
 set10 number a = do
   name ← name_given a
-  _ ← set_configured number name (Number (pos (if flag_at 1 false a then 1 else 0)))
+  _ ← set_configured number name (one_or_zero (flag_at 1 false a))
   give None
 
 -- `set_quoted(name, text)`

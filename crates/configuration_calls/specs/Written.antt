@@ -1,6 +1,7 @@
 -- What `configure_file` writes into its output, and what the answer of code says that reads a file of the tree as it writes.
 use Rattle.std.specs.Prelude.{◌≡◌, ℕ, List, [], Option, Some, None, Result, is_some, unwrap_or}
 use Rattle.edge.specs.Texts.{Path}
+use Rattle.faults.specs.Faults.{plain_fault}
 use Rattle.faults.specs.declared.refusal.Refusal.{Refusal}
 use Rattle.faults.specs.declared.refusal.Refusal.TheVariants as refusals
 use Rattle.ports.specs.Outputs.{closing, opening}
@@ -9,11 +10,14 @@ use Rattle.template.specs.Config.{Entries}
 use Rattle.template.specs.Header.{header_steps}
 use Rattle.template.specs.Line.{BadDefine, LongLine, Refusal as LineRefusal}
 use Rattle.template.specs.Template.{template_fault, template_steps}
+use Rattle.template.specs.declared.stop.PassStop.{PassStop}
+use Rattle.template.specs.declared.stop.PassStop.TheVariants as pass_stops
 use Rattle.world.specs.Answering.{Fails, State, seen_at}
 use Rattle.world.specs.Deed.{Deed, Files, give, refuse, tell, ask, change, ◌>>=◌, need, perform}
-use Rattle.world.specs.Gives.{Gives, Holds}
+use Rattle.world.specs.Gives.{Gives, Holds, IsRefusal}
 use Rattle.world.specs.World.{Facts}
 use Rattle.world.specs.declared.stop.Stop.{Stop}
+use Rattle.world.specs.declared.stop.Stop.TheVariants as stops
 
 -- ---- a template
 
@@ -76,3 +80,9 @@ pub record CarriesOf {A B : Type 0} (view : B → A) (deed : Files → Deed A) (
   pub stays : Stays old.tree new.tree
   pub device : Fails old result new
   pub same : new.lent ≡ old.lent
+
+-- the stop of a call whose template was given up so
+abbrev pub StopsSo : Path → PassStop → Stop → Type 0
+StopsSo path (pass_stops.Template line) s = IsRefusal s (plain_fault path line refusals.Template)
+StopsSo path (pass_stops.Limit line) s = IsRefusal s (plain_fault path line refusals.Limit)
+StopsSo path pass_stops.Device s = s ≡ stops.Device

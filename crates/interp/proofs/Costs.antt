@@ -36,7 +36,7 @@ use Rattle.calls.specs.declared.function.Function.{Function}
 use Rattle.calls.specs.declared.function.Function.TheVariants as functions
 use Rattle.world.specs.Trace.{ends_of}
 use Rattle.ports.specs.Tree.{file_at}
-use Rattle.world.specs.World.{World, Facts, looking, entering, with_facts, with_place}
+use Rattle.world.specs.World.{World, Facts, looking, entering, with_facts, with_machine, with_place}
 use Rattle.world.specs.Run.{Run, ran, marks_of, follow, after, Done, Faulted}
 use Rattle.world.specs.Deed.{Files, Deed, ask, read, refuse as refuse_deed, then as andthen, perform, need}
 use Rattle.world.specs.Plan.{Plan, deed, ruled, enter, entered, next as next_plan, carry, answered, refuse, give}
@@ -58,7 +58,7 @@ use Rattle.interp.specs.Acting.{WayData, Ends, Enters, action_of, acted_by, by_w
 use Rattle.interp.specs.Statements.{configuration_in, own_by, own, added, appended, summed, assigned_by, assigned, Round, looped, limited, item_rounds, entry_rounds, bound, on_next, after_round, rounds_of, walked, stated, does, branches_of, do_all}
 use Rattle.interp.specs.Folders.{opened_by, opened, fresh_by, fresh, go_to, go_back, folder}
 use Rattle.definition_files.specs.Files.{most_bytes, refuse_line, tree_or_fault, spelled_by, spelled}
-use Rattle.interp.specs.Evaluation.{begun_by, is_project, begins, begins_all, root, no_machine_file, evaluation}
+use Rattle.interp.specs.Evaluation.{begun_by, is_project, begins, begins_all, root, MachineSaid, take_machine, evaluation}
 use Rattle.interp.specs.Laws.{StepsWithinCost}
 use Rattle.interp.proofs.Paths.{not_opened, is_definition}
 use Rattle.definition_files.specs.Places.{refuse_at}
@@ -515,16 +515,17 @@ module _ (files : Files) where
   opened-cost : (w : World) → is_opened w.entered (definition_file []) ≡ false → spent file_cost files (carry files (next_plan (opened []) (λ body. next_plan (ruled (root body)) (λ u. give (tt {0})))) w) ≤ unopened file_cost files w.entered
   opened-cost w new = body-paid [] (λ body. next_plan (ruled (root body)) (λ u. give (tt {0}))) (λ body. last (rules (root-cost body)) (λ u. none _)) w new
 
-  begun_run : (machine : List ℕ) (w : World) → w.entered ≡ [] → spent file_cost files (carry files (evaluation machine) w) ≤ unopened file_cost files w.entered
-  unfolding no_machine_file refuse_at
-  begun_run [] w none_entered =
-      omega (arith, spent-after file_cost files [] (carry files (next_plan (opened []) (λ body. next_plan (ruled (root body)) (λ u. give (tt {0})))) w), opened-cost w (ap (λ l. is_opened l (definition_file [])) none_entered))
-  begun_run (b ∷ bs) w none_entered = omega arith
+  begun_run : (said : MachineSaid) (w : World) → w.entered ≡ [] → spent file_cost files (carry files (evaluation said) w) ≤ unopened file_cost files w.entered
+  unfolding take_machine refuse_at
+  begun_run (Ok sections) w none_entered =
+      let v = with_facts w (with_machine sections w.facts) in
+      omega (arith, spent-after file_cost files [] (carry files (next_plan (opened []) (λ body. next_plan (ruled (root body)) (λ u. give (tt {0})))) v), opened-cost v (ap (λ l. is_opened l (definition_file [])) none_entered))
+  begun_run (Err fault) w none_entered = omega arith
 
 unopened-none : (files : Files) → unopened file_cost files [] ≡ tree_cost files
 unopened-none [] = refl
 unopened-none (f ∷ fs) = ap (λ n. file_cost f + n) (unopened-none fs)
 
 pub steps_within_cost : StepsWithinCost
-steps_within_cost files settings machine =
-    omega (arith, begun_run files machine (first_world settings) refl, unopened-none files)
+steps_within_cost files settings said =
+    omega (arith, begun_run files said (first_world settings) refl, unopened-none files)

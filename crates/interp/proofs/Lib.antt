@@ -5,6 +5,7 @@ pub mod Ending
 pub mod Evaluating
 pub mod Filling
 pub mod Looping
+pub mod Machines
 pub mod Opening
 mod Pairs
 mod Paths

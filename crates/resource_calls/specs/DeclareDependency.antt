@@ -1,15 +1,14 @@
 -- `declare_dependency`: lists that a target takes over.
-use Rattle.std.specs.Prelude.{Option, Some, flat_map, ok_or}
+use Rattle.std.specs.Prelude.{Option, Some, ok_or}
 use Rattle.arguments.specs.Arguments.{ArgumentsData}
 use Rattle.data.specs.Data.{Data, object}
 use Rattle.data.specs.declared.object.Dependency.{Dependency}
 use Rattle.data.specs.declared.object.Object.TheVariants as objects
 use Rattle.faults.specs.declared.refusal.Refusal.TheVariants as refusals
 use Rattle.targets.specs.Libraries.{linked_of}
-use Rattle.target_calls.specs.Files.{all_required}
-use Rattle.target_calls.specs.Sources.{file_in}
 use Rattle.world.specs.Deed.{Deed, give, read, ◌>>=◌, answered, fitting}
 use Rattle.resource_calls.specs.JoinedLists.{joined_dependency}
+use Rattle.resource_calls.specs.NamedFiles.{files_required}
 use Rattle.resource_calls.specs.OwnLists.{OwnData, own_lists}
 use Rattle.resource_calls.specs.Place.{place_of}
 
@@ -29,6 +28,6 @@ joined_given a own = do
 unfoldable pub declare_dependency : ArgumentsData → Deed (Option Data)
 declare_dependency a = do
   own ← said_lists a
-  _ ← all_required (flat_map file_in own.sources)
+  _ ← files_required own.sources
   d ← joined_given a own
   give (Some (object (objects.Dependency d)))

@@ -1,5 +1,5 @@
 -- Where files go when they are installed.
-use Rattle.std.specs.Prelude.{List, [], ◌∷◌, ◌++◌, flat_map, Option, Some, None, option_map, codes}
+use Rattle.std.specs.Prelude.{List, [], ◌∷◌, ◌++◌, Option, Some, None, option_map, codes}
 use Rattle.arguments.specs.Arguments.{ArgumentsData}
 use Rattle.arguments.specs.Given.{text_of}
 use Rattle.arguments.specs.Leaves.{leaves_from}
@@ -11,7 +11,6 @@ use Rattle.resources.specs.Installs.{destination, headers_folder, man_folder}
 use Rattle.target_arguments.specs.Sources.{NamedData, tree, built, sources_of}
 use Rattle.target_calls.specs.Installs.{folder_given, option_text}
 use Rattle.target_calls.specs.Maybe.{◌>>=◌}
-use Rattle.target_calls.specs.Sources.{file_in}
 use Rattle.world.specs.World.{Facts}
 use Rattle.resource_calls.specs.declared.destinations.Sort.{Sort}
 use Rattle.resource_calls.specs.declared.destinations.Sort.TheVariants as sorts
@@ -82,15 +81,15 @@ installs_behind folders sort a is (n ∷ ns) =
 
 -- ---- the call
 
--- the files of the tree that the call asks for, and what is installed
+-- the files that the call names, and what is installed
 pub record SaidData : Type 0 where
-  pub files : List Path
+  pub named : List NamedData
   pub installs : List InstallData
 
 abbrev pub said_from : FoldersData → Sort → ArgumentsData → List NamedData → Option SaidData
 said_from folders sort a named = do
   installs ← installs_behind folders sort a [] named
-  Some (record { files = flat_map file_in named; installs = installs })
+  Some (record { named = named; installs = installs })
 
 -- what the call says; none where a path leads out of the tree, or a man page has no section
 abbrev pub said_of : FoldersData → Sort → ArgumentsData → Option SaidData

@@ -4,10 +4,10 @@ use Rattle.arguments.specs.Arguments.{ArgumentsData}
 use Rattle.data.specs.Data.{Data}
 use Rattle.faults.specs.declared.refusal.Refusal.TheVariants as refusals
 use Rattle.project.specs.World.{InstallData}
-use Rattle.target_calls.specs.Files.{all_required}
 use Rattle.world.specs.Declaring.{add_install}
 use Rattle.world.specs.Deed.{Deed, give, read, ◌>>=◌, fitting}
 use Rattle.resource_calls.specs.Destinations.{SaidData, folders_in, said_of}
+use Rattle.resource_calls.specs.NamedFiles.{files_required}
 use Rattle.resource_calls.specs.declared.destinations.Sort.{Sort}
 use Rattle.resource_calls.specs.declared.destinations.Sort.TheVariants as sorts
 
@@ -28,7 +28,7 @@ all_installed (i ∷ is) = do
 unfoldable pub install : Sort → ArgumentsData → Deed (Option Data)
 install sort a = do
   said ← said_installs sort a
-  _ ← all_required said.files
+  _ ← files_required said.named
   _ ← all_installed said.installs
   give None
 

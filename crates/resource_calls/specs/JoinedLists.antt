@@ -10,7 +10,7 @@ use Rattle.data.specs.declared.object.Source.{Source}
 use Rattle.data.specs.declared.object.Source.TheVariants as source
 use Rattle.data.specs.declared.refusal.Refusal.{Refusal}
 use Rattle.edge.specs.Texts.{Path, Text}
-use Rattle.resources.specs.Found.{◌>>=◌, within_texts}
+use Rattle.resources.specs.Found.{◌>>=◌, found, within_texts}
 use Rattle.resources.specs.Joined.{dependencies_in, joined}
 use Rattle.target_arguments.specs.Sources.{NamedData, tree, built, outputs, output}
 use Rattle.target_calls.specs.Sources.{outputs_at}
@@ -49,29 +49,21 @@ sources_within earlier ns = sources_behind earlier [] ns
 abbrev pub version_or : Text → ArgumentsData → Text
 version_or project a = unwrap_or (option_and_then text_in (keyword (codes "version") a)) project
 
--- it has no name
-abbrev pub with_lists :
-    Text → (folders to_compile to_link : List Text) → (libraries : List ℕ) → List Source → Dependency
-with_lists version folders to_compile to_link libraries sources = record {
-  is_found = true;
-  name = [];
-  version = version;
-  include_directories = folders;
-  compile_args = to_compile;
-  link_args = to_link;
-  link_with = libraries;
-  sources = sources;
-}
+abbrev pub with_own : Dependency → (folders : List Path) → (libraries : List ℕ) → List Source → Dependency
+with_own d folders libraries sources =
+    record d { include_directories = folders; link_with = d.link_with ++ libraries; sources = sources }
+
+-- what it has but folders, libraries and sources; it has no name
+abbrev pub with_arguments : Text → ArgumentsData → Result Dependency Refusal
+with_arguments project a = found [] (version_or project a) (texts (codes "compile_args") a) (texts (codes "link_args") a)
 
 -- the dependency with the lists of its own
 abbrev pub own_dependency : Text → List LinkedData → ArgumentsData → OwnData → Result Dependency Refusal
 own_dependency project earlier a own = do
-  version ← within_bytes (version_or project a)
+  d ← with_arguments project a
   folders ← within_texts own.folders
-  to_compile ← within_texts (texts (codes "compile_args") a)
-  to_link ← within_texts (texts (codes "link_args") a)
   sources ← sources_within earlier own.sources
-  Ok (with_lists version folders to_compile to_link own.libraries sources)
+  Ok (with_own d folders own.libraries sources)
 
 abbrev pub dependencies_given : Option Data → List Dependency
 dependencies_given None = []

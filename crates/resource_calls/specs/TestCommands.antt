@@ -1,5 +1,5 @@
 -- The command and the environment of a test. Files and targets are absolute paths.
-use Rattle.std.specs.Prelude.{Bool, true, false, List, [], ◌∷◌, ◌++◌, map, Option, Some, None, option_map, option_and_then, codes}
+use Rattle.std.specs.Prelude.{ℕ, Bool, true, false, List, [], ◌∷◌, ◌++◌, map, Option, Some, None, option_map, option_and_then, codes}
 use Rattle.std.specs.Prelude.{if◌then◌else◌}
 use Rattle.arguments.specs.Arguments.{ArgumentsData}
 use Rattle.arguments.specs.Given.{argument}
@@ -31,13 +31,22 @@ target_word place t = path_below place.build_root (file_path t)
 abbrev pub one_word : Text → List Text
 one_word w = w ∷ []
 
+abbrev pub target_words : PlaceData → ℕ → Option (List Text)
+target_words place number = option_map (λ t. one_word (target_word place t)) (build_at place.earlier number)
+
+-- all outputs of a target
+abbrev pub outputs_words : PlaceData → ℕ → Option (List Text)
+outputs_words place number = option_map (map (path_below place.build_root)) (outputs_at place.earlier number)
+
+abbrev pub output_words : PlaceData → ℕ → ℕ → Option (List Text)
+output_words place target output = option_map (λ path. one_word (path_below place.build_root path)) (output_at place.earlier target output)
+
 -- the words of a file, a target or an output of one; none of anything else
 abbrev pub words_of_object : PlaceData → Object → Option (List Text)
 words_of_object place (objects.File path is_built) = Some (one_word (file_word place path is_built))
-words_of_object place (objects.BuildTarget number) = option_map (λ t. one_word (target_word place t)) (build_at place.earlier number)
-words_of_object place (objects.CustomTarget number count) = option_map (map (path_below place.build_root)) (outputs_at place.earlier number)
-words_of_object place (objects.CustomOutput target output) =
-    option_map (λ path. one_word (path_below place.build_root path)) (output_at place.earlier target output)
+words_of_object place (objects.BuildTarget number) = target_words place number
+words_of_object place (objects.CustomTarget number count) = outputs_words place number
+words_of_object place (objects.CustomOutput target output) = output_words place target output
 words_of_object place _ = None
 
 -- ---- the program
@@ -52,9 +61,12 @@ words_of_program place (programs.File path) = Some (one_word (path_below place.s
 abbrev pub word_if_executable : PlaceData → BuildData → Option (List Text)
 word_if_executable place t = if is_library t.kind then None else Some (one_word (target_word place t))
 
+abbrev pub executable_words : PlaceData → ℕ → Option (List Text)
+executable_words place number = option_and_then (word_if_executable place) (build_at place.earlier number)
+
 abbrev pub command_of_object : PlaceData → Object → Option (List Text)
 command_of_object place (objects.Program p) = words_of_program place p
-command_of_object place (objects.BuildTarget number) = option_and_then (word_if_executable place) (build_at place.earlier number)
+command_of_object place (objects.BuildTarget number) = executable_words place number
 command_of_object place o = words_of_object place o
 
 -- the words that call the program that a value is; none where it can't run

@@ -1,8 +1,9 @@
 -- `test`: a program that the project is tested by.
-use Rattle.std.specs.Prelude.{ℤ, pos, false, Option, None, ok_or, codes}
+use Rattle.std.specs.Prelude.{ℤ, pos, false, Option, None, ok_or, codes, Result}
 use Rattle.arguments.specs.Arguments.{ArgumentsData}
 use Rattle.arguments.specs.Given.{flag, integer_of, text_at, texts}
 use Rattle.data.specs.Data.{Data}
+use Rattle.data.specs.declared.refusal.Refusal.{Refusal}
 use Rattle.faults.specs.declared.refusal.Refusal.TheVariants as refusals
 use Rattle.project.specs.World.{TestData}
 use Rattle.resources.specs.Testing.{seconds_of}
@@ -27,10 +28,14 @@ test_of a run seconds = record {
   timeout = seconds;
 }
 
--- `test(name, program)`: E9; E7 of a timeout, which is 30 seconds where it is not given
+-- the keyword `timeout`, which is 30 where it is not given; E7 where it needs more than 64 bits
+abbrev pub seconds_given : ArgumentsData → Result ℤ Refusal
+seconds_given a = seconds_of (integer_of (codes "timeout") (pos 30) a)
+
+-- `test(name, program)`: E9; E7 of the timeout
 unfoldable pub test : ArgumentsData → Deed (Option Data)
 test a = do
   run ← said_run a
-  seconds ← answered (seconds_of (integer_of (codes "timeout") (pos 30) a))
+  seconds ← answered (seconds_given a)
   _ ← add_test (test_of a run seconds)
   give None

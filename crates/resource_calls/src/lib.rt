@@ -4,11 +4,18 @@
 //! What a function does is a deed of `specs/`, and its code carries it out on a [`world::Caller`].
 #![tactic(auto)]
 
+mod commands;
 mod declaring;
 mod dependencies;
 mod destinations;
 mod installs;
+mod joined_lists;
+mod named_files;
+mod names;
+mod own_lists;
+mod place;
 mod programs;
+mod required;
 mod rows;
 mod testing;
 

@@ -2,7 +2,7 @@ use Rattle.std.proofs.Common.{ap, sym}
 use Rattle.arguments.specs.Arguments.{arguments_data}
 use Rattle.world.proofs.Answering.{carries_as}
 use Rattle.objects.specs.Methods.{object_method}
-use Rattle.objects.proofs.Kinds.{others_tell}
+use Rattle.objects.proofs.Others.{others_tell}
 use Rattle.objects.proofs.calling.object_method.Goals as goal
 
 pub returns-in-Compiler : goal.returns-in-Compiler

@@ -1,6 +1,4 @@
-use Rattle.std.proofs.Common.{refl}
-use Rattle.world.proofs.Answering.{carries_none}
 use Rattle.resource_calls.proofs.installs.install_man.Goals as goal
 
 pub returns : goal.returns
-returns g c = carries_none refl
+returns g c = c.install.ensures
