@@ -40,7 +40,7 @@ use Rattle.calls.specs.declared.function.Function.{Function}
 use Rattle.calls.specs.declared.function.Function.TheVariants as functions
 use Rattle.objects.specs.Left.{is_left_out as is_left_out_method}
 use Rattle.objects.specs.Methods.{has_method as has_object_method, object_method}
-use Rattle.predefined.specs.Predefined.{predefined_value}
+use Rattle.predefined.specs.Predefined.{predefined}
 use Rattle.world.specs.Deed.{read}
 use Rattle.world.specs.Plan.{Plan, deed, ruled, ◌>>=◌, give, at, refuse, answered}
 use Rattle.interp.specs.declared.meaning.Meaning.{Meaning}
@@ -66,7 +66,7 @@ set_variable line name = do
 abbrev pub thing : ℕ → List ℕ → Plan Data
 thing line name = do
   facts ← deed read
-  answered line (predefined_value facts.machine name)
+  answered line (predefined facts.machine name)
 
 abbrev pub variable_by : Bool → ℕ → List ℕ → Plan Data
 variable_by true line name = thing line name

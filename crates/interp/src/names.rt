@@ -18,7 +18,7 @@ use faults::Refusal;
 use methods::{has_method, method};
 use objects::{has_object_method, is_left_out_method, object_method};
 use ports::{Outputs, Tree};
-use predefined::predefined_value;
+use predefined::predefined;
 use std::alloc::{AllocError, Global};
 use std::sync::ledger::Ledger;
 use world::{Caller, Stop};
@@ -65,7 +65,7 @@ impl<'a, T: Tree, O: Outputs, L: Ledger> Evaluator<'a, T, O, L> {
         ensures gives { Answers T.seen O.seen data_of (thing line name.now) self.now result self.now }
         ensures quiet { (n : ℕ) → failures_after n result ≡ n }
     {
-        let answer = predefined_value(self.alloc, self.store.machine(), name)?;
+        let answer = predefined(self.alloc, self.store.machine(), name)?;
         self.answered(line, answer)
     }
 

@@ -1,8 +1,7 @@
 -- What the names stand for that every run has: `meson` and the three machines.
-use Rattle.std.specs.Prelude.{ℕ, List, [], Result, Ok, Err, bytes_eq, codes, option_and_then, unwrap_or, if◌then◌else◌}
+use Rattle.std.specs.Prelude.{ℕ, List, Result, Ok, Err, bytes_eq, codes, option_and_then, unwrap_or, if◌then◌else◌}
 use Rattle.data.specs.Data.{Data, object}
 use Rattle.data.specs.Limits.{within_bytes}
-use Rattle.data.specs.declared.object.Object.{Object}
 use Rattle.data.specs.declared.object.Object.TheVariants as objects
 use Rattle.data.specs.declared.refusal.Refusal.{Refusal}
 use Rattle.data.specs.declared.refusal.Refusal.TheVariants as refusal
@@ -30,13 +29,5 @@ host_machine sections = machine_of
     (within_bytes (host_text sections (codes "endian") (codes "little")))
 
 -- What a name that every run has stands for. Nothing is built for another machine than the one that builds: the three are one.
-abbrev pub predefined_value : List Section → List ℕ → Result Data Refusal
-predefined_value sections name = if bytes_eq name (codes "meson") then Ok (object objects.Meson) else host_machine sections
-
--- a machine of which nothing is told
-abbrev pub machine : Object
-machine = objects.Machine (record { system = []; cpu_family = []; cpu = []; endian = [] })
-
--- the kind of object that such a name stands for
-abbrev pub predefined : List ℕ → Object
-predefined name = if bytes_eq name (codes "meson") then objects.Meson else machine
+abbrev pub predefined : List Section → List ℕ → Result Data Refusal
+predefined sections name = if bytes_eq name (codes "meson") then Ok (object objects.Meson) else host_machine sections

@@ -1,11 +1,11 @@
 //! The variables that every run has and no definition file sets: `meson`, `host_machine`, `build_machine` and `target_machine`.
 #![tactic(auto)]
 
-ghost use Rattle.std.specs.Prelude.{◌≡◌, [], IfOk};
+ghost use Rattle.std.specs.Prelude.{◌≡◌, IfOk};
 ghost use Rattle.data.specs.Limits.{within_bytes};
 ghost use Rattle.data.specs.Tables.{Answers};
 ghost use Rattle.machine_file.specs.View.{machine_in};
-ghost use Rattle.predefined.specs.Predefined.{host_machine, host_text, machine, machine_of, predefined, predefined_value};
+ghost use Rattle.predefined.specs.Predefined.{host_machine, host_text, machine_of, predefined};
 
 use data::{Machine, Object, Refusal, Text, Value};
 use machine_file::Machine as MachineFile;
@@ -71,45 +71,16 @@ fn host_machine(alloc: Global, machine: &MachineFile) -> Result<Result<Value, Re
 
 /// What a name that every run has stands for: the object `meson`, or the machine that the section `host_machine` of the machine file
 /// tells of; `Refusal::Limit` where a text there is too long for a value.
-pub fn predefined_value(
+pub fn predefined(
     alloc: Global,
     machine: &MachineFile,
     name: &str,
 ) -> Result<Result<Value, Refusal>, AllocError>
-    ensures { IfOk result (λ r. Answers (predefined_value (machine_in machine.now) name.now) r) }
+    ensures { IfOk result (λ r. Answers (predefined (machine_in machine.now) name.now) r) }
 {
     if name == "meson" {
         Ok(Ok(Value::of_object(alloc, Object::Meson)?))
     } else {
         host_machine(alloc, machine)
-    }
-}
-
-fn empty_text(alloc: Global) -> Result<Text, AllocError>
-    ensures { IfOk result (λ t. t ≡ []) }
-{
-    Ok(Text::new(alloc, String::new(alloc))?.unwrap())
-}
-
-// A machine of which nothing is told.
-fn machine(alloc: Global) -> Result<Object, AllocError>
-    ensures { IfOk result (λ o. o ≡ machine) }
-{
-    Ok(Object::Machine(Machine {
-        system: empty_text(alloc)?,
-        cpu_family: empty_text(alloc)?,
-        cpu: empty_text(alloc)?,
-        endian: empty_text(alloc)?,
-    }))
-}
-
-/// The kind of object that a name stands for which every run has: `meson`, or a machine of which nothing is told.
-pub fn predefined(alloc: Global, name: &str) -> Result<Object, AllocError>
-    ensures { IfOk result (λ o. o ≡ predefined name.now) }
-{
-    if name == "meson" {
-        Ok(Object::Meson)
-    } else {
-        machine(alloc)
     }
 }
