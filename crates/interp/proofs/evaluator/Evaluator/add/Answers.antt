@@ -26,7 +26,7 @@ returns-in-Some-clause-gives g c = λ files h.
     given_as (ap (λ b. next (variable_by b c.args.line c.args.name.now) (λ d. added c.args.line c.args.name.now d (data_of c.args.right))) (sym c.if-is_predefined.false ∙ c.is_predefined.ensures))
     (given_then {view = data_of} {x = c.in-Some.left}
     (given_read (given_as (ap (known c.args.line c.args.name.now) (sym (ap (option_map data_of) c.in-Some.is) ∙ c.in_ok-left.ensures)) (given_give h refl)))
-    (given_over c.args.line c.args.name.now (data_of c.in-Some.left) (data_of c.args.right) c.unset.ensures.world c.unset.ensures.names (c.sum.ensures.gives files h)))
+    (given_over c.args.line c.args.name.now (data_of c.in-Some.left) (data_of c.args.right) c.unset.ensures.world c.unset.ensures.names (c.sum-in-Some.ensures.gives files h)))
 
 pub returns-in-None-clause-gives : goal.returns-in-None-clause-gives
 returns-in-None-clause-gives g c = λ files h.
