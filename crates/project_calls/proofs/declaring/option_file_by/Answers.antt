@@ -6,11 +6,11 @@ use Rattle.project_calls.proofs.declaring.option_file_by.Goals as goal
 
 pub returns-in_err-old-in-Nothing : goal.returns-in_err-old-in-Nothing
 unfolding option_file_by
-returns-in_err-old-in-Nothing g c = carries_as (ap (λ f. option_file_by (found_in f)) (sym c.in-Nothing.is)) (carries_stop c.in_err-old.ensures c.from_residual.ensures.1)
+returns-in_err-old-in-Nothing g c = carries_as (ap (λ f. option_file_by (found_in f)) (sym c.in-Nothing.is)) (carries_stop c.in_err-old-in-Nothing.ensures c.from_residual.ensures.1)
 
 pub returns-in_ok-old-in-Nothing : goal.returns-in_ok-old-in-Nothing
 unfolding option_file_by
-returns-in_ok-old-in-Nothing g c = carries_as (ap (λ f. option_file_by (found_in f)) (sym c.in-Nothing.is)) (carries_then c.in_ok-old.ensures c.declared_at.ensures)
+returns-in_ok-old-in-Nothing g c = carries_as (ap (λ f. option_file_by (found_in f)) (sym c.in-Nothing.is)) (carries_then c.in_ok-old-in-Nothing.ensures c.declared_at.ensures)
 
 pub returns-in-TooLong : goal.returns-in-TooLong
 unfolding option_file_by

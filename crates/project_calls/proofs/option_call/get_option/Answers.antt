@@ -17,10 +17,10 @@ pub returns-in_err-value-in-Some : goal.returns-in_err-value-in-Some
 unfolding get_option given
 returns-in_err-value-in-Some g c =
     carries_read (carries_as (ap given (c.in-Some.ensures ∙ ap (value_named c.args.caller.now.store.now.options) c.text_at.ensures))
-    (carries_stop (carries_value _ _ c.in_ok-answer.ensures c.in_err-value.ensures) c.from_residual-in_err-value.ensures.1))
+    (carries_stop (carries_value _ _ c.in_ok-answer-in-Some.ensures c.in_err-value-in-Some.ensures) c.from_residual-in_err-value-in-Some.ensures.1))
 
 pub returns-in_ok-value-in-Some : goal.returns-in_ok-value-in-Some
 unfolding get_option given
 returns-in_ok-value-in-Some g c =
     carries_read (carries_as (ap given (c.in-Some.ensures ∙ ap (value_named c.args.caller.now.store.now.options) c.text_at.ensures))
-    (carries_then {x = c.in_ok-value.value} (carries_value _ _ c.in_ok-answer.ensures c.in_ok-value.ensures) (carries_give refl)))
+    (carries_then {x = c.in_ok-value-in-Some.value} (carries_value _ _ c.in_ok-answer-in-Some.ensures c.in_ok-value-in-Some.ensures) (carries_give refl)))
