@@ -1,5 +1,5 @@
 -- The defaults of a dictionary, one after another.
-use Rattle.std.proofs.Common.{◌≡◌, ℕ, zero, suc, ◌+◌, ◌<◌, List, [], ◌∷◌, ◌++◌, map, drop, length, get_or, String, Global, string_bytes, refl, sym, ap, ◌∙◌, add-one, append_assoc, arith}
+use Rattle.std.proofs.Common.{◌≡◌, ℕ, zero, suc, ◌+◌, ◌<◌, List, [], ◌∷◌, ◌++◌, map, drop, length, get_or, String, Global, string_bytes, sym, ap, ◌∙◌, add-one, append_assoc, arith}
 use Rattle.std.proofs.lemmas.List.{map-append}
 use Rattle.options.specs.Verdicts.{Default, Entry}
 use Rattle.options.specs.View.{default_in, defaults_in}

@@ -14,7 +14,7 @@ use Rattle.option_file.specs.Declares.{file_declares}
 use Rattle.ports.specs.Outputs.{OutputState}
 use Rattle.ports.specs.Tree.{TreeState}
 use Rattle.world.specs.Answering.{Carries, Refuses, State}
-use Rattle.world.specs.Deed.{Deed, give, then}
+use Rattle.world.specs.Deed.{Deed, then}
 use Rattle.world.specs.Store.{changing}
 use Rattle.world.specs.World.{World, fault_here, with_line}
 use Rattle.world.specs.declared.stop.Stop.{Stop}

@@ -1,8 +1,7 @@
-use Rattle.std.proofs.Common.{ap, refl, sym, ◌∙◌}
+use Rattle.std.proofs.Common.{ap, refl, ◌∙◌}
 use Rattle.options.specs.Resolves.{value_named}
-use Rattle.world.specs.Deed.{answered}
 use Rattle.world.proofs.Answering.{carries_as, carries_give, carries_none, carries_read, carries_refuse, carries_stop, carries_then, carries_value}
-use Rattle.project_calls.specs.GetOption.{as_data, get_option, given}
+use Rattle.project_calls.specs.GetOption.{get_option, given}
 use Rattle.project_calls.proofs.option_call.get_option.Goals as goal
 
 pub returns-in-None : goal.returns-in-None

@@ -1,4 +1,4 @@
-use Rattle.std.proofs.Common.{map, string_bytes, ap, sym}
+use Rattle.std.proofs.Common.{map, string_bytes, ap}
 use Rattle.world.specs.Deed.{change}
 use Rattle.world.specs.World.{begun}
 use Rattle.world.proofs.Answering.{carries_as, carries_change, carries_none, carries_read, carries_stop, carries_then}

@@ -1,4 +1,4 @@
-use Rattle.std.proofs.Common.{map, string_bytes, ap, refl, sym, ◌∙◌}
+use Rattle.std.proofs.Common.{map, string_bytes, ap, refl, ◌∙◌}
 use Rattle.arguments.specs.Arguments.{arguments_data}
 use Rattle.option_file.specs.View.{options_in}
 use Rattle.world.specs.Store.{world_of}
