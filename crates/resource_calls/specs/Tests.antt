@@ -1,5 +1,5 @@
 -- `test`: a program that the project is tested by.
-use Rattle.std.specs.Prelude.{ℤ, pos, false, Option, None, ok_or, codes, Result}
+use Rattle.std.specs.Prelude.{ℤ, pos, false, Option, None, ok_or, codes, Result, Ok, Err}
 use Rattle.arguments.specs.Arguments.{ArgumentsData}
 use Rattle.arguments.specs.Given.{flag, integer_of, text_at, texts}
 use Rattle.data.specs.Data.{Data}
@@ -32,10 +32,18 @@ test_of a run seconds = record {
 abbrev pub seconds_given : ArgumentsData → Result ℤ Refusal
 seconds_given a = seconds_of (integer_of (codes "timeout") (pos 30) a)
 
+abbrev pub with_seconds : ArgumentsData → RunData → Result ℤ Refusal → Result TestData Refusal
+with_seconds a run (Ok seconds) = Ok (test_of a run seconds)
+with_seconds a run (Err refusal) = Err refusal
+
+-- the test that the arguments say
+abbrev pub test_given : ArgumentsData → RunData → Result TestData Refusal
+test_given a run = with_seconds a run (seconds_given a)
+
 -- `test(name, program)`: E9; E7 of the timeout
 unfoldable pub test : ArgumentsData → Deed (Option Data)
 test a = do
   run ← said_run a
-  seconds ← answered (seconds_given a)
-  _ ← add_test (test_of a run seconds)
+  t ← answered (test_given a run)
+  _ ← add_test t
   give None

@@ -7,7 +7,8 @@ ghost use Rattle.project.specs.View.{answer_view};
 ghost use Rattle.world.specs.Answering.{Carries, HasRoom};
 ghost use Rattle.world.specs.Caller.{state_of};
 ghost use Rattle.world.specs.Declaring.{add_dependency};
-ghost use Rattle.resource_calls.specs.Dependency.{answer_of, dependency, first_said, fitting_dependency, give_found, give_missing, none_fits};
+ghost use Rattle.resource_calls.specs.Dependency.{answer_of, dependency, first_said, fitting_dependency, give_found, give_missing};
+ghost use Rattle.resource_calls.specs.Dependency.{none_fits};
 ghost use Rattle.resource_calls.specs.Required.{required_by};
 
 use crate::required::{missing_object, required_by};

@@ -165,7 +165,8 @@ fn dependencies_given(alloc: Global, arguments: &Arguments) -> Result<Vec<&Depen
     }
 }
 
-/// The dependency of a call that lists this of its own, in a project of this version; or `Refusal::Limit` where one of its lists is too long.
+/// The dependency of a call that lists this of its own, in a project of this version; or `Refusal::Limit` where one of its lists is too
+/// long.
 pub fn joined_dependency(
     place: &Place<'_>,
     project: &str,

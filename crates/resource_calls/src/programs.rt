@@ -204,8 +204,8 @@ fn give_program<T: Tree, O: Outputs>(
     }
 }
 
-/// `find_program(names..)`: the first name that the machine file has, or that is a file of the tree; E9 of a name outside the tree, E17 where
-/// a required program isn't found.
+/// `find_program(names..)`: the first name that the machine file has, or that is a file of the tree; E9 of a name outside the tree, E17
+/// where a required program isn't found.
 pub fn find_program<T: Tree, O: Outputs>(
     caller: &mut Caller<'_, T, O>,
     arguments: &Arguments,
