@@ -119,7 +119,7 @@ fn make<T: Tree, O: Outputs>(
 ) -> Result<Option<Value>, Stop>
     requires { HasRoom (state_of T.seen O.seen caller.old) }
     ensures { CarriesOf (option_map data_of) (λ files. made (arguments_data arguments.now) (given_view given.now)
-            (filling_in (given_view given.now).entries (option_map (λ t. t.now) template.entry) files))
+        (filling_in (given_view given.now).entries (option_map (λ t. t.now) template.entry) files))
         (state_of T.seen O.seen caller.old) result (state_of T.seen O.seen caller.new) }
 {
     let path = output_given(caller, arguments)?;
@@ -173,7 +173,11 @@ pub fn configure_file<T: Tree, O: Outputs>(
         (state_of T.seen O.seen caller.old) result (state_of T.seen O.seen caller.new) }
 {
     caller.need(has_meson_format(arguments), Refusal::LeftOut, "")?;
-    caller.need(is_file_name(arguments.text("output")), Refusal::Arguments, "")?;
+    caller.need(
+        is_file_name(arguments.text("output")),
+        Refusal::Arguments,
+        "",
+    )?;
     let input = input_given(caller, arguments)?;
     let given = values_given(caller, arguments)?;
     configure(caller, arguments, &given, &input)
