@@ -1,6 +1,6 @@
 -- The keyword `default_options` of `project`: texts `NAME=VALUE`, or a dictionary of values, which are taken as they are printed.
-use Rattle.std.specs.Prelude.{ℕ, List, [], ◌∷◌, ◌++◌, map, codes, Option, unwrap_or, option_and_then, Result, Ok, Err}
-use Rattle.data.specs.Data.{Data, Items, no_items, item, Entries, no_entries, entry_values, entries_in, keys_in}
+use Rattle.std.specs.Prelude.{ℕ, List, [], ◌∷◌, ◌++◌, map, codes, Option, unwrap_or, option_and_then, Result, Ok}
+use Rattle.data.specs.Data.{Items, no_items, item, Entries, no_entries, entry_values, entries_in, keys_in}
 use Rattle.data.specs.declared.refusal.Refusal.{Refusal as OperationRefusal}
 use Rattle.arguments.specs.Arguments.{ArgumentsData}
 use Rattle.arguments.specs.Given.{keyword, texts}

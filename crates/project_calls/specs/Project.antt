@@ -43,7 +43,7 @@ resolution a printed declared facts = resolved declared (defaults_of a printed) 
 unfoldable pub warned : List (List ℕ) → Deed (Unit {0})
 warned [] = give tt
 warned (name ∷ names) = do
-  _ ← say (codes "WARNING: unknown option " ++ (name ++ codes "\n"))
+  _ ← say ((codes "WARNING: unknown option " ++ name) ++ codes "\n")
   warned names
 
 -- the options with their values, or the first fault of a value, at its place, where the option file has this path
