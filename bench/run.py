@@ -113,8 +113,9 @@ GROUPS = {
         [
             Load("programs", (2_000, 20_000), loads.programs, growth=1.5),
             Load("one_program", (800, 8_000), loads.one_program, growth=1.5),
-            Load("chain", (400, 4_000), loads.chain, growth=1.5),
-            Load("ladder", (400, 4_000), loads.ladder, growth=1.5),
+            # Each library keeps the list of all below it, so together these grow with the square of their number.
+            Load("chain", (400, 4_000), loads.chain, growth=None, seconds=1e-3, peak=256 * 2**20),
+            Load("ladder", (400, 4_000), loads.ladder, growth=None, seconds=1e-3, peak=256 * 2**20),
             Load("custom_targets", (500, 5_000), loads.custom_targets, growth=1.5),
         ],
         rounds=3, beside=setup_otherwise, beside_rounds=1,
