@@ -170,12 +170,12 @@ class Room:
         # which is there.
         if failed in ("close", "mkdir"):
             return True
-        # The words of the command line are read with less memory where there is less.
-        is_memory = failed in ("malloc", "realloc", "aligned_alloc", "posix_memalign")
-        if is_memory and not any(word == "look" for word, _ in steps[:at]):
+        # A list that is collected is given room by a guess first, and where that is refused, by what comes: a run that came to just what
+        # it comes to with all memory has lost nothing.
+        if failed in ("malloc", "realloc", "aligned_alloc", "posix_memalign"):
             return True
         # An output that can't be compared with the old one takes its place.
-        near = steps[at + 1 : at + 2] if is_memory else steps[at - 1 : at] if failed in ("open", "statx") else []
+        near = steps[at - 1 : at] if failed in ("open", "statx") else []
         return any(word == "end" or (word == "look" and self.is_of_build(path)) for word, path in near)
 
 
