@@ -86,6 +86,11 @@ def setup_otherwise(load, size):
     return {name: [path, "setup", f"build-{name}"] for name, path in found if path}
 
 
+def setup_sources_otherwise(load, size):
+    """The same without libraries behind one another, of which thousands take others longer than can be waited for."""
+    return {} if load.name in ("chain", "ladder") else setup_otherwise(load, size)
+
+
 GROUPS = {
     "first_path": Group(
         "whole runs: the smallest project, and so many assignments before its program", "an assignment",
@@ -118,7 +123,7 @@ GROUPS = {
             Load("ladder", (400, 4_000), loads.ladder, growth=None, seconds=1e-3, peak=256 * 2**20),
             Load("custom_targets", (500, 5_000), loads.custom_targets, growth=1.5),
         ],
-        rounds=3, beside=setup_otherwise, beside_rounds=1,
+        rounds=3, beside=setup_sources_otherwise, beside_rounds=1,
     ),
     "hostile": Group(
         "whole runs: tables whose keys collide in a hash that is quick", "a key", lambda load, size: [MESON, "setup", "build"],
