@@ -1,5 +1,4 @@
 pub mod Counting
 pub mod Gaps
 pub mod Joining
-pub mod Places
 pub mod Values

@@ -1,21 +1,24 @@
 -- The functions of the page "Reference manual", on evaluated arguments.
-use Rattle.std.specs.Prelude.{Bool, true, false, not, ◌&&◌, [], Option, None}
+use Rattle.std.specs.Prelude.{Bool, true, false, not, ◌&&◌, [], Option, None, if◌then◌else◌}
 use Rattle.data.specs.Data.{Data}
 use Rattle.faults.specs.declared.refusal.Refusal.TheVariants as refusals
 use Rattle.arguments.specs.Arguments.{ArgumentsData}
 use Rattle.arguments.specs.Disablers.{gives_disabler}
-use Rattle.arguments.specs.Row.{checked}
+use Rattle.arguments.specs.Row.{RowData, checked}
+use Rattle.configuration_calls.specs.ConfigureFile.{has_meson_format}
+use Rattle.configuration_calls.specs.Rows.{other_format_row}
 use Rattle.world.specs.Deed.{Deed, give, refuse, ◌>>=◌, fitting}
 use Rattle.calls.specs.Disablers.{give_disabler, tell_disabler}
 use Rattle.calls.specs.JoinPaths.{join_paths}
 use Rattle.calls.specs.Messages.{message, warning, error, assert}
-use Rattle.calls.specs.Project.{project}
 use Rattle.calls.specs.ProjectFunctions.{project_function}
+use Rattle.project_calls.specs.Project.{project}
 use Rattle.calls.specs.Range.{range}
 use Rattle.calls.specs.Rows.{row_of}
 use Rattle.calls.specs.Variables.{set_variable, get_variable, is_variable, unset_variable}
 use Rattle.calls.specs.declared.function.Function.{Function}
 use Rattle.calls.specs.declared.function.Function.TheVariants as functions
+use Rattle.calls.specs.declared.function.ProjectFunction.TheVariants as of_project
 
 -- what a function does with arguments that its row has let through: a value, or none
 abbrev pub does : Function → ArgumentsData → Deed (Option Data)
@@ -52,8 +55,20 @@ takes_disablers f = false
 abbrev pub is_turned_off : Function → ArgumentsData → Bool
 is_turned_off f a = not (takes_disablers f) && gives_disabler a
 
+abbrev pub makes_file : Function → Bool
+makes_file (functions.OfProject of_project.ConfigureFile) = true
+makes_file f = false
+
+-- `configure_file` with another format than `'meson'`, which is left out
+abbrev pub has_other_format : Function → ArgumentsData → Bool
+has_other_format f a = makes_file f && not (has_meson_format a)
+
+-- what a function takes beside these arguments
+abbrev pub row_for : Function → ArgumentsData → RowData
+row_for f a = if has_other_format f a then other_format_row else row_of f
+
 -- a function on its arguments, which its row looks at first
 unfoldable pub call : Function → ArgumentsData → Deed (Option Data)
 call f a = do
-  _ ← fitting (checked (row_of f) a)
+  _ ← fitting (checked (row_for f a) a)
   does f a

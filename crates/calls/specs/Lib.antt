@@ -3,7 +3,6 @@ pub mod Functions
 pub mod JoinPaths
 pub mod Messages
 pub mod Names
-pub mod Project
 pub mod ProjectFunctions
 pub mod Range
 pub mod Rows

@@ -31,18 +31,31 @@ begins_name (b ∷ bs) = is_ascii_alphabetic b || b == 95
 abbrev pub is_name : List ℕ → Bool
 is_name text = begins_name text && (list_all is_name_byte text && not (list_any (bytes_eq text) keywords))
 
--- the functions of Meson that are left out, so far or for good
+-- the functions of Meson that are left out for good
 abbrev pub left_out_names : List (List ℕ)
 left_out_names =
     codes "add_global_arguments" ∷ codes "add_global_link_arguments" ∷ codes "add_languages" ∷ codes "add_test_setup"
-    ∷ codes "alias_target" ∷ codes "benchmark" ∷ codes "both_libraries" ∷ codes "build_target" ∷ codes "configuration_data"
-    ∷ codes "configure_file" ∷ codes "debug" ∷ codes "declare_dependency" ∷ codes "dependency" ∷ codes "environment"
-    ∷ codes "find_program" ∷ codes "generator" ∷ codes "get_option" ∷ codes "import" ∷ codes "install_data" ∷ codes "install_emptydir"
-    ∷ codes "install_headers" ∷ codes "install_man" ∷ codes "install_subdir" ∷ codes "install_symlink" ∷ codes "run_command"
-    ∷ codes "run_target" ∷ codes "shared_module" ∷ codes "subproject" ∷ codes "summary" ∷ codes "test" ∷ codes "vcs_tag" ∷ []
+    ∷ codes "alias_target" ∷ codes "benchmark" ∷ codes "both_libraries" ∷ codes "build_target" ∷ codes "debug" ∷ codes "environment"
+    ∷ codes "generator" ∷ codes "import" ∷ codes "install_emptydir" ∷ codes "install_subdir" ∷ codes "install_symlink"
+    ∷ codes "run_command" ∷ codes "run_target" ∷ codes "shared_module" ∷ codes "subproject" ∷ codes "summary" ∷ codes "vcs_tag" ∷ []
 
 abbrev pub is_left_out : List ℕ → Bool
 is_left_out name = list_any (bytes_eq name) left_out_names
+
+-- the function of a name that says what targets are made with, and what is installed and tested
+abbrev pub resource_function_named : List ℕ → Option ProjectFunction
+resource_function_named name =
+    if bytes_eq name (codes "configuration_data") then Some project.ConfigurationData
+    else if bytes_eq name (codes "configure_file") then Some project.ConfigureFile
+    else if bytes_eq name (codes "declare_dependency") then Some project.DeclareDependency
+    else if bytes_eq name (codes "dependency") then Some project.Dependency
+    else if bytes_eq name (codes "find_program") then Some project.FindProgram
+    else if bytes_eq name (codes "get_option") then Some project.GetOption
+    else if bytes_eq name (codes "install_data") then Some project.InstallData
+    else if bytes_eq name (codes "install_headers") then Some project.InstallHeaders
+    else if bytes_eq name (codes "install_man") then Some project.InstallMan
+    else if bytes_eq name (codes "test") then Some project.Test
+    else None
 
 -- the function of a name that says something of the project
 abbrev pub project_function_named : List ℕ → Option ProjectFunction
@@ -56,7 +69,7 @@ project_function_named name =
     else if bytes_eq name (codes "library") then Some project.Library
     else if bytes_eq name (codes "shared_library") then Some project.SharedLibrary
     else if bytes_eq name (codes "static_library") then Some project.StaticLibrary
-    else None
+    else resource_function_named name
 
 -- the function of a name
 abbrev pub function_named : List ℕ → Option Function

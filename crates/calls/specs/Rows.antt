@@ -1,9 +1,10 @@
 -- The rows of the functions: what each takes.
 use Rattle.std.specs.Prelude.{ℕ, List, [], ◌∷◌, Some, None, codes}
 use Rattle.arguments.specs.declared.row.Kind.{Kind}
-use Rattle.arguments.specs.declared.row.Kind.TheVariants.{Any, Boolean, Integer, Text, Texts, Dependencies}
+use Rattle.arguments.specs.declared.row.Kind.TheVariants.{Any, Boolean, Integer, Text, Dependencies}
 use Rattle.arguments.specs.Row.{RowData, optional}
 use Rattle.calls.specs.ProjectFunctions.{project_function_row}
+use Rattle.project_calls.specs.Rows.{project_row}
 use Rattle.calls.specs.declared.function.Function.{Function}
 use Rattle.calls.specs.declared.function.Function.TheVariants as functions
 
@@ -22,18 +23,6 @@ values kinds needed = record { positional = kinds; needed = needed; others = Non
 -- one text at least, and no keyword
 abbrev pub some_texts : RowData
 some_texts = record { positional = []; needed = 1; others = Some Text; keywords = []; left_out = common_left_out }
-
--- ---- the project
-
--- a name and languages
-abbrev pub project_row : RowData
-project_row = record {
-  positional = Text ∷ [];
-  needed = 1;
-  others = Some Texts;
-  keywords = optional (codes "version") Text ∷ optional (codes "license") Texts ∷ optional (codes "meson_version") Text ∷ [];
-  left_out = codes "default_options" ∷ common_left_out;
-}
 
 -- ---- folders
 

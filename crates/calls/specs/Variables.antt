@@ -1,11 +1,12 @@
 -- The functions that name a variable by a text.
-use Rattle.std.specs.Prelude.{ℕ, Bool, not, ◌||◌, ◌&&◌, List, [], Option, Some, None, is_some}
+use Rattle.std.specs.Prelude.{ℕ, Bool, true, false, not, ◌||◌, ◌&&◌, List, [], Option, Some, None, is_some}
 use Rattle.data.specs.Data.{Data, boolean}
 use Rattle.faults.specs.declared.refusal.Refusal.TheVariants as refusals
 use Rattle.arguments.specs.Arguments.{ArgumentsData}
 use Rattle.arguments.specs.Given.{argument, text_at}
+use Rattle.predefined.specs.Predefined.{predefined}
 use Rattle.world.specs.World.{with_variable}
-use Rattle.world.specs.Deed.{Deed, give, refuse, read, change, ◌>>=◌, need}
+use Rattle.world.specs.Deed.{Deed, give, refuse, read, change, ◌>>=◌, answered, need}
 use Rattle.calls.specs.Names.{is_name, is_predefined}
 
 -- a name that definition files may set
@@ -29,13 +30,28 @@ value_or name (Some d) fallback = give (Some d)
 value_or name None (Some d) = give (Some d)
 value_or name None None = refuse refusals.UndefinedName name
 
--- `get_variable(name, fallback)`; the variables that stand for things of the run are left out so far
+-- the value of a variable that definition files set, or else a fallback
+unfoldable pub set_or : List ℕ → Option Data → Deed (Option Data)
+set_or name fallback = do
+  facts ← read
+  value_or name (facts.variables name) fallback
+
+-- what a name stands for that every run has
+unfoldable pub thing : List ℕ → Deed (Option Data)
+thing name = do
+  facts ← read
+  d ← answered (predefined facts.machine name)
+  give (Some d)
+
+unfoldable pub variable_or : Bool → List ℕ → Option Data → Deed (Option Data)
+variable_or true name fallback = thing name
+variable_or false name fallback = set_or name fallback
+
+-- `get_variable(name, fallback)`
 unfoldable pub get_variable : ArgumentsData → Deed (Option Data)
 get_variable a = do
   _ ← need (is_name (text_at 0 a)) refusals.Arguments []
-  _ ← need (not (is_predefined (text_at 0 a))) refusals.LeftOut []
-  facts ← read
-  value_or (text_at 0 a) (facts.variables (text_at 0 a)) (argument 1 a)
+  variable_or (is_predefined (text_at 0 a)) (text_at 0 a) (argument 1 a)
 
 -- `is_variable(name)`
 unfoldable pub is_variable : ArgumentsData → Deed (Option Data)

@@ -3,25 +3,26 @@ ghost use Rattle.std.specs.Prelude.{◌≡◌, not, ◌&&◌, option_map};
 ghost use Rattle.data.specs.View.{data_of};
 ghost use Rattle.arguments.specs.Arguments.{arguments_data};
 ghost use Rattle.arguments.specs.Row.{checked};
+ghost use Rattle.arguments.specs.RowView.{row_data};
 ghost use Rattle.world.specs.Answering.{Carries, HasRoom};
 ghost use Rattle.world.specs.Caller.{state_of};
 ghost use Rattle.world.specs.Deed.{fitting};
-ghost use Rattle.calls.specs.Functions.{call, does, is_turned_off, takes_disablers};
-ghost use Rattle.calls.specs.Rows.{row_of};
+ghost use Rattle.calls.specs.Functions.{call, does, has_other_format, is_turned_off, makes_file, row_for, takes_disablers};
 
 use crate::disablers::{disabler, is_disabler};
-use crate::function::Function;
+use crate::function::{Function, ProjectFunction};
 use crate::join_paths::join_paths;
 use crate::messages::{assert, error, message, warning};
-use crate::project_call::project;
 use crate::project_functions::project_function;
 use crate::range::range;
 use crate::rows::row;
 use crate::variables::{get_variable, is_variable, set_variable, unset_variable};
-use arguments::{Arguments, check, gives_disabler};
+use arguments::{Arguments, Row, check, gives_disabler};
+use configuration_calls::{has_meson_format, other_format_row};
 use data::Value;
 use faults::Refusal;
 use ports::{Outputs, Tree};
+use project_calls::project;
 use world::{Caller, Stop};
 
 fn takes_disablers(function: Function) -> bool
@@ -45,16 +46,43 @@ pub fn is_turned_off(function: Function, arguments: &Arguments) -> bool
     !takes_disablers(function) && gives_disabler(arguments)
 }
 
+fn makes_file(function: Function) -> bool
+    ensures { result ≡ makes_file function }
+{
+    matches!(
+        function,
+        Function::OfProject(ProjectFunction::ConfigureFile)
+    )
+}
+
+// `configure_file` with another format than `'meson'`.
+fn has_other_format(function: Function, arguments: &Arguments) -> bool
+    ensures { result ≡ has_other_format function (arguments_data arguments.now) }
+{
+    makes_file(function) && !has_meson_format(arguments)
+}
+
+// What the function takes beside these arguments.
+fn row_for(function: Function, arguments: &Arguments) -> Row
+    ensures { row_data result ≡ row_for function (arguments_data arguments.now) }
+{
+    if has_other_format(function, arguments) {
+        other_format_row()
+    } else {
+        row(function)
+    }
+}
+
 // Refuses arguments that the function does not take.
 fn fit<T: Tree, O: Outputs>(
     caller: &Caller<'_, T, O>,
     function: Function,
     arguments: &Arguments,
 ) -> Result<(), Stop>
-    ensures { Carries (λ u. u) (fitting (checked (row_of function) (arguments_data arguments.now))) (state_of T.seen O.seen caller.now)
+    ensures { Carries (λ u. u) (fitting (checked (row_for function (arguments_data arguments.now)) (arguments_data arguments.now))) (state_of T.seen O.seen caller.now)
         result (state_of T.seen O.seen caller.now) }
 {
-    let answer = check(caller.alloc, &row(function), arguments)?;
+    let answer = check(caller.alloc, &row_for(function, arguments), arguments)?;
     caller.fitting(answer)
 }
 

@@ -22,16 +22,27 @@ pub enum Function {
     Warning,
 }
 
-/// A function that says something of the project: its targets, and the words of their commands.
+/// A function that says something of the project: its targets and what they are made with, its options, and what is installed and
+/// tested.
 #[derive(Clone, Copy, PartialEq, Eq)]
 pub enum ProjectFunction {
     AddProjectArguments,
     AddProjectLinkArguments,
+    ConfigurationData,
+    ConfigureFile,
     CustomTarget,
+    DeclareDependency,
+    Dependency,
     Executable,
     Files,
+    FindProgram,
+    GetOption,
     IncludeDirectories,
+    InstallData,
+    InstallHeaders,
+    InstallMan,
     Library,
     SharedLibrary,
     StaticLibrary,
+    Test,
 }

@@ -9,7 +9,6 @@ mod function;
 mod join_paths;
 mod messages;
 mod names;
-mod project_call;
 mod project_functions;
 mod range;
 mod rows;

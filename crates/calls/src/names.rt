@@ -3,6 +3,7 @@ ghost use Rattle.std.specs.Prelude.{◌≡◌, option_map};
 ghost use Rattle.std.specs.List.{list_all, list_any};
 ghost use Rattle.std.specs.Str.{bytes_eq};
 ghost use Rattle.calls.specs.Names.{begins_name, function_named, is_left_out, is_name, is_name_byte, is_predefined, project_function_named};
+ghost use Rattle.calls.specs.Names.{resource_function_named};
 ghost use Rattle.calls.specs.declared.function.Function.TheVariants as functions;
 
 use crate::function::{Function, ProjectFunction};
@@ -28,8 +29,8 @@ const KEYWORDS: [&str; 14] = [
 /// The variables that stand for things of the run.
 const PREDEFINED: [&str; 4] = ["meson", "host_machine", "build_machine", "target_machine"];
 
-/// The functions of Meson that are left out, in the order of the alphabet.
-const LEFT_OUT: [&str; 31] = [
+/// The functions of Meson that are left out for good, in the order of the alphabet.
+const LEFT_OUT: [&str; 21] = [
     "add_global_arguments",
     "add_global_link_arguments",
     "add_languages",
@@ -38,20 +39,11 @@ const LEFT_OUT: [&str; 31] = [
     "benchmark",
     "both_libraries",
     "build_target",
-    "configuration_data",
-    "configure_file",
     "debug",
-    "declare_dependency",
-    "dependency",
     "environment",
-    "find_program",
     "generator",
-    "get_option",
     "import",
-    "install_data",
     "install_emptydir",
-    "install_headers",
-    "install_man",
     "install_subdir",
     "install_symlink",
     "run_command",
@@ -59,7 +51,6 @@ const LEFT_OUT: [&str; 31] = [
     "shared_module",
     "subproject",
     "summary",
-    "test",
     "vcs_tag",
 ];
 
@@ -178,6 +169,35 @@ fn project_function_named(name: &str) -> Option<ProjectFunction>
         Some(ProjectFunction::SharedLibrary)
     } else if name == "static_library" {
         Some(ProjectFunction::StaticLibrary)
+    } else {
+        resource_function_named(name)
+    }
+}
+
+// The function of a name that says what targets are made with, and what is installed and tested.
+fn resource_function_named(name: &str) -> Option<ProjectFunction>
+    ensures { result ≡ resource_function_named name.now }
+{
+    if name == "configuration_data" {
+        Some(ProjectFunction::ConfigurationData)
+    } else if name == "configure_file" {
+        Some(ProjectFunction::ConfigureFile)
+    } else if name == "declare_dependency" {
+        Some(ProjectFunction::DeclareDependency)
+    } else if name == "dependency" {
+        Some(ProjectFunction::Dependency)
+    } else if name == "find_program" {
+        Some(ProjectFunction::FindProgram)
+    } else if name == "get_option" {
+        Some(ProjectFunction::GetOption)
+    } else if name == "install_data" {
+        Some(ProjectFunction::InstallData)
+    } else if name == "install_headers" {
+        Some(ProjectFunction::InstallHeaders)
+    } else if name == "install_man" {
+        Some(ProjectFunction::InstallMan)
+    } else if name == "test" {
+        Some(ProjectFunction::Test)
     } else {
         None
     }

@@ -9,8 +9,17 @@ ghost use Rattle.calls.specs.ProjectFunctions.{project_function, project_functio
 
 use crate::function::ProjectFunction;
 use arguments::{Arguments, Row};
+use configuration_calls::{
+    configuration_data, configuration_data_row, configure_file, configure_file_row,
+};
 use data::Value;
 use ports::{Outputs, Tree};
+use project_calls::{get_option, get_option_row};
+use resource_calls::{
+    declare_dependency, declare_dependency_row, dependency, dependency_row, find_program,
+    find_program_row, install_data, install_data_row, install_headers, install_headers_row,
+    install_man, install_man_row, test, test_row,
+};
 use target_calls::{
     add_project_arguments, add_project_link_arguments, custom_target, custom_target_row,
     executable, files, files_row, include_directories, include_directories_row, library,
@@ -30,6 +39,16 @@ pub fn project_function_row(function: ProjectFunction) -> Row
         ProjectFunction::Executable | ProjectFunction::StaticLibrary => target_row(),
         ProjectFunction::Files => files_row(),
         ProjectFunction::IncludeDirectories => include_directories_row(),
+        ProjectFunction::ConfigurationData => configuration_data_row(),
+        ProjectFunction::ConfigureFile => configure_file_row(),
+        ProjectFunction::DeclareDependency => declare_dependency_row(),
+        ProjectFunction::Dependency => dependency_row(),
+        ProjectFunction::FindProgram => find_program_row(),
+        ProjectFunction::GetOption => get_option_row(),
+        ProjectFunction::InstallData => install_data_row(),
+        ProjectFunction::InstallHeaders => install_headers_row(),
+        ProjectFunction::InstallMan => install_man_row(),
+        ProjectFunction::Test => test_row(),
         ProjectFunction::Library | ProjectFunction::SharedLibrary => shared_library_row(),
     }
 }
@@ -51,6 +70,16 @@ pub fn project_function<T: Tree, O: Outputs>(
         ProjectFunction::Executable => executable(caller, arguments),
         ProjectFunction::Files => files(caller, arguments),
         ProjectFunction::IncludeDirectories => include_directories(caller, arguments),
+        ProjectFunction::ConfigurationData => configuration_data(caller, arguments),
+        ProjectFunction::ConfigureFile => configure_file(caller, arguments),
+        ProjectFunction::DeclareDependency => declare_dependency(caller, arguments),
+        ProjectFunction::Dependency => dependency(caller, arguments),
+        ProjectFunction::FindProgram => find_program(caller, arguments),
+        ProjectFunction::GetOption => get_option(caller, arguments),
+        ProjectFunction::InstallData => install_data(caller, arguments),
+        ProjectFunction::InstallHeaders => install_headers(caller, arguments),
+        ProjectFunction::InstallMan => install_man(caller, arguments),
+        ProjectFunction::Test => test(caller, arguments),
         ProjectFunction::Library => library(caller, arguments),
         ProjectFunction::SharedLibrary => shared_library(caller, arguments),
         ProjectFunction::StaticLibrary => static_library(caller, arguments),

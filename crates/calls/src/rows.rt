@@ -1,29 +1,12 @@
 //! The rows of the functions: what each takes.
 ghost use Rattle.std.specs.Prelude.{◌≡◌};
 ghost use Rattle.arguments.specs.RowView.{row_data};
-ghost use Rattle.calls.specs.Rows.{project_row, row_of, some_texts, subdir_row, values};
+ghost use Rattle.calls.specs.Rows.{row_of, some_texts, subdir_row, values};
 
 use crate::function::Function;
 use crate::project_functions::project_function_row;
 use arguments::{Keyword, Kind, Row};
-
-static PROJECT: [Keyword; 3] = [
-    Keyword {
-        name: "version",
-        kind: Kind::Text,
-        is_needed: false,
-    },
-    Keyword {
-        name: "license",
-        kind: Kind::Texts,
-        is_needed: false,
-    },
-    Keyword {
-        name: "meson_version",
-        kind: Kind::Text,
-        is_needed: false,
-    },
-];
+use project_calls::project_row;
 
 static SUBDIR: [Keyword; 1] = [Keyword {
     name: "if_found",
@@ -87,21 +70,6 @@ fn some_texts() -> Row
         others: Some(Kind::Text),
         keywords: &[],
         left_out: &["kwargs", "fallback", "deprecated"],
-    }
-}
-
-// ---- the project
-
-// A name and languages.
-fn project_row() -> Row
-    ensures { row_data result ≡ project_row }
-{
-    Row {
-        positional: &[Kind::Text],
-        needed: 1,
-        others: Some(Kind::Texts),
-        keywords: &PROJECT,
-        left_out: &["default_options", "kwargs", "fallback", "deprecated"],
     }
 }
 

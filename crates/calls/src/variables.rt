@@ -5,13 +5,15 @@ ghost use Rattle.arguments.specs.Arguments.{arguments_data};
 ghost use Rattle.world.specs.Answering.{Carries};
 ghost use Rattle.world.specs.Caller.{state_of};
 ghost use Rattle.calls.specs.Names.{is_predefined};
-ghost use Rattle.calls.specs.Variables.{get_variable, is_settable, is_variable, set_to, set_variable, unset_variable, value_or};
+ghost use Rattle.calls.specs.Variables.{get_variable, is_settable, is_variable, set_or, set_to, set_variable, unset_variable};
+ghost use Rattle.calls.specs.Variables.{thing, value_or, variable_or};
 
 use crate::names::{is_name, is_predefined};
 use arguments::Arguments;
 use data::Value;
 use faults::Refusal;
 use ports::{Outputs, Tree};
+use predefined::predefined;
 use world::{Caller, Stop};
 
 // Whether it is a name that definition files may set.
@@ -87,6 +89,45 @@ fn value_or<T: Tree, O: Outputs>(
     }
 }
 
+// The value of a variable that definition files set, or else a fallback.
+fn set_or<T: Tree, O: Outputs>(
+    caller: &Caller<'_, T, O>,
+    name: &str,
+    fallback: Option<&Value>,
+) -> Result<Option<Value>, Stop>
+    ensures { Carries (option_map data_of) (set_or name.now (option_map (λ v. data_of v.now) fallback.entry))
+        (state_of T.seen O.seen caller.now) result (state_of T.seen O.seen caller.now) }
+{
+    let value = caller.store.find(name)?;
+    value_or(caller, name, value, fallback)
+}
+
+// What a name stands for that every run has.
+fn thing<T: Tree, O: Outputs>(caller: &Caller<'_, T, O>, name: &str) -> Result<Option<Value>, Stop>
+    ensures { Carries (option_map data_of) (thing name.now) (state_of T.seen O.seen caller.now) result
+        (state_of T.seen O.seen caller.now) }
+{
+    let answer = predefined(caller.alloc, caller.store.machine(), name)?;
+    let value = caller.answered(answer)?;
+    Ok(Some(value))
+}
+
+// The value of a variable, or else a fallback. A name that every run has stands for its object.
+fn variable_or<T: Tree, O: Outputs>(
+    caller: &Caller<'_, T, O>,
+    name: &str,
+    fallback: Option<&Value>,
+) -> Result<Option<Value>, Stop>
+    ensures { Carries (option_map data_of) (variable_or (is_predefined name.now) name.now (option_map (λ v. data_of v.now) fallback.entry))
+        (state_of T.seen O.seen caller.now) result (state_of T.seen O.seen caller.now) }
+{
+    if is_predefined(name) {
+        thing(caller, name)
+    } else {
+        set_or(caller, name, fallback)
+    }
+}
+
 /// `get_variable(name, fallback)`
 pub fn get_variable<T: Tree, O: Outputs>(
     caller: &Caller<'_, T, O>,
@@ -97,9 +138,7 @@ pub fn get_variable<T: Tree, O: Outputs>(
 {
     let name = arguments.text_at(0);
     caller.need(is_name(name), Refusal::Arguments, "")?;
-    caller.need(!is_predefined(name), Refusal::LeftOut, "")?;
-    let value = caller.store.find(name)?;
-    value_or(caller, name, value, arguments.argument(1))
+    variable_or(caller, name, arguments.argument(1))
 }
 
 /// `is_variable(name)`

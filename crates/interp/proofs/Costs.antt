@@ -11,9 +11,10 @@ use Rattle.grammar.specs.declared.tree.Literal.TheVariants as literals
 use Rattle.grammar.specs.ExpressionTree.{ExpressionTree, NameTree, LiteralTree, ListTree, DictionaryTree, FunctionTree, PostfixTree, PrefixTree, ChainTree, TernaryTree, ExpressionTrees, NoExpression, MoreExpressions, EntryTrees, NoEntry, MoreEntries, ArgumentTrees, NoArgument, MoreArguments, LinkTree, MethodTree, IndexTree, LinkTrees, NoLink, MoreLinks, OperandTrees, NoOperand, MoreOperands, line_of}
 use Rattle.grammar.specs.Parsed.{parsed}
 use Rattle.grammar.specs.Tree.{StatementTree, AssignTree, AppendTree, ValueTree, BreakTree, ContinueTree, IfTree, ForeachTree, Statements, NoStatement, MoreStatements, Branches, NoBranch, MoreBranches, FileTree, statements}
+use Rattle.data.specs.declared.object.Object.{Object}
 use Rattle.data.specs.declared.object.Object.TheVariants as objects
 use Rattle.data.specs.declared.refusal.Refusal.{Refusal as OperationRefusal}
-use Rattle.data.specs.Data.{Data, boolean, integer, text, list, dictionary, object, Items, no_items, item, items_append, boolean_in, is_disabler}
+use Rattle.data.specs.Data.{Data, boolean, integer, text, list, dictionary, object, Items, no_items, item, items_append, boolean_in, object_in, is_disabler}
 use Rattle.data.specs.Limits.{within}
 use Rattle.faults.specs.declared.refusal.Refusal.{Refusal}
 use Rattle.faults.specs.declared.refusal.Refusal.TheVariants as refusals
@@ -23,6 +24,8 @@ use Rattle.operators.specs.Logic.{left_answer, right_answer}
 use Rattle.operators.specs.Index.{index_answer}
 use Rattle.operators.specs.Literal.{literal_answer}
 use Rattle.methods.specs.Methods.{answer as method_answer, has_name}
+use Rattle.objects.specs.Methods.{has_method as has_object_method}
+use Rattle.predefined.specs.Predefined.{predefined}
 use Rattle.texts.specs.Segments.{Segment, text as between, place}
 use Rattle.arguments.specs.Arguments.{ArgumentsData, no_arguments, with_argument}
 use Rattle.arguments.specs.Disablers.{gives_disabler}
@@ -33,7 +36,7 @@ use Rattle.calls.specs.declared.function.Function.{Function}
 use Rattle.calls.specs.declared.function.Function.TheVariants as functions
 use Rattle.world.specs.Trace.{ends_of}
 use Rattle.ports.specs.Tree.{file_at}
-use Rattle.world.specs.World.{World, Facts, looking, entering, with_facts, with_place}
+use Rattle.world.specs.World.{World, Facts, looking, entering, with_facts, with_machine, with_place}
 use Rattle.world.specs.Run.{Run, ran, marks_of, follow, after, Done, Faulted}
 use Rattle.world.specs.Deed.{Files, Deed, ask, read, refuse as refuse_deed, then as andthen, perform, need}
 use Rattle.world.specs.Plan.{Plan, deed, ruled, enter, entered, next as next_plan, carry, answered, refuse, give}
@@ -43,7 +46,7 @@ use Rattle.world.proofs.Costs.{Takes, more as more_in, free as free_in, none as 
 use Rattle.interp.specs.declared.meaning.Meaning.{Meaning}
 use Rattle.interp.specs.declared.meaning.Meaning.TheVariants.{Combines, Connects}
 use Rattle.interp.specs.Cost.{value_cost, values_cost, entries_cost, arguments_cost, links_cost, link_cost, chain_cost, statement_cost, branches_cost, statements_cost, parsed_cost, file_cost, tree_cost, is_definition_file}
-use Rattle.interp.specs.Expressions.{known, variable, variable_by, set_variable, is_plain, printed_plain, part_text, filled, number, literal_value, meaning_of, unless_decided, combined, unchosen, chosen, needed, known_function, refused_name, function_at, may_come_first, allowed, function_inside, called_by, called, fitted, method_at_by, method_at, method_by, method_called_by, method_called, known_method, method_of, value_of, values_of, entries_of, arguments_of, links_of, link_of, chain_of}
+use Rattle.interp.specs.Expressions.{known, variable, variable_by, set_variable, is_plain, printed_plain, part_text, filled, number, literal_value, meaning_of, unless_decided, combined, unchosen, chosen, needed, known_function, refused_name, function_at, may_come_first, allowed, function_inside, called_by, called, fitted, known_method, may_be_asked_first, known_object_method, method_at_by, method_at, value_method, object_method_called, method_by, method_called_by, method_called, method_of, value_of, values_of, entries_of, arguments_of, links_of, link_of, chain_of}
 use Rattle.interp.specs.declared.flow.Flow.{Flow}
 use Rattle.interp.specs.declared.flow.Flow.TheVariants.{Next, Continued, Broken, Finished}
 use Rattle.interp.specs.declared.conditions.Choice.{Choice}
@@ -52,13 +55,13 @@ use Rattle.interp.specs.Conditions.{choice_of, choice_without, by_choice}
 use Rattle.interp.specs.declared.acting.Action.{Action}
 use Rattle.interp.specs.declared.acting.Action.TheVariants.{Call, Enter, Leave}
 use Rattle.interp.specs.Acting.{WayData, Ends, Enters, action_of, acted_by, by_way, done_by, performed, subdir_by}
-use Rattle.interp.specs.Statements.{added, appended, summed, assigned_by, assigned, Round, looped, limited, item_rounds, entry_rounds, bound, on_next, after_round, rounds_of, walked, stated, does, branches_of, do_all}
+use Rattle.interp.specs.Statements.{configuration_in, own_by, own, added, appended, summed, assigned_by, assigned, Round, looped, limited, item_rounds, entry_rounds, bound, on_next, after_round, rounds_of, walked, stated, does, branches_of, do_all}
 use Rattle.interp.specs.Folders.{opened_by, opened, fresh_by, fresh, go_to, go_back, folder}
-use Rattle.interp.specs.Files.{most_bytes, refuse_line, tree_or_fault, spelled_by, spelled}
-use Rattle.interp.specs.Evaluation.{begun_by, is_project, begins, begins_all, root, no_machine_file, evaluation}
+use Rattle.definition_files.specs.Files.{most_bytes, refuse_line, tree_or_fault, spelled_by, spelled}
+use Rattle.interp.specs.Evaluation.{begun_by, is_project, begins, begins_all, root, MachineSaid, take_machine, evaluation}
 use Rattle.interp.specs.Laws.{StepsWithinCost}
 use Rattle.interp.proofs.Paths.{not_opened, is_definition}
-use Rattle.calls.specs.Project.{refuse_at}
+use Rattle.definition_files.specs.Places.{refuse_at}
 
 module _ (files : Files) where
   more : {A : Type 0} {p : Plan A} {c d : ℕ} → c ≤ d → Takes file_cost files c p → Takes file_cost files d p
@@ -98,7 +101,7 @@ module _ (files : Files) where
   known-cost line name None = refuse-cost line refusals.UndefinedName name
 
   variable_by-cost : (b : Bool) (line : ℕ) (name : List ℕ) → Takes file_cost files 0 (variable_by b line name)
-  variable_by-cost true line name = refuse-cost line refusals.LeftOut []
+  variable_by-cost true line name = first (none read) (λ facts. answered-cost line (predefined facts.machine name))
   variable_by-cost false line name = first (none read) (λ facts. known-cost line name (facts.variables name))
 
   variable-cost : (line : ℕ) (name : List ℕ) → Takes file_cost files 0 (variable line name)
@@ -175,25 +178,36 @@ module _ (files : Files) where
   fitted-cost line (Ok u) = free _
   fitted-cost line (Err refusal) = refuse-cost line refusal []
 
-  method_by-cost : (b : Bool) (line : ℕ) (d : Data) (name : List ℕ) (a : ArgumentsData) → Takes file_cost files 0 (method_by b line d name a)
-  method_by-cost true line d name a = free _
-  method_by-cost false line d name a = first (fitted-cost line _) (λ v. answered-cost line (method_answer d name a.positional))
+  value_method-cost : (line : ℕ) (d : Data) (name : List ℕ) (a : ArgumentsData) → Takes file_cost files 0 (value_method line d name a)
+  value_method-cost line d name a = first (fitted-cost line _) (λ v. first (answered-cost line (method_answer d name a.positional)) (λ e. none _))
+
+  object_method-cost : (line : ℕ) (o : Object) (name : List ℕ) (a : ArgumentsData) → Takes file_cost files 0 (object_method_called line o name a)
+  object_method-cost line o name a = first (none _) (λ u. none _)
+
+  method_by-cost : (b : Bool) (o : Option Object) (line : ℕ) (d : Data) (name : List ℕ) (a : ArgumentsData) → Takes file_cost files 0 (method_by b o line d name a)
+  method_by-cost true o line d name a = free _
+  method_by-cost false (Some o) line d name a = object_method-cost line o name a
+  method_by-cost false None line d name a = value_method-cost line d name a
 
   called_method-cost : (b : Bool) (line : ℕ) (d : Data) (name : List ℕ) (a : ArgumentsData) → Takes file_cost files 0 (method_called_by b line d name a)
   called_method-cost true line d name a = free _
-  called_method-cost false line d name a = method_by-cost (gives_disabler a) line d name a
+  called_method-cost false line d name a = method_by-cost (gives_disabler a) (object_in d) line d name a
 
-  known_method-cost : (line : ℕ) (name : List ℕ) (b : Bool) → Takes file_cost files 0 (known_method line name b)
-  known_method-cost line name true = free _
-  known_method-cost line name false = refuse-cost line refusals.UnknownFunction name
+  known_method-cost : (b : Bool) (line : ℕ) (name : List ℕ) → Takes file_cost files 0 (known_method b line name)
+  known_method-cost true line name = free _
+  known_method-cost false line name = refuse-cost line refusals.UnknownFunction name
 
-  method_at_by-cost : (a b has : Bool) (line : ℕ) (name : List ℕ) → Takes file_cost files 0 (method_at_by a b has line name)
-  method_at_by-cost true b has line name = free _
-  method_at_by-cost false true has line name = refuse-cost line refusals.LeftOut []
-  method_at_by-cost false false has line name = known_method-cost line name has
+  object_method_at-cost : (b : Bool) (line : ℕ) (o : Object) (name : List ℕ) → Takes file_cost files 0 (known_object_method b line o name)
+  object_method_at-cost true line o name = first (none read) (λ facts. allowed-cost line (facts.is_begun || may_be_asked_first o))
+  object_method_at-cost false line o name = refused_name-cost line name _
+
+  method_at_by-cost : (b : Bool) (o : Option Object) (line : ℕ) (d : Data) (name : List ℕ) → Takes file_cost files 0 (method_at_by b o line d name)
+  method_at_by-cost true o line d name = free _
+  method_at_by-cost false (Some o) line d name = object_method_at-cost (has_object_method o name) line o name
+  method_at_by-cost false None line d name = known_method-cost (has_name d name) line name
 
   method_at-cost : (line : ℕ) (d : Data) (name : List ℕ) → Takes file_cost files 0 (method_at line d name)
-  method_at-cost line d name = method_at_by-cost (is_disabler d) _ _ line name
+  method_at-cost line d name = method_at_by-cost (is_disabler d) (object_in d) line d name
 
   method_of-cost : {evaluated : Plan ArgumentsData} {c : ℕ} (line : ℕ) (d : Data) (name : List ℕ) → Takes file_cost files c evaluated → Takes file_cost files c (method_of line d name evaluated)
   method_of-cost line d name p = first (method_at-cost line d name) (λ u. last p (λ a. called_method-cost (is_disabler d) line d name a))
@@ -205,7 +219,7 @@ module _ (files : Files) where
     value-cost (ListTree es line) = rules (last (values-cost no_items es) (λ ds. answered-cost line (within (list ds))))
     value-cost (DictionaryTree es line) = rules (last (entries-cost [] es) (λ ps. answered-cost line (literal_answer ps)))
     value-cost (FunctionTree name es line) = rules (first (function_inside-cost line name) (λ f. last (arguments-cost no_arguments es) (λ a. first (called-cost line f a) (λ d. needed-cost line d))))
-    value-cost (PostfixTree e ls line) = rules (chain (value-cost e) (λ d. links-cost line d ls))
+    value-cost (PostfixTree e ls line) = rules (last (chain (value-cost e) (λ d. links-cost line (Some d) ls)) (λ o. needed-cost line o))
     value-cost (PrefixTree prefix value line) = rules (last (value-cost value) (λ d. answered-cost line _))
     value-cost (ChainTree e others line) = rules (chain (value-cost e) (λ d. chain-cost line d others))
     value-cost (TernaryTree test one other line) = rules (chain (value-cost test) (λ d. chosen-cost line (boolean_in d) (is_disabler d) (value-cost one) (value-cost other)))
@@ -222,13 +236,13 @@ module _ (files : Files) where
     arguments-cost a NoArgument = free _
     arguments-cost a (MoreArguments name e es) = chain (value-cost e) (λ d. arguments-cost (with_argument a name d) es)
 
-    links-cost : (line : ℕ) (d : Data) (ls : LinkTrees) → Takes file_cost files (links_cost ls) (links_of line d ls)
-    links-cost line d NoLink = free _
-    links-cost line d (MoreLinks l ls) = chain (link-cost line d l) (λ e. links-cost line e ls)
+    links-cost : (line : ℕ) (o : Option Data) (ls : LinkTrees) → Takes file_cost files (links_cost ls) (links_of line o ls)
+    links-cost line o NoLink = free _
+    links-cost line o (MoreLinks l ls) = first (needed-cost line o) (λ d. chain (link-cost line d l) (λ e. links-cost line e ls))
 
     link-cost : (line : ℕ) (d : Data) (l : LinkTree) → Takes file_cost files (link_cost l) (link_of line d l)
     link-cost line d (MethodTree name es) = method_of-cost line d name (arguments-cost no_arguments es)
-    link-cost line d (IndexTree index) = last (value-cost index) (λ i. answered-cost line (index_answer d i))
+    link-cost line d (IndexTree index) = last (value-cost index) (λ i. first (answered-cost line (index_answer d i)) (λ part. none _))
 
     chain-cost : (line : ℕ) (d : Data) (es : OperandTrees) → Takes file_cost files (chain_cost es) (chain_of line d es)
     chain-cost line d NoOperand = free _
@@ -242,6 +256,13 @@ module _ (files : Files) where
 
   assigned-cost : (line : ℕ) (name : List ℕ) (d : Data) → Takes file_cost files 0 (assigned line name d)
   assigned-cost line name d = assigned_by-cost (is_predefined name) line name d
+
+  own_by-cost : (o : Option ℕ) (d : Data) → Takes file_cost files 0 (own_by o d)
+  own_by-cost (Some number) d = first (none _) (λ copy. none _)
+  own_by-cost None d = free _
+
+  own-cost : (d : Data) → Takes file_cost files 0 (own d)
+  own-cost d = own_by-cost (configuration_in d) d
 
   choice_without-cost : (line : ℕ) (b : Bool) → Takes file_cost files 0 (choice_without line b)
   choice_without-cost line true = free _
@@ -328,23 +349,24 @@ module _ (files : Files) where
     appended-cost : (line : ℕ) (name : List ℕ) (value : ExpressionTree) → Takes file_cost files (value_cost value) (appended line name (ruled (value_of value)))
     appended-cost line name value = first (variable-cost line name) (λ o. last (value-cost value) (λ e. summed-cost line name e))
 
-    alone-cost : (e : ExpressionTree) → Takes file_cost files (value_cost e) (next_plan (ruled (value_of e)) (λ d. give Next))
-    alone-cost e = last (value-cost e) (λ d. none _)
+    alone-cost : {p : Plan Data} {c : ℕ} → Takes file_cost files c p
+        → Takes file_cost files (1 + c) (next_plan (ruled (next_plan p (λ d. give (Some d)))) (λ o. give Next))
+    alone-cost p = last (rules (last p (λ d. none _))) (λ o. none _)
 
     stated-cost : (e : ExpressionTree) → Takes file_cost files (value_cost e) (stated into e)
     stated-cost (FunctionTree name es line) = rules (last (performed-cost line name es) (λ way. by_way-cost way))
-    stated-cost (NameTree name line) = alone-cost (NameTree name line)
-    stated-cost (LiteralTree literal t line) = alone-cost (LiteralTree literal t line)
-    stated-cost (ListTree es line) = alone-cost (ListTree es line)
-    stated-cost (DictionaryTree es line) = alone-cost (DictionaryTree es line)
-    stated-cost (PostfixTree e ls line) = alone-cost (PostfixTree e ls line)
-    stated-cost (PrefixTree prefix value line) = alone-cost (PrefixTree prefix value line)
-    stated-cost (ChainTree e others line) = alone-cost (ChainTree e others line)
-    stated-cost (TernaryTree test one other line) = alone-cost (TernaryTree test one other line)
+    stated-cost (NameTree name line) = alone-cost (variable-cost line name)
+    stated-cost (LiteralTree literal t line) = alone-cost (literal-cost line literal t)
+    stated-cost (ListTree es line) = alone-cost (last (values-cost no_items es) (λ ds. answered-cost line (within (list ds))))
+    stated-cost (DictionaryTree es line) = alone-cost (last (entries-cost [] es) (λ ps. answered-cost line (literal_answer ps)))
+    stated-cost (PostfixTree e ls line) = last (rules (chain (value-cost e) (λ d. links-cost line (Some d) ls))) (λ o. none _)
+    stated-cost (PrefixTree prefix value line) = alone-cost (last (value-cost value) (λ d. answered-cost line _))
+    stated-cost (ChainTree e others line) = alone-cost (chain (value-cost e) (λ d. chain-cost line d others))
+    stated-cost (TernaryTree test one other line) = alone-cost (chain (value-cost test) (λ d. chosen-cost line (boolean_in d) (is_disabler d) (value-cost one) (value-cost other)))
 
     mutual
       does-cost : (s : StatementTree) → Takes file_cost files (statement_cost s) (ruled (does into s))
-      does-cost (AssignTree name line value) = rules (last (value-cost value) (λ d. first (assigned-cost line name d) (λ u. none _)))
+      does-cost (AssignTree name line value) = rules (last (value-cost value) (λ d. first (own-cost d) (λ e. first (assigned-cost line name e) (λ u. none _))))
       does-cost (AppendTree name line value) = rules (last (appended-cost line name value) (λ u. none _))
       does-cost (ValueTree e line) = rules (stated-cost e)
       does-cost (BreakTree line) = rules (none _)
@@ -493,16 +515,17 @@ module _ (files : Files) where
   opened-cost : (w : World) → is_opened w.entered (definition_file []) ≡ false → spent file_cost files (carry files (next_plan (opened []) (λ body. next_plan (ruled (root body)) (λ u. give (tt {0})))) w) ≤ unopened file_cost files w.entered
   opened-cost w new = body-paid [] (λ body. next_plan (ruled (root body)) (λ u. give (tt {0}))) (λ body. last (rules (root-cost body)) (λ u. none _)) w new
 
-  begun_run : (machine : List ℕ) (w : World) → w.entered ≡ [] → spent file_cost files (carry files (evaluation machine) w) ≤ unopened file_cost files w.entered
-  unfolding no_machine_file refuse_at
-  begun_run [] w none_entered =
-      omega (arith, spent-after file_cost files [] (carry files (next_plan (opened []) (λ body. next_plan (ruled (root body)) (λ u. give (tt {0})))) w), opened-cost w (ap (λ l. is_opened l (definition_file [])) none_entered))
-  begun_run (b ∷ bs) w none_entered = omega arith
+  begun_run : (said : MachineSaid) (w : World) → w.entered ≡ [] → spent file_cost files (carry files (evaluation said) w) ≤ unopened file_cost files w.entered
+  unfolding take_machine refuse_at
+  begun_run (Ok sections) w none_entered =
+      let v = with_facts w (with_machine sections w.facts) in
+      omega (arith, spent-after file_cost files [] (carry files (next_plan (opened []) (λ body. next_plan (ruled (root body)) (λ u. give (tt {0})))) v), opened-cost v (ap (λ l. is_opened l (definition_file [])) none_entered))
+  begun_run (Err fault) w none_entered = omega arith
 
 unopened-none : (files : Files) → unopened file_cost files [] ≡ tree_cost files
 unopened-none [] = refl
 unopened-none (f ∷ fs) = ap (λ n. file_cost f + n) (unopened-none fs)
 
 pub steps_within_cost : StepsWithinCost
-steps_within_cost files settings machine =
-    omega (arith, begun_run files machine (first_world settings) refl, unopened-none files)
+steps_within_cost files settings said =
+    omega (arith, begun_run files said (first_world settings) refl, unopened-none files)

@@ -5,10 +5,10 @@ pub mod Ending
 pub mod Evaluating
 pub mod Filling
 pub mod Looping
+pub mod Machines
 pub mod Opening
 mod Pairs
 mod Paths
-mod Pieces
 pub mod Places
 pub mod Reading
 pub mod Spelling

@@ -7,6 +7,7 @@ use Rattle.code.specs.Nodes.{argument_at, tree_at, tree_of}
 use Rattle.code.specs.Statements.{branch_at, branch_within, name_at, second_within, statement_at, statement_tree, statement_within}
 use Rattle.code.specs.declared.code.Code.{Code}
 use Rattle.code.specs.declared.node.ArgumentNode.{ArgumentNode}
+use Rattle.code.specs.declared.node.LinkNode.{LinkNode}
 use Rattle.code.specs.declared.node.Node.{Node}
 use Rattle.code.specs.declared.node.Node.TheVariants as nodes
 use Rattle.code.specs.declared.node.BranchNode.{BranchNode}
@@ -21,7 +22,7 @@ use Rattle.world.specs.Plan.{Plan, give, next, ruled}
 use Rattle.world.specs.declared.stop.Stop.{Stop}
 use Rattle.interp.specs.Blocks.{branch_or, expressions_by, node_at, statements_by}
 use Rattle.interp.specs.Evaluates.{Given, Reads, Stand}
-use Rattle.interp.specs.Expressions.{value_of}
+use Rattle.interp.specs.Expressions.{given_by, value_of}
 use Rattle.interp.specs.Frames.{Chooses, Leads, Made, above_branch, part_done}
 use Rattle.interp.specs.Parts.{above}
 use Rattle.interp.specs.Rounds.{RoundAt, round_data}
@@ -30,7 +31,7 @@ use Rattle.interp.specs.declared.loops.Round.{Round as Declared}
 use Rattle.interp.specs.declared.flow.Flow.{Flow}
 use Rattle.interp.specs.declared.flow.Flow.TheVariants.{Next}
 use Rattle.interp.proofs.Evaluating.{given_stop, next_is}
-use Rattle.interp.proofs.Reading.{name_of}
+use Rattle.interp.proofs.Reading.{name_of, opened}
 use Rattle.interp.proofs.Stack.{leads_end}
 
 -- the trees of the expressions
@@ -152,7 +153,7 @@ call_at table c value x name items line l at is = node_opens table c.names c.nod
 
 stated_other : (into : List ℕ → Plan Flow) (table : List (List ℕ)) (ts : List ExpressionTree) (x : Node)
     → ((name : String Global) (items : Vec ArgumentNode Global) (line : ℕ) → x ≡ nodes.Call name items line → ⊥)
-    → stated into (tree_of table ts x) ≡ next (ruled (value_of (tree_of table ts x))) (λ _. give Next)
+    → stated into (tree_of table ts x) ≡ next (ruled (given_by (tree_of table ts x))) (λ _. give Next)
 stated_other into table ts (nodes.Name number line) h = refl
 stated_other into table ts (nodes.Literal literal text line) h = refl
 stated_other into table ts (nodes.List items line) h = refl
@@ -166,10 +167,31 @@ stated_other into table ts (nodes.Ternary test one other line) h = refl
 -- what is stated by a node that is none
 pub stated_at : (into : List ℕ → Plan Flow) (table : List (List ℕ)) (c : Code) (value : ℕ) (x : Node) → value < length c.nodes.items → x ≡ get_or c.nodes.items value x
     → ((name : String Global) (items : Vec ArgumentNode Global) (line : ℕ) → x ≡ nodes.Call name items line → ⊥)
-    → next (ruled (value_of (tree_at (expressions_by table c) value))) (λ _. give Next) ≡ stated into (tree_at (expressions_by table c) value)
+    → next (ruled (given_by (tree_at (expressions_by table c) value))) (λ _. give Next) ≡ stated into (tree_at (expressions_by table c) value)
 stated_at into table c value x l at h =
     let e : tree_at (expressions_by table c) value ≡ tree_of table (expressions_by table c) x = node_opens table c.names c.nodes.items value x c.ordered l ∙ ap (tree_of table (expressions_by table c)) (sym at) in
-    sym (ap (stated into) e ∙ stated_other into table (expressions_by table c) x h ∙ ap (λ (t : ExpressionTree). next (ruled (value_of t)) (λ _. give Next)) (sym e))
+    sym (ap (stated into) e ∙ stated_other into table (expressions_by table c) x h ∙ ap (λ (t : ExpressionTree). next (ruled (given_by t)) (λ _. give Next)) (sym e))
+
+given_other : (table : List (List ℕ)) (ts : List ExpressionTree) (x : Node)
+    → ((first : ℕ) (ls : Vec LinkNode Global) (line : ℕ) → x ≡ nodes.Postfix first ls line → ⊥)
+    → next (value_of (tree_of table ts x)) (λ d. give (Some d)) ≡ given_by (tree_of table ts x)
+given_other table ts (nodes.Name number line) h = refl
+given_other table ts (nodes.Literal literal text line) h = refl
+given_other table ts (nodes.List items line) h = refl
+given_other table ts (nodes.Dictionary es line) h = refl
+given_other table ts (nodes.Call name items line) h = refl
+given_other table ts (nodes.Postfix first ls line) h = absurd (h first ls line refl)
+given_other table ts (nodes.Prefix prefix value line) h = refl
+given_other table ts (nodes.Chain first others line) h = refl
+given_other table ts (nodes.Ternary test one other line) h = refl
+
+-- what a node gives that asks nothing of a value
+pub given_at : {ts : List ExpressionTree} {c : Code} {names : List (List ℕ)} (r : Reads ts c names) (value : ℕ) (x : Node) → value < length c.nodes.items → x ≡ get_or c.nodes.items value x
+    → ((first : ℕ) (ls : Vec LinkNode Global) (line : ℕ) → x ≡ nodes.Postfix first ls line → ⊥)
+    → next (value_of (tree_at ts value)) (λ d. give (Some d)) ≡ given_by (tree_at ts value)
+given_at {ts = ts} r value x l at h =
+    let e : tree_at ts value ≡ tree_of r.table ts x = opened r value x x l at refl in
+    ap (λ (t : ExpressionTree). next (value_of t) (λ d. give (Some d))) e ∙ given_other r.table ts x h ∙ ap given_by (sym e)
 
 -- the conditions of branches are there
 pub branches_reach : (m n : ℕ) (bs : List BranchNode) → IsTrue (list_all (branch_within m n) bs) → above above_branch bs ≤ m

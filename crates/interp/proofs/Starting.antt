@@ -11,25 +11,26 @@ use Rattle.code.proofs.CallerLemmas.{node_opens, statement_opens, statement_part
 use Rattle.code.proofs.Trees.{less}
 use Rattle.interp.specs.Blocks.{expressions_by, statements_by}
 use Rattle.std.proofs.lemmas.Bool.{false≢true, eqb-true}
-use Rattle.faults.specs.Faults.{plain_fault}
-use Rattle.faults.specs.declared.refusal.Refusal.TheVariants as refusals
-use Rattle.calls.specs.Project.{refuse_at}
-use Rattle.world.specs.Answering.{Refuses}
+use Rattle.machine_file.specs.Fault.{told}
+use Rattle.definition_files.specs.Places.{refuse_at}
+use Rattle.world.specs.Settings.{SettingsData}
+use Rattle.world.specs.Start.{first_world}
 use Rattle.world.specs.Deed.{Files}
 use Rattle.ports.specs.Outputs.{OutputState}
 use Rattle.world.specs.Store.{Kept, world_of}
 use Rattle.interp.specs.Evaluated.{Evaluated}
-use Rattle.interp.proofs.Ticking.{evaluated_done, evaluated_stop, unnamed}
+use Rattle.interp.proofs.Ticking.{evaluated_done, evaluated_none, evaluated_stop, unnamed}
 use Rattle.world.specs.Gives.{Ends, Gives}
 use Rattle.world.specs.Run.{Done}
 use Rattle.world.specs.Plan.{carry}
 use Rattle.world.specs.Trace.{Seen, seen}
-use Rattle.world.specs.World.{World, with_facts, with_place}
+use Rattle.world.specs.World.{World, with_facts, with_machine, with_place}
 use Rattle.world.specs.declared.stop.Stop.{Stop}
+use Rattle.world.specs.declared.stop.Stop.TheVariants as stops
 use Rattle.world.proofs.Follow.{after-nil, begun, refused_later}
 use Rattle.grammar.specs.Tree.{StatementTree, AssignTree, AppendTree, ValueTree, BreakTree, ContinueTree, IfTree, ForeachTree, Statements, NoStatement, MoreStatements}
-use Rattle.interp.specs.Beginnings.{RootGives, begun_at, definitions, line_before, line_unless, other_line}
-use Rattle.interp.specs.Evaluation.{begins, begins_all, begun_by, evaluation, is_project, no_machine_file}
+use Rattle.interp.specs.Beginnings.{RootGives, Starts, begun_at, definitions, line_before, line_unless, other_line}
+use Rattle.interp.specs.Evaluation.{MachineSaid, begins, begins_all, begun_by, evaluation, is_project, take_machine}
 use Rattle.interp.proofs.Blocks.{number_below}
 use Rattle.interp.specs.declared.block.Block.TheVariants as blocks
 
@@ -76,38 +77,40 @@ begins_at (MoreStatements s ss) o is = ap begun_at is ∙ sym (begins_as s)
 pub first_below : (c : Code) (number : ℕ) (rest : List ℕ) → c.body.items ≡ number ∷ rest → number < length c.statements.items
 first_below c number rest is = number_below c blocks.File (number ∷ rest) 0 0 (sym is) (omega arith)
 
--- an empty machine file does nothing
-pub no_machine : (files : Files) (machine : List ℕ) (w : World) (b : Bool) → b ≡ (length machine == 0) → b ≡ true → carry files definitions w ≡ carry files (evaluation machine) w
-unfolding no_machine_file
-no_machine files [] w b e t = sym (after-nil (carry files definitions w))
-no_machine files (x ∷ xs) w b e t = let none : length (x ∷ xs) ≡ 0 = eqb-true (length (x ∷ xs)) 0 (sym e ∙ t) in absurd (omega (arith, none))
+-- the world in which the root file is evaluated, and the whole evaluation
+pub started : (files : Files) (s : SettingsData) (said : MachineSaid) (kept : Kept) → Starts s said (Ok kept)
+    → carry files definitions (world_of kept) ≡ carry files (evaluation said) (first_world s)
+unfolding take_machine
+started files s (Ok sections) kept is = ap (carry files definitions) is ∙ sym (after-nil (carry files definitions (with_facts (first_world s) (with_machine sections (first_world s).facts))))
+started files s (Err fault) kept is = absurd is
 
--- and any other is refused
-pub machine_refused : (files : Files) (machine : List ℕ) (w : World) (b : Bool) (result : Result Kept Stop) (out : OutputState) (n : ℕ) → b ≡ (length machine == 0) → b ≡ false
-    → Refuses (plain_fault (codes "<machine file>") 1 refusals.MachineFile) result → Evaluated (carry files (evaluation machine) w) result (seen out n []) (seen out n [])
-unfolding no_machine_file refuse_at
-machine_refused files [] w b result out n e f is = absurd (false≢true (sym f ∙ e))
-machine_refused files (x ∷ xs) w b (Ok k) out n e f is = absurd is
-machine_refused files (x ∷ xs) w b (Err s) out n e f is =
-    evaluated_stop (carry files (evaluation (x ∷ xs)) w) s (Err s) w (seen out n []) (seen out n []) refl
-    (refused_later (λ (u : Unit {0}). u) (plain_fault (codes "<machine file>") 1 refusals.MachineFile) s (with_facts w (with_place (codes "<machine file>") [] 1 w.facts)) w (seen out n [])
-    (begun (carry files (evaluation (x ∷ xs)) w) (seen out n [])) is)
+-- a machine file that is refused, or no memory
+pub not_started : (files : Files) (s : SettingsData) (said : MachineSaid) (e : Stop) (result : Result Kept Stop) (out : OutputState) (n : ℕ) → IsErrAnd result (λ r. r ≡ e)
+    → Starts s said (Err e) → Evaluated (carry files (evaluation said) (first_world s)) result (seen out n []) (seen out n [])
+unfolding take_machine refuse_at
+not_started files s said stops.Memory result out n is h = evaluated_none (carry files (evaluation said) (first_world s)) (seen out n []) result is
+not_started files s said stops.Device result out n is h = absurd h
+not_started files s (Ok sections) (stops.Refused f) result out n is h = absurd h
+not_started files s (Err fault) (stops.Refused f) result out n is h =
+    let w = first_world s in
+    evaluated_stop (carry files (evaluation (Err fault)) w) (stops.Refused f) result w (seen out n []) (seen out n []) is
+    (refused_later (λ (u : Unit {0}). u) (told fault) (stops.Refused f) (with_facts w (with_place (codes "<machine file>") [] fault.line w.facts)) w (seen out n [])
+    (begun (carry files (evaluation (Err fault)) w) (seen out n [])) h)
 
--- the root file without a machine file is the whole evaluation
-pub whole_done : (files : Files) (machine : List ℕ) (w v : World) (b : Bool) (k : Kept) (old new : Seen) → b ≡ (length machine == 0) → b ≡ true → w ≡ v
-    → Ends (carry files definitions w) (Done tt) (world_of k) old new → Evaluated (carry files (evaluation machine) v) (Ok k) (unnamed old) (unnamed new)
-whole_done files machine w v b k old new e t is g =
-    evaluated_done (carry files (evaluation machine) v) k old new
-    (subst (λ u. Ends (carry files (evaluation machine) u) (Done tt) (world_of k) old new) is
-    (subst (λ r. Ends r (Done tt) (world_of k) old new) (no_machine files machine w b e t) g))
+-- the root file ended
+pub whole_done : (files : Files) (s : SettingsData) (said : MachineSaid) (kept k : Kept) (old new : Seen) → Starts s said (Ok kept)
+    → Ends (carry files definitions (world_of kept)) (Done tt) (world_of k) old new → Evaluated (carry files (evaluation said) (first_world s)) (Ok k) (unnamed old) (unnamed new)
+whole_done files s said kept k old new is g =
+    evaluated_done (carry files (evaluation said) (first_world s)) k old new
+    (subst (λ r. Ends r (Done tt) (world_of k) old new) (started files s said kept is) g)
 
-pub whole_stopped : (files : Files) (machine : List ℕ) (w v u : World) (b : Bool) (s : Stop) (result : Result Kept Stop) (old new : Seen) → b ≡ (length machine == 0) → b ≡ true → w ≡ v
-    → IsErrAnd result (λ r. r ≡ s) → Gives {A = Unit {0}} {B = Unit {0}} (λ r. r) (carry files definitions w) (Err s) u old new
-    → Evaluated (carry files (evaluation machine) v) result (unnamed old) (unnamed new)
-whole_stopped files machine w v u b s result old new e t is stop g =
-    evaluated_stop (carry files (evaluation machine) v) s result u old new stop
-    (subst (λ x. Gives {A = Unit {0}} {B = Unit {0}} (λ r. r) (carry files (evaluation machine) x) (Err s) u old new) is
-    (subst (λ x. Gives {A = Unit {0}} {B = Unit {0}} (λ r. r) x (Err s) u old new) (no_machine files machine w b e t) g))
+-- or it stopped
+pub whole_stopped : (files : Files) (s : SettingsData) (said : MachineSaid) (kept : Kept) (w : World) (e : Stop) (result : Result Kept Stop) (old new : Seen) → Starts s said (Ok kept)
+    → IsErrAnd result (λ r. r ≡ e) → Gives {A = Unit {0}} {B = Unit {0}} (λ r. r) (carry files definitions (world_of kept)) (Err e) w old new
+    → Evaluated (carry files (evaluation said) (first_world s)) result (unnamed old) (unnamed new)
+whole_stopped files s said kept w e result old new is stop g =
+    evaluated_stop (carry files (evaluation said) (first_world s)) e result w old new stop
+    (subst (λ x. Gives {A = Unit {0}} {B = Unit {0}} (λ r. r) x (Err e) w old new) (started files s said kept is) g)
 
 -- the first number of a list
 pub first_is : (xs : List ℕ) (n : ℕ) → Some n ≡ slice_get xs 0 → (rest : List ℕ) × (xs ≡ n ∷ rest)

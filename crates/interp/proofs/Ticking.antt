@@ -1,7 +1,7 @@
 -- How a whole evaluation has ticked.
-use Rattle.std.proofs.Common.{◌≡◌, ℕ, ◌≤◌, List, [], ◌++◌, length, Result, Ok, Err, IsErrAnd, refl, sym, ap, subst, arith}
+use Rattle.std.proofs.Common.{◌≡◌, ℕ, ◌+◌, ◌≤◌, List, [], ◌++◌, length, Result, Ok, Err, IsErrAnd, refl, sym, ap, subst, arith}
 use Rattle.world.specs.Counts.{EndsKeepUp, below, counts_from}
-use Rattle.world.specs.Gives.{Ends, Gives}
+use Rattle.world.specs.Gives.{Ends, Gives, failures_after}
 use Rattle.world.specs.Run.{Run, Done, marks_of}
 use Rattle.world.specs.Store.{Kept, world_of}
 use Rattle.world.specs.Trace.{Adds, Begins, Mark, Seen, ends_of, seen, steps_of}
@@ -54,6 +54,14 @@ pub fails_stop : (e : Stop) (result : Result Kept Stop) (tree tree1 : TreeState)
     → FailsOnce {B = Unit {0}} tree out (Err e) tree1 out1 → FailsOnce {B = Kept} tree out result tree1 out1
 fails_stop e (Ok k) tree tree1 out out1 is f = absurd is
 fails_stop e (Err s) tree tree1 out out1 is f = subst (λ d. FailsOnce {B = Kept} tree out (Err d) tree1 out1) (sym is) (fails_by e tree tree1 out out1 f)
+
+-- a stop before any device was asked
+pub fails_none : (e : Stop) (result : Result Kept Stop) (tree : TreeState) (out : OutputState) → IsErrAnd result (λ s. s ≡ e)
+    → ((n : ℕ) → failures_after {B = Kept} n (Err e) ≡ n) → FailsOnce {B = Kept} tree out result tree out
+fails_none e (Ok k) tree out is quiet = absurd is
+fails_none e (Err s) tree out is quiet =
+    subst (λ d. FailsOnce {B = Kept} tree out (Err d) tree out) (sym is)
+    (record { of_tree = omega arith; of_out = omega arith; sum = sym (quiet (tree.failures + out.failures)) })
 
 -- ---- ticks
 

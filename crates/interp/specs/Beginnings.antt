@@ -1,15 +1,21 @@
 -- How an evaluation begins.
-use Rattle.std.specs.Prelude.{ℕ, Bool, true, false, [], Option, Some, None, Result}
+use Rattle.std.specs.Prelude.{◌≡◌, ℕ, Bool, true, false, [], Option, Some, None, Result, Ok, Err}
 use Rattle.grammar.specs.Tree.{StatementTree, AssignTree, AppendTree, ValueTree, BreakTree, ContinueTree, IfTree, ForeachTree, Statements, NoStatement, MoreStatements}
+use Rattle.faults.specs.View.{fault_view}
 use Rattle.faults.specs.declared.refusal.Refusal.TheVariants as refusals
+use Rattle.machine_file.specs.Fault.{told}
 use Rattle.ports.specs.Outputs.{OutputState}
 use Rattle.world.specs.Deed.{Files}
 use Rattle.world.specs.Gives.{Gives}
 use Rattle.world.specs.Plan.{Plan, ruled, ◌>>=◌, carry, give, refuse}
-use Rattle.world.specs.Store.{Kept, world_of}
+use Rattle.world.specs.Settings.{SettingsData}
+use Rattle.world.specs.Start.{first_world}
+use Rattle.world.specs.Store.{Kept, changing, world_of}
 use Rattle.world.specs.Trace.{seen}
+use Rattle.world.specs.World.{with_machine}
 use Rattle.world.specs.declared.stop.Stop.{Stop}
-use Rattle.interp.specs.Evaluation.{is_project, root}
+use Rattle.world.specs.declared.stop.Stop.TheVariants as stops
+use Rattle.interp.specs.Evaluation.{MachineSaid, is_project, root}
 use Rattle.interp.specs.Folders.{opened}
 
 -- the line of a statement that is no call of `project`
@@ -35,6 +41,15 @@ line_before (MoreStatements s ss) = other_line s
 abbrev pub begun_at : Option ℕ → Plan (Unit {0})
 begun_at None = give tt
 begun_at (Some line) = refuse line refusals.ProjectCall []
+
+-- the world before the root file: the machine file was read, which says this, or is refused
+abbrev pub Starts : SettingsData → MachineSaid → Result Kept Stop → Type 0
+Starts s (Ok sections) (Ok kept) = world_of kept ≡ changing (with_machine sections) (first_world s)
+Starts s (Ok sections) (Err (stops.Refused fault)) = ⊥
+Starts s (Err f) (Ok kept) = ⊥
+Starts s (Err f) (Err (stops.Refused fault)) = fault_view fault ≡ told f
+Starts s said (Err stops.Device) = ⊥
+Starts s said (Err stops.Memory) = Unit {0}
 
 -- an evaluation without its machine file
 abbrev pub definitions : Plan (Unit {0})

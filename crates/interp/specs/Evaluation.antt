@@ -1,10 +1,17 @@
 -- A whole evaluation, from the root file on.
-use Rattle.std.specs.Prelude.{ℕ, Bool, true, false, List, [], ◌∷◌, codes, bytes_eq}
+use Rattle.std.specs.Prelude.{ℕ, Bool, true, false, List, [], codes, bytes_eq, Result, Ok, Err}
+use Rattle.std.specs.Str.{IsUtf8}
 use Rattle.grammar.specs.ExpressionTree.{ExpressionTree, FunctionTree}
 use Rattle.grammar.specs.Tree.{StatementTree, AssignTree, AppendTree, ValueTree, BreakTree, ContinueTree, IfTree, ForeachTree, Statements, NoStatement, MoreStatements}
 use Rattle.faults.specs.declared.refusal.Refusal.TheVariants as refusals
-use Rattle.calls.specs.Project.{refuse_at}
-use Rattle.world.specs.Deed.{Deed, give as give_deed}
+use Rattle.definition_files.specs.Places.{refuse_at}
+use Rattle.machine_file.specs.Answers.{IsFault}
+use Rattle.machine_file.specs.Files.{Section}
+use Rattle.machine_file.specs.Lines.{file_lines}
+use Rattle.machine_file.specs.Reads.{AreSections}
+use Rattle.machine_file.specs.declared.fault.MachineFault.{MachineFault}
+use Rattle.world.specs.Deed.{Deed, change}
+use Rattle.world.specs.World.{with_machine}
 use Rattle.world.specs.Plan.{Plan, deed, ruled, ◌>>=◌, give, refuse}
 use Rattle.interp.specs.Folders.{opened, folder}
 use Rattle.interp.specs.declared.flow.Flow.{Flow}
@@ -39,15 +46,24 @@ root ss = do
   _ ← begins_all ss
   do_all (folder 63) ss
 
--- a machine file is left out so far: any byte of it is refused
-unfoldable pub no_machine_file : List ℕ → Deed (Unit {0})
-no_machine_file [] = give_deed tt
-no_machine_file (b ∷ bs) = refuse_at (codes "<machine file>") 1 refusals.MachineFile
+-- what a machine file says: its sections, or the fault that it has
+abbrev pub MachineSaid : Type 0
+MachineSaid = Result (List Section) MachineFault
 
--- the machine file, and then the root file
-abbrev pub evaluation : List ℕ → Plan (Unit {0})
-evaluation machine = do
-  _ ← deed (no_machine_file machine)
+-- bytes are read as a machine file that says this: their lines are one with these sections, or have this fault
+abbrev pub IsSaid : List ℕ → MachineSaid → Type 0
+IsSaid bytes (Ok sections) = IsUtf8 bytes × AreSections (file_lines bytes) sections
+IsSaid bytes (Err fault) = IsFault fault.refusal bytes fault.line
+
+-- what the machine file says is known from then on; a fault is at its line of `<machine file>`
+unfoldable pub take_machine : MachineSaid → Deed (Unit {0})
+take_machine (Ok sections) = change (with_machine sections)
+take_machine (Err fault) = refuse_at (codes "<machine file>") fault.line fault.refusal
+
+-- the machine file, which says this, and then the root file
+abbrev pub evaluation : MachineSaid → Plan (Unit {0})
+evaluation said = do
+  _ ← deed (take_machine said)
   body ← opened []
   _ ← ruled (root body)
   give tt

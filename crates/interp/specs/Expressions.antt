@@ -1,5 +1,5 @@
 -- What expressions mean: one paragraph for each form of node.
-use Rattle.std.specs.Prelude.{ℕ, pos, ◌^◌, nat_lt, Bool, true, false, ◌||◌, ◌&&◌, List, [], ◌∷◌, ◌++◌, Option, Some, None, Result, Ok, Err, is_some, bytes_eq, codes, if◌then◌else◌}
+use Rattle.std.specs.Prelude.{ℕ, pos, ◌^◌, nat_lt, Bool, true, false, ◌||◌, ◌&&◌, List, [], ◌∷◌, ◌++◌, Option, Some, None, Result, Ok, Err, bytes_eq, codes, if◌then◌else◌}
 use Rattle.lexer.specs.Texts.{text_of}
 use Rattle.lexer.specs.Numerals.{magnitude}
 use Rattle.lexer.specs.declared.token.Kind.TheVariants as kinds
@@ -38,6 +38,9 @@ use Rattle.calls.specs.Names.{function_named, is_left_out, is_predefined}
 use Rattle.calls.specs.Rows.{any_values}
 use Rattle.calls.specs.declared.function.Function.{Function}
 use Rattle.calls.specs.declared.function.Function.TheVariants as functions
+use Rattle.objects.specs.Left.{is_left_out as is_left_out_method}
+use Rattle.objects.specs.Methods.{has_method as has_object_method, object_method}
+use Rattle.predefined.specs.Predefined.{predefined}
 use Rattle.world.specs.Deed.{read}
 use Rattle.world.specs.Plan.{Plan, deed, ruled, ◌>>=◌, give, at, refuse, answered}
 use Rattle.interp.specs.declared.meaning.Meaning.{Meaning}
@@ -45,7 +48,7 @@ use Rattle.interp.specs.declared.meaning.Meaning.TheVariants.{Combines, Connects
 
 -- ---- names
 
--- what is not there yet
+-- what is left out by name
 abbrev pub left_out : {A : Type 0} → ℕ → Plan A
 left_out line = refuse line refusals.LeftOut []
 
@@ -59,11 +62,17 @@ set_variable line name = do
   facts ← deed read
   known line name (facts.variables name)
 
+-- the thing of the run that a name stands for
+abbrev pub thing : ℕ → List ℕ → Plan Data
+thing line name = do
+  facts ← deed read
+  answered line (predefined facts.machine name)
+
 abbrev pub variable_by : Bool → ℕ → List ℕ → Plan Data
-variable_by true line name = left_out line
+variable_by true line name = thing line name
 variable_by false line name = set_variable line name
 
--- A name: the value of the variable. Those that stand for things of the run are left out so far.
+-- A name: the value of the variable, or the thing of the run that it stands for.
 abbrev pub variable : ℕ → List ℕ → Plan Data
 variable line name = variable_by (is_predefined name) line name
 
@@ -235,36 +244,66 @@ abbrev pub fitted : ℕ → Result (Unit {0}) Refusal → Plan (Unit {0})
 fitted line (Ok u) = give tt
 fitted line (Err refusal) = refuse line refusal []
 
-abbrev pub known_method : ℕ → List ℕ → Bool → Plan (Unit {0})
-known_method line name true = give tt
-known_method line name false = refuse line refusals.UnknownFunction name
+abbrev pub known_method : Bool → ℕ → List ℕ → Plan (Unit {0})
+known_method true line name = give tt
+known_method false line name = refuse line refusals.UnknownFunction name
 
-abbrev pub method_at_by : Bool → Bool → Bool → ℕ → List ℕ → Plan (Unit {0})
-method_at_by true other has line name = give tt
-method_at_by false true has line name = left_out line
-method_at_by false false has line name = known_method line name has
+-- before `project` was called, that is in its own arguments, `meson` is asked nothing
+abbrev pub may_be_asked_first : Object → Bool
+may_be_asked_first objects.Meson = false
+may_be_asked_first o = true
 
--- whether a receiver has a method of a name; a disabler has all, and those of other objects are left out so far
+abbrev pub asked_of : ℕ → Object → Plan (Unit {0})
+asked_of line o = do
+  facts ← deed read
+  allowed line (facts.is_begun || may_be_asked_first o)
+
+abbrev pub known_object_method : Bool → ℕ → Object → List ℕ → Plan (Unit {0})
+known_object_method true line o name = asked_of line o
+known_object_method false line o name = refused_name line name (is_left_out_method o name)
+
+-- whether an object has a method of a name, and may be asked yet
+abbrev pub object_method_at : ℕ → Object → List ℕ → Plan (Unit {0})
+object_method_at line o name = known_object_method (has_object_method o name) line o name
+
+abbrev pub method_at_by : Bool → Option Object → ℕ → Data → List ℕ → Plan (Unit {0})
+method_at_by true o line d name = give tt
+method_at_by false (Some o) line d name = object_method_at line o name
+method_at_by false None line d name = known_method (has_name d name) line name
+
+-- whether a receiver has a method of a name; a disabler has all
 abbrev pub method_at : ℕ → Data → List ℕ → Plan (Unit {0})
-method_at line d name = method_at_by (is_disabler d) (is_some (object_in d)) (has_name d name) line name
+method_at line d name = method_at_by (is_disabler d) (object_in d) line d name
 
--- a method of a value that is no object, by whether a disabler is among the arguments
-abbrev pub method_by : Bool → ℕ → Data → List ℕ → ArgumentsData → Plan Data
-method_by true line d name a = give disabler
-method_by false line d name a = do
+-- a method of a value that is no object
+abbrev pub value_method : ℕ → Data → List ℕ → ArgumentsData → Plan (Option Data)
+value_method line d name a = do
   _ ← fitted line (checked any_values a)
-  answered line (method_answer d name a.positional)
+  e ← answered line (method_answer d name a.positional)
+  give (Some e)
 
-abbrev pub method_called_by : Bool → ℕ → Data → List ℕ → ArgumentsData → Plan Data
-method_called_by true line d name a = give (disabler_method name a)
-method_called_by false line d name a = method_by (gives_disabler a) line d name a
+-- a method of an object
+abbrev pub object_method_called : ℕ → Object → List ℕ → ArgumentsData → Plan (Option Data)
+object_method_called line o name a = do
+  _ ← at line
+  deed (object_method o name a)
 
--- a method of a receiver on its evaluated arguments
-abbrev pub method_called : ℕ → Data → List ℕ → ArgumentsData → Plan Data
+-- by whether a disabler is among the arguments: it turns the call off
+abbrev pub method_by : Bool → Option Object → ℕ → Data → List ℕ → ArgumentsData → Plan (Option Data)
+method_by true o line d name a = give (Some disabler)
+method_by false (Some o) line d name a = object_method_called line o name a
+method_by false None line d name a = value_method line d name a
+
+abbrev pub method_called_by : Bool → ℕ → Data → List ℕ → ArgumentsData → Plan (Option Data)
+method_called_by true line d name a = give (Some (disabler_method name a))
+method_called_by false line d name a = method_by (gives_disabler a) (object_in d) line d name a
+
+-- a method of a receiver on its evaluated arguments: it gives a value, or nothing
+abbrev pub method_called : ℕ → Data → List ℕ → ArgumentsData → Plan (Option Data)
 method_called line d name a = method_called_by (is_disabler d) line d name a
 
 -- a method of a receiver, whose arguments are evaluated so
-abbrev pub method_of : ℕ → Data → List ℕ → Plan ArgumentsData → Plan Data
+abbrev pub method_of : ℕ → Data → List ℕ → Plan ArgumentsData → Plan (Option Data)
 method_of line d name evaluated = do
   _ ← method_at line d name
   a ← evaluated
@@ -288,8 +327,8 @@ abbrev mutual
     d ← called line f a
     needed line d
   value_of (PostfixTree first ls line) = do
-    d ← ruled (value_of first)
-    links_of line d ls
+    o ← ruled (value_of first) >>= λ d. links_of line (Some d) ls
+    needed line o
   value_of (PrefixTree prefix value line) = do
     d ← ruled (value_of value)
     answered line (unary_answer (unary_of prefix) d)
@@ -320,18 +359,20 @@ abbrev mutual
     d ← ruled (value_of e)
     arguments_of (with_argument a name d) es
 
-  -- what is asked of a value in turn: methods and indexes
-  pub links_of : ℕ → Data → LinkTrees → Plan Data
-  links_of line d NoLink = give d
-  links_of line d (MoreLinks l ls) = do
-    e ← link_of line d l
-    links_of line e ls
+  -- what is asked of a value in turn: methods and indexes; of nothing nothing is asked
+  pub links_of : ℕ → Option Data → LinkTrees → Plan (Option Data)
+  links_of line o NoLink = give o
+  links_of line o (MoreLinks l ls) = do
+    d ← needed line o
+    next ← link_of line d l
+    links_of line next ls
 
-  pub link_of : ℕ → Data → LinkTree → Plan Data
+  pub link_of : ℕ → Data → LinkTree → Plan (Option Data)
   link_of line d (MethodTree name es) = method_of line d name (arguments_of no_arguments es)
   link_of line d (IndexTree index) = do
     i ← ruled (value_of index)
-    answered line (index_answer d i)
+    part ← answered line (index_answer d i)
+    give (Some part)
 
   -- a chain of operators, with the value so far
   pub chain_of : ℕ → Data → OperandTrees → Plan Data
@@ -339,3 +380,10 @@ abbrev mutual
   chain_of line d (MoreOperands operator e es) = do
     x ← combined line (meaning_of operator) d (ruled (value_of e))
     chain_of line x es
+
+-- what an expression gives that is a statement: its last method may give nothing
+abbrev pub given_by : ExpressionTree → Plan (Option Data)
+given_by (PostfixTree first ls line) = ruled (value_of first) >>= λ d. links_of line (Some d) ls
+given_by e = do
+  d ← value_of e
+  give (Some d)

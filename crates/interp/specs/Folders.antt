@@ -8,7 +8,7 @@ use Rattle.world.specs.Costs.{definition_file}
 use Rattle.world.specs.World.{Facts, with_place}
 use Rattle.world.specs.Deed.{refuse, ask, read, change, need}
 use Rattle.world.specs.Plan.{Plan, deed, ruled, enter, entered, ◌>>=◌, give}
-use Rattle.interp.specs.Files.{spelled}
+use Rattle.definition_files.specs.Files.{spelled}
 use Rattle.interp.specs.declared.flow.Flow.{Flow}
 use Rattle.interp.specs.declared.flow.Flow.TheVariants.{Next}
 use Rattle.interp.specs.Statements.{do_all}

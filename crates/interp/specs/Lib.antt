@@ -7,11 +7,9 @@ pub mod Evaluated
 pub mod Evaluates
 pub mod Evaluation
 pub mod Expressions
-pub mod Files
 pub mod Folders
 pub mod Frames
 pub mod Laws
 pub mod Parts
-pub mod Reading
 pub mod Rounds
 pub mod Statements

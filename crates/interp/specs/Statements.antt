@@ -1,13 +1,17 @@
 -- What statements do: one paragraph for each form of node.
 use Rattle.std.specs.Prelude.{ℕ, Bool, true, false, List, [], ◌∷◌, length, nat_le, Option, Some, None, Result, Ok, Err, if◌then◌else◌}
+use Rattle.std.specs.Option.{option_and_then}
 use Rattle.grammar.specs.ExpressionTree.{ExpressionTree, FunctionTree}
 use Rattle.grammar.specs.Tree.{StatementTree, AssignTree, AppendTree, ValueTree, BreakTree, ContinueTree, IfTree, ForeachTree, Statements, NoStatement, MoreStatements, Branches, NoBranch, MoreBranches}
-use Rattle.data.specs.Data.{Data, text, list, dictionary, Items, no_items, item, Entries, no_entries, entry, boolean_in, is_disabler}
+use Rattle.data.specs.declared.object.Object.{Object}
+use Rattle.data.specs.declared.object.Object.TheVariants as objects
+use Rattle.data.specs.Data.{Data, text, list, dictionary, Items, no_items, item, Entries, no_entries, entry, object, boolean_in, object_in, is_disabler}
 use Rattle.faults.specs.declared.refusal.Refusal.{Refusal}
 use Rattle.faults.specs.declared.refusal.Refusal.TheVariants as refusals
 use Rattle.operators.specs.declared.operator.Binary.TheVariants.{Add}
 use Rattle.operators.specs.Operations.{binary_answer}
 use Rattle.calls.specs.Names.{is_predefined}
+use Rattle.configuration_calls.specs.ConfigurationData.{copy_configuration}
 use Rattle.world.specs.World.{with_variable}
 use Rattle.world.specs.Deed.{change}
 use Rattle.world.specs.Plan.{Plan, deed, ruled, ◌>>=◌, give, refuse, answered}
@@ -15,9 +19,30 @@ use Rattle.interp.specs.declared.flow.Flow.{Flow}
 use Rattle.interp.specs.declared.flow.Flow.TheVariants.{Next, Continued, Broken, Finished}
 use Rattle.interp.specs.Acting.{performed, by_way}
 use Rattle.interp.specs.Conditions.{choice_of, by_choice}
-use Rattle.interp.specs.Expressions.{variable, value_of}
+use Rattle.interp.specs.Expressions.{variable, value_of, given_by}
 
 -- ---- assignments
+
+abbrev pub configuration_of : Object → Option ℕ
+configuration_of (objects.ConfigurationData number) = Some number
+configuration_of o = None
+
+-- the number of configuration data
+abbrev pub configuration_in : Data → Option ℕ
+configuration_in d = option_and_then configuration_of (object_in d)
+
+abbrev pub copied : ℕ → Plan Data
+copied number = do
+  copy ← deed (copy_configuration number)
+  give (object (objects.ConfigurationData copy))
+
+abbrev pub own_by : Option ℕ → Data → Plan Data
+own_by (Some number) d = copied number
+own_by None d = give d
+
+-- of configuration data a copy, which may be changed again; anything else is as it is
+abbrev pub own : Data → Plan Data
+own d = own_by (configuration_in d) d
 
 abbrev pub assigned_by : Bool → ℕ → List ℕ → Data → Plan (Unit {0})
 assigned_by true line name d = refuse line refusals.Arguments []
@@ -108,7 +133,7 @@ module _ (into : List ℕ → Plan Flow) where
   abbrev pub stated : ExpressionTree → Plan Flow
   stated (FunctionTree name es line) = ruled (performed line name es >>= λ way. by_way into way)
   stated e = do
-    _ ← ruled (value_of e)
+    _ ← ruled (given_by e)
     give Next
 
   -- ---- statements
@@ -117,7 +142,8 @@ module _ (into : List ℕ → Plan Flow) where
     pub does : StatementTree → Plan Flow
     does (AssignTree name line value) = do
       d ← ruled (value_of value)
-      _ ← assigned line name d
+      e ← own d
+      _ ← assigned line name e
       give Next
     does (AppendTree name line value) = do
       _ ← appended line name (ruled (value_of value))

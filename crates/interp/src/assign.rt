@@ -3,24 +3,83 @@ ghost use Rattle.std.specs.Prelude.{◌≡◌, ◌<◌, ℕ, IsTrue, Some, lengt
 ghost use Rattle.code.specs.Nodes.{tree_at};
 ghost use Rattle.code.specs.Statements.{name_at, second_within};
 ghost use Rattle.data.specs.View.{data_of};
-ghost use Rattle.world.specs.Plan.{ruled};
+ghost use Rattle.configuration_calls.specs.ConfigurationData.{copy_configuration};
+ghost use Rattle.world.specs.Plan.{deed, ruled};
 ghost use Rattle.interp.specs.Expressions.{value_of};
 ghost use Rattle.interp.specs.Rounds.{round_data};
-ghost use Rattle.interp.specs.Statements.{added, appended, assigned, bound, summed};
+ghost use Rattle.interp.specs.Statements.{added, appended, assigned, bound, configuration_in, configuration_of, copied, own, summed};
 
 use crate::evaluator::Evaluator;
 use crate::loops::Round;
 use calls::is_predefined;
 use code::Code;
-use data::Value;
+use configuration_calls::copied;
+use data::{Object, Value};
 use faults::Refusal;
 use operators::{Binary, binary};
 use ports::{Outputs, Tree};
 use std::sync::ledger::Ledger;
-use world::Stop;
+use world::{Caller, Stop};
+
+// The number of an object that is configuration data.
+fn configuration_of(object: &Object) -> Option<usize>
+    ensures { result ≡ configuration_of object.now }
+{
+    match object {
+        Object::ConfigurationData(number) => Some(*number),
+        _ => None,
+    }
+}
+
+// The number of configuration data.
+fn configuration_in(value: &Value) -> Option<usize>
+    ensures { result ≡ configuration_in (data_of value.now) }
+{
+    configuration_of(value.as_object()?)
+}
 
 impl<'a, T: Tree, O: Outputs, L: Ledger> Evaluator<'a, T, O, L> {
     ghost use Rattle.interp.specs.Evaluates.{Answers, Evaluates, Fails, HasRoom, Same};
+
+    // The number of a copy of configuration data.
+    fn copy_made(&mut self, number: usize) -> Result<usize, Stop>
+        requires room { HasRoom T.seen O.seen self.old }
+        ensures same { Same self.old self.new }
+        ensures device { Fails T.seen O.seen self.old result self.new }
+        ensures gives { Answers T.seen O.seen (λ n. n) (deed (copy_configuration number)) self.old result self.new }
+    {
+        let mut caller = Caller {
+            alloc: self.alloc,
+            store: self.store,
+            tree: self.tree,
+            out: self.out,
+        };
+        copied(&mut caller, number)
+    }
+
+    // A copy of configuration data.
+    fn copied(&mut self, number: usize) -> Result<Value, Stop>
+        requires room { HasRoom T.seen O.seen self.old }
+        ensures same { Same self.old self.new }
+        ensures device { Fails T.seen O.seen self.old result self.new }
+        ensures gives { Answers T.seen O.seen data_of (copied number) self.old result self.new }
+    {
+        let copy = self.copy_made(number)?;
+        Ok(Value::of_object(self.alloc, Object::ConfigurationData(copy))?)
+    }
+
+    /// What an assignment gives a variable: of configuration data a copy, which may be changed again, and else the value itself.
+    pub fn own(&mut self, value: Value) -> Result<Value, Stop>
+        requires room { HasRoom T.seen O.seen self.old }
+        ensures same { Same self.old self.new }
+        ensures device { Fails T.seen O.seen self.old result self.new }
+        ensures gives { Answers T.seen O.seen data_of (own (data_of value)) self.old result self.new }
+    {
+        match configuration_in(&value) {
+            Some(number) => self.copied(number),
+            None => Ok(value),
+        }
+    }
 
     // The variable of a name takes a value, unless the name stands for a thing of the run.
     fn set(&mut self, line: usize, name: &str, value: Value) -> Result<(), Stop>
@@ -137,7 +196,8 @@ impl<'a, T: Tree, O: Outputs, L: Ledger> Evaluator<'a, T, O, L> {
         ensures gives { Answers T.seen O.seen (λ u. u) (summed line name.now (data_of right)) self.old result self.new }
     {
         if is_predefined(name) {
-            return self.left_out(line);
+            let thing = self.thing(line, name)?;
+            return self.sum(line, name, thing, right);
         }
         match self.store.find(name)? {
             Some(left) => {

@@ -1,38 +1,35 @@
 //! A whole evaluation.
-ghost use Rattle.std.specs.Prelude.{◌≡◌, [], codes, length};
-ghost use Rattle.faults.specs.Faults.{plain_fault};
+ghost use Rattle.std.specs.Prelude.{◌≡◌, ℕ, [], IfOk, length};
 ghost use Rattle.ports.specs.Endings.{HasRoom};
-ghost use Rattle.world.specs.Answering.{Refuses};
 ghost use Rattle.world.specs.Deed.{Files};
-ghost use Rattle.world.specs.Gives.{Holds};
+ghost use Rattle.world.specs.Gives.{Holds, failures_after};
 ghost use Rattle.world.specs.Plan.{carry, ruled};
 ghost use Rattle.world.specs.SettingsView.{settings_view};
 ghost use Rattle.world.specs.Start.{first_world};
 ghost use Rattle.world.specs.Trace.{seen};
-ghost use Rattle.interp.specs.Beginnings.{RootGives, definitions};
+ghost use Rattle.interp.specs.Beginnings.{RootGives, Starts, definitions};
 ghost use Rattle.interp.specs.Blocks.{file_by};
 ghost use Rattle.interp.specs.Cost.{tree_cost};
 ghost use Rattle.interp.specs.Evaluated.{Evaluated, FailsOnce, Ticked};
-ghost use Rattle.interp.specs.Evaluation.{evaluation, root};
+ghost use Rattle.interp.specs.Evaluation.{IsSaid, MachineSaid, evaluation, root};
 
 use crate::beginning::line_before_project;
 use crate::evaluator::Evaluator;
 use crate::flow::Flow;
 use code::Code;
-use faults::{Fault, Refusal};
+use faults::Refusal;
+use machine_file::Machine;
 use ports::{Outputs, Tree};
 use std::alloc::Global;
 use std::sync::ledger::Ledger;
 use world::{Settings, Steps, Stop, Store, ended, ends_keep_up};
 
-// Refuses a machine file.
-fn refuse_machine_file<A>(alloc: Global) -> Result<A, Stop>
-    ensures { Refuses (plain_fault (codes "<machine file>") 1 Refusal.MachineFile) result }
-{
-    match Fault::plain(alloc, "<machine file>", 1, Refusal::MachineFile) {
-        Ok(fault) => Err(Stop::Refused(fault)),
-        Err(_) => Err(Stop::Memory),
-    }
+/// What an evaluation is given beside its devices.
+#[derive(Clone, Copy)]
+pub struct Inputs<'a> {
+    pub settings: &'a Settings,
+    /// The bytes of the machine file; none where there is no such file.
+    pub machine: &'a [u8],
 }
 
 impl<'a, T: Tree, O: Outputs, L: Ledger> Evaluator<'a, T, O, L> {
@@ -123,31 +120,42 @@ fn definitions<T: Tree, O: Outputs, L: Ledger>(
     evaluator.definitions()
 }
 
-/// Evaluates the definitions of a tree, from its root file on, and gives the world after them.
+// The world in which the root file is evaluated: what the machine file says is known.
+fn start(alloc: Global, inputs: &Inputs<'_>) -> Result<Store, Stop>
+    ensures starts { (said : MachineSaid) → IsSaid inputs.now.machine.now said → Starts (settings_view inputs.now.settings.now) said result }
+    ensures entered { IfOk result (λ s. s.entered ≡ []) }
+    ensures quiet { (n : ℕ) → failures_after n result ≡ n }
+{
+    let machine = match Machine::read(alloc, inputs.machine)? {
+        Ok(machine) => machine,
+        Err(fault) => return Err(Stop::Refused(fault.told(alloc)?)),
+    };
+    let mut store = Store::new(alloc, inputs.settings.copy(alloc)?)?;
+    store.set_machine(machine);
+    Ok(store)
+}
+
+/// Evaluates the machine file and then the definitions of a tree, from its root file on, and gives the world after them.
 pub fn evaluate<T: Tree, O: Outputs, L: Ledger>(
     alloc: Global,
     tree: &mut T,
-    settings: Settings,
-    machine: &[u8],
+    inputs: &Inputs<'_>,
     out: &mut O,
     steps: &mut Steps<L>,
 ) -> Result<Store, Stop>
     requires tree { HasRoom (T.seen tree.old).failures }
     requires out { HasRoom (O.seen out.old).failures }
-    ensures gives { (files : Files) → Holds (T.seen tree.old) files
-        → Evaluated (carry files (evaluation machine.now) (first_world (settings_view settings))) result
+    ensures gives { (files : Files) (said : MachineSaid) → Holds (T.seen tree.old) files → IsSaid inputs.now.machine.now said
+        → Evaluated (carry files (evaluation said) (first_world (settings_view inputs.now.settings.now))) result
         (seen (O.seen out.old) steps.old []) (seen (O.seen out.new) steps.new []) }
-    ensures ticks { (files : Files) → Holds (T.seen tree.old) files
-        → Ticked (carry files (evaluation machine.now) (first_world (settings_view settings))) (tree_cost files) result
+    ensures ticks { (files : Files) (said : MachineSaid) → Holds (T.seen tree.old) files → IsSaid inputs.now.machine.now said
+        → Ticked (carry files (evaluation said) (first_world (settings_view inputs.now.settings.now))) (tree_cost files) result
         (seen (O.seen out.old) steps.old []) (seen (O.seen out.new) steps.new []) }
     ensures device { FailsOnce (T.seen tree.old) (O.seen out.old) result (T.seen tree.new) (O.seen out.new) }
 {
     // The law that `ticks` rests on; the call does nothing.
     ends_keep_up();
-    if !machine.is_empty() {
-        return refuse_machine_file(alloc);
-    }
-    let mut store = Store::new(alloc, settings)?;
+    let mut store = start(alloc, inputs)?;
     definitions(alloc, &mut store, tree, out, steps)?;
     Ok(store)
 }

@@ -47,7 +47,7 @@ impl<'a, T: Tree, O: Outputs, L: Ledger> Evaluator<'a, T, O, L> {
         }
     }
 
-    /// Refuses what is not there yet.
+    /// Refuses what is left out by name.
     pub fn left_out<A>(&self, line: usize) -> Result<A, Stop>
         ensures { Refuses (fault_on self.now line Refusal.LeftOut []) result }
     {

@@ -1,13 +1,13 @@
 //! Expressions: one function for each form of node.
-ghost use Rattle.std.specs.Prelude.{◌≡◌, ◌<◌, ◌≤◌, ◌+◌, ℕ, suc, max, [], None, length, map, option_map, slice_index_or};
+ghost use Rattle.std.specs.Prelude.{◌≡◌, ◌<◌, ◌≤◌, ◌+◌, ℕ, suc, max, [], None, Some, length, map, option_map, slice_index_or};
 ghost use Rattle.grammar.specs.ExpressionTree.{ListTree, DictionaryTree, FunctionTree, PostfixTree, PrefixTree, ChainTree, TernaryTree, expressions, entries as entry_trees, arguments as argument_trees, links as link_trees, operands as operand_trees, MethodTree, IndexTree};
 ghost use Rattle.code.specs.Nodes.{tree_at, entry_at, argument_at, operand_at, link_at};
 ghost use Rattle.data.specs.Data.{no_items};
 ghost use Rattle.data.specs.View.{data_of, items_of};
 ghost use Rattle.operators.specs.Literal.{pairs_of};
 ghost use Rattle.arguments.specs.Arguments.{arguments_data, no_arguments};
-ghost use Rattle.world.specs.Plan.{ruled};
-ghost use Rattle.interp.specs.Expressions.{value_of, values_of, entries_of, arguments_of, link_of, combined, meaning_of, unless_decided, method_of};
+ghost use Rattle.world.specs.Plan.{next, ruled};
+ghost use Rattle.interp.specs.Expressions.{value_of, values_of, entries_of, arguments_of, link_of, links_of, combined, meaning_of, unless_decided, method_of};
 ghost use Rattle.interp.specs.Parts.{above, above_number, above_entry, above_argument, above_operand, above_link};
 ghost use Rattle.interp.specs.declared.meaning.Meaning.TheVariants.{Combines, Connects};
 
@@ -42,9 +42,9 @@ impl<'a, T: Tree, O: Outputs, L: Ledger> Evaluator<'a, T, O, L> {
         ended(answer, self.steps)
     }
 
-    // The same, before its rule has ended.
+    /// The same, before its rule has ended.
     #[cycle(eval)]
-    fn form(&mut self, code: &Code, node: usize) -> Result<Value, Stop>
+    pub fn form(&mut self, code: &Code, node: usize) -> Result<Value, Stop>
         requires here { node < length code.now.nodes.items }
         requires room { HasRoom T.seen O.seen self.old }
         ensures same { Same self.old self.new }
@@ -208,11 +208,33 @@ impl<'a, T: Tree, O: Outputs, L: Ledger> Evaluator<'a, T, O, L> {
         ensures gives { Evaluates T.seen O.seen data_of (λ ts. value_of (PostfixTree (tree_at ts first) (link_trees
             (map (link_at ts) links.now)) line)) code.now self.old result self.new }
     {
-        let mut value = self.eval(code, first)?;
+        let given = self.asked(code, first, links, line)?;
+        self.needed(line, given)
+    }
+
+    /// What the last link gives of what is asked of an expression: a method may give nothing.
+    #[cycle(eval)]
+    pub fn asked(
+        &mut self,
+        code: &Code,
+        first: usize,
+        links: &[LinkNode],
+        line: usize,
+    ) -> Result<Option<Value>, Stop>
+        requires here { max (suc first) (above above_link links.now) ≤ length code.now.nodes.items }
+        requires room { HasRoom T.seen O.seen self.old }
+        ensures same { Same self.old self.new }
+        ensures device { Fails T.seen O.seen self.old result self.new }
+        ensures gives { Evaluates T.seen O.seen (option_map data_of) (λ ts. next (ruled (value_of (tree_at ts first)))
+            (λ d. links_of line (Some d) (link_trees (map (link_at ts) links.now)))) code.now self.old result self.new }
+    {
+        let value = self.eval(code, first)?;
+        let mut given = Some(value);
         for link in links {
-            value = self.link(code, line, link, value)?;
+            let whole = self.needed(line, given)?;
+            given = self.link(code, line, link, whole)?;
         }
-        Ok(value)
+        Ok(given)
     }
 
     // What is asked of a value once.
@@ -223,12 +245,12 @@ impl<'a, T: Tree, O: Outputs, L: Ledger> Evaluator<'a, T, O, L> {
         line: usize,
         link: &LinkNode,
         whole: Value,
-    ) -> Result<Value, Stop>
+    ) -> Result<Option<Value>, Stop>
         requires here { above_link link.now ≤ length code.now.nodes.items }
         requires room { HasRoom T.seen O.seen self.old }
         ensures same { Same self.old self.new }
         ensures device { Fails T.seen O.seen self.old result self.new }
-        ensures gives { Evaluates T.seen O.seen data_of (λ ts. link_of line (data_of whole) (link_at ts link.now)) code.now
+        ensures gives { Evaluates T.seen O.seen (option_map data_of) (λ ts. link_of line (data_of whole) (link_at ts link.now)) code.now
             self.old result self.new }
     {
         match link {
@@ -248,12 +270,12 @@ impl<'a, T: Tree, O: Outputs, L: Ledger> Evaluator<'a, T, O, L> {
         whole: &Value,
         name: &str,
         arguments: &[ArgumentNode],
-    ) -> Result<Value, Stop>
+    ) -> Result<Option<Value>, Stop>
         requires here { above above_argument arguments.now ≤ length code.now.nodes.items }
         requires room { HasRoom T.seen O.seen self.old }
         ensures same { Same self.old self.new }
         ensures device { Fails T.seen O.seen self.old result self.new }
-        ensures gives { Evaluates T.seen O.seen data_of (λ ts. method_of line (data_of whole.now) name.now (arguments_of no_arguments
+        ensures gives { Evaluates T.seen O.seen (option_map data_of) (λ ts. method_of line (data_of whole.now) name.now (arguments_of no_arguments
             (argument_trees (map (argument_at ts) arguments.now)))) code.now self.old result self.new }
     {
         self.method_at(line, whole, name)?;
@@ -263,17 +285,23 @@ impl<'a, T: Tree, O: Outputs, L: Ledger> Evaluator<'a, T, O, L> {
 
     // `whole[at]`
     #[cycle(eval)]
-    fn part(&mut self, code: &Code, line: usize, at: usize, whole: &Value) -> Result<Value, Stop>
+    fn part(
+        &mut self,
+        code: &Code,
+        line: usize,
+        at: usize,
+        whole: &Value,
+    ) -> Result<Option<Value>, Stop>
         requires here { at < length code.now.nodes.items }
         requires room { HasRoom T.seen O.seen self.old }
         ensures same { Same self.old self.new }
         ensures device { Fails T.seen O.seen self.old result self.new }
-        ensures gives { Evaluates T.seen O.seen data_of (λ ts. link_of line (data_of whole.now) (IndexTree (tree_at ts at))) code.now
-            self.old result self.new }
+        ensures gives { Evaluates T.seen O.seen (option_map data_of) (λ ts. link_of line (data_of whole.now) (IndexTree (tree_at ts at)))
+            code.now self.old result self.new }
     {
         let at = self.eval(code, at)?;
         let answer = index(self.alloc, whole, &at)?;
-        self.answered(line, answer)
+        Ok(Some(self.answered(line, answer)?))
     }
 
     // `not value` or `-value`

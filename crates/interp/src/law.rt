@@ -1,5 +1,5 @@
 //! What holds of every evaluation.
-ghost use Rattle.interp.specs.Laws.{DependsOnLooked, StepsWithinCost};
+ghost use Rattle.interp.specs.Laws.{DependsOnLooked, MachineFilesSay, StepsWithinCost};
 
 /// Of any two trees of files that agree on the paths looked at by the evaluation of the first, both evaluations are equal.
 pub fn depends_on_looked()
@@ -9,4 +9,9 @@ pub fn depends_on_looked()
 /// An evaluation ends no more rules than its tree of files costs.
 pub fn steps_within_cost()
     ensures { StepsWithinCost }
+{}
+
+/// Bytes are read as a machine file that says one thing, and no other: sections, or a fault.
+pub fn machine_files_say()
+    ensures { MachineFilesSay }
 {}

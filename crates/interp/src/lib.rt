@@ -20,11 +20,10 @@ mod loops;
 mod meaning;
 mod names;
 mod open;
-mod read;
 mod running;
 mod stated;
 mod unwinding;
 
-pub use evaluation::evaluate;
+pub use evaluation::{Inputs, evaluate};
 pub use evaluator::Evaluator;
-pub use law::{depends_on_looked, steps_within_cost};
+pub use law::{depends_on_looked, machine_files_say, steps_within_cost};

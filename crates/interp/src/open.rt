@@ -10,12 +10,12 @@ ghost use Rattle.world.specs.Deed.{Files};
 ghost use Rattle.world.specs.Gives.{Holds, failures_after};
 ghost use Rattle.world.specs.Plan.{deed, give};
 ghost use Rattle.interp.specs.Blocks.{file_by};
-ghost use Rattle.interp.specs.Files.{spelled, spelled_by, tree_or_fault};
+ghost use Rattle.definition_files.specs.Files.{spelled, spelled_by, tree_or_fault};
 ghost use Rattle.interp.specs.Folders.{fresh, fresh_by, opened, opened_by};
 
 use crate::evaluator::Evaluator;
-use crate::read::{line_at, read_file, refusal_of};
 use code::Code;
+use definition_files::{line_at, read_file, refusal_of};
 use faults::Refusal;
 use grammar::fault::SyntaxError;
 use grammar::parse;

@@ -2,15 +2,16 @@
 ghost use Rattle.std.specs.Prelude.{◌≡◌, ◌<◌, ◌≤◌, ℕ, IsTrue, List, length, map, nat_lt, option_map};
 ghost use Rattle.code.specs.Nodes.{tree_at};
 ghost use Rattle.code.specs.Statements.{branch_at, name_at, second_within, statement_at};
+ghost use Rattle.data.specs.View.{data_of};
 ghost use Rattle.grammar.specs.Tree.{branches};
 ghost use Rattle.world.specs.Plan.{give, next, ruled};
 ghost use Rattle.interp.specs.Acting.{by_way, way_view};
 ghost use Rattle.interp.specs.Blocks.{block_by, branch_or, expressions_by, statements_by, statements_of};
-ghost use Rattle.interp.specs.Expressions.{value_of};
+ghost use Rattle.interp.specs.Expressions.{given_by, value_of};
 ghost use Rattle.interp.specs.Folders.{folder};
 ghost use Rattle.interp.specs.Frames.{Acts, ChoosesOf, Does, above_branch, round_by};
 ghost use Rattle.interp.specs.Parts.{above};
-ghost use Rattle.interp.specs.Statements.{appended, assigned, branches_of, do_all, does, looped, stated, walked};
+ghost use Rattle.interp.specs.Statements.{appended, assigned, branches_of, do_all, does, looped, own, stated, walked};
 ghost use Rattle.interp.specs.declared.block.Block.TheVariants.{Part};
 ghost use Rattle.interp.specs.declared.flow.Flow.TheVariants.{Next};
 
@@ -23,10 +24,11 @@ use crate::frames::{BlockRest, Frame, LoopHead, LoopRest};
 use crate::loops::check_loop;
 use code::Code;
 use code::node::{BranchNode, Node, StatementNode};
+use data::Value;
 use ports::{Outputs, Tree};
 use std::rc::Rc;
 use std::sync::ledger::Ledger;
-use world::Stop;
+use world::{Stop, ended};
 
 impl<'a, T: Tree, O: Outputs, L: Ledger> Evaluator<'a, T, O, L> {
     ghost use Rattle.interp.specs.Evaluates.{Answers, Evaluates, Fails, HasRoom, Same};
@@ -93,11 +95,12 @@ impl<'a, T: Tree, O: Outputs, L: Ledger> Evaluator<'a, T, O, L> {
         ensures same { Same self.old self.new }
         ensures device { Fails T.seen O.seen self.old result self.new }
         ensures gives { name < length self.old.store.now.names → Evaluates T.seen O.seen (λ f. f) (λ ts.
-            next (ruled (value_of (tree_at ts value))) (λ d. next (assigned line (name_at self.old.store.now.names name) d)
-            (λ _. give Next))) code.now self.old result self.new }
+            next (ruled (value_of (tree_at ts value))) (λ d. next (own d) (λ e. next (assigned line
+            (name_at self.old.store.now.names name) e) (λ _. give Next)))) code.now self.old result self.new }
     {
         let value = self.eval(code, value)?;
-        self.assign(line, name, value)?;
+        let own = self.own(value)?;
+        self.assign(line, name, own)?;
         Ok(Flow::Next)
     }
 
@@ -146,8 +149,37 @@ impl<'a, T: Tree, O: Outputs, L: Ledger> Evaluator<'a, T, O, L> {
             let way = self.perform(code, *line, name, arguments)?;
             self.take_way(way, left, stack)
         } else {
-            let _value = self.eval(code, value)?;
+            let _given = self.alone(code, value)?;
             Ok(Flow::Next)
+        }
+    }
+
+    // What an expression gives that is a statement and no call of a function: its last method may give nothing.
+    fn alone(&mut self, code: &Code, value: usize) -> Result<Option<Value>, Stop>
+        requires here { value < length code.now.nodes.items }
+        requires room { HasRoom T.seen O.seen self.old }
+        ensures same { Same self.old self.new }
+        ensures device { Fails T.seen O.seen self.old result self.new }
+        ensures gives { Evaluates T.seen O.seen (option_map data_of) (λ ts. ruled (given_by (tree_at ts value))) code.now
+            self.old result self.new }
+    {
+        let answer = self.given(code, value);
+        ended(answer, self.steps)
+    }
+
+    // The same, before its rule has ended.
+    fn given(&mut self, code: &Code, value: usize) -> Result<Option<Value>, Stop>
+        requires here { value < length code.now.nodes.items }
+        requires room { HasRoom T.seen O.seen self.old }
+        ensures same { Same self.old self.new }
+        ensures device { Fails T.seen O.seen self.old result self.new }
+        ensures gives { Evaluates T.seen O.seen (option_map data_of) (λ ts. given_by (tree_at ts value)) code.now
+            self.old result self.new }
+    {
+        if let Node::Postfix { first, links, line } = &code.nodes[value] {
+            self.asked(code, *first, links, *line)
+        } else {
+            Ok(Some(self.form(code, value)?))
         }
     }
 

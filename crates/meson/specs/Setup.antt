@@ -1,5 +1,5 @@
 -- One run: what the outputs are asked to take, and how the run ends.
-use Rattle.std.specs.Prelude.{◌≡◌, ℕ, ◌+◌, List, Result, Ok, Err}
+use Rattle.std.specs.Prelude.{◌≡◌, ◌+◌, Result, Ok, Err}
 use Rattle.ports.specs.Outputs.{OutputState}
 use Rattle.faults.specs.View.{fault_view}
 use Rattle.conclusion.specs.Concluding.{Agrees, Whole, done_with, failed_devices, faulted_with, told_before}
@@ -14,20 +14,20 @@ use Rattle.world.specs.Store.{Kept}
 use Rattle.world.specs.Trace.{steps_of}
 use Rattle.world.specs.declared.stop.Stop.{Stop}
 use Rattle.world.specs.declared.stop.Stop.TheVariants as stops
-use Rattle.interp.specs.Evaluation.{evaluation}
+use Rattle.interp.specs.Evaluation.{MachineSaid, evaluation}
 
--- the evaluation of these files, settings and bytes of a machine file, from its first world on
-unfoldable pub evaluated : Files → SettingsData → List ℕ → Run (Unit {0})
-evaluated files s machine = carry files (evaluation machine) (first_world s)
+-- the evaluation of these files, settings and what a machine file says, from its first world on
+unfoldable pub evaluated : Files → SettingsData → MachineSaid → Run (Unit {0})
+evaluated files s said = carry files (evaluation said) (first_world s)
 
 -- what was told by the evaluation, and then all outputs of the project on success, or the line of its fault
 abbrev pub whole_of : Run (Unit {0}) → Whole
 whole_of (ran (Done x) w ms) = told_before (steps_of ms) (done_with w.facts.project)
 whole_of (ran (Faulted f) w ms) = told_before (steps_of ms) (faulted_with f)
 
--- the run of these files, settings and bytes of a machine file
-abbrev pub run_of : Files → SettingsData → List ℕ → Whole
-run_of files s machine = whole_of (evaluated files s machine)
+-- the run of these files, settings and what a machine file says
+abbrev pub run_of : Files → SettingsData → MachineSaid → Whole
+run_of files s said = whole_of (evaluated files s said)
 
 -- of an evaluation that came to its end, and nothing of another
 abbrev pub OnEnd : {A : Type 0} → Result A Stop → Type 0 → Type 0

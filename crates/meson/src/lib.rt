@@ -7,7 +7,7 @@ mod running;
 
 pub use command::{Line, LineFault, command_line};
 pub use conclusion::Status;
-pub use law::depends_on_looked;
+pub use law::{depends_on_looked, machine_files_say};
 pub use program::run;
 pub use running::setup;
 pub use world::Settings;

@@ -1,47 +1,20 @@
 //! One run, from the bytes of a tree to the events of the outputs.
-ghost use Rattle.std.specs.Prelude.{◌≡◌, ◌+◌, ◌<◌, []};
+ghost use Rattle.std.specs.Prelude.{◌≡◌, ◌+◌, ◌<◌};
 ghost use Rattle.ports.specs.Endings.{HasRoom};
 ghost use Rattle.conclusion.specs.Concluding.{Agrees, failed_devices};
-ghost use Rattle.interp.specs.Evaluated.{Evaluated, FailsOnce};
+ghost use Rattle.interp.specs.Evaluation.{IsSaid, MachineSaid};
 ghost use Rattle.world.specs.Deed.{Files};
 ghost use Rattle.world.specs.Gives.{Holds};
 ghost use Rattle.world.specs.SettingsView.{settings_view};
-ghost use Rattle.world.specs.Trace.{seen};
-ghost use Rattle.meson.specs.Setup.{OnEnd, Settles, evaluated, run_of};
+ghost use Rattle.meson.specs.Setup.{OnEnd, Settles, run_of};
 
 use conclusion::{Status, conclude, refuse};
-use interp::evaluate;
+use interp::{Inputs, evaluate};
 use ports::{Outputs, Tree};
 use std::alloc::Global;
 use std::marker::Brand;
 use std::sync::ledger::{Blank, Ledger};
-use world::{Settings, Steps, Stop, Store, new_steps};
-
-// What a run is given beside its devices: the settings, and the bytes of a machine file.
-#[derive(Drop)]
-struct Inputs<'a> {
-    settings: &'a Settings,
-    machine: &'a [u8],
-}
-
-// Evaluates the definitions.
-fn evaluated<T: Tree, O: Outputs, L: Ledger>(
-    alloc: Global,
-    tree: &mut T,
-    inputs: &Inputs<'_>,
-    out: &mut O,
-    steps: &mut Steps<L>,
-) -> Result<Store, Stop>
-    requires tree { HasRoom (T.seen tree.old).failures }
-    requires out { HasRoom (O.seen out.old).failures }
-    ensures run { (files : Files) → Holds (T.seen tree.old) files
-        → Evaluated (evaluated files (settings_view inputs.now.settings.now) inputs.now.machine.now) result
-        (seen (O.seen out.old) steps.old []) (seen (O.seen out.new) steps.new []) }
-    ensures device { FailsOnce (T.seen tree.old) (O.seen out.old) result (T.seen tree.new) (O.seen out.new) }
-{
-    let settings = inputs.settings.copy(alloc)?;
-    evaluate(alloc, tree, settings, inputs.machine, out, steps)
-}
+use world::{Settings, Stop, Store, new_steps};
 
 // What is done after an evaluation: all outputs of its project are written, or the line of its fault.
 fn settle<O: Outputs>(alloc: Global, answer: Result<Store, Stop>, out: &mut O) -> Status
@@ -69,13 +42,13 @@ fn run_with<T: Tree, O: Outputs, L: Ledger>(
     requires name { blank.name ≡ L.name }
     requires parts { blank.parts ≡ L.parts }
     requires some { 0 < blank.parts }
-    ensures run { (files : Files) → Holds (T.seen tree.old) files
-        → Agrees (run_of files (settings_view inputs.now.settings.now) inputs.now.machine.now) result (O.seen out.old) (O.seen out.new) }
+    ensures run { (files : Files) (said : MachineSaid) → Holds (T.seen tree.old) files → IsSaid inputs.now.machine.now said
+        → Agrees (run_of files (settings_view inputs.now.settings.now) said) result (O.seen out.old) (O.seen out.new) }
     ensures device { (T.seen tree.new).failures + (O.seen out.new).failures
         ≡ (T.seen tree.old).failures + (O.seen out.old).failures + failed_devices result }
 {
     let mut steps = new_steps::<L>(blank);
-    let answer = evaluated(alloc, tree, inputs, out, &mut steps);
+    let answer = evaluate(alloc, tree, inputs, out, &mut steps);
     settle(alloc, answer, out)
 }
 
@@ -95,9 +68,9 @@ pub fn setup<T: Tree, O: Outputs>(
     requires out { HasRoom (O.seen out.old).failures }
 
     // Over a steady tree, status `Done` or `Fault` is that of the run, and outputs that tell took all of its steps. With status
-    // `Device` or `Memory` they took a beginning.
-    ensures run { (files : Files) → Holds (T.seen tree.old) files
-        → Agrees (run_of files (settings_view settings.now) machine.now) result (O.seen out.old) (O.seen out.new) }
+    // `Device` or `Memory` they took a beginning. The bytes of a machine file are read as one that says one thing: `machine_files_say`.
+    ensures run { (files : Files) (said : MachineSaid) → Holds (T.seen tree.old) files → IsSaid machine.now said
+        → Agrees (run_of files (settings_view settings.now) said) result (O.seen out.old) (O.seen out.new) }
 
     // Of any devices: one of them failed once where the status is `Device`, and else none did.
     ensures device { (T.seen tree.new).failures + (O.seen out.new).failures

@@ -6,3 +6,4 @@ pub mod Meson
 pub mod Methods
 pub mod Programs
 pub mod Rows
+pub mod Targets

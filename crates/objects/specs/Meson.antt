@@ -23,7 +23,9 @@ named name =
     else if bytes_eq name (codes "is_cross_build") then Some methods.IsCrossBuild
     else if bytes_eq name (codes "is_subproject") then Some methods.IsSubproject
     else if bytes_eq name (codes "project_build_root") then Some methods.BuildRoot
+    else if bytes_eq name (codes "project_name") then Some methods.ProjectName
     else if bytes_eq name (codes "project_source_root") then Some methods.SourceRoot
+    else if bytes_eq name (codes "project_version") then Some methods.ProjectVersion
     else if bytes_eq name (codes "source_root") then Some methods.SourceRoot
     else if bytes_eq name (codes "version") then Some methods.Version
     else None
@@ -46,6 +48,8 @@ answer_by (Some methods.CurrentSourceDir) f a = within (text (folder_below f.set
 answer_by (Some methods.GetCompiler) f a = compiler_of (text_at 0 a)
 answer_by (Some methods.IsCrossBuild) f a = Ok (boolean false)
 answer_by (Some methods.IsSubproject) f a = Ok (boolean false)
+answer_by (Some methods.ProjectName) f a = within (text f.project.surroundings.facts.name)
+answer_by (Some methods.ProjectVersion) f a = within (text f.project.surroundings.facts.version)
 answer_by (Some methods.SourceRoot) f a = within (text f.settings.source_root)
 answer_by (Some methods.Version) f a = within (text (codes "1.3.0"))
 

@@ -2,6 +2,8 @@
 use Rattle.std.specs.Prelude.{ℕ, Bool, false, List, Option, Some, is_some, Result, Err}
 use Rattle.arguments.specs.Arguments.{ArgumentsData}
 use Rattle.arguments.specs.Row.{checked}
+use Rattle.compiler_methods.specs.Methods as compilers
+use Rattle.configuration_calls.specs.Methods as configurations
 use Rattle.data.specs.Data.{Data}
 use Rattle.data.specs.declared.object.Object.{Object}
 use Rattle.data.specs.declared.object.Object.TheVariants as objects
@@ -15,14 +17,20 @@ use Rattle.objects.specs.Machines as machines
 use Rattle.objects.specs.Meson as meson
 use Rattle.objects.specs.Programs as programs
 use Rattle.objects.specs.Rows.{row_of}
+use Rattle.objects.specs.Targets as targets
 
 -- whether the kind of an object has a method of a name that is not left out
 abbrev pub has_method : Object → List ℕ → Bool
 has_method (objects.Feature f) name = is_some (features.named name)
 has_method (objects.Dependency d) name = is_some (dependencies.named name)
 has_method (objects.Program p) name = is_some (programs.named name)
+has_method (objects.BuildTarget number) name = is_some (targets.build_named name)
+has_method (objects.CustomTarget number outputs) name = is_some (targets.custom_named name)
+has_method (objects.CustomOutput target output) name = is_some (targets.output_named name)
 has_method (objects.Machine m) name = is_some (machines.named name)
 has_method objects.Meson name = is_some (meson.named name)
+has_method objects.Compiler name = compilers.has_method name
+has_method (objects.ConfigurationData number) name = configurations.has_method name
 has_method _ name = false
 
 -- what a method tells of its receiver and the facts of the run
@@ -30,14 +38,23 @@ abbrev pub told_of : Facts → Object → List ℕ → ArgumentsData → Result 
 told_of facts (objects.Feature f) name a = features.answer f name
 told_of facts (objects.Dependency d) name a = dependencies.answer d name
 told_of facts (objects.Program p) name a = programs.answer facts.settings.source_root p name
+told_of facts (objects.BuildTarget number) name a = targets.build_answer facts number name
+told_of facts (objects.CustomTarget number outputs) name a = targets.custom_answer facts number outputs name
+told_of facts (objects.CustomOutput target output) name a = targets.output_answer facts target output name
 told_of facts (objects.Machine m) name a = machines.answer m name
 told_of facts objects.Meson name a = meson.answer facts name a
 told_of facts _ name a = Err refusal.UnknownMethod
 
--- a method of an object on its arguments, which its row looks at first: it gives a value
-unfoldable pub object_method : Object → List ℕ → ArgumentsData → Deed (Option Data)
-object_method o name a = do
+-- a method that tells of its receiver and the facts of the run alone, on arguments that its row looks at first
+unfoldable pub tell : Object → List ℕ → ArgumentsData → Deed (Option Data)
+tell o name a = do
   _ ← fitting (checked (row_of o name) a)
   facts ← read
   d ← answered (told_of facts o name a)
   give (Some d)
+
+-- a method of an object on its arguments: it gives a value, or nothing
+unfoldable pub object_method : Object → List ℕ → ArgumentsData → Deed (Option Data)
+object_method objects.Compiler name a = compilers.compiler_method name a
+object_method (objects.ConfigurationData number) name a = configurations.configuration_method number name a
+object_method o name a = tell o name a

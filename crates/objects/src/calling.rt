@@ -5,10 +5,10 @@ ghost use Rattle.arguments.specs.Row.{checked};
 ghost use Rattle.arguments.specs.RowView.{row_data};
 ghost use Rattle.data.specs.Tables.{Answers};
 ghost use Rattle.data.specs.View.{data_of};
-ghost use Rattle.world.specs.Answering.{Carries};
+ghost use Rattle.world.specs.Answering.{Carries, HasRoom};
 ghost use Rattle.world.specs.Caller.{state_of};
 ghost use Rattle.world.specs.Deed.{fitting};
-ghost use Rattle.objects.specs.Methods.{has_method, object_method, told_of};
+ghost use Rattle.objects.specs.Methods.{has_method, object_method, tell, told_of};
 ghost use Rattle.objects.specs.Rows.{no_values, one_text, row_of};
 ghost use Rattle.world.specs.Store.{world_of};
 
@@ -17,7 +17,10 @@ use crate::features::{FeatureMethod, feature_answer};
 use crate::machines::{MachineMethod, machine_answer};
 use crate::meson_object::{MesonMethod, meson_answer};
 use crate::programs::{ProgramMethod, program_answer};
+use crate::target_methods::{TargetMethod, build_answer, custom_answer, output_answer};
 use arguments::{Arguments, Kind, Row, check};
+use compiler_methods::{compiler_method, has_compiler_method};
+use configuration_calls::{configuration_method, has_configuration_method};
 use data::{Object, Refusal, Value};
 use ports::{Outputs, Tree};
 use std::alloc::{AllocError, Global};
@@ -31,8 +34,13 @@ pub fn has_object_method(object: &Object, name: &str) -> bool
         Object::Feature(_) => FeatureMethod::named(name).is_some(),
         Object::Dependency(_) => DependencyMethod::named(name).is_some(),
         Object::Program(_) => ProgramMethod::named(name).is_some(),
+        Object::BuildTarget(_) => TargetMethod::build_named(name).is_some(),
+        Object::CustomTarget { .. } => TargetMethod::custom_named(name).is_some(),
+        Object::CustomOutput { .. } => TargetMethod::output_named(name).is_some(),
         Object::Machine(_) => MachineMethod::named(name).is_some(),
         Object::Meson => MesonMethod::named(name).is_some(),
+        Object::Compiler => has_compiler_method(name),
+        Object::ConfigurationData(_) => has_configuration_method(name),
         _ => false,
     }
 }
@@ -51,6 +59,13 @@ fn told_of(
         Object::Feature(feature) => Ok(feature_answer(*feature, name)),
         Object::Dependency(dependency) => dependency_answer(alloc, dependency, name),
         Object::Program(program) => program_answer(alloc, store, program, name),
+        Object::BuildTarget(number) => build_answer(alloc, store, *number, name),
+        Object::CustomTarget { number, outputs } => {
+            custom_answer(alloc, store, *number, *outputs, name)
+        }
+        Object::CustomOutput { target, output } => {
+            output_answer(alloc, store, *target, *output, name)
+        }
         Object::Machine(machine) => machine_answer(machine, name),
         Object::Meson => meson_answer(alloc, store, name, arguments),
         _ => Ok(Err(Refusal::UnknownMethod)),
@@ -116,15 +131,14 @@ fn fit<T: Tree, O: Outputs>(
     caller.fitting(answer)
 }
 
-/// A method of an object on its arguments, which its row looks at first: it gives a value, or nothing. The name is one for which
-/// [`has_object_method`] is true; of any other it is E8.
-pub fn object_method<T: Tree, O: Outputs>(
+// A method that tells of its receiver and the facts of the run alone.
+fn tell<T: Tree, O: Outputs>(
     caller: &Caller<'_, T, O>,
     object: &Object,
     name: &str,
     arguments: &Arguments,
 ) -> Result<Option<Value>, Stop>
-    ensures { Carries (option_map data_of) (object_method object.now name.now (arguments_data arguments.now))
+    ensures { Carries (option_map data_of) (tell object.now name.now (arguments_data arguments.now))
         (state_of T.seen O.seen caller.now) result (state_of T.seen O.seen caller.now) }
 {
     let row = row_of(object, name);
@@ -132,4 +146,25 @@ pub fn object_method<T: Tree, O: Outputs>(
     let answer = told_of(caller.alloc, caller.store, object, name, arguments)?;
     let value = caller.answered(answer)?;
     Ok(Some(value))
+}
+
+/// A method of an object on its arguments, which its row looks at first: it gives a value, or nothing. The name is one for which
+/// [`has_object_method`] is true; of any other it is E8.
+pub fn object_method<T: Tree, O: Outputs>(
+    caller: &mut Caller<'_, T, O>,
+    object: &Object,
+    name: &str,
+    arguments: &Arguments,
+) -> Result<Option<Value>, Stop>
+    requires { HasRoom (state_of T.seen O.seen caller.old) }
+    ensures { Carries (option_map data_of) (object_method object.now name.now (arguments_data arguments.now))
+        (state_of T.seen O.seen caller.old) result (state_of T.seen O.seen caller.new) }
+{
+    match object {
+        Object::Compiler => compiler_method(caller, name, arguments),
+        Object::ConfigurationData(number) => {
+            configuration_method(caller, *number, name, arguments)
+        }
+        _ => tell(caller, object, name, arguments),
+    }
 }

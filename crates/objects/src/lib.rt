@@ -11,6 +11,7 @@ mod left;
 mod machines;
 mod meson_object;
 mod programs;
+mod target_methods;
 
 pub use calling::{has_object_method, object_method};
 pub use left::is_left_out_method;

@@ -24,6 +24,8 @@ pub enum MesonMethod {
     GetCompiler,
     IsCrossBuild,
     IsSubproject,
+    ProjectName,
+    ProjectVersion,
     /// `source_root` and `project_source_root`.
     SourceRoot,
     Version,
@@ -43,7 +45,9 @@ impl MesonMethod {
             "is_cross_build" => Some(MesonMethod::IsCrossBuild),
             "is_subproject" => Some(MesonMethod::IsSubproject),
             "project_build_root" => Some(MesonMethod::BuildRoot),
+            "project_name" => Some(MesonMethod::ProjectName),
             "project_source_root" => Some(MesonMethod::SourceRoot),
+            "project_version" => Some(MesonMethod::ProjectVersion),
             "source_root" => Some(MesonMethod::SourceRoot),
             "version" => Some(MesonMethod::Version),
             _ => None,
@@ -58,7 +62,8 @@ pub fn source_root(store: &Store) -> &str
     store.settings().source_root.as_str()
 }
 
-fn build_root(store: &Store) -> &str
+/// The build root of the run.
+pub fn build_root(store: &Store) -> &str
     ensures { result.now ≡ (world_of store.now).facts.settings.build_root }
 {
     store.settings().build_root.as_str()
@@ -75,7 +80,8 @@ fn folder_below(alloc: Global, root: &str, folder: &str) -> Result<String, Alloc
     }
 }
 
-fn text_value(alloc: Global, bytes: &str) -> Result<Result<Value, Refusal>, AllocError>
+/// A text as a value, or E22 where it is too long.
+pub fn text_value(alloc: Global, bytes: &str) -> Result<Result<Value, Refusal>, AllocError>
     ensures { IfOk result (λ r. Answers (within (text bytes.now)) r) }
 {
     Value::of_string(alloc, String::from_str(alloc, bytes)?)
@@ -115,6 +121,30 @@ fn source_folder(alloc: Global, store: &Store) -> Result<Result<Value, Refusal>,
     )
 }
 
+fn project_name(store: &Store) -> &str
+    ensures { result.now ≡ (world_of store.now).facts.project.surroundings.facts.name }
+{
+    store.project().facts().name.as_str()
+}
+
+fn project_version(store: &Store) -> &str
+    ensures { result.now ≡ (world_of store.now).facts.project.surroundings.facts.version }
+{
+    store.project().facts().version.as_str()
+}
+
+fn project_name_value(alloc: Global, store: &Store) -> Result<Result<Value, Refusal>, AllocError>
+    ensures { IfOk result (λ r. Answers (within (text (world_of store.now).facts.project.surroundings.facts.name)) r) }
+{
+    text_value(alloc, project_name(store))
+}
+
+fn project_version_value(alloc: Global, store: &Store) -> Result<Result<Value, Refusal>, AllocError>
+    ensures { IfOk result (λ r. Answers (within (text (world_of store.now).facts.project.surroundings.facts.version)) r) }
+{
+    text_value(alloc, project_version(store))
+}
+
 fn compiler_of(alloc: Global, language: &str) -> Result<Result<Value, Refusal>, AllocError>
     ensures { IfOk result (λ r. Answers (compiler_of language.now) r) }
 {
@@ -125,9 +155,9 @@ fn compiler_of(alloc: Global, language: &str) -> Result<Result<Value, Refusal>, 
     }
 }
 
-/// What the method with a name gives for `meson`: the roots and the present folders as absolute paths (E22 where one is too long),
-/// the compiler of C (E9 for another language), and what is always the same: no subproject, no cross build, the backend `ninja`
-/// and the version `1.3.0`.
+/// What the method with a name gives for `meson`: the project's name and version, the roots and the present folders as absolute paths
+/// (E22 where one is too long), the compiler of C (E9 for another language), and what is always the same: no subproject, no cross
+/// build, the backend `ninja` and the version `1.3.0`.
 pub fn meson_answer(
     alloc: Global,
     store: &Store,
@@ -144,6 +174,8 @@ pub fn meson_answer(
         Some(MesonMethod::GetCompiler) => compiler_of(alloc, arguments.text_at(0)),
         Some(MesonMethod::IsCrossBuild) => Ok(Ok(Value::Boolean(false))),
         Some(MesonMethod::IsSubproject) => Ok(Ok(Value::Boolean(false))),
+        Some(MesonMethod::ProjectName) => project_name_value(alloc, store),
+        Some(MesonMethod::ProjectVersion) => project_version_value(alloc, store),
         Some(MesonMethod::SourceRoot) => source_root_value(alloc, store),
         Some(MesonMethod::Version) => text_value(alloc, "1.3.0"),
         None => Ok(Err(Refusal::UnknownMethod)),

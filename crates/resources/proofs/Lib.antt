@@ -1,3 +1,4 @@
+pub mod Assigned
 pub mod Digits
 pub mod Fits
 pub mod Within

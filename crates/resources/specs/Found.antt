@@ -36,14 +36,15 @@ of_arguments name version compile_args link_args = record {
 -- the dependency of a name and a version, with its arguments
 abbrev pub found : (name version : List ℕ) (compile_args link_args : List (List ℕ)) → Result Dependency Refusal
 found name version compile_args link_args = do
+  its_name ← within_bytes name
   its_version ← within_bytes version
   to_compile ← within_texts compile_args
   to_link ← within_texts link_args
-  Ok (of_arguments name its_version to_compile to_link)
+  Ok (of_arguments its_name its_version to_compile to_link)
 
--- a dependency that isn't found has nothing
-abbrev pub missing : List ℕ → Dependency
-missing name = record {
+-- a dependency that isn't found has a name, and nothing else
+abbrev pub absent : List ℕ → Dependency
+absent name = record {
   is_found = false;
   name = name;
   version = codes "unknown";
@@ -53,3 +54,8 @@ missing name = record {
   link_with = [];
   sources = [];
 }
+
+abbrev pub missing : List ℕ → Result Dependency Refusal
+missing name = do
+  its_name ← within_bytes name
+  Ok (absent its_name)

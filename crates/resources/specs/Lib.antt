@@ -3,5 +3,5 @@ pub mod FittingView
 pub mod Found
 pub mod Installs
 pub mod Joined
-pub mod Requirement
 pub mod Testing
+pub mod TestingView

@@ -8,14 +8,14 @@ ghost use Rattle.resources.specs.Fitting.{program_words, said_dependency, said_t
 ghost use Rattle.resources.specs.FittingView.{fitting_in};
 
 use crate::found::{found_dependency, within_texts};
-use data::{Dependency, Refusal, Text, Texts};
+use data::{Dependency, Refusal, Texts};
 use machine_file::{Machine, MachineValue, Section};
 use std::alloc::{AllocError, Global};
 use versions::version_compare;
 
 /// A dependency that a machine file has: a name that was asked for, and what its section says.
 pub struct Fitting<'a> {
-    pub name: &'a Text,
+    pub name: &'a str,
     pub section: &'a Section,
 }
 
@@ -64,14 +64,14 @@ fn section_that_fits<'a>(
 pub fn first_fitting<'a>(
     alloc: Global,
     machine: &'a Machine,
-    names: &[&'a Text],
+    names: &[&'a str],
     conditions: &[String],
 ) -> Result<Option<Fitting<'a>>, AllocError>
     ensures { IfOk result (λ f. option_map fitting_in f
         ≡ first_fitting (machine_in machine.now) (strings_in conditions.now) (map (λ n. n.now) names.now)) }
 {
     for name in names {
-        if let Some(section) = section_that_fits(alloc, machine, name.as_str(), conditions)? {
+        if let Some(section) = section_that_fits(alloc, machine, name, conditions)? {
             return Ok(Some(Fitting { name, section }));
         }
     }
@@ -91,7 +91,7 @@ fn said_texts<'a>(section: &'a Section, key: &str) -> &'a [String]
 /// The dependency that the section of a machine file says, or `Refusal::Limit` where what it says is too large for a value.
 pub fn said_dependency(
     alloc: Global,
-    name: &Text,
+    name: &str,
     section: &Section,
 ) -> Result<Result<Dependency, Refusal>, AllocError>
     ensures { IfOk result (λ r. r ≡ said_dependency name.now (entries_of section.now)) }

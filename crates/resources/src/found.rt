@@ -1,5 +1,5 @@
 //! The objects that `dependency` and `find_program` give.
-ghost use Rattle.std.specs.Prelude.{◌≡◌, map, string_bytes, IfOk, Ok};
+ghost use Rattle.std.specs.Prelude.{◌≡◌, map, string_bytes, codes, IfOk};
 ghost use Rattle.resources.specs.Found.{found, missing, within_texts};
 
 use data::{Dependency, Numbers, Refusal, Sources, Text, Texts};
@@ -48,13 +48,17 @@ fn of_arguments(
 /// for a value.
 pub fn found_dependency(
     alloc: Global,
-    name: &Text,
+    name: &str,
     version: &str,
     compile_args: &[String],
     link_args: &[String],
 ) -> Result<Result<Dependency, Refusal>, AllocError>
     ensures { IfOk result (λ r. r ≡ found name.now version.now (map string_bytes compile_args.now) (map string_bytes link_args.now)) }
 {
+    let name = match Text::new(alloc, String::from_str(alloc, name)?)? {
+        Ok(name) => name,
+        Err(refusal) => return Ok(Err(refusal)),
+    };
     let version = match Text::new(alloc, String::from_str(alloc, version)?)? {
         Ok(version) => version,
         Err(refusal) => return Ok(Err(refusal)),
@@ -67,28 +71,39 @@ pub fn found_dependency(
         Ok(arguments) => arguments,
         Err(refusal) => return Ok(Err(refusal)),
     };
-    Ok(Ok(of_arguments(alloc, name.clone()?, version, compile_args, link_args)))
+    Ok(Ok(of_arguments(alloc, name, version, compile_args, link_args)))
 }
 
-/// The dependency that isn't found: its version is `unknown`. It is never refused.
-pub fn missing_dependency(
-    alloc: Global,
-    name: &Text,
-) -> Result<Result<Dependency, Refusal>, AllocError>
-    ensures { IfOk result (λ r. r ≡ Ok (missing name.now)) }
+// A dependency that isn't found, with a name, a version and nothing else.
+fn absent(alloc: Global, name: Text, version: Text) -> Dependency
+    requires { version ≡ codes "unknown" }
+    ensures { result ≡ Rattle.resources.specs.Found.absent name }
 {
-    let version = match Text::new(alloc, String::from_str(alloc, "unknown")?)? {
-        Ok(version) => version,
-        Err(refusal) => return Ok(Err(refusal)),
-    };
-    Ok(Ok(Dependency {
+    Dependency {
         is_found: false,
-        name: name.clone()?,
+        name,
         version,
         include_directories: Texts::new(alloc),
         compile_args: Texts::new(alloc),
         link_args: Texts::new(alloc),
         link_with: Numbers::new(alloc),
         sources: Sources::new(alloc),
-    }))
+    }
+}
+
+/// The dependency of this name that isn't found, whose version is `unknown`; or `Refusal::Limit` where the name is too long for a text.
+pub fn missing_dependency(
+    alloc: Global,
+    name: &str,
+) -> Result<Result<Dependency, Refusal>, AllocError>
+    ensures { IfOk result (λ r. r ≡ missing name.now) }
+{
+    let name = match Text::new(alloc, String::from_str(alloc, name)?)? {
+        Ok(name) => name,
+        Err(refusal) => return Ok(Err(refusal)),
+    };
+    match Text::new(alloc, String::from_str(alloc, "unknown")?)? {
+        Ok(version) => Ok(Ok(absent(alloc, name, version))),
+        Err(refusal) => Ok(Err(refusal)),
+    }
 }

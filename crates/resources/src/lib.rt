@@ -9,12 +9,10 @@ mod fitting;
 mod found;
 mod installs;
 mod joining;
-mod requirement;
 mod testing;
 
 pub use fitting::{Fitting, first_fitting, program_words, said_dependency};
 pub use found::{found_dependency, missing_dependency, within_texts};
 pub use installs::{destination, headers_folder, man_folder};
 pub use joining::{dependencies_in, joined};
-pub use requirement::{Requirement, is_requirement, required_by};
-pub use testing::{assignment, seconds_of};
+pub use testing::{environment, seconds_of};

@@ -10,5 +10,5 @@ returns-in_err-answer g c = carries_none c.from_residual.ensures.1
 
 pub returns : goal.returns
 returns g c =
-    let same = c.in_ok-answer.ensures ∙ ap (λ r. checked r (arguments_data c.args.arguments.now)) c.row.ensures in
+    let same = c.in_ok-answer.ensures ∙ ap (λ r. checked r (arguments_data c.args.arguments.now)) c.row_for.ensures in
     carries_fitting _ _ (views_same _ _ same) c.fitting.ensures

@@ -30,3 +30,33 @@ returns-in-SharedLibrary g c = carries_as (ap (λ f. project_function f (argumen
 
 pub returns-in-StaticLibrary : goal.returns-in-StaticLibrary
 returns-in-StaticLibrary g c = carries_as (ap (λ f. project_function f (arguments_data c.args.arguments.now)) (sym c.in-StaticLibrary.is)) c.static_library.ensures
+
+pub returns-in-ConfigurationData : goal.returns-in-ConfigurationData
+returns-in-ConfigurationData g c = carries_as (ap (λ f. project_function f (arguments_data c.args.arguments.now)) (sym c.in-ConfigurationData.is)) c.configuration_data.ensures
+
+pub returns-in-ConfigureFile : goal.returns-in-ConfigureFile
+returns-in-ConfigureFile g c = carries_as (ap (λ f. project_function f (arguments_data c.args.arguments.now)) (sym c.in-ConfigureFile.is)) c.configure_file.ensures
+
+pub returns-in-DeclareDependency : goal.returns-in-DeclareDependency
+returns-in-DeclareDependency g c = carries_as (ap (λ f. project_function f (arguments_data c.args.arguments.now)) (sym c.in-DeclareDependency.is)) c.declare_dependency.ensures
+
+pub returns-in-Dependency : goal.returns-in-Dependency
+returns-in-Dependency g c = carries_as (ap (λ f. project_function f (arguments_data c.args.arguments.now)) (sym c.in-Dependency.is)) c.dependency.ensures
+
+pub returns-in-FindProgram : goal.returns-in-FindProgram
+returns-in-FindProgram g c = carries_as (ap (λ f. project_function f (arguments_data c.args.arguments.now)) (sym c.in-FindProgram.is)) c.find_program.ensures
+
+pub returns-in-GetOption : goal.returns-in-GetOption
+returns-in-GetOption g c = carries_as (ap (λ f. project_function f (arguments_data c.args.arguments.now)) (sym c.in-GetOption.is)) c.get_option.ensures
+
+pub returns-in-InstallData : goal.returns-in-InstallData
+returns-in-InstallData g c = carries_as (ap (λ f. project_function f (arguments_data c.args.arguments.now)) (sym c.in-InstallData.is)) c.install_data.ensures
+
+pub returns-in-InstallHeaders : goal.returns-in-InstallHeaders
+returns-in-InstallHeaders g c = carries_as (ap (λ f. project_function f (arguments_data c.args.arguments.now)) (sym c.in-InstallHeaders.is)) c.install_headers.ensures
+
+pub returns-in-InstallMan : goal.returns-in-InstallMan
+returns-in-InstallMan g c = carries_as (ap (λ f. project_function f (arguments_data c.args.arguments.now)) (sym c.in-InstallMan.is)) c.install_man.ensures
+
+pub returns-in-Test : goal.returns-in-Test
+returns-in-Test g c = carries_as (ap (λ f. project_function f (arguments_data c.args.arguments.now)) (sym c.in-Test.is)) c.test.ensures

@@ -4,4 +4,4 @@ use Rattle.interp.specs.Evaluation.{evaluation}
 use Rattle.interp.proofs.law.depends_on_looked.Goals as goal
 
 pub returns : goal.returns
-returns c = λ f g settings machine h. (plan-depends (evaluation machine)).same f g (first_world settings) h
+returns c = λ f g settings said h. (plan-depends (evaluation said)).same f g (first_world settings) h

@@ -4,4 +4,4 @@ use Rattle.meson.proofs.law.depends_on_looked.Goals as goal
 
 pub returns : goal.returns
 unfolding evaluated
-returns c = λ f g s machine h. ap whole_of (c.depends_on_looked.ensures f g s machine h)
+returns c = λ f g s said h. ap whole_of (c.depends_on_looked.ensures f g s said h)

@@ -7,18 +7,19 @@ use Rattle.meson.proofs.running.run_with.Goals as goal
 
 pub settle-requires : goal.settle-requires
 settle-requires g c =
-    let failed = c.evaluated-answer.ensures.device in
-    room_after c.evaluated-answer.result (g.T.Tree.seen c.args.tree.now).failures (g.O.Outputs.seen c.args.out.now).failures
-    (g.T.Tree.seen c.evaluated-answer.new.tree).failures (g.O.Outputs.seen c.evaluated-answer.new.out).failures failed.of_tree failed.of_out failed.sum c.requires.out
+    let failed = c.evaluate-answer.ensures.device in
+    room_after c.evaluate-answer.result (g.T.Tree.seen c.args.tree.now).failures (g.O.Outputs.seen c.args.out.now).failures
+    (g.T.Tree.seen c.evaluate-answer.new.tree).failures (g.O.Outputs.seen c.evaluate-answer.new.out).failures failed.of_tree failed.of_out failed.sum c.requires.out
 
 pub returns-clause-run : goal.returns-clause-run
-returns-clause-run g c = λ files holds.
-    agrees (evaluated files (settings_view c.args.inputs.now.settings.now) c.args.inputs.now.machine.now) c.evaluated-answer.result c.settle.result
-    (seen (g.O.Outputs.seen c.args.out.now) c.new_steps-steps.result []) (seen (g.O.Outputs.seen c.evaluated-answer.new.out) c.evaluated-answer.new.steps []) (g.O.Outputs.seen c.settle.new.out)
-    (c.evaluated-answer.ensures.run files holds) c.settle.ensures
+unfolding evaluated
+returns-clause-run g c = λ files said holds is.
+    agrees (evaluated files (settings_view c.args.inputs.now.settings.now) said) c.evaluate-answer.result c.settle.result
+    (seen (g.O.Outputs.seen c.args.out.now) c.new_steps-steps.result []) (seen (g.O.Outputs.seen c.evaluate-answer.new.out) c.evaluate-answer.new.steps []) (g.O.Outputs.seen c.settle.new.out)
+    (c.evaluate-answer.ensures.gives files said holds is) c.settle.ensures
 
 pub returns-clause-device : goal.returns-clause-device
 returns-clause-device g c =
-    failures_settled c.evaluated-answer.result c.settle.result (g.T.Tree.seen c.args.tree.now).failures (g.O.Outputs.seen c.args.out.now).failures
-    (g.T.Tree.seen c.evaluated-answer.new.tree).failures (g.O.Outputs.seen c.evaluated-answer.new.out) (g.O.Outputs.seen c.settle.new.out)
-    c.evaluated-answer.ensures.device.sum c.settle.ensures
+    failures_settled c.evaluate-answer.result c.settle.result (g.T.Tree.seen c.args.tree.now).failures (g.O.Outputs.seen c.args.out.now).failures
+    (g.T.Tree.seen c.evaluate-answer.new.tree).failures (g.O.Outputs.seen c.evaluate-answer.new.out) (g.O.Outputs.seen c.settle.new.out)
+    c.evaluate-answer.ensures.device.sum c.settle.ensures

@@ -1,28 +1,22 @@
-use Rattle.std.proofs.Common.{ap, refl}
+use Rattle.std.proofs.Common.{ap, sym}
 use Rattle.arguments.specs.Arguments.{arguments_data}
-use Rattle.arguments.specs.Row.{checked}
-use Rattle.world.specs.Deed.{fitting}
-use Rattle.world.proofs.Answering.{carries_as, carries_give, carries_none, carries_read, carries_stop, carries_then, carries_value}
+use Rattle.world.proofs.Answering.{carries_as}
 use Rattle.objects.specs.Methods.{object_method}
+use Rattle.objects.proofs.Others.{others_tell}
 use Rattle.objects.proofs.calling.object_method.Goals as goal
 
-pub returns-in_err-fit : goal.returns-in_err-fit
+pub returns-in-Compiler : goal.returns-in-Compiler
 unfolding object_method
-returns-in_err-fit g c =
-    carries_stop (carries_as (ap (λ r. fitting (checked r (arguments_data c.args.arguments.now))) c.row_of-row.ensures) c.in_err-fit.ensures)
-    c.from_residual.ensures.1
+returns-in-Compiler g c =
+    carries_as (ap (λ o. object_method o c.args.name.now (arguments_data c.args.arguments.now)) (sym c.in-Compiler.is)) c.compiler_method.ensures
 
-pub returns-in_err-answer : goal.returns-in_err-answer
-returns-in_err-answer g c = carries_none c.from_residual-in_err-answer.ensures.1
-
-pub returns-in_err-value : goal.returns-in_err-value
+pub returns-in-ConfigurationData : goal.returns-in-ConfigurationData
 unfolding object_method
-returns-in_err-value g c =
-    carries_then (carries_as (ap (λ r. fitting (checked r (arguments_data c.args.arguments.now))) c.row_of-row.ensures) c.in_ok-fit.ensures)
-    (carries_read (carries_stop (carries_value _ _ c.in_ok-answer.ensures c.in_err-value.ensures) c.from_residual-in_err-value.ensures.1))
+returns-in-ConfigurationData g c =
+    carries_as (ap (λ o. object_method o c.args.name.now (arguments_data c.args.arguments.now)) (sym c.in-ConfigurationData.is))
+    c.configuration_method.ensures
 
-pub returns : goal.returns
-unfolding object_method
-returns g c =
-    carries_then (carries_as (ap (λ r. fitting (checked r (arguments_data c.args.arguments.now))) c.row_of-row.ensures) c.in_ok-fit.ensures)
-    (carries_read (carries_then {x = c.in_ok-value.value} (carries_value _ _ c.in_ok-answer.ensures c.in_ok-value.ensures) (carries_give refl)))
+pub returns-in_default : goal.returns-in_default
+returns-in_default g c =
+    carries_as (others_tell c.args.object.now c.args.name.now (arguments_data c.args.arguments.now) c.in_default.not-Compiler
+    c.in_default.not-ConfigurationData) c.tell.ensures

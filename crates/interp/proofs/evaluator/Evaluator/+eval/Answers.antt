@@ -39,10 +39,16 @@ pub part-returns-in_err-at-clause-gives : goal.part-returns-in_err-at-clause-giv
 part-returns-in_err-at-clause-gives g t c = λ files ts hold reads. given_stop (c.in_err-at.ensures.gives files ts hold reads) c.from_residual.ensures.1
 
 pub part-returns-in_err-answer-clause-gives : goal.part-returns-in_err-answer-clause-gives
-part-returns-in_err-answer-clause-gives g t c = λ files ts hold reads. given_then {view' = data_of} (c.in_ok-at.ensures.gives files ts hold reads) (given_none (c.in_ok-at.ensures.gives files ts hold reads).holds c.from_residual-in_err-answer.ensures.1)
+part-returns-in_err-answer-clause-gives g t c = λ files ts hold reads. given_then {view' = option_map data_of} (c.in_ok-at.ensures.gives files ts hold reads) (given_none (c.in_ok-at.ensures.gives files ts hold reads).holds c.from_residual-in_err-answer.ensures.1)
+
+pub part-returns-in_err-answered-clause-gives : goal.part-returns-in_err-answered-clause-gives
+part-returns-in_err-answered-clause-gives g t c = λ files ts hold reads. given_then (c.in_ok-at.ensures.gives files ts hold reads) (given_stop (c.in_err-answered.ensures.gives _ c.in_ok-answer.ensures files (c.in_ok-at.ensures.gives files ts hold reads).holds) c.from_residual-in_err-answered.ensures.1)
 
 pub part-returns-clause-gives : goal.part-returns-clause-gives
-part-returns-clause-gives g t c = λ files ts hold reads. given_then (c.in_ok-at.ensures.gives files ts hold reads) (c.answered.ensures.gives _ c.in_ok-answer.ensures files (c.in_ok-at.ensures.gives files ts hold reads).holds)
+part-returns-clause-gives g t c = λ files ts hold reads.
+    let i = c.in_ok-at.ensures.gives files ts hold reads in
+    let part = c.in_ok-answered.ensures.gives _ c.in_ok-answer.ensures files i.holds in
+    given_then i (given_then part (given_give part.holds refl))
 
 pub combined-returns-in_err-right-clause-gives : goal.combined-returns-in_err-right-clause-gives
 combined-returns-in_err-right-clause-gives g t c = λ files ts hold reads. given_stop (c.in_err-right.ensures.gives files ts hold reads) c.from_residual.ensures.1
@@ -152,20 +158,44 @@ pairs-loop-entry-preserved g t c = record { same = search rules; tree = search r
 pub pairs-returns-clause-gives : goal.pairs-returns-clause-gives
 pairs-returns-clause-gives g t c = λ files ts hold reads. led_end (led_as (ap (λ ys. entries_of (pairs_of c.loop-entry.pairs.items) (entries ys)) (no_item (entry_at ts) c.args.entries.now c.loop-entry.entry-index c.loop-entry-test.false)) (c.loop-entry.invariant.done files ts hold reads)) (given_give (c.loop-entry.invariant.done files ts hold reads).holds refl)
 
-pub postfix-returns-in_err-value-clause-gives : goal.postfix-returns-in_err-value-clause-gives
-postfix-returns-in_err-value-clause-gives g t c = λ files ts hold reads. given_stop (c.in_err-value.ensures.gives files ts hold reads) c.from_residual.ensures.1
-
-pub postfix-loop-link-init : goal.postfix-loop-link-init
-postfix-loop-link-init g t c = record { same = search rules; tree = search rules; out = search rules; done = λ files ts hold reads. led_on (led_start hold) (c.in_ok-value.ensures.gives files ts hold reads) }
-
-pub postfix-returns-in_err-value-2-clause-gives : goal.postfix-returns-in_err-value-2-clause-gives
-postfix-returns-in_err-value-2-clause-gives g t c = λ files ts hold reads. led_end (led_as (ap (λ ys. links_of c.args.line (data_of c.loop-link.value) (links ys)) (next_is (link_at ts) c.args.links.now c.loop-link.link-index c.link-item.result c.loop-link-test.true c.link-item.is)) (c.loop-link.invariant.done files ts hold reads)) (given_stop (c.in_err-value-2.ensures.gives files ts (c.loop-link.invariant.done files ts hold reads).holds (reads_on reads (c.loop-link.invariant.done files ts hold reads).continues.written.names)) c.from_residual-in_err-value-2.ensures.1)
-
-pub postfix-loop-link-preserved : goal.postfix-loop-link-preserved
-postfix-loop-link-preserved g t c = record { same = search rules; tree = search rules; out = search rules; done = λ files ts hold reads. led_on (led_as (ap (λ ys. links_of c.args.line (data_of c.loop-link.value) (links ys)) (next_is (link_at ts) c.args.links.now c.loop-link.link-index c.link-item.result c.loop-link-test.true c.link-item.is)) (c.loop-link.invariant.done files ts hold reads)) (c.in_ok-value-2.ensures.gives files ts (c.loop-link.invariant.done files ts hold reads).holds (reads_on reads (c.loop-link.invariant.done files ts hold reads).continues.written.names)) }
+pub postfix-returns-in_err-given-clause-gives : goal.postfix-returns-in_err-given-clause-gives
+postfix-returns-in_err-given-clause-gives g t c = λ files ts hold reads. given_stop (c.in_err-given.ensures.gives files ts hold reads) c.from_residual.ensures.1
 
 pub postfix-returns-clause-gives : goal.postfix-returns-clause-gives
-postfix-returns-clause-gives g t c = λ files ts hold reads. led_end (led_as (ap (λ ys. links_of c.args.line (data_of c.loop-link.value) (links ys)) (no_item (link_at ts) c.args.links.now c.loop-link.link-index c.loop-link-test.false)) (c.loop-link.invariant.done files ts hold reads)) (given_give (c.loop-link.invariant.done files ts hold reads).holds refl)
+postfix-returns-clause-gives g t c = λ files ts hold reads.
+    let given = c.in_ok-given.ensures.gives files ts hold reads in
+    given_then given (c.needed.ensures.gives files given.holds)
+
+pub asked-returns-in_err-value-clause-gives : goal.asked-returns-in_err-value-clause-gives
+asked-returns-in_err-value-clause-gives g t c = λ files ts hold reads. given_stop (c.in_err-value.ensures.gives files ts hold reads) c.from_residual.ensures.1
+
+pub asked-loop-link-init : goal.asked-loop-link-init
+asked-loop-link-init g t c = record { same = search rules; tree = search rules; out = search rules; done = λ files ts hold reads. led_on (led_start hold) (c.in_ok-value.ensures.gives files ts hold reads) }
+
+pub asked-returns-in_err-whole-clause-gives : goal.asked-returns-in_err-whole-clause-gives
+asked-returns-in_err-whole-clause-gives g t c = λ files ts hold reads.
+    let led = (led_as (ap (λ ys. links_of c.args.line (option_map data_of c.loop-link.given) (links ys)) (next_is (link_at ts) c.args.links.now c.loop-link.link-index c.link-item.result c.loop-link-test.true c.link-item.is)) (c.loop-link.invariant.done files ts hold reads)) in
+    led_end led (given_stop (c.in_err-whole.ensures.gives files led.holds) c.from_residual-in_err-whole.ensures.1)
+
+pub asked-returns-in_err-given-clause-gives : goal.asked-returns-in_err-given-clause-gives
+asked-returns-in_err-given-clause-gives g t c = λ files ts hold reads.
+    let led = (led_as (ap (λ ys. links_of c.args.line (option_map data_of c.loop-link.given) (links ys)) (next_is (link_at ts) c.args.links.now c.loop-link.link-index c.link-item.result c.loop-link-test.true c.link-item.is)) (c.loop-link.invariant.done files ts hold reads)) in
+    let asked = led_on led (c.in_ok-whole.ensures.gives files led.holds) in
+    led_end asked (given_stop (c.in_err-given.ensures.gives files ts asked.holds (reads_on reads asked.continues.written.names)) c.from_residual-in_err-given.ensures.1)
+
+pub asked-loop-link-preserved : goal.asked-loop-link-preserved
+asked-loop-link-preserved g t c = record {
+  same = search rules;
+  tree = search rules;
+  out = search rules;
+  done = λ files ts hold reads.
+      let led = (led_as (ap (λ ys. links_of c.args.line (option_map data_of c.loop-link.given) (links ys)) (next_is (link_at ts) c.args.links.now c.loop-link.link-index c.link-item.result c.loop-link-test.true c.link-item.is)) (c.loop-link.invariant.done files ts hold reads)) in
+      let asked = led_on led (c.in_ok-whole.ensures.gives files led.holds) in
+      led_on asked (c.in_ok-given.ensures.gives files ts asked.holds (reads_on reads asked.continues.written.names));
+}
+
+pub asked-returns-clause-gives : goal.asked-returns-clause-gives
+asked-returns-clause-gives g t c = λ files ts hold reads. led_end (led_as (ap (λ ys. links_of c.args.line (option_map data_of c.loop-link.given) (links ys)) (no_item (link_at ts) c.args.links.now c.loop-link.link-index c.loop-link-test.false)) (c.loop-link.invariant.done files ts hold reads)) (given_give (c.loop-link.invariant.done files ts hold reads).holds refl)
 
 pub chain-returns-in_err-value-clause-gives : goal.chain-returns-in_err-value-clause-gives
 chain-returns-in_err-value-clause-gives g t c = λ files ts hold reads. given_stop (c.in_err-value.ensures.gives files ts hold reads) c.from_residual.ensures.1

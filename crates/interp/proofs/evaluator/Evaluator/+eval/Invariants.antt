@@ -1,5 +1,5 @@
-use Rattle.std.proofs.Common.{◌≡◌, ℕ, suc, ◌+◌, ◌*◌, max, List, [], drop, map}
-use Rattle.grammar.specs.ExpressionTree.{ExpressionTree, PostfixTree, ChainTree, expressions, entries, arguments, links, operands}
+use Rattle.std.proofs.Common.{◌≡◌, ℕ, suc, ◌+◌, ◌*◌, max, List, [], Option, Some, drop, map, option_map}
+use Rattle.grammar.specs.ExpressionTree.{ExpressionTree, ChainTree, expressions, entries, arguments, links, operands}
 use Rattle.code.specs.Nodes.{tree_at, entry_at, argument_at, operand_at, link_at}
 use Rattle.data.specs.Data.{no_items}
 use Rattle.data.specs.View.{data_of, items_of}
@@ -7,6 +7,7 @@ use Rattle.operators.specs.Literal.{pairs_of}
 use Rattle.arguments.specs.Arguments.{arguments_data, no_arguments}
 use Rattle.world.specs.Deed.{Files}
 use Rattle.world.specs.Gives.{Holds}
+use Rattle.world.specs.Plan.{next, ruled}
 use Rattle.interp.specs.Evaluates.{Reads, Same, stand_of}
 use Rattle.interp.specs.Expressions.{value_of, values_of, entries_of, arguments_of, links_of, chain_of}
 use Rattle.interp.specs.Parts.{above, above_number, above_entry, above_argument, above_operand, above_link}
@@ -37,19 +38,22 @@ abbrev pub decreases-call : goal.decreases-call
 decreases-call g l = 8 * above above_argument l.arguments.now + 5
 
 abbrev pub decreases-arguments : goal.decreases-arguments
-decreases-arguments g l = 8 * above above_argument l.arguments.now + 2
+decreases-arguments g l = 8 * above above_argument l.arguments.now
 
 abbrev pub decreases-postfix : goal.decreases-postfix
 decreases-postfix g l = 8 * max (suc l.first) (above above_link l.links.now) + 5
 
+abbrev pub decreases-asked : goal.decreases-asked
+decreases-asked g l = 8 * max (suc l.first) (above above_link l.links.now) + 4
+
 abbrev pub decreases-link : goal.decreases-link
-decreases-link g l = 8 * above_link l.link.now + 4
+decreases-link g l = 8 * above_link l.link.now + 2
 
 abbrev pub decreases-method : goal.decreases-method
-decreases-method g l = 8 * above above_argument l.arguments.now + 3
+decreases-method g l = 8 * above above_argument l.arguments.now + 1
 
 abbrev pub decreases-part : goal.decreases-part
-decreases-part g l = 8 * suc l.at + 3
+decreases-part g l = 8 * suc l.at + 1
 
 abbrev pub decreases-prefix : goal.decreases-prefix
 decreases-prefix g l = 8 * suc l.value + 5
@@ -110,8 +114,8 @@ invariant-arguments-loop-argument g l =
           → Led files (arguments_of no_arguments (arguments (map (argument_at ts) l.fn.arguments))) (stand_of see heard l.fn.self) (arguments_of (arguments_data l.evaluated) (arguments (map (argument_at ts) (drop l.argument-index l.arguments)))) (stand_of see heard l.self);
     }
 
-abbrev pub invariant-postfix-loop-link : goal.invariant-postfix-loop-link
-invariant-postfix-loop-link g l =
+abbrev pub invariant-asked-loop-link : goal.invariant-asked-loop-link
+invariant-asked-loop-link g l =
     let see = g.T.Tree.seen in
     let heard = g.O.Outputs.seen in
     record {
@@ -119,7 +123,7 @@ invariant-postfix-loop-link g l =
       tree : (see l.self.tree.now).failures ≡ (see l.fn.self.tree.now).failures;
       out : (heard l.self.out.now).failures ≡ (heard l.fn.self.out.now).failures;
       done : (files : Files) (ts : List ExpressionTree) → Holds (see l.fn.self.tree.now) files → Reads ts l.code l.fn.self.store.now.names
-          → Led files (value_of (PostfixTree (tree_at ts l.fn.first) (links (map (link_at ts) l.fn.links)) l.fn.line)) (stand_of see heard l.fn.self) (links_of l.line (data_of l.value) (links (map (link_at ts) (drop l.link-index l.links)))) (stand_of see heard l.self);
+          → Led files (next (ruled (value_of (tree_at ts l.fn.first))) (λ d. links_of l.fn.line (Some d) (links (map (link_at ts) l.fn.links)))) (stand_of see heard l.fn.self) (links_of l.line (option_map data_of l.given) (links (map (link_at ts) (drop l.link-index l.links)))) (stand_of see heard l.self);
     }
 
 abbrev pub invariant-chain-loop-operand : goal.invariant-chain-loop-operand

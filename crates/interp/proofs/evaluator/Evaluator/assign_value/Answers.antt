@@ -1,4 +1,4 @@
-use Rattle.std.proofs.Common.{ap, refl}
+use Rattle.std.proofs.Common.{ap, refl, ◌∙◌}
 use Rattle.data.specs.View.{data_of}
 use Rattle.interp.specs.Statements.{assigned}
 use Rattle.interp.proofs.Evaluating.{given_as, given_give, given_stop, given_then}
@@ -6,17 +6,27 @@ use Rattle.interp.proofs.Spelling.{name_kept}
 use Rattle.interp.proofs.evaluator.Evaluator.assign_value.Goals as goal
 
 pub returns-in_err-value-clause-gives : goal.returns-in_err-value-clause-gives
-returns-in_err-value-clause-gives g c = λ within files ts hold reads. given_stop (c.in_err-value.ensures.gives files ts hold reads) c.from_residual.ensures.1
+returns-in_err-value-clause-gives g c = λ within files ts hold reads.
+    given_stop (c.in_err-value.ensures.gives files ts hold reads) c.from_residual.ensures.1
+
+pub returns-in_err-own-clause-gives : goal.returns-in_err-own-clause-gives
+returns-in_err-own-clause-gives g c = λ within files ts hold reads.
+    let e = c.in_ok-value.ensures.gives files ts hold reads in
+    given_then e (given_stop (c.in_err-own.ensures.gives files e.holds) c.from_residual-in_err-own.ensures.1)
 
 pub returns-in_err-assign-clause-gives : goal.returns-in_err-assign-clause-gives
 returns-in_err-assign-clause-gives g c = λ within files ts hold reads.
     let e = c.in_ok-value.ensures.gives files ts hold reads in
+    let o = c.in_ok-own.ensures.gives files e.holds in
     let k = name_kept e.gives.written.names c.args.name within in
-    given_then e (given_stop (given_as (ap (λ n. assigned c.args.line n (data_of c.in_ok-value.value)) k.1) (c.in_err-assign.ensures.gives k.0 files e.holds)) c.from_residual-in_err-assign.ensures.1)
+    let n = name_kept o.gives.written.names c.args.name k.0 in
+    given_then e (given_then o (given_stop (given_as (ap (λ n. assigned c.args.line n (data_of c.in_ok-own.own)) (n.1 ∙ k.1)) (c.in_err-assign.ensures.gives n.0 files o.holds)) c.from_residual-in_err-assign.ensures.1))
 
 pub returns-clause-gives : goal.returns-clause-gives
 returns-clause-gives g c = λ within files ts hold reads.
     let e = c.in_ok-value.ensures.gives files ts hold reads in
+    let o = c.in_ok-own.ensures.gives files e.holds in
     let k = name_kept e.gives.written.names c.args.name within in
-    let a = c.in_ok-assign.ensures.gives k.0 files e.holds in
-    given_then e (given_then (given_as (ap (λ n. assigned c.args.line n (data_of c.in_ok-value.value)) k.1) a) (given_give a.holds refl))
+    let n = name_kept o.gives.written.names c.args.name k.0 in
+    let a = c.in_ok-assign.ensures.gives n.0 files o.holds in
+    given_then e (given_then o (given_then (given_as (ap (λ n. assigned c.args.line n (data_of c.in_ok-own.own)) (n.1 ∙ k.1)) a) (given_give a.holds refl)))

@@ -16,7 +16,7 @@ use Rattle.interp.specs.Expressions.{value_of}
 use Rattle.interp.specs.Folders.{folder}
 use Rattle.interp.specs.Frames.{above_branch, behind_all, one_round}
 use Rattle.interp.specs.Parts.{above}
-use Rattle.interp.specs.Statements.{appended, assigned, branches_of, do_all, does, looped, stated, walked}
+use Rattle.interp.specs.Statements.{appended, assigned, branches_of, do_all, does, looped, own, stated, walked}
 use Rattle.interp.specs.declared.flow.Flow.TheVariants as flows
 use Rattle.interp.proofs.Evaluating.{given_as, given_give}
 use Rattle.interp.proofs.Spelling.{branches_reach, named, node_is, parts_of, reads_at, spelled}
@@ -113,7 +113,7 @@ returns-in-Assign-clause-gives g c = λ files rests table hold stacked made.
     let m = length code.nodes.items in
     let name = named made c.in-Assign.name (both_true (nat_lt c.in-Assign.name code.names) (nat_lt c.in-Assign.value m) parts).0 in
     moves_as whole (moves_given c.args.stack.now.items rests c.assign_value.result stacked
-    (given_as (ap (λ (n : List ℕ). next (ruled (value_of (tree_at (expressions_by table code) c.in-Assign.value))) (λ (d : Data). next (assigned c.in-Assign.line n d) (λ _. give flows.Next))) name.1)
+    (given_as (ap (λ (n : List ℕ). next (ruled (value_of (tree_at (expressions_by table code) c.in-Assign.value))) (λ (d : Data). next (own d) (λ (e : Data). next (assigned c.in-Assign.line n e) (λ _. give flows.Next)))) name.1)
     (c.assign_value.ensures.gives name.0 files (expressions_by table code) hold (reads_at c.deref-in-Assign.ensures made))))
 
 pub returns-in-Append-clause-gives : goal.returns-in-Append-clause-gives

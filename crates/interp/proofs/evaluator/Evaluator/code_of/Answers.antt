@@ -2,7 +2,7 @@ use Rattle.std.proofs.Common.{ap, ◌∙◌}
 use Rattle.grammar.specs.Parsed.{parsed}
 use Rattle.faults.specs.declared.refusal.Refusal.TheVariants as refusals
 use Rattle.world.specs.Plan.{deed}
-use Rattle.interp.specs.Files.{line_at, refuse_line, tree_or_fault}
+use Rattle.definition_files.specs.Files.{line_at, refuse_line, tree_or_fault}
 use Rattle.interp.proofs.Evaluating.{given_as}
 use Rattle.interp.proofs.Opening.{given_line, is_no_text, is_text}
 use Rattle.interp.proofs.evaluator.Evaluator.code_of.Goals as goal

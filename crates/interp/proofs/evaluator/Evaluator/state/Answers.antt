@@ -58,14 +58,14 @@ returns-in_ok-way-clause-gives g c = λ files rests table hold stacked made.
     moves_as whole (moves_then c.take_way.result (leads_under (rests ++ End ∷ []) (leads_next {view = way_view} {others = λ w. by_way into w} p))
     (c.take_way.ensures.gives files (rests ++ End ∷ []) p.holds (stacked_on gs (rests ++ End ∷ []) p.gives.written.names two)))
 
-pub returns-in_err-_value-clause-gives : goal.returns-in_err-_value-clause-gives
-returns-in_err-_value-clause-gives g c = λ files rests table hold stacked made.
+pub returns-in_err-_given-clause-gives : goal.returns-in_err-_given-clause-gives
+returns-in_err-_given-clause-gives g c = λ files rests table hold stacked made.
     moves_as (ap (behind_all rests) (stated_at (folder c.args.left) table c.args.code.now c.args.value c.index.result.now c.requires.here c.index.ensures c.in_default.not-Call))
-    (moves_given c.args.stack.now.items rests c.from_residual-in_err-_value.result stacked
-    (given_stop (c.in_err-_value.ensures.gives files (expressions_by table c.args.code.now) hold (reads_at refl made)) c.from_residual-in_err-_value.ensures.1))
+    (moves_given c.args.stack.now.items rests c.from_residual-in_err-_given.result stacked
+    (given_stop (c.in_err-_given.ensures.gives files (expressions_by table c.args.code.now) hold (reads_at refl made)) c.from_residual-in_err-_given.ensures.1))
 
-pub returns-in_ok-_value-clause-gives : goal.returns-in_ok-_value-clause-gives
-returns-in_ok-_value-clause-gives g c = λ files rests table hold stacked made.
-    let e = c.in_ok-_value.ensures.gives files (expressions_by table c.args.code.now) hold (reads_at refl made) in
+pub returns-in_ok-_given-clause-gives : goal.returns-in_ok-_given-clause-gives
+returns-in_ok-_given-clause-gives g c = λ files rests table hold stacked made.
+    let e = c.in_ok-_given.ensures.gives files (expressions_by table c.args.code.now) hold (reads_at refl made) in
     moves_as (ap (behind_all rests) (stated_at (folder c.args.left) table c.args.code.now c.args.value c.index.result.now c.requires.here c.index.ensures c.in_default.not-Call))
     (moves_given c.args.stack.now.items rests (Ok flows.Next) stacked (given_then e (given_give e.holds refl)))

@@ -1,14 +1,18 @@
 use Rattle.std.proofs.Common.{ap, sym, ◌∙◌}
 use Rattle.world.specs.Store.{kept_variables}
 use Rattle.interp.specs.Expressions.{known, variable, variable_by}
-use Rattle.interp.proofs.Evaluating.{given_as, given_none, given_read, given_refuse}
+use Rattle.interp.proofs.Evaluating.{given_as, given_none, given_read}
 use Rattle.interp.proofs.evaluator.Evaluator.variable.Goals as goal
 
 pub returns-then-is_predefined-clause-gives : goal.returns-then-is_predefined-clause-gives
-returns-then-is_predefined-clause-gives g c = λ within files h. given_as (ap (variable c.args.line) (c.name-name.ensures within)) (given_as (ap (λ b. variable_by b c.args.line c.name-name.result.now) (sym c.if-is_predefined.true ∙ c.is_predefined.ensures)) (given_refuse h c.left_out.ensures))
+returns-then-is_predefined-clause-gives g c = λ within files h.
+    given_as (ap (variable c.args.line) (c.name-name.ensures within))
+    (given_as (ap (λ b. variable_by b c.args.line c.name-name.result.now) (sym c.if-is_predefined.true ∙ c.is_predefined.ensures))
+    (c.thing.ensures.gives files h))
 
 pub returns-in_err-value-clause-gives : goal.returns-in_err-value-clause-gives
-returns-in_err-value-clause-gives g c = λ within files h. given_none h c.from_residual.ensures.1
+returns-in_err-value-clause-gives g c = λ within files h.
+    given_none h c.from_residual.ensures.1
 
 pub returns-clause-gives : goal.returns-clause-gives
 returns-clause-gives g c = λ within files h.

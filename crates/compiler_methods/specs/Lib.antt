@@ -1,0 +1,5 @@
+pub mod Checks
+pub mod Methods
+pub mod Names
+pub mod Rows
+pub mod Said

@@ -1,0 +1,86 @@
+-- The methods of the C compiler, on their arguments. None of them changes anything: the machine file answers them all.
+use Rattle.std.specs.Prelude.{ℕ, Bool, List, [], ◌∷◌, Option, Some, None, is_some, codes, if◌then◌else◌}
+use Rattle.arguments.specs.Arguments.{ArgumentsData}
+use Rattle.arguments.specs.Flat.{flat_all}
+use Rattle.arguments.specs.Given.{text_or_none}
+use Rattle.arguments.specs.Leaves.{leaves_from}
+use Rattle.arguments.specs.Row.{checked}
+use Rattle.data.specs.Data.{Data, integer, list, text, Items, no_items, item, items_append}
+use Rattle.data.specs.Limits.{within}
+use Rattle.faults.specs.declared.refusal.Refusal.TheVariants as refusals
+use Rattle.machine_file.specs.Files.{Section}
+use Rattle.world.specs.Deed.{Deed, give, refuse, read, ◌>>=◌, answered, fitting}
+use Rattle.compiler_methods.specs.Checks.{check, find_library}
+use Rattle.compiler_methods.specs.Names.{named}
+use Rattle.compiler_methods.specs.Rows.{row_of}
+use Rattle.compiler_methods.specs.Said.{id_of, is_true, number_of, version_of}
+use Rattle.compiler_methods.specs.declared.names.CompilerMethod.{CompilerMethod}
+use Rattle.compiler_methods.specs.declared.names.CompilerMethod.TheVariants as methods
+
+-- `get_id()`
+unfoldable pub get_id : Deed (Option Data)
+get_id = do
+  facts ← read
+  d ← answered (within (text (id_of facts.machine)))
+  give (Some d)
+
+-- `version()`
+unfoldable pub version : Deed (Option Data)
+version = do
+  facts ← read
+  d ← answered (within (text (version_of facts.machine)))
+  give (Some d)
+
+-- `sizeof(type)` and `alignment(type)`
+unfoldable pub number : (method : List ℕ) → ArgumentsData → Deed (Option Data)
+number method a = do
+  facts ← read
+  give (Some (integer (number_of facts.machine method (flat_all a.positional))))
+
+-- whether the compiler takes an argument
+abbrev pub is_supported : List Section → Data → Bool
+is_supported machine d = is_true machine (codes "has_argument") (text_or_none (Some d) ∷ [])
+
+-- the argument itself, where it takes it
+abbrev pub kept : List Section → Data → Items
+kept machine d = if is_supported machine d then item d no_items else no_items
+
+-- those that it takes, in order, each as often as it stands there
+abbrev pub supported : List Section → List Data → Items
+supported machine [] = no_items
+supported machine (d ∷ ds) = items_append (kept machine d) (supported machine ds)
+
+-- `get_supported_arguments(flat texts..)`
+unfoldable pub get_supported_arguments : ArgumentsData → Deed (Option Data)
+get_supported_arguments a = do
+  facts ← read
+  d ← answered (within (list (supported facts.machine (leaves_from 0 a))))
+  give (Some d)
+
+-- what a method does with arguments that its row has let through
+abbrev pub does : CompilerMethod → (name : List ℕ) → ArgumentsData → Deed (Option Data)
+does methods.Check name a = check name a
+does methods.CheckInside name a = check name a
+does methods.FindLibrary name a = find_library a
+does methods.Id name a = get_id
+does methods.Number name a = number name a
+does methods.SupportedArguments name a = get_supported_arguments a
+does methods.Version name a = version
+
+-- whether the compiler has a method of a name that is not left out
+abbrev pub has_method : List ℕ → Bool
+has_method name = is_some (named name)
+
+-- a method on its arguments, which its row looks at first
+unfoldable pub called : CompilerMethod → (name : List ℕ) → ArgumentsData → Deed (Option Data)
+called method name a = do
+  _ ← fitting (checked (row_of method) a)
+  does method name a
+
+abbrev pub called_by : Option CompilerMethod → (name : List ℕ) → ArgumentsData → Deed (Option Data)
+called_by None name a = refuse refusals.UnknownFunction []
+called_by (Some method) name a = called method name a
+
+-- the method with a name on its arguments; E8 where there is none
+unfoldable pub compiler_method : (name : List ℕ) → ArgumentsData → Deed (Option Data)
+compiler_method name a = called_by (named name) name a

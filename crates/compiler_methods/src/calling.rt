@@ -1,0 +1,222 @@
+//! A method of the compiler on its arguments.
+ghost use Rattle.std.specs.Prelude.{◌≡◌, IfOk, OnOk, Some, map, option_map};
+ghost use Rattle.arguments.specs.Arguments.{arguments_data};
+ghost use Rattle.arguments.specs.Given.{text_or_none};
+ghost use Rattle.arguments.specs.Row.{checked};
+ghost use Rattle.data.specs.Data.{integer, items_append, list, text};
+ghost use Rattle.data.specs.Limits.{within};
+ghost use Rattle.data.specs.Tables.{Answers};
+ghost use Rattle.data.specs.View.{data_of, items_of};
+ghost use Rattle.machine_file.specs.View.{machine_in};
+ghost use Rattle.world.specs.Answering.{Carries};
+ghost use Rattle.world.specs.Caller.{state_of};
+ghost use Rattle.world.specs.Deed.{fitting};
+ghost use Rattle.compiler_methods.specs.Methods.{called, compiler_method, does, get_id, get_supported_arguments, is_supported, kept, number};
+ghost use Rattle.compiler_methods.specs.Methods.{supported, version};
+ghost use Rattle.compiler_methods.specs.Rows.{row_of};
+ghost use Rattle.compiler_methods.specs.Said.{number_of};
+
+use crate::checks::{check, find_library};
+use crate::names::CompilerMethod;
+use crate::rows::row;
+use crate::said::{id_of, is_true, number_of, version_of};
+use arguments::{Arguments, check as check_row};
+use data::{List, Refusal, Value};
+use machine_file::Machine;
+use ports::{Outputs, Tree};
+use std::alloc::{AllocError, Global};
+use world::{Caller, Stop};
+
+fn text_value(alloc: Global, bytes: &str) -> Result<Result<Value, Refusal>, AllocError>
+    ensures { IfOk result (λ r. Answers (within (text bytes.now)) r) }
+{
+    Value::of_string(alloc, String::from_str(alloc, bytes)?)
+}
+
+// `get_id()`
+fn get_id<T: Tree, O: Outputs>(caller: &Caller<'_, T, O>) -> Result<Option<Value>, Stop>
+    ensures { Carries (option_map data_of) get_id (state_of T.seen O.seen caller.now) result (state_of T.seen O.seen caller.now) }
+{
+    let answer = text_value(caller.alloc, id_of(caller.store.machine()))?;
+    let value = caller.answered(answer)?;
+    Ok(Some(value))
+}
+
+// `version()`
+fn version<T: Tree, O: Outputs>(caller: &Caller<'_, T, O>) -> Result<Option<Value>, Stop>
+    ensures { Carries (option_map data_of) version (state_of T.seen O.seen caller.now) result (state_of T.seen O.seen caller.now) }
+{
+    let answer = text_value(caller.alloc, version_of(caller.store.machine()))?;
+    let value = caller.answered(answer)?;
+    Ok(Some(value))
+}
+
+fn integer_value(number: i64) -> Value
+    ensures { data_of result ≡ integer number }
+{
+    Value::Integer(number as i128)
+}
+
+fn number_value(
+    alloc: Global,
+    machine: &Machine,
+    method: &str,
+    texts: &[&str],
+) -> Result<Value, AllocError>
+    ensures { IfOk result (λ v. data_of v ≡ integer (number_of (machine_in machine.now) method.now (map (λ t. t.now) texts.now))) }
+{
+    let number = number_of(alloc, machine, method, texts)?;
+    Ok(integer_value(number))
+}
+
+// `sizeof(type)` and `alignment(type)`: -1 where the machine file says nothing.
+fn number<T: Tree, O: Outputs>(
+    caller: &Caller<'_, T, O>,
+    method: &str,
+    arguments: &Arguments,
+) -> Result<Option<Value>, Stop>
+    ensures { Carries (option_map data_of) (number method.now (arguments_data arguments.now)) (state_of T.seen O.seen caller.now) result
+        (state_of T.seen O.seen caller.now) }
+{
+    let texts = arguments.all_texts(caller.alloc)?;
+    let number = number_value(caller.alloc, caller.store.machine(), method, &texts)?;
+    Ok(Some(number))
+}
+
+// ---- the arguments that the compiler takes
+
+fn text_of(value: &Value) -> &str
+    ensures { result.now ≡ text_or_none (Some (data_of value.now)) }
+{
+    match value.as_text() {
+        Some(text) => text.as_str(),
+        None => "",
+    }
+}
+
+fn is_supported(alloc: Global, machine: &Machine, value: &Value) -> Result<bool, AllocError>
+    ensures { IfOk result (λ b. b ≡ is_supported (machine_in machine.now) (data_of value.now)) }
+{
+    is_true(alloc, machine, "has_argument", &[text_of(value)])
+}
+
+// Puts a value behind others, where the compiler takes it. It is shared, and no byte is copied.
+fn keep(
+    alloc: Global,
+    machine: &Machine,
+    taken: &mut Vec<Value>,
+    value: &Value,
+) -> Result<(), AllocError>
+    ensures { OnOk result (items_of taken.new.items
+        ≡ items_append (items_of taken.old.items) (kept (machine_in machine.now) (data_of value.now))) }
+{
+    if is_supported(alloc, machine, value)? {
+        taken.push(value.clone()?)?;
+    }
+    Ok(())
+}
+
+// Those of the values that the compiler takes.
+fn supported(alloc: Global, machine: &Machine, values: &[&Value]) -> Result<Vec<Value>, AllocError>
+    ensures { IfOk result (λ vs. items_of vs.items ≡ supported (machine_in machine.now) (map (λ v. data_of v.now) values.now)) }
+{
+    let mut taken = Vec::new(alloc);
+    for value in values {
+        keep(alloc, machine, &mut taken, value)?;
+    }
+    Ok(taken)
+}
+
+// The list of them.
+fn supported_list(
+    alloc: Global,
+    machine: &Machine,
+    values: &[&Value],
+) -> Result<Result<Value, Refusal>, AllocError>
+    ensures { IfOk result (λ r. Answers
+        (within (list (supported (machine_in machine.now) (map (λ v. data_of v.now) values.now)))) r) }
+{
+    match List::from_items(supported(alloc, machine, values)?) {
+        Ok(list) => Ok(Ok(Value::of_list(alloc, list)?)),
+        Err(refusal) => Ok(Err(refusal)),
+    }
+}
+
+// `get_supported_arguments(flat texts..)`
+fn get_supported_arguments<T: Tree, O: Outputs>(
+    caller: &Caller<'_, T, O>,
+    arguments: &Arguments,
+) -> Result<Option<Value>, Stop>
+    ensures { Carries (option_map data_of) (get_supported_arguments (arguments_data arguments.now)) (state_of T.seen O.seen caller.now)
+        result (state_of T.seen O.seen caller.now) }
+{
+    let values = arguments.leaves_behind(caller.alloc, 0)?;
+    let answer = supported_list(caller.alloc, caller.store.machine(), &values)?;
+    let value = caller.answered(answer)?;
+    Ok(Some(value))
+}
+
+// ---- calls
+
+// Refuses arguments that the method does not take.
+fn fit<T: Tree, O: Outputs>(
+    caller: &Caller<'_, T, O>,
+    method: CompilerMethod,
+    arguments: &Arguments,
+) -> Result<(), Stop>
+    ensures { Carries (λ u. u) (fitting (checked (row_of method) (arguments_data arguments.now)))
+        (state_of T.seen O.seen caller.now) result (state_of T.seen O.seen caller.now) }
+{
+    let answer = check_row(caller.alloc, &row(method), arguments)?;
+    caller.fitting(answer)
+}
+
+// What a method does with arguments that its row has let through.
+fn act<T: Tree, O: Outputs>(
+    caller: &Caller<'_, T, O>,
+    method: CompilerMethod,
+    name: &str,
+    arguments: &Arguments,
+) -> Result<Option<Value>, Stop>
+    ensures { Carries (option_map data_of) (does method name.now (arguments_data arguments.now)) (state_of T.seen O.seen caller.now) result
+        (state_of T.seen O.seen caller.now) }
+{
+    match method {
+        CompilerMethod::Check => check(caller, name, arguments),
+        CompilerMethod::CheckInside => check(caller, name, arguments),
+        CompilerMethod::FindLibrary => find_library(caller, arguments),
+        CompilerMethod::Id => get_id(caller),
+        CompilerMethod::Number => number(caller, name, arguments),
+        CompilerMethod::SupportedArguments => get_supported_arguments(caller, arguments),
+        CompilerMethod::Version => version(caller),
+    }
+}
+
+fn called<T: Tree, O: Outputs>(
+    caller: &Caller<'_, T, O>,
+    method: CompilerMethod,
+    name: &str,
+    arguments: &Arguments,
+) -> Result<Option<Value>, Stop>
+    ensures { Carries (option_map data_of) (called method name.now (arguments_data arguments.now)) (state_of T.seen O.seen caller.now) result
+        (state_of T.seen O.seen caller.now) }
+{
+    fit(caller, method, arguments)?;
+    act(caller, method, name, arguments)
+}
+
+/// The method with a name on its arguments, which its row looks at first. The name is one for which
+/// [`has_compiler_method`](crate::has_compiler_method) is true; of any other it is E8.
+pub fn compiler_method<T: Tree, O: Outputs>(
+    caller: &Caller<'_, T, O>,
+    name: &str,
+    arguments: &Arguments,
+) -> Result<Option<Value>, Stop>
+    ensures { Carries (option_map data_of) (compiler_method name.now (arguments_data arguments.now)) (state_of T.seen O.seen caller.now)
+        result (state_of T.seen O.seen caller.now) }
+{
+    match CompilerMethod::named(name) {
+        Some(method) => called(caller, method, name, arguments),
+        None => caller.refuse(faults::Refusal::UnknownFunction, ""),
+    }
+}

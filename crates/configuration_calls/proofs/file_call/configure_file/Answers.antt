@@ -1,0 +1,38 @@
+use Rattle.std.proofs.Common.{[], ap, ◌∙◌}
+use Rattle.faults.specs.declared.refusal.Refusal.TheVariants as refusals
+use Rattle.project.specs.Adding.{is_file_name}
+use Rattle.world.specs.Deed.{need}
+use Rattle.world.proofs.Answering.{carries_as, carries_stop, carries_then}
+use Rattle.configuration_calls.specs.ConfigureFile.{configure_file}
+use Rattle.configuration_calls.proofs.file_call.configure_file.Goals as goal
+
+pub returns-in_err-need : goal.returns-in_err-need
+unfolding configure_file
+returns-in_err-need g c = carries_stop (carries_as (ap (λ b. need b refusals.LeftOut []) c.has_meson_format.ensures) c.in_err-need.ensures) c.from_residual.ensures.1
+
+pub returns-in_err-need-2 : goal.returns-in_err-need-2
+unfolding configure_file
+returns-in_err-need-2 g c =
+    carries_then (carries_as (ap (λ b. need b refusals.LeftOut []) c.has_meson_format.ensures) c.in_ok-need.ensures)
+    (carries_stop (carries_as (ap (λ b. need b refusals.Arguments []) (c.is_file_name.ensures ∙ ap is_file_name c.text.ensures)) c.in_err-need-2.ensures) c.from_residual-in_err-need-2.ensures.1)
+
+pub returns-in_err-input : goal.returns-in_err-input
+unfolding configure_file
+returns-in_err-input g c =
+    carries_then (carries_as (ap (λ b. need b refusals.LeftOut []) c.has_meson_format.ensures) c.in_ok-need.ensures)
+    (carries_then (carries_as (ap (λ b. need b refusals.Arguments []) (c.is_file_name.ensures ∙ ap is_file_name c.text.ensures)) c.in_ok-need-2.ensures)
+    (carries_stop c.in_err-input.ensures c.from_residual-in_err-input.ensures.1))
+
+pub returns-in_err-given : goal.returns-in_err-given
+unfolding configure_file
+returns-in_err-given g c =
+    carries_then (carries_as (ap (λ b. need b refusals.LeftOut []) c.has_meson_format.ensures) c.in_ok-need.ensures)
+    (carries_then (carries_as (ap (λ b. need b refusals.Arguments []) (c.is_file_name.ensures ∙ ap is_file_name c.text.ensures)) c.in_ok-need-2.ensures)
+    (carries_then c.in_ok-input.ensures (carries_stop c.in_err-given.ensures c.from_residual-in_err-given.ensures.1)))
+
+pub returns : goal.returns
+unfolding configure_file
+returns g c =
+    carries_then (carries_as (ap (λ b. need b refusals.LeftOut []) c.has_meson_format.ensures) c.in_ok-need.ensures)
+    (carries_then (carries_as (ap (λ b. need b refusals.Arguments []) (c.is_file_name.ensures ∙ ap is_file_name c.text.ensures)) c.in_ok-need-2.ensures)
+    (carries_then c.in_ok-input.ensures (carries_then c.in_ok-given.ensures c.configure.ensures)))

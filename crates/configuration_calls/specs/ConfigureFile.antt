@@ -1,0 +1,143 @@
+-- `configure_file`: a file that is made while the definition files are read.
+use Rattle.std.specs.Prelude.{ℕ, Bool, true, false, List, [], ◌∷◌, Option, Some, None, codes, bytes_eq, is_some, ok_or, option_and_then, option_map}
+use Rattle.std.specs.Prelude.{if◌then◌else◌}
+use Rattle.arguments.specs.Arguments.{ArgumentsData}
+use Rattle.arguments.specs.Given.{keyword, text_of}
+use Rattle.arguments.specs.Leaves.{leaves_named}
+use Rattle.data.specs.Data.{Data, object, text, text_in}
+use Rattle.data.specs.Limits.{within_bytes}
+use Rattle.data.specs.declared.object.Object.{Object}
+use Rattle.data.specs.declared.object.Object.TheVariants as objects
+use Rattle.edge.specs.Texts.{Path, Text}
+use Rattle.faults.specs.declared.refusal.Refusal.TheVariants as refusals
+use Rattle.operators.specs.Texts.{path_below}
+use Rattle.option_values.specs.Values as option
+use Rattle.options.specs.Resolves.{value_named}
+use Rattle.options.specs.Settings.{Setting}
+use Rattle.paths.specs.Paths.{tree_path}
+use Rattle.project.specs.Adding.{is_file_name}
+use Rattle.project.specs.World.{InstallData}
+use Rattle.resources.specs.Installs.{destination}
+use Rattle.targets.specs.Files.{path_in}
+use Rattle.world.specs.Configuring.{freeze_configured}
+use Rattle.world.specs.Declaring.{add_install, add_output}
+use Rattle.world.specs.Deed.{Deed, give, read, ◌>>=◌, answered, fitting, need}
+use Rattle.world.specs.World.{Facts}
+use Rattle.configuration_calls.specs.Given.{GivenData, given_by}
+use Rattle.configuration_calls.specs.Written.{header_written, output_written, template_at, template_written}
+
+-- ---- what the arguments say
+
+-- the format is `'meson'`, or is not given; another is left out
+abbrev pub is_meson : Data → Bool
+is_meson (text t) = bytes_eq t (codes "meson")
+is_meson _ = false
+
+abbrev pub fits_format : Option Data → Bool
+fits_format None = true
+fits_format (Some d) = is_meson d
+
+abbrev pub has_meson_format : ArgumentsData → Bool
+has_meson_format a = fits_format (keyword (codes "format") a)
+
+-- a file of the tree; one that is built is none
+abbrev pub tree_file : Object → Option Path
+tree_file (objects.File path true) = None
+tree_file (objects.File path false) = Some path
+tree_file _ = None
+
+-- the file of the tree that a value names in a definition file of a folder
+abbrev pub file_named : (source_root folder : Path) → Data → Option Path
+file_named source_root folder (text t) = tree_path source_root folder t
+file_named source_root folder (object o) = tree_file o
+file_named source_root folder _ = None
+
+-- that of just one value
+abbrev pub one_file : (source_root folder : Path) → List Data → Option Path
+one_file source_root folder (d ∷ []) = file_named source_root folder d
+one_file source_root folder _ = None
+
+-- the path that `input` names, which may be left out; none where it names no file, or several
+abbrev pub input_named : (source_root folder : Path) → ArgumentsData → Option (Option Path)
+input_named source_root folder a =
+    if is_some (keyword (codes "input") a) then option_map Some (one_file source_root folder (leaves_named (codes "input") a)) else Some None
+
+-- the template: E9 where `input` names none
+unfoldable pub input_given : ArgumentsData → Deed (Option Path)
+input_given a = do
+  facts ← read
+  fitting (ok_or (input_named facts.settings.source_root facts.folder a) refusals.Arguments)
+
+-- the values of `configuration`: E9 where they are no configuration data
+unfoldable pub values_given : ArgumentsData → Deed GivenData
+values_given a = do
+  facts ← read
+  fitting (ok_or (option_and_then (given_by facts) (keyword (codes "configuration") a)) refusals.Arguments)
+
+-- ---- where the output is installed
+
+abbrev pub text_or_empty : Option option.Value → Text
+text_or_empty (Some (option.Text t)) = t
+text_or_empty _ = []
+
+abbrev pub prefix_of : List Setting → Path
+prefix_of settings = text_or_empty (value_named settings (codes "prefix"))
+
+-- the output, by its path in the build folder, goes to a folder below `prefix`, or to one that is absolute
+abbrev pub install_at : Facts → (path : Path) (name : Text) (folder : Path) → InstallData
+install_at facts path name folder = record {
+  source = path_below facts.settings.build_root path;
+  destination = destination (prefix_of facts.options) folder name;
+}
+
+unfoldable pub noted : Option InstallData → Deed (Unit {0})
+noted None = give tt
+noted (Some install) = add_install install
+
+abbrev pub install_dir : ArgumentsData → Option Path
+install_dir a = option_and_then text_in (keyword (codes "install_dir") a)
+
+-- the output is installed where `install_dir` says so
+unfoldable pub installed : (path : Path) → ArgumentsData → Deed (Unit {0})
+installed path a = do
+  facts ← read
+  noted (option_map (install_at facts path (text_of (codes "output") a)) (install_dir a))
+
+-- ---- the call
+
+-- no call changes the data from now on; a dictionary is none
+unfoldable pub frozen_by : Option ℕ → Deed (Unit {0})
+frozen_by None = give tt
+frozen_by (Some number) = freeze_configured number
+
+-- the path of the output: E21, E11
+unfoldable pub output_given : ArgumentsData → Deed Path
+output_given a = do
+  facts ← read
+  _ ← add_output facts.folder (text_of (codes "output") a)
+  answered (within_bytes (path_in facts.folder (text_of (codes "output") a)))
+
+-- The output is taken, the data are frozen, and only then the output is opened. It is filled so, and the call gives it as a file.
+unfoldable pub made : ArgumentsData → GivenData → (filling : Deed (Unit {0})) → Deed (Option Data)
+made a values filling = do
+  path ← output_given a
+  _ ← frozen_by values.number
+  _ ← output_written path filling
+  _ ← installed path a
+  give (Some (object (objects.File path true)))
+
+-- with a template, or without one
+unfoldable pub configured : ArgumentsData → Option Path → GivenData → Deed (Option Data)
+configured a None values = made a values (header_written values.entries)
+configured a (Some path) values = do
+  bytes ← template_at path
+  made a values (template_written values.entries path bytes)
+
+-- `configure_file()`: E9, E14, E21, E11; E19 or E22 at the template's first line that is refused, when the lines before it are written
+unfoldable pub configure_file : ArgumentsData → Deed (Option Data)
+configure_file a = do
+  _ ← need (has_meson_format a) refusals.LeftOut []
+  _ ← need (is_file_name (text_of (codes "output") a)) refusals.Arguments []
+  input ← input_given a
+  values ← values_given a
+  configured a input values

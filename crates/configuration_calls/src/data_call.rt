@@ -1,0 +1,89 @@
+//! `configuration_data`, and copies of what it gives.
+ghost use Rattle.std.specs.Prelude.{◌≡◌, IfOk, option_map};
+ghost use Rattle.arguments.specs.Arguments.{arguments_data};
+ghost use Rattle.data.specs.View.{data_of};
+ghost use Rattle.world.specs.Answering.{Carries};
+ghost use Rattle.world.specs.Caller.{state_of};
+ghost use Rattle.world.specs.Configuring.{configuration_at};
+ghost use Rattle.world.specs.Store.{world_of};
+ghost use Rattle.configuration_calls.specs.ConfigurationData.{configuration_data, copy_configuration, said_data};
+ghost use Rattle.configuration_calls.specs.Contents.{unfrozen};
+ghost use Rattle.configuration_calls.specs.Given.{data_given, data_with};
+
+use crate::contents::entries_in;
+use arguments::Arguments;
+use data::{Object, Value};
+use faults::Refusal;
+use ports::{Outputs, Tree};
+use std::alloc::{AllocError, Global};
+use template::ConfigData;
+use world::{Caller, Stop, Store};
+
+fn data_with(alloc: Global, value: &Value) -> Result<Option<ConfigData>, AllocError>
+    ensures { IfOk result (λ c. c ≡ data_with (data_of value.now)) }
+{
+    match value {
+        Value::Dictionary(dictionary) => entries_in(alloc, dictionary),
+        _ => Ok(None),
+    }
+}
+
+fn data_given(alloc: Global, value: Option<&Value>) -> Result<Option<ConfigData>, AllocError>
+    ensures { IfOk result (λ c. c ≡ data_given (option_map (λ v. data_of v.now) value.entry)) }
+{
+    match value {
+        Some(value) => data_with(alloc, value),
+        None => Ok(Some(ConfigData::new(alloc))),
+    }
+}
+
+// The data that the arguments describe.
+fn said_data<T: Tree, O: Outputs>(
+    caller: &Caller<'_, T, O>,
+    arguments: &Arguments,
+) -> Result<ConfigData, Stop>
+    ensures { Carries (λ c. c) (said_data (arguments_data arguments.now))
+        (state_of T.seen O.seen caller.now) result (state_of T.seen O.seen caller.now) }
+{
+    let found = data_given(caller.alloc, arguments.argument(0))?;
+    match found {
+        Some(values) => Ok(values),
+        None => caller.refuse(Refusal::Arguments, ""),
+    }
+}
+
+/// `configuration_data(dictionary)`: E9 where a key is no name, or a value no text, integer or truth value.
+pub fn configuration_data<T: Tree, O: Outputs>(
+    caller: &mut Caller<'_, T, O>,
+    arguments: &Arguments,
+) -> Result<Option<Value>, Stop>
+    ensures { Carries (option_map data_of) (configuration_data (arguments_data arguments.now))
+        (state_of T.seen O.seen caller.old) result (state_of T.seen O.seen caller.new) }
+{
+    let values = said_data(caller, arguments)?;
+    let number = caller.add_configuration(values)?;
+    let value = Value::of_object(caller.alloc, Object::ConfigurationData(number))?;
+    Ok(Some(value))
+}
+
+/// An unfrozen copy of the configuration data with a number.
+pub fn copy_of(alloc: Global, store: &Store, number: usize) -> Result<ConfigData, AllocError>
+    ensures { IfOk result (λ c. c ≡ unfrozen (configuration_at number (world_of store.now).facts.configurations).entries) }
+{
+    match store.configuration(number) {
+        Some(values) => values.copy(),
+        None => Ok(ConfigData::new(alloc)),
+    }
+}
+
+/// An unfrozen copy of the configuration data with a number, as an assignment makes it, by its own number.
+pub fn copied<T: Tree, O: Outputs>(
+    caller: &mut Caller<'_, T, O>,
+    number: usize,
+) -> Result<usize, Stop>
+    ensures { Carries (λ n. n) (copy_configuration number)
+        (state_of T.seen O.seen caller.old) result (state_of T.seen O.seen caller.new) }
+{
+    let copy = copy_of(caller.alloc, caller.store, number)?;
+    caller.add_configuration(copy)
+}

@@ -1,0 +1,184 @@
+//! `configure_file`: a file that is made while the definition files are read.
+ghost use Rattle.std.specs.Prelude.{◌≡◌, IfOk, Some, option_map, string_bytes};
+ghost use Rattle.arguments.specs.Arguments.{arguments_data};
+ghost use Rattle.data.specs.View.{data_of};
+ghost use Rattle.project.specs.View.{install_view};
+ghost use Rattle.world.specs.Answering.{Carries, HasRoom};
+ghost use Rattle.world.specs.Caller.{state_of};
+ghost use Rattle.world.specs.Store.{world_of};
+ghost use Rattle.configuration_calls.specs.ConfigureFile.{configure_file, configured, frozen_by, install_at, install_dir, installed, made};
+ghost use Rattle.configuration_calls.specs.ConfigureFile.{output_given, prefix_of};
+ghost use Rattle.configuration_calls.specs.GivenView.{given_view};
+ghost use Rattle.configuration_calls.specs.Written.{CarriesOf, filling_in};
+
+use crate::said::{Given, has_meson_format, input_given, is_file_name, values_given};
+use crate::written::write_output;
+use arguments::Arguments;
+use data::{Object, Text, Value};
+use faults::Refusal;
+use operators::path_below;
+use options::OptionValue;
+use ports::{Outputs, Tree};
+use project::Install;
+use resources::destination;
+use std::alloc::{AllocError, Global};
+use targets::path_in;
+use world::{Caller, Stop, Store};
+
+fn prefix_of(store: &Store) -> &str
+    ensures { result.now ≡ prefix_of (world_of store.now).facts.options }
+{
+    match store.option("prefix") {
+        Some(OptionValue::Text(text)) => text.as_str(),
+        _ => "",
+    }
+}
+
+// The folder that the output is installed in.
+fn install_dir(arguments: &Arguments) -> Option<&Text>
+    ensures { option_map (λ t. t.now) result ≡ install_dir (arguments_data arguments.now) }
+{
+    match arguments.keyword("install_dir") {
+        Some(value) => value.as_text(),
+        None => None,
+    }
+}
+
+// Where an output goes that is installed.
+fn install_at(
+    alloc: Global,
+    store: &Store,
+    path: &str,
+    name: &str,
+    folder: &str,
+) -> Result<Install, AllocError>
+    ensures { IfOk result (λ i. install_view i ≡ install_at (world_of store.now).facts path.now name.now folder.now) }
+{
+    let build_root = store.settings().build_root.as_str();
+    Ok(Install {
+        source: path_below(alloc, build_root, path)?,
+        destination: destination(alloc, prefix_of(store), folder, name)?,
+    })
+}
+
+// Notes where the output goes, where it is installed.
+fn install<T: Tree, O: Outputs>(
+    caller: &mut Caller<'_, T, O>,
+    path: &str,
+    arguments: &Arguments,
+) -> Result<(), Stop>
+    ensures { Carries (λ u. u) (installed path.now (arguments_data arguments.now))
+        (state_of T.seen O.seen caller.old) result (state_of T.seen O.seen caller.new) }
+{
+    match install_dir(arguments) {
+        Some(folder) => {
+            let name = arguments.text("output");
+            let install = install_at(caller.alloc, caller.store, path, name, folder.as_str())?;
+            caller.add_install(install)
+        }
+        None => Ok(()),
+    }
+}
+
+// Takes the path of the output.
+fn output_given<T: Tree, O: Outputs>(
+    caller: &mut Caller<'_, T, O>,
+    arguments: &Arguments,
+) -> Result<Text, Stop>
+    ensures { Carries (λ t. t) (output_given (arguments_data arguments.now))
+        (state_of T.seen O.seen caller.old) result (state_of T.seen O.seen caller.new) }
+{
+    let name = arguments.text("output");
+    let folder = String::from_str(caller.alloc, caller.store.folder())?;
+    caller.add_output(folder.as_str(), name)?;
+    let path = path_in(caller.alloc, folder.as_str(), name)?;
+    let text = Text::new(caller.alloc, path)?;
+    caller.answered(text)
+}
+
+// Lets no call change the data from now on.
+fn freeze<T: Tree, O: Outputs>(
+    caller: &mut Caller<'_, T, O>,
+    number: Option<usize>,
+) -> Result<(), Stop>
+    ensures { Carries (λ u. u) (frozen_by number)
+        (state_of T.seen O.seen caller.old) result (state_of T.seen O.seen caller.new) }
+{
+    match number {
+        Some(number) => caller.freeze_configured(number),
+        None => Ok(()),
+    }
+}
+
+// Makes the output, with a template or without one.
+fn make<T: Tree, O: Outputs>(
+    caller: &mut Caller<'_, T, O>,
+    arguments: &Arguments,
+    given: &Given,
+    template: Option<&str>,
+) -> Result<Option<Value>, Stop>
+    requires { HasRoom (state_of T.seen O.seen caller.old) }
+    ensures { CarriesOf (option_map data_of) (λ files. made (arguments_data arguments.now) (given_view given.now)
+        (filling_in (given_view given.now).entries (option_map (λ t. t.now) template.entry) files))
+        (state_of T.seen O.seen caller.old) result (state_of T.seen O.seen caller.new) }
+{
+    let path = output_given(caller, arguments)?;
+    freeze(caller, given.number)?;
+    write_output(caller, path.as_str(), &given.values, template)?;
+    install(caller, path.as_str(), arguments)?;
+    let is_built = true;
+    let value = Value::of_object(caller.alloc, Object::File { path, is_built })?;
+    Ok(Some(value))
+}
+
+// Makes the output with the template at a path.
+fn make_from<T: Tree, O: Outputs>(
+    caller: &mut Caller<'_, T, O>,
+    arguments: &Arguments,
+    given: &Given,
+    template: &str,
+) -> Result<Option<Value>, Stop>
+    requires { HasRoom (state_of T.seen O.seen caller.old) }
+    ensures { Carries (option_map data_of) (configured (arguments_data arguments.now) (Some template.now) (given_view given.now))
+        (state_of T.seen O.seen caller.old) result (state_of T.seen O.seen caller.new) }
+{
+    caller.require_file(template)?;
+    make(caller, arguments, given, Some(template))
+}
+
+fn configure<T: Tree, O: Outputs>(
+    caller: &mut Caller<'_, T, O>,
+    arguments: &Arguments,
+    given: &Given,
+    input: &Option<String>,
+) -> Result<Option<Value>, Stop>
+    requires { HasRoom (state_of T.seen O.seen caller.old) }
+    ensures { Carries (option_map data_of) (configured (arguments_data arguments.now) (option_map string_bytes input.now) (given_view given.now))
+        (state_of T.seen O.seen caller.old) result (state_of T.seen O.seen caller.new) }
+{
+    match input {
+        Some(template) => make_from(caller, arguments, given, template.as_str()),
+        None => make(caller, arguments, given, None),
+    }
+}
+
+/// `configure_file()`: E9, E14, E21, E11 in this order; E19 or E22 at the template's first line that is refused, when the lines before it are
+/// written.
+pub fn configure_file<T: Tree, O: Outputs>(
+    caller: &mut Caller<'_, T, O>,
+    arguments: &Arguments,
+) -> Result<Option<Value>, Stop>
+    requires { HasRoom (state_of T.seen O.seen caller.old) }
+    ensures { Carries (option_map data_of) (configure_file (arguments_data arguments.now))
+        (state_of T.seen O.seen caller.old) result (state_of T.seen O.seen caller.new) }
+{
+    caller.need(has_meson_format(arguments), Refusal::LeftOut, "")?;
+    caller.need(
+        is_file_name(arguments.text("output")),
+        Refusal::Arguments,
+        "",
+    )?;
+    let input = input_given(caller, arguments)?;
+    let given = values_given(caller, arguments)?;
+    configure(caller, arguments, &given, &input)
+}

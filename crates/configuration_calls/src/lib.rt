@@ -1,0 +1,17 @@
+//! Configuration data and the files that are made of it: `configuration_data` and `configure_file` of the page "Reference manual", and the
+//! methods of its type `cfg_data`.
+#![tactic(auto)]
+
+mod contents;
+mod data_call;
+mod file_call;
+mod methods;
+mod rows;
+mod said;
+mod written;
+
+pub use data_call::{configuration_data, copied};
+pub use file_call::configure_file;
+pub use methods::{configuration_method, has_configuration_method};
+pub use rows::{configuration_data_row, configure_file_row, other_format_row};
+pub use said::has_meson_format;

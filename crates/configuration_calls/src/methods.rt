@@ -1,0 +1,342 @@
+//! The methods of configuration data: the type `cfg_data` of the page "Reference manual".
+ghost use Rattle.std.specs.Prelude.{◌≡◌, IfOk, map, option_and_then, option_map};
+ghost use Rattle.arguments.specs.Arguments.{arguments_data};
+ghost use Rattle.arguments.specs.Given.{argument};
+ghost use Rattle.arguments.specs.Row.{checked};
+ghost use Rattle.data.specs.View.{data_of};
+ghost use Rattle.template.specs.Config.{names, value_of};
+ghost use Rattle.template.specs.ConfigData.{content_of};
+ghost use Rattle.world.specs.Answering.{Carries};
+ghost use Rattle.world.specs.Caller.{state_of};
+ghost use Rattle.world.specs.Deed.{fitting};
+ghost use Rattle.world.specs.Store.{world_of};
+ghost use Rattle.configuration_calls.specs.Contents.{content_in};
+ghost use Rattle.configuration_calls.specs.Given.{entries_of, number_in};
+ghost use Rattle.configuration_calls.specs.Methods.{configuration_method, content_given, does, fitting_does, get, get_unquoted, has, has_method};
+ghost use Rattle.configuration_calls.specs.Methods.{keys, merge_from, name_given, named, one_or_zero, other_given, set, set10, set_text_quoted};
+ghost use Rattle.configuration_calls.specs.Rows.{row_of};
+
+use crate::contents::{content_in, found_or, found_unquoted, is_name, texts_list};
+use crate::data_call::copy_of;
+use crate::rows::row_of;
+use arguments::{Arguments, check};
+use data::{Object, Value};
+use faults::Refusal;
+use ports::{Outputs, Tree};
+use std::alloc::{AllocError, Global};
+use template::ConfigValue;
+use world::{Caller, Stop, Store};
+
+/// A method of configuration data.
+#[derive(Clone, Copy)]
+pub enum Method {
+    Get,
+    GetUnquoted,
+    Has,
+    Keys,
+    MergeFrom,
+    Set,
+    Set10,
+    SetQuoted,
+}
+
+impl Method {
+    /// The method of a name.
+    pub fn named(name: &str) -> Option<Method>
+        ensures { result ≡ named name.now }
+    {
+        match name {
+            "get" => Some(Method::Get),
+            "get_unquoted" => Some(Method::GetUnquoted),
+            "has" => Some(Method::Has),
+            "keys" => Some(Method::Keys),
+            "merge_from" => Some(Method::MergeFrom),
+            "set" => Some(Method::Set),
+            "set10" => Some(Method::Set10),
+            "set_quoted" => Some(Method::SetQuoted),
+            _ => None,
+        }
+    }
+}
+
+/// Whether configuration data have a method of a name. It takes no memory.
+pub fn has_configuration_method(name: &str) -> bool
+    ensures { result ≡ has_method name.now }
+{
+    Method::named(name).is_some()
+}
+
+// The name that a call is given first.
+fn name_given<'a, T: Tree, O: Outputs>(
+    caller: &Caller<'_, T, O>,
+    arguments: &'a Arguments,
+) -> Result<&'a str, Stop>
+    ensures { Carries (λ n. n.now) (name_given (arguments_data arguments.now))
+        (state_of T.seen O.seen caller.now) result (state_of T.seen O.seen caller.now) }
+{
+    let name = arguments.text_at(0);
+    caller.need(is_name(name), Refusal::Arguments, "")?;
+    Ok(name)
+}
+
+// What a name stands for in the data with a number.
+fn content_at<'s>(store: &'s Store, number: usize, name: &str) -> Option<&'s ConfigValue>
+    ensures { option_map (λ c. content_of c.now) result ≡ value_of (entries_of (world_of store.now).facts number) name.now }
+{
+    match store.configuration(number) {
+        Some(values) => values.get(name),
+        None => None,
+    }
+}
+
+// The names in the data with a number.
+fn names_at(alloc: Global, store: &Store, number: usize) -> Result<Vec<&str>, AllocError>
+    ensures { IfOk result (λ v. map (λ n. n.now) v.items ≡ names (entries_of (world_of store.now).facts number)) }
+{
+    match store.configuration(number) {
+        Some(values) => values.keys(),
+        None => Ok(Vec::new(alloc)),
+    }
+}
+
+fn get<T: Tree, O: Outputs>(
+    caller: &Caller<'_, T, O>,
+    number: usize,
+    arguments: &Arguments,
+) -> Result<Option<Value>, Stop>
+    ensures { Carries (option_map data_of) (get number (arguments_data arguments.now))
+        (state_of T.seen O.seen caller.now) result (state_of T.seen O.seen caller.now) }
+{
+    let name = name_given(caller, arguments)?;
+    let content = content_at(caller.store, number, name);
+    let answer = found_or(caller.alloc, content, arguments.argument(1))?;
+    let value = caller.answered(answer)?;
+    Ok(Some(value))
+}
+
+fn get_unquoted<T: Tree, O: Outputs>(
+    caller: &Caller<'_, T, O>,
+    number: usize,
+    arguments: &Arguments,
+) -> Result<Option<Value>, Stop>
+    ensures { Carries (option_map data_of) (get_unquoted number (arguments_data arguments.now))
+        (state_of T.seen O.seen caller.now) result (state_of T.seen O.seen caller.now) }
+{
+    let name = name_given(caller, arguments)?;
+    let content = content_at(caller.store, number, name);
+    let answer = found_unquoted(caller.alloc, content, arguments.argument(1))?;
+    let value = caller.answered(answer)?;
+    Ok(Some(value))
+}
+
+fn has<T: Tree, O: Outputs>(
+    caller: &Caller<'_, T, O>,
+    number: usize,
+    arguments: &Arguments,
+) -> Result<Option<Value>, Stop>
+    ensures { Carries (option_map data_of) (has number (arguments_data arguments.now))
+        (state_of T.seen O.seen caller.now) result (state_of T.seen O.seen caller.now) }
+{
+    let name = name_given(caller, arguments)?;
+    let content = content_at(caller.store, number, name);
+    Ok(Some(Value::Boolean(content.is_some())))
+}
+
+fn keys<T: Tree, O: Outputs>(
+    caller: &Caller<'_, T, O>,
+    number: usize,
+) -> Result<Option<Value>, Stop>
+    ensures { Carries (option_map data_of) (keys number)
+        (state_of T.seen O.seen caller.now) result (state_of T.seen O.seen caller.now) }
+{
+    let names = names_at(caller.alloc, caller.store, number)?;
+    let answer = texts_list(caller.alloc, &names)?;
+    let value = caller.answered(answer)?;
+    Ok(Some(value))
+}
+
+/// The number of the configuration data that a value is.
+pub fn number_in(value: &Value) -> Option<usize>
+    ensures { result ≡ number_in (data_of value.now) }
+{
+    match value {
+        Value::Object(object) => match &**object {
+            Object::ConfigurationData(number) => Some(*number),
+            _ => None,
+        },
+        _ => None,
+    }
+}
+
+fn first_number(arguments: &Arguments) -> Option<usize>
+    ensures { result ≡ option_and_then number_in (argument 0 (arguments_data arguments.now)) }
+{
+    match arguments.argument(0) {
+        Some(value) => number_in(value),
+        None => None,
+    }
+}
+
+// The number of the data that a call is given.
+fn other_given<T: Tree, O: Outputs>(
+    caller: &Caller<'_, T, O>,
+    arguments: &Arguments,
+) -> Result<usize, Stop>
+    ensures { Carries (λ n. n) (other_given (arguments_data arguments.now))
+        (state_of T.seen O.seen caller.now) result (state_of T.seen O.seen caller.now) }
+{
+    match first_number(arguments) {
+        Some(number) => Ok(number),
+        None => caller.refuse(Refusal::Arguments, ""),
+    }
+}
+
+fn merge_from<T: Tree, O: Outputs>(
+    caller: &mut Caller<'_, T, O>,
+    number: usize,
+    arguments: &Arguments,
+) -> Result<Option<Value>, Stop>
+    ensures { Carries (option_map data_of) (merge_from number (arguments_data arguments.now))
+        (state_of T.seen O.seen caller.old) result (state_of T.seen O.seen caller.new) }
+{
+    let other = other_given(caller, arguments)?;
+    let others = copy_of(caller.alloc, caller.store, other)?;
+    caller.merge_configured(number, &others)?;
+    Ok(None)
+}
+
+fn content_or_none(alloc: Global, value: Option<&Value>) -> Result<Option<ConfigValue>, AllocError>
+    ensures { IfOk result (λ c. option_map content_of c ≡ option_and_then content_in (option_map (λ v. data_of v.now) value.entry)) }
+{
+    match value {
+        Some(value) => content_in(alloc, value),
+        None => Ok(None),
+    }
+}
+
+// What a call gives a name.
+fn content_given<T: Tree, O: Outputs>(
+    caller: &Caller<'_, T, O>,
+    arguments: &Arguments,
+) -> Result<ConfigValue, Stop>
+    ensures { Carries content_of (content_given (arguments_data arguments.now))
+        (state_of T.seen O.seen caller.now) result (state_of T.seen O.seen caller.now) }
+{
+    let found = content_or_none(caller.alloc, arguments.argument(1))?;
+    match found {
+        Some(content) => Ok(content),
+        None => caller.refuse(Refusal::Arguments, ""),
+    }
+}
+
+fn set<T: Tree, O: Outputs>(
+    caller: &mut Caller<'_, T, O>,
+    number: usize,
+    arguments: &Arguments,
+) -> Result<Option<Value>, Stop>
+    ensures { Carries (option_map data_of) (set number (arguments_data arguments.now))
+        (state_of T.seen O.seen caller.old) result (state_of T.seen O.seen caller.new) }
+{
+    let name = name_given(caller, arguments)?;
+    let content = content_given(caller, arguments)?;
+    caller.set_configured(number, name, content)?;
+    Ok(None)
+}
+
+fn one_or_zero(is_so: bool) -> ConfigValue
+    ensures { content_of result ≡ one_or_zero is_so }
+{
+    ConfigValue::Integer(if is_so { 1 } else { 0 })
+}
+
+fn set10<T: Tree, O: Outputs>(
+    caller: &mut Caller<'_, T, O>,
+    number: usize,
+    arguments: &Arguments,
+) -> Result<Option<Value>, Stop>
+    ensures { Carries (option_map data_of) (set10 number (arguments_data arguments.now))
+        (state_of T.seen O.seen caller.old) result (state_of T.seen O.seen caller.new) }
+{
+    let name = name_given(caller, arguments)?;
+    let content = one_or_zero(arguments.flag_at(1, false));
+    caller.set_configured(number, name, content)?;
+    Ok(None)
+}
+
+fn set_text_quoted<T: Tree, O: Outputs>(
+    caller: &mut Caller<'_, T, O>,
+    number: usize,
+    arguments: &Arguments,
+) -> Result<Option<Value>, Stop>
+    ensures { Carries (option_map data_of) (set_text_quoted number (arguments_data arguments.now))
+        (state_of T.seen O.seen caller.old) result (state_of T.seen O.seen caller.new) }
+{
+    let name = name_given(caller, arguments)?;
+    caller.set_quoted(number, name, arguments.text_at(1))?;
+    Ok(None)
+}
+
+// What a method does with arguments that its row has let through.
+fn act<T: Tree, O: Outputs>(
+    caller: &mut Caller<'_, T, O>,
+    method: Method,
+    number: usize,
+    arguments: &Arguments,
+) -> Result<Option<Value>, Stop>
+    ensures { Carries (option_map data_of) (does method number (arguments_data arguments.now))
+        (state_of T.seen O.seen caller.old) result (state_of T.seen O.seen caller.new) }
+{
+    match method {
+        Method::Get => get(caller, number, arguments),
+        Method::GetUnquoted => get_unquoted(caller, number, arguments),
+        Method::Has => has(caller, number, arguments),
+        Method::Keys => keys(caller, number),
+        Method::MergeFrom => merge_from(caller, number, arguments),
+        Method::Set => set(caller, number, arguments),
+        Method::Set10 => set10(caller, number, arguments),
+        Method::SetQuoted => set_text_quoted(caller, number, arguments),
+    }
+}
+
+// Refuses arguments that the method does not take.
+fn fit<T: Tree, O: Outputs>(
+    caller: &Caller<'_, T, O>,
+    method: Method,
+    arguments: &Arguments,
+) -> Result<(), Stop>
+    ensures { Carries (λ u. u) (fitting (checked (row_of method) (arguments_data arguments.now)))
+        (state_of T.seen O.seen caller.now) result (state_of T.seen O.seen caller.now) }
+{
+    let answer = check(caller.alloc, &row_of(method), arguments)?;
+    caller.fitting(answer)
+}
+
+fn fitting_act<T: Tree, O: Outputs>(
+    caller: &mut Caller<'_, T, O>,
+    method: Method,
+    number: usize,
+    arguments: &Arguments,
+) -> Result<Option<Value>, Stop>
+    ensures { Carries (option_map data_of) (fitting_does method number (arguments_data arguments.now))
+        (state_of T.seen O.seen caller.old) result (state_of T.seen O.seen caller.new) }
+{
+    fit(caller, method, arguments)?;
+    act(caller, method, number, arguments)
+}
+
+/// A method of the configuration data with a number on its arguments, which its row looks at first: it gives a value, or nothing. The
+/// name is one for which [`has_configuration_method`] is true; of any other it is E8.
+pub fn configuration_method<T: Tree, O: Outputs>(
+    caller: &mut Caller<'_, T, O>,
+    number: usize,
+    name: &str,
+    arguments: &Arguments,
+) -> Result<Option<Value>, Stop>
+    ensures { Carries (option_map data_of) (configuration_method number name.now (arguments_data arguments.now))
+        (state_of T.seen O.seen caller.old) result (state_of T.seen O.seen caller.new) }
+{
+    match Method::named(name) {
+        Some(method) => fitting_act(caller, method, number, arguments),
+        None => caller.refuse(Refusal::UnknownFunction, ""),
+    }
+}

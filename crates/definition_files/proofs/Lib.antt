@@ -1,0 +1,3 @@
+mod Pieces
+pub mod Looked
+pub mod Refused

@@ -1,0 +1,5 @@
+pub mod Files
+pub mod Finding
+pub mod FindingView
+pub mod Places
+pub mod Reading

@@ -1,0 +1,10 @@
+//! Definition files: what is found at their paths, how their bytes are read, and where they are refused.
+#![tactic(auto)]
+
+mod finding;
+mod places;
+mod reading;
+
+pub use finding::{Found, find};
+pub use places::refuse_at;
+pub use reading::{line_at, read_file, refusal_of};

@@ -1,0 +1,16 @@
+use Rattle.std.proofs.Common.{ap, sym, ◌∙◌}
+use Rattle.interp.specs.Expressions.{known_object_method, refused_name}
+use Rattle.interp.proofs.Evaluating.{given_as, given_refuse}
+use Rattle.interp.proofs.evaluator.Evaluator.object_method_at.Goals as goal
+
+pub returns-then-has_object_method-clause-gives : goal.returns-then-has_object_method-clause-gives
+returns-then-has_object_method-clause-gives g c = λ files h.
+    given_as (ap (λ b. known_object_method b c.args.line c.args.object.now c.args.name.now) (sym c.if-has_object_method.true ∙ c.has_object_method.ensures)) (c.asked_of.ensures.gives files h)
+
+pub returns-then-is_left_out_method-clause-gives : goal.returns-then-is_left_out_method-clause-gives
+returns-then-is_left_out_method-clause-gives g c = λ files h.
+    given_as (ap (λ b. known_object_method b c.args.line c.args.object.now c.args.name.now) (sym c.if-has_object_method.false ∙ c.has_object_method.ensures)) (given_as (ap (refused_name c.args.line c.args.name.now) (sym c.if-is_left_out_method.true ∙ c.is_left_out_method.ensures)) (given_refuse h c.left_out.ensures))
+
+pub returns-else-is_left_out_method-clause-gives : goal.returns-else-is_left_out_method-clause-gives
+returns-else-is_left_out_method-clause-gives g c = λ files h.
+    given_as (ap (λ b. known_object_method b c.args.line c.args.object.now c.args.name.now) (sym c.if-has_object_method.false ∙ c.has_object_method.ensures)) (given_as (ap (refused_name c.args.line c.args.name.now) (sym c.if-is_left_out_method.false ∙ c.is_left_out_method.ensures)) (given_refuse h c.refuse.ensures))

@@ -1,0 +1,8 @@
+use Rattle.std.proofs.Common.{ap}
+use Rattle.compiler_methods.proofs.Values.{answers_as}
+use Rattle.data.specs.Data.{text}
+use Rattle.data.specs.Limits.{within}
+use Rattle.objects.proofs.meson_object.project_version_value.Goals as goal
+
+pub returns : goal.returns
+returns c = answers_as _ (ap (λ t. within (text t)) c.project_version.ensures) c.text_value.ensures

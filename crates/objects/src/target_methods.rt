@@ -1,0 +1,272 @@
+//! The methods of targets, and of the outputs of custom targets: the types `build_tgt`, `custom_tgt` and `custom_idx` of the page
+//! "Reference manual".
+ghost use Rattle.std.specs.Prelude.{◌≡◌, IfOk, Some, map, option_map, string_bytes};
+ghost use Rattle.data.specs.Tables.{Answers};
+ghost use Rattle.data.specs.View.{items_of};
+ghost use Rattle.edge.specs.Texts.{texts};
+ghost use Rattle.targets.specs.View.{linked_view, target_view};
+ghost use Rattle.world.specs.Store.{world_of};
+ghost use Rattle.objects.specs.Targets.{answer_by, at, build_answer, build_named, custom_answer, custom_named, name_of, name_value};
+ghost use Rattle.objects.specs.Targets.{only_path, output_answer, output_list, output_named, output_of, outputs_from, path_of, path_value};
+ghost use Rattle.objects.specs.Targets.{told_of};
+
+use crate::meson_object::{build_root, text_value};
+use data::{List, Object, Refusal, Value};
+use operators::path_below;
+use std::alloc::{AllocError, Global};
+use targets::{Linked, Target, file_path, path_in};
+use world::Store;
+
+/// A method of targets.
+#[derive(Clone, Copy)]
+pub enum TargetMethod {
+    FullPath,
+    Name,
+    ToList,
+}
+
+impl TargetMethod {
+    /// The method of a name, of an executable or a library.
+    pub fn build_named(name: &str) -> Option<TargetMethod>
+        ensures { result ≡ build_named name.now }
+    {
+        match name {
+            "full_path" => Some(TargetMethod::FullPath),
+            "name" => Some(TargetMethod::Name),
+            _ => None,
+        }
+    }
+
+    /// The method of a name, of a custom target.
+    pub fn custom_named(name: &str) -> Option<TargetMethod>
+        ensures { result ≡ custom_named name.now }
+    {
+        match name {
+            "full_path" => Some(TargetMethod::FullPath),
+            "name" => Some(TargetMethod::Name),
+            "to_list" => Some(TargetMethod::ToList),
+            _ => None,
+        }
+    }
+
+    /// The method of a name, of an output of a custom target.
+    pub fn output_named(name: &str) -> Option<TargetMethod>
+        ensures { result ≡ output_named name.now }
+    {
+        match name {
+            "full_path" => Some(TargetMethod::FullPath),
+            _ => None,
+        }
+    }
+}
+
+// ---- what a target has
+
+fn name_of(target: &Target) -> &str
+    ensures { result.now ≡ name_of (target_view target.now) }
+{
+    match target {
+        Target::Build(target) => target.name.as_str(),
+        Target::Custom(target) => target.name.as_str(),
+    }
+}
+
+// The path of the only one of the files of a folder.
+fn only_path(alloc: Global, folder: &str, names: &[String]) -> Result<Option<String>, AllocError>
+    ensures { IfOk result (λ path. option_map string_bytes path ≡ only_path folder.now (texts names.now)) }
+{
+    match names {
+        [name] => Ok(Some(path_in(alloc, folder, name.as_str())?)),
+        _ => Ok(None),
+    }
+}
+
+// The path of the target's file, or of the only output of a custom target.
+fn path_of(alloc: Global, target: &Target) -> Result<Option<String>, AllocError>
+    ensures { IfOk result (λ path. option_map string_bytes path ≡ path_of (target_view target.now)) }
+{
+    match target {
+        Target::Build(target) => Ok(Some(file_path(alloc, target)?)),
+        Target::Custom(target) => only_path(alloc, target.folder.as_str(), &target.outputs),
+    }
+}
+
+// The path of an output of a custom target.
+fn output_of(alloc: Global, output: usize, target: &Target) -> Result<Option<String>, AllocError>
+    ensures { IfOk result (λ path. option_map string_bytes path ≡ output_of output (target_view target.now)) }
+{
+    match target {
+        Target::Build(_) => Ok(None),
+        Target::Custom(target) => match target.outputs.get(output) {
+            Some(name) => Ok(Some(path_in(alloc, target.folder.as_str(), name.as_str())?)),
+            None => Ok(None),
+        },
+    }
+}
+
+fn name_at(targets: &[Linked], number: usize) -> Option<&str>
+    ensures { option_map (λ n. n.now) result ≡ at (map linked_view targets.now) number (λ t. Some (name_of t)) }
+{
+    match targets.get(number) {
+        Some(linked) => Some(name_of(&linked.target)),
+        None => None,
+    }
+}
+
+fn path_at(alloc: Global, targets: &[Linked], number: usize) -> Result<Option<String>, AllocError>
+    ensures { IfOk result (λ path. option_map string_bytes path ≡ at (map linked_view targets.now) number path_of) }
+{
+    match targets.get(number) {
+        Some(linked) => path_of(alloc, &linked.target),
+        None => Ok(None),
+    }
+}
+
+fn output_at(
+    alloc: Global,
+    targets: &[Linked],
+    number: usize,
+    output: usize,
+) -> Result<Option<String>, AllocError>
+    ensures { IfOk result (λ path. option_map string_bytes path ≡ at (map linked_view targets.now) number (output_of output)) }
+{
+    match targets.get(number) {
+        Some(linked) => output_of(alloc, output, &linked.target),
+        None => Ok(None),
+    }
+}
+
+// ---- values
+
+fn name_value(alloc: Global, name: Option<&str>) -> Result<Result<Value, Refusal>, AllocError>
+    ensures { IfOk result (λ r. Answers (name_value (option_map (λ n. n.now) name.entry)) r) }
+{
+    match name {
+        Some(name) => text_value(alloc, name),
+        None => Ok(Err(Refusal::Arguments)),
+    }
+}
+
+fn path_value(
+    alloc: Global,
+    build_root: &str,
+    path: Option<String>,
+) -> Result<Result<Value, Refusal>, AllocError>
+    ensures { IfOk result (λ r. Answers (path_value build_root.now (option_map string_bytes path)) r) }
+{
+    match path {
+        Some(path) => Value::of_string(alloc, path_below(alloc, build_root, path.as_str())?),
+        None => Ok(Err(Refusal::Arguments)),
+    }
+}
+
+fn outputs(alloc: Global, target: usize, count: usize) -> Result<Vec<Value>, AllocError>
+    ensures { IfOk result (λ vs. items_of vs.items ≡ outputs_from target count 0) }
+{
+    let mut outputs = Vec::new(alloc);
+    for output in 0..count {
+        outputs.push(Value::of_object(alloc, Object::CustomOutput { target, output })?)?;
+    }
+    Ok(outputs)
+}
+
+// The list of so many outputs of a target.
+fn output_list(
+    alloc: Global,
+    target: usize,
+    count: usize,
+) -> Result<Result<Value, Refusal>, AllocError>
+    ensures { IfOk result (λ r. Answers (output_list target count) r) }
+{
+    match List::from_items(outputs(alloc, target, count)?) {
+        Ok(list) => Ok(Ok(Value::of_list(alloc, list)?)),
+        Err(refusal) => Ok(Err(refusal)),
+    }
+}
+
+// ---- methods
+
+fn told_of(
+    alloc: Global,
+    store: &Store,
+    method: TargetMethod,
+    number: usize,
+    outputs: usize,
+) -> Result<Result<Value, Refusal>, AllocError>
+    ensures { IfOk result (λ r. Answers (told_of method (world_of store.now).facts number outputs) r) }
+{
+    let targets = store.project().targets();
+    match method {
+        TargetMethod::FullPath => {
+            path_value(alloc, build_root(store), path_at(alloc, targets, number)?)
+        }
+        TargetMethod::Name => name_value(alloc, name_at(targets, number)),
+        TargetMethod::ToList => output_list(alloc, number, outputs),
+    }
+}
+
+fn answer_by(
+    alloc: Global,
+    store: &Store,
+    method: Option<TargetMethod>,
+    number: usize,
+    outputs: usize,
+) -> Result<Result<Value, Refusal>, AllocError>
+    ensures { IfOk result (λ r. Answers (answer_by method (world_of store.now).facts number outputs) r) }
+{
+    match method {
+        Some(method) => told_of(alloc, store, method, number, outputs),
+        None => Ok(Err(Refusal::UnknownMethod)),
+    }
+}
+
+/// What the method with a name gives for an executable or a library: `name`, and `full_path`, the absolute path of its file.
+pub fn build_answer(
+    alloc: Global,
+    store: &Store,
+    number: usize,
+    name: &str,
+) -> Result<Result<Value, Refusal>, AllocError>
+    ensures { IfOk result (λ r. Answers (build_answer (world_of store.now).facts number name.now) r) }
+{
+    answer_by(alloc, store, TargetMethod::build_named(name), number, 1)
+}
+
+/// What the method with a name gives for a custom target: `name`, `full_path`, the absolute path of its only output (E9 where it has
+/// several), and `to_list`, its outputs.
+pub fn custom_answer(
+    alloc: Global,
+    store: &Store,
+    number: usize,
+    outputs: usize,
+    name: &str,
+) -> Result<Result<Value, Refusal>, AllocError>
+    ensures { IfOk result (λ r. Answers (custom_answer (world_of store.now).facts number outputs name.now) r) }
+{
+    answer_by(
+        alloc,
+        store,
+        TargetMethod::custom_named(name),
+        number,
+        outputs,
+    )
+}
+
+/// What the method with a name gives for an output of a custom target: `full_path`, its absolute path.
+pub fn output_answer(
+    alloc: Global,
+    store: &Store,
+    target: usize,
+    output: usize,
+    name: &str,
+) -> Result<Result<Value, Refusal>, AllocError>
+    ensures { IfOk result (λ r. Answers (output_answer (world_of store.now).facts target output name.now) r) }
+{
+    match TargetMethod::output_named(name) {
+        Some(_) => {
+            let path = output_at(alloc, store.project().targets(), target, output)?;
+            path_value(alloc, build_root(store), path)
+        }
+        None => Ok(Err(Refusal::UnknownMethod)),
+    }
+}

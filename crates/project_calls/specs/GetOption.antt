@@ -1,0 +1,56 @@
+-- `get_option`.
+use Rattle.std.specs.Prelude.{ℕ, List, [], ◌∷◌, Option, Some, None, Result, Ok, Err}
+use Rattle.data.specs.Data.{Data, boolean, integer, text, list, object, Items, no_items, item, items_append}
+use Rattle.data.specs.Limits.{within, within_bytes}
+use Rattle.data.specs.declared.object.Feature.{Feature}
+use Rattle.data.specs.declared.object.Feature.TheVariants as features
+use Rattle.data.specs.declared.object.Object.TheVariants as objects
+use Rattle.data.specs.declared.refusal.Refusal.{Refusal as OperationRefusal}
+use Rattle.faults.specs.declared.refusal.Refusal.TheVariants as refusals
+use Rattle.arguments.specs.Arguments.{ArgumentsData}
+use Rattle.arguments.specs.Given.{text_at}
+use Rattle.option_values.specs.Values.{Value, Text, Boolean, Combo, Integer, Array, Feature as FeatureValue}
+use Rattle.option_values.specs.declared.kind.FeatureState.{FeatureState}
+use Rattle.option_values.specs.declared.kind.FeatureState.TheVariants as states
+use Rattle.options.specs.Resolves.{value_named}
+use Rattle.world.specs.Deed.{Deed, give, refuse, read, ◌>>=◌, answered}
+
+abbrev pub and_then : {A B : Type 0} → Result A OperationRefusal → (A → Result B OperationRefusal) → Result B OperationRefusal
+and_then (Ok a) next = next a
+and_then (Err refusal) next = Err refusal
+
+-- items, and behind them texts, each within the limit of a text
+abbrev pub texts_behind : Items → List (List ℕ) → Result Items OperationRefusal
+texts_behind ds [] = Ok ds
+texts_behind ds (t ∷ ts) = and_then (within_bytes t) (λ u. texts_behind (items_append ds (item (text u) no_items)) ts)
+
+-- a list of texts, within the limits
+abbrev pub text_list : List (List ℕ) → Result Data OperationRefusal
+text_list ts = and_then (texts_behind no_items ts) (λ ds. within (list ds))
+
+abbrev pub feature_of : FeatureState → Feature
+feature_of states.Enabled = features.Enabled
+feature_of states.Disabled = features.Disabled
+feature_of states.Auto = features.Auto
+
+-- the value of an option as a value of the language, or E22 where it is too large for one; that of a feature is an object
+unfoldable pub as_data : Value → Result Data OperationRefusal
+as_data (Text t) = within (text t)
+as_data (Boolean b) = Ok (boolean b)
+as_data (Combo choice) = within (text choice)
+as_data (Integer n) = Ok (integer n)
+as_data (Array items) = text_list items
+as_data (FeatureValue state) = Ok (object (objects.Feature (feature_of state)))
+
+-- the value of an option, where there is such an option
+unfoldable pub given : Option Value → Deed (Option Data)
+given None = refuse refusals.OptionValue []
+given (Some value) = do
+  d ← answered (as_data value)
+  give (Some d)
+
+-- `get_option(name)`: E15 where no option has the name
+unfoldable pub get_option : ArgumentsData → Deed (Option Data)
+get_option a = do
+  facts ← read
+  given (value_named facts.options (text_at 0 a))

@@ -1,0 +1,102 @@
+-- `project`.
+use Rattle.std.specs.Prelude.{ℕ, Bool, true, false, List, [], ◌∷◌, ◌++◌, Option, None, codes, unwrap_or, option_and_then, if◌then◌else◌}
+use Rattle.std.specs.Prelude.{Result, Ok, Err}
+use Rattle.std.specs.List.{list_all}
+use Rattle.std.specs.Str.{bytes_eq}
+use Rattle.data.specs.Data.{Data, text_in}
+use Rattle.faults.specs.declared.refusal.Refusal.{Refusal}
+use Rattle.faults.specs.declared.refusal.Refusal.TheVariants as refusals
+use Rattle.arguments.specs.Arguments.{ArgumentsData}
+use Rattle.arguments.specs.Given.{keyword, text_at, texts, texts_from}
+use Rattle.definition_files.specs.Places.{refuse_at}
+use Rattle.option_file.specs.Declarations.{Declaration}
+use Rattle.options.specs.Faults.{file_of, line_of}
+use Rattle.options.specs.Resolves.{Resolution, resolved}
+use Rattle.options.specs.Settings.{Setting}
+use Rattle.options.specs.declared.fault.OptionFault.{OptionFault}
+use Rattle.project_calls.specs.Defaults.{defaults_of, printed_values}
+use Rattle.project_calls.specs.OptionFile.{option_file}
+use Rattle.project_facts.specs.Entries.{entries_in}
+use Rattle.project_facts.specs.Flags.{flags_in}
+use Rattle.project_facts.specs.Programs.{program}
+use Rattle.targets.specs.Data.{FactsData}
+use Rattle.world.specs.World.{Facts, begun, with_options}
+use Rattle.world.specs.Deed.{Deed, give, refuse, read, change, ◌>>=◌, answered, fitting, say}
+
+-- what stands behind the name
+abbrev pub texts_behind : ArgumentsData → List (List ℕ)
+texts_behind a = texts_from 1 a
+
+-- the languages of a project: at least one, and none but C
+abbrev pub languages_refusal : List (List ℕ) → Result (Unit {0}) Refusal
+languages_refusal [] = Err refusals.ProjectCall
+languages_refusal (l ∷ ls) = if list_all (bytes_eq (codes "c")) (l ∷ ls) then Ok tt else Err refusals.LeftOut
+
+-- ---- the options
+
+-- what the options come to: those that are built in or declared, with the defaults of the call, what the machine file says, and the words
+-- of the command line
+abbrev pub resolution : ArgumentsData → List (List ℕ) → List Declaration → Facts → Resolution
+resolution a printed declared facts = resolved declared (defaults_of a printed) facts.machine facts.settings.words
+
+-- the user is warned of names that no option has
+unfoldable pub warned : List (List ℕ) → Deed (Unit {0})
+warned [] = give tt
+warned (name ∷ names) = do
+  _ ← say ((codes "WARNING: unknown option " ++ name) ++ codes "\n")
+  warned names
+
+-- the options with their values, or the first fault of a value, at its place, where the option file has this path
+unfoldable pub settled : List ℕ → Result (List Setting) OptionFault → ℕ → Deed (List Setting)
+settled path (Ok settings) call = give settings
+settled path (Err fault) call = refuse_at (file_of path fault.place) (line_of call fault.place) fault.refusal
+
+-- ---- what `project` says
+
+abbrev pub version_of : ArgumentsData → List ℕ
+version_of a = unwrap_or (option_and_then text_in (keyword (codes "version") a)) (codes "undefined")
+
+-- the arguments of the call, the folders, the programs of the machine and the options
+abbrev pub facts_of : ArgumentsData → List Setting → Facts → FactsData
+facts_of a options facts = record {
+  name = text_at 0 a;
+  version = version_of a;
+  license = texts (codes "license") a;
+  depth = facts.settings.depth;
+  source_root = facts.settings.source_root;
+  build_root = facts.settings.build_root;
+  compiler = program facts.machine (codes "c") (codes "cc");
+  archiver = program facts.machine (codes "ar") (codes "ar");
+  flags = flags_in options;
+  options = entries_in options;
+}
+
+-- the warnings, and then the options are set, and the project begins
+unfoldable pub begin : ArgumentsData → List ℕ → Resolution → Deed (Unit {0})
+begin a path r = do
+  _ ← warned r.unknown
+  facts ← read
+  options ← settled path r.outcome facts.line
+  _ ← change (with_options options)
+  change (begun (facts_of a options facts))
+
+-- the first call: its arguments, the option file, the options
+unfoldable pub first_project : ArgumentsData → Deed (Option Data)
+first_project a = do
+  printed ← answered (printed_values a)
+  _ ← fitting (languages_refusal (texts_behind a))
+  file ← option_file
+  facts ← read
+  _ ← begin a file.path (resolution a printed file.declared facts)
+  give None
+
+unfoldable pub project_by : Bool → ArgumentsData → Deed (Option Data)
+project_by true a = refuse refusals.ProjectCall []
+project_by false a = first_project a
+
+-- `project(name, language.., version:, license:, default_options:, meson_version:)`: a later call is refused, whatever it is given; which
+-- version of Meson is asked for has no effect
+unfoldable pub project : ArgumentsData → Deed (Option Data)
+project a = do
+  facts ← read
+  project_by facts.is_begun a

@@ -1,0 +1,13 @@
+//! `project` and `get_option` of the page "Reference manual": how a project begins, and what its options are.
+#![tactic(auto)]
+
+mod declaring;
+mod defaults;
+mod option_call;
+mod project_call;
+mod rows;
+mod values;
+
+pub use option_call::get_option;
+pub use project_call::project;
+pub use rows::{get_option_row, project_row};

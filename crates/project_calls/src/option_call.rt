@@ -1,0 +1,32 @@
+//! `get_option`.
+ghost use Rattle.std.specs.Prelude.{option_map};
+ghost use Rattle.arguments.specs.Arguments.{arguments_data};
+ghost use Rattle.data.specs.View.{data_of};
+ghost use Rattle.world.specs.Answering.{Carries};
+ghost use Rattle.world.specs.Caller.{state_of};
+ghost use Rattle.project_calls.specs.GetOption.{get_option};
+
+use crate::values::as_data;
+use arguments::Arguments;
+use data::Value;
+use faults::Refusal;
+use ports::{Outputs, Tree};
+use world::{Caller, Stop};
+
+/// `get_option(name)`: E15 where no option has the name, E22 where its value is too large for a value of the language.
+pub fn get_option<T: Tree, O: Outputs>(
+    caller: &Caller<'_, T, O>,
+    arguments: &Arguments,
+) -> Result<Option<Value>, Stop>
+    ensures { Carries (option_map data_of) (get_option (arguments_data arguments.now)) (state_of T.seen O.seen caller.now) result
+        (state_of T.seen O.seen caller.now) }
+{
+    match caller.store.option(arguments.text_at(0)) {
+        Some(option) => {
+            let answer = as_data(caller.alloc, option)?;
+            let value = caller.answered(answer)?;
+            Ok(Some(value))
+        }
+        None => caller.refuse(Refusal::OptionValue, ""),
+    }
+}

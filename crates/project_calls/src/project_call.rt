@@ -1,0 +1,239 @@
+//! `project`.
+ghost use Rattle.std.specs.Prelude.{◌≡◌, ◌++◌, [], codes, map, option_map, string_bytes, unwrap_or, IfOk, bytes_eq};
+ghost use Rattle.std.specs.List.{list_all};
+ghost use Rattle.data.specs.Data.{text_in};
+ghost use Rattle.data.specs.View.{data_of};
+ghost use Rattle.arguments.specs.Arguments.{arguments_data};
+ghost use Rattle.option_file.specs.View.{options_in as declared_in};
+ghost use Rattle.option_values.specs.View.{strings_in};
+ghost use Rattle.options.specs.View.{options_in, outcome_in, resolved_in};
+ghost use Rattle.targets.specs.View.{facts_view};
+ghost use Rattle.world.specs.Answering.{Carries, HasRoom};
+ghost use Rattle.world.specs.Caller.{state_of};
+ghost use Rattle.world.specs.Deed.{answered, fitting};
+ghost use Rattle.world.specs.Store.{world_of};
+ghost use Rattle.project_calls.specs.Defaults.{printed_values};
+ghost use Rattle.project_calls.specs.DefaultsView.{strings_of};
+ghost use Rattle.project_calls.specs.Project.{begin, facts_of, first_project, languages_refusal, project, project_by, resolution};
+ghost use Rattle.project_calls.specs.Project.{settled, texts_behind, version_of, warned};
+
+use crate::declaring::option_file;
+use crate::defaults::{defaults, keys_given, printed_all, values_given};
+use arguments::Arguments;
+use data::Value;
+use faults::Refusal;
+use options::{Declared, OptionFault, Options, Resolved, resolve};
+use ports::{Outputs, Tree};
+use project_facts::{flags_of, option_entries, program};
+use std::alloc::{AllocError, Global};
+use targets::Facts;
+use world::{Caller, Stop, Store};
+
+// The languages of a project: at least one, and none but C.
+fn check_languages(languages: &[&str]) -> Result<(), Refusal>
+    ensures { result ≡ languages_refusal (map (λ l. l.now) languages.now) }
+{
+    if languages.is_empty() {
+        return Err(Refusal::ProjectCall);
+    }
+    if are_c(languages) {
+        Ok(())
+    } else {
+        Err(Refusal::LeftOut)
+    }
+}
+
+fn are_c(languages: &[&str]) -> bool
+    ensures { result ≡ list_all (bytes_eq (codes "c")) (map (λ l. l.now) languages.now) }
+{
+    for language in languages {
+        if *language != "c" {
+            return false;
+        }
+    }
+    true
+}
+
+// Warns the user of names that no option has.
+fn warn<T: Tree, O: Outputs>(caller: &mut Caller<'_, T, O>, names: &[String]) -> Result<(), Stop>
+    requires { HasRoom (state_of T.seen O.seen caller.old) }
+    ensures { Carries (λ u. u) (warned (strings_in names.now)) (state_of T.seen O.seen caller.old) result
+        (state_of T.seen O.seen caller.new) }
+{
+    for name in names {
+        let line = warning_of(caller.alloc, name.as_str())?;
+        caller.say(line.as_str())?;
+    }
+    Ok(())
+}
+
+// The line of the log that warns of a name.
+fn warning_of(alloc: Global, name: &str) -> Result<String, AllocError>
+    ensures { IfOk result (λ line. string_bytes line ≡ (codes "WARNING: unknown option " ++ name.now) ++ codes "\n") }
+{
+    let mut line = String::from_str(alloc, "WARNING: unknown option ")?;
+    line.push_str(name)?;
+    line.push_str("\n")?;
+    Ok(line)
+}
+
+// The options with their values, or the stop of the first fault of one, where the option file has this path.
+fn settle<T: Tree, O: Outputs>(
+    caller: &Caller<'_, T, O>,
+    path: &str,
+    outcome: Result<Options, OptionFault>,
+) -> Result<Options, Stop>
+    ensures { Carries options_in (settled path.now (outcome_in outcome) caller.now.store.now.line) (state_of T.seen O.seen caller.now)
+        result (state_of T.seen O.seen caller.now) }
+{
+    match outcome {
+        Ok(options) => Ok(options),
+        Err(fault) => {
+            let line = caller.store.line();
+            Err(Stop::Refused(fault.told_in(caller.alloc, path, line)?))
+        }
+    }
+}
+
+// What the options come to, of which these are declared.
+fn resolution(
+    alloc: Global,
+    arguments: &Arguments,
+    printed: &[String],
+    declared: &Declared,
+    store: &Store,
+) -> Result<Resolved, AllocError>
+    ensures { IfOk result (λ r. resolved_in r ≡ resolution (arguments_data arguments.now) (strings_in printed.now) (declared_in declared.now)
+        (world_of store.now).facts) }
+{
+    let texts = arguments.texts(alloc, "default_options")?;
+    let defaults = defaults(alloc, &texts, keys_given(arguments), printed)?;
+    let settings = store.settings();
+    resolve(alloc, declared, &defaults, store.machine(), &settings.words)
+}
+
+fn version_of(arguments: &Arguments) -> &str
+    ensures { result.now ≡ version_of (arguments_data arguments.now) }
+{
+    match arguments.keyword("version") {
+        Some(value) => text_or_undefined(value),
+        None => "undefined",
+    }
+}
+
+fn text_or_undefined(value: &Value) -> &str
+    ensures { result.now ≡ unwrap_or (text_in (data_of value.now)) (codes "undefined") }
+{
+    match value.as_text() {
+        Some(text) => text.as_str(),
+        None => "undefined",
+    }
+}
+
+// What the arguments, the options and the machine file say of the project.
+fn facts_of(
+    alloc: Global,
+    arguments: &Arguments,
+    options: &Options,
+    store: &Store,
+) -> Result<Facts, AllocError>
+    ensures { IfOk result (λ f. facts_view f
+        ≡ facts_of (arguments_data arguments.now) (options_in options.now) (world_of store.now).facts) }
+{
+    let settings = store.settings();
+    Ok(Facts {
+        name: String::from_str(alloc, arguments.text_at(0))?,
+        version: String::from_str(alloc, version_of(arguments))?,
+        license: arguments.texts(alloc, "license")?,
+        depth: settings.depth,
+        source_root: String::from_str(alloc, settings.source_root.as_str())?,
+        build_root: String::from_str(alloc, settings.build_root.as_str())?,
+        compiler: program(alloc, store.machine(), "c", "cc")?,
+        archiver: program(alloc, store.machine(), "ar", "ar")?,
+        flags: flags_of(alloc, options)?,
+        options: option_entries(alloc, options)?,
+    })
+}
+
+// Warns, sets the options, and begins the project.
+fn begin<T: Tree, O: Outputs>(
+    caller: &mut Caller<'_, T, O>,
+    arguments: &Arguments,
+    path: &str,
+    resolved: Resolved,
+) -> Result<(), Stop>
+    requires { HasRoom (state_of T.seen O.seen caller.old) }
+    ensures { Carries (λ u. u) (begin (arguments_data arguments.now) path.now (resolved_in resolved)) (state_of T.seen O.seen caller.old)
+        result (state_of T.seen O.seen caller.new) }
+{
+    let Resolved { unknown, outcome } = resolved;
+    warn(caller, &unknown)?;
+    let options = settle(caller, path, outcome)?;
+    let facts = facts_of(caller.alloc, arguments, &options, caller.store)?;
+    caller.store.set_options(options);
+    caller.begin(facts)
+}
+
+// The values of a dictionary of defaults, as they are printed.
+fn printed_defaults<T: Tree, O: Outputs>(
+    caller: &Caller<'_, T, O>,
+    arguments: &Arguments,
+) -> Result<Vec<String>, Stop>
+    ensures { Carries strings_of (answered (printed_values (arguments_data arguments.now))) (state_of T.seen O.seen caller.now) result
+        (state_of T.seen O.seen caller.now) }
+{
+    let answer = printed_all(caller.alloc, values_given(arguments))?;
+    caller.answered(answer)
+}
+
+// Refuses languages other than C.
+fn require_c<T: Tree, O: Outputs>(
+    caller: &Caller<'_, T, O>,
+    arguments: &Arguments,
+) -> Result<(), Stop>
+    ensures { Carries (λ u. u) (fitting (languages_refusal (texts_behind (arguments_data arguments.now)))) (state_of T.seen O.seen caller.now)
+        result (state_of T.seen O.seen caller.now) }
+{
+    let languages = arguments.texts_behind(caller.alloc, 1)?;
+    caller.fitting(check_languages(&languages))
+}
+
+// The first call.
+fn first_project<T: Tree, O: Outputs>(
+    caller: &mut Caller<'_, T, O>,
+    arguments: &Arguments,
+) -> Result<Option<Value>, Stop>
+    requires { HasRoom (state_of T.seen O.seen caller.old) }
+    ensures { Carries (option_map data_of) (first_project (arguments_data arguments.now)) (state_of T.seen O.seen caller.old) result
+        (state_of T.seen O.seen caller.new) }
+{
+    let printed = printed_defaults(caller, arguments)?;
+    require_c(caller, arguments)?;
+    let file = option_file(caller)?;
+    let resolved = resolution(
+        caller.alloc,
+        arguments,
+        &printed,
+        &file.declared,
+        caller.store,
+    )?;
+    begin(caller, arguments, file.path, resolved)?;
+    Ok(None)
+}
+
+/// `project(name, language.., version:, license:, default_options:, meson_version:)`: a later call is refused, whatever it is given.
+pub fn project<T: Tree, O: Outputs>(
+    caller: &mut Caller<'_, T, O>,
+    arguments: &Arguments,
+) -> Result<Option<Value>, Stop>
+    requires { HasRoom (state_of T.seen O.seen caller.old) }
+    ensures { Carries (option_map data_of) (project (arguments_data arguments.now)) (state_of T.seen O.seen caller.old) result
+        (state_of T.seen O.seen caller.new) }
+{
+    let is_begun = caller.store.is_begun();
+    if is_begun {
+        caller.refuse(Refusal::ProjectCall, "")
+    } else {
+        first_project(caller, arguments)
+    }
+}

@@ -1,0 +1,13 @@
+use Rattle.std.proofs.Common.{◌≡◌, [], map, drop}
+use Rattle.arguments.specs.Arguments.{arguments_data}
+use Rattle.project.specs.View.{install_view}
+use Rattle.target_arguments.specs.SourcesView.{named_view}
+use Rattle.resource_calls.specs.Destinations.{installs_behind}
+use Rattle.resource_calls.specs.DestinationsView.{folders_view}
+use Rattle.resource_calls.proofs.destinations.installs_of.Given as goal
+
+-- what is installed so far and the files that are left decide
+abbrev pub invariant-loop-one : goal.invariant-loop-one
+invariant-loop-one l =
+    installs_behind (folders_view l.folders) l.sort (arguments_data l.arguments) (map install_view l.installs.items) (map named_view (drop l.one-index l.named))
+    ≡ installs_behind (folders_view l.folders) l.sort (arguments_data l.arguments) [] (map named_view l.named)

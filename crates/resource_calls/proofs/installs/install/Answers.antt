@@ -1,0 +1,34 @@
+use Rattle.std.proofs.Common.{map, ap, refl}
+use Rattle.project.specs.View.{install_view}
+use Rattle.target_arguments.specs.SourcesView.{named_view}
+use Rattle.world.proofs.Answering.{carries_as, carries_give, carries_stop, carries_then}
+use Rattle.resource_calls.specs.Installs.{all_installed, install}
+use Rattle.resource_calls.specs.NamedFiles.{files_required}
+use Rattle.resource_calls.proofs.installs.install.Goals as goal
+
+pub returns-in_err-said : goal.returns-in_err-said
+unfolding install
+returns-in_err-said g c = carries_stop c.in_err-said.ensures c.from_residual.ensures.1
+
+pub returns-in_err-require_files : goal.returns-in_err-require_files
+unfolding install
+returns-in_err-require_files g c =
+    carries_then {x = c.in_ok-said.said} c.in_ok-said.ensures
+    (carries_stop (carries_as (ap (λ ns. files_required (map named_view ns)) c.deref.ensures.value) c.in_err-require_files.ensures)
+    c.from_residual-in_err-require_files.ensures.1)
+
+pub returns-in_err-install_all : goal.returns-in_err-install_all
+unfolding install
+returns-in_err-install_all g c =
+    carries_then {x = c.in_ok-said.said} c.in_ok-said.ensures
+    (carries_then (carries_as (ap (λ ns. files_required (map named_view ns)) c.deref.ensures.value) c.in_ok-require_files.ensures)
+    (carries_stop (carries_as (ap (λ is. all_installed (map install_view is)) c.deref-2.ensures.value) c.in_err-install_all.ensures)
+    c.from_residual-in_err-install_all.ensures.1))
+
+pub returns : goal.returns
+unfolding install
+returns g c =
+    carries_then {x = c.in_ok-said.said} c.in_ok-said.ensures
+    (carries_then (carries_as (ap (λ ns. files_required (map named_view ns)) c.deref.ensures.value) c.in_ok-require_files.ensures)
+    (carries_then (carries_as (ap (λ is. all_installed (map install_view is)) c.deref-2.ensures.value) c.in_ok-install_all.ensures)
+    (carries_give refl)))

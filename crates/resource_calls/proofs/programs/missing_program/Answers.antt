@@ -1,0 +1,12 @@
+use Rattle.std.proofs.Common.{Some, ap, ◌∙◌}
+use Rattle.data.specs.Data.{object}
+use Rattle.world.proofs.Answering.{carries_give, carries_none}
+use Rattle.resource_calls.specs.Programs.{missing_program}
+use Rattle.resource_calls.proofs.programs.missing_program.Goals as goal
+
+pub returns-in_err-value : goal.returns-in_err-value
+returns-in_err-value g c = carries_none c.from_residual.ensures.1
+
+pub returns : goal.returns
+unfolding missing_program
+returns g c = carries_give (ap Some (c.in_ok-value.ensures ∙ ap object c.missing_object-object.ensures))

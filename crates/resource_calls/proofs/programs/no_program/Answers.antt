@@ -1,0 +1,21 @@
+use Rattle.std.proofs.Common.{ap, refl, sym, ◌∙◌}
+use Rattle.arguments.specs.Arguments.{arguments_data}
+use Rattle.faults.specs.declared.refusal.Refusal.TheVariants as refusals
+use Rattle.world.specs.Deed.{refuse}
+use Rattle.world.proofs.Answering.{carries_as, carries_refuse}
+use Rattle.resource_calls.specs.Programs.{missing_program, no_program}
+use Rattle.resource_calls.proofs.Either.{either_way}
+use Rattle.resource_calls.proofs.programs.no_program.Goals as goal
+
+pub returns-in-Required : goal.returns-in-Required
+unfolding no_program
+returns-in-Required g c =
+    carries_as (ap (λ r. no_program r (arguments_data c.args.arguments.now)) (sym c.in-Required.is ∙ c.required_by.ensures))
+    (carries_as (ap (λ t. refuse refusals.NotFound t) c.text_at.ensures) (carries_refuse c.refuse.ensures))
+
+pub returns-in-Optional : goal.returns-in-Optional
+unfolding no_program
+returns-in-Optional g c =
+    let a = arguments_data c.args.arguments.now in
+    carries_as (sym (ap (λ r. no_program r a) (sym c.required_by.ensures) ∙ either_way (λ r. no_program r a) (missing_program a) refl refl c.in-Optional.is))
+    c.missing_program.ensures

@@ -1,0 +1,41 @@
+use Rattle.std.proofs.Common.{refl}
+use Rattle.arguments.specs.Arguments.{arguments_data}
+use Rattle.project.specs.View.{test_view}
+use Rattle.world.proofs.Answering.{carries_answered, carries_give, carries_none, carries_stop, carries_then}
+use Rattle.resource_calls.specs.TestCommandsView.{run_view}
+use Rattle.resource_calls.specs.Tests.{test, test_given}
+use Rattle.resource_calls.proofs.testing.test.Goals as goal
+
+pub returns-in_err-run : goal.returns-in_err-run
+unfolding test
+returns-in_err-run g c = carries_stop c.in_err-run.ensures c.from_residual.ensures.1
+
+pub returns-in_err-made : goal.returns-in_err-made
+unfolding test
+returns-in_err-made g c =
+    carries_then {x = c.in_ok-run.run'} c.in_ok-run.ensures (carries_none c.from_residual-in_err-made.ensures.1)
+
+pub returns-in_err-planned : goal.returns-in_err-planned
+unfolding test
+returns-in_err-planned g c =
+    carries_then {x = c.in_ok-run.run'} c.in_ok-run.ensures
+    (carries_stop (carries_answered {view = test_view} (test_given (arguments_data c.args.arguments.now) (run_view c.in_ok-run.run'))
+    c.in_ok-made.made c.in_ok-made.ensures c.in_err-planned.ensures) c.from_residual-in_err-planned.ensures.1)
+
+pub returns-in_err-add_test : goal.returns-in_err-add_test
+unfolding test
+returns-in_err-add_test g c =
+    carries_then {x = c.in_ok-run.run'} c.in_ok-run.ensures
+    (carries_then {x = c.in_ok-planned.planned}
+    (carries_answered {view = test_view} (test_given (arguments_data c.args.arguments.now) (run_view c.in_ok-run.run'))
+    c.in_ok-made.made c.in_ok-made.ensures c.in_ok-planned.ensures)
+    (carries_stop c.in_err-add_test.ensures c.from_residual-in_err-add_test.ensures.1))
+
+pub returns : goal.returns
+unfolding test
+returns g c =
+    carries_then {x = c.in_ok-run.run'} c.in_ok-run.ensures
+    (carries_then {x = c.in_ok-planned.planned}
+    (carries_answered {view = test_view} (test_given (arguments_data c.args.arguments.now) (run_view c.in_ok-run.run'))
+    c.in_ok-made.made c.in_ok-made.ensures c.in_ok-planned.ensures)
+    (carries_then c.in_ok-add_test.ensures (carries_give refl)))

@@ -1,0 +1,98 @@
+-- Where files go when they are installed.
+use Rattle.std.specs.Prelude.{List, [], ◌∷◌, ◌++◌, Option, Some, None, option_map, codes}
+use Rattle.arguments.specs.Arguments.{ArgumentsData}
+use Rattle.arguments.specs.Given.{text_of}
+use Rattle.arguments.specs.Leaves.{leaves_from}
+use Rattle.edge.specs.Texts.{Path, Text}
+use Rattle.operators.specs.Texts.{path_below}
+use Rattle.project.specs.World.{InstallData}
+use Rattle.placeholders.specs.Names.{plain_name}
+use Rattle.resources.specs.Installs.{destination, headers_folder, man_folder}
+use Rattle.target_arguments.specs.Sources.{NamedData, tree, built, sources_of}
+use Rattle.target_calls.specs.Installs.{folder_given, option_text}
+use Rattle.target_calls.specs.Maybe.{◌>>=◌}
+use Rattle.world.specs.World.{Facts}
+use Rattle.resource_calls.specs.declared.destinations.Sort.{Sort}
+use Rattle.resource_calls.specs.declared.destinations.Sort.TheVariants as sorts
+
+-- the roots, the folder of the definition file, the folders of the options `prefix`, `includedir`, `datadir` and `mandir`, and the name of
+-- the project
+pub record FoldersData : Type 0 where
+  pub source_root : Path
+  pub build_root : Path
+  pub folder : Path
+  pub prefix : Path
+  pub includedir : Path
+  pub datadir : Path
+  pub mandir : Path
+  pub project : Text
+
+abbrev pub folders_in : Facts → FoldersData
+folders_in facts = record {
+  source_root = facts.settings.source_root;
+  build_root = facts.settings.build_root;
+  folder = facts.folder;
+  prefix = option_text facts.options (codes "prefix");
+  includedir = option_text facts.options (codes "includedir");
+  datadir = option_text facts.options (codes "datadir");
+  mandir = option_text facts.options (codes "mandir");
+  project = facts.project.surroundings.facts.name;
+}
+
+-- ---- folders
+
+-- headers go to `includedir` and the keyword `subdir`, data to `datadir` and the project's name, a man page to the section of its name's
+-- last digit in `mandir`, which it has to have (E9)
+abbrev pub usual_folder : FoldersData → Sort → ArgumentsData → Text → Option Path
+usual_folder folders sorts.Header a name = Some (headers_folder folders.includedir (text_of (codes "subdir") a))
+usual_folder folders sorts.Data a name = Some (path_below folders.datadir folders.project)
+usual_folder folders sorts.ManPage a name = man_folder folders.mandir name
+
+abbrev pub given_or : Option Path → Path → Path
+given_or (Some given) usual = given
+given_or None usual = usual
+
+-- the folder that the keyword `install_dir` says, else the usual one
+abbrev pub install_folder : FoldersData → Sort → ArgumentsData → Text → Option Path
+install_folder folders sort a name = option_map (given_or (folder_given a)) (usual_folder folders sort a name)
+
+-- ---- files
+
+-- a file by its absolute path, and where it goes: its folder below `prefix`, or that folder alone where it is absolute
+abbrev pub install_at : FoldersData → Sort → ArgumentsData → (root path : Path) → Option InstallData
+install_at folders sort a root path =
+    option_map (λ folder. record { source = path_below root path; destination = destination folders.prefix folder (plain_name path) })
+    (install_folder folders sort a (plain_name path))
+
+-- a target can't be installed so
+abbrev pub install_of : FoldersData → Sort → ArgumentsData → NamedData → Option InstallData
+install_of folders sort a (tree path) = install_at folders sort a folders.source_root path
+install_of folders sort a (built path) = install_at folders sort a folders.build_root path
+install_of folders sort a _ = None
+
+abbrev pub with_install : Option InstallData → (InstallData → Option (List InstallData)) → Option (List InstallData)
+with_install None next = None
+with_install (Some i) next = next i
+
+abbrev pub installs_behind : FoldersData → Sort → ArgumentsData → List InstallData → List NamedData → Option (List InstallData)
+installs_behind folders sort a is [] = Some is
+installs_behind folders sort a is (n ∷ ns) =
+    with_install (install_of folders sort a n) (λ i. installs_behind folders sort a (is ++ i ∷ []) ns)
+
+-- ---- the call
+
+-- the files that the call names, and what is installed
+pub record SaidData : Type 0 where
+  pub named : List NamedData
+  pub installs : List InstallData
+
+abbrev pub said_from : FoldersData → Sort → ArgumentsData → List NamedData → Option SaidData
+said_from folders sort a named = do
+  installs ← installs_behind folders sort a [] named
+  Some (record { named = named; installs = installs })
+
+-- what the call says; none where a path leads out of the tree, or a man page has no section
+abbrev pub said_of : FoldersData → Sort → ArgumentsData → Option SaidData
+said_of folders sort a = do
+  named ← sources_of folders.source_root folders.folder (leaves_from 0 a)
+  said_from folders sort a named

@@ -1,0 +1,22 @@
+-- Folders and files that are installed, without where they lie in memory.
+use Rattle.std.specs.Prelude.{map}
+use Rattle.project.specs.View.{install_view}
+use Rattle.target_arguments.specs.SourcesView.{named_view}
+use Rattle.resource_calls.specs.Destinations.{FoldersData, SaidData}
+use Rattle.resource_calls.specs.declared.destinations.Folders.{Folders}
+use Rattle.resource_calls.specs.declared.destinations.Said.{Said}
+
+abbrev pub folders_view : Folders → FoldersData
+folders_view f = record {
+  source_root = f.source_root.now;
+  build_root = f.build_root.now;
+  folder = f.folder.now;
+  prefix = f.prefix.now;
+  includedir = f.includedir.now;
+  datadir = f.datadir.now;
+  mandir = f.mandir.now;
+  project = f.project.now;
+}
+
+abbrev pub said_view : Said → SaidData
+said_view s = record { named = map named_view s.named.items; installs = map install_view s.installs.items }

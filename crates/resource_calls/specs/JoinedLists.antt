@@ -1,0 +1,76 @@
+-- The dependency that `declare_dependency` gives: its own lists, then those of its dependencies, all within the limits (E22).
+use Rattle.std.specs.Prelude.{ℕ, true, false, List, [], ◌∷◌, ◌++◌, length, codes, Option, Some, None, option_map, option_and_then, unwrap_or}
+use Rattle.std.specs.Prelude.{Result, Ok}
+use Rattle.arguments.specs.Arguments.{ArgumentsData}
+use Rattle.arguments.specs.Given.{keyword, texts}
+use Rattle.data.specs.Data.{Data, text_in}
+use Rattle.data.specs.Limits.{within_bytes}
+use Rattle.data.specs.declared.object.Dependency.{Dependency}
+use Rattle.data.specs.declared.object.Source.{Source}
+use Rattle.data.specs.declared.object.Source.TheVariants as source
+use Rattle.data.specs.declared.refusal.Refusal.{Refusal}
+use Rattle.edge.specs.Texts.{Path, Text}
+use Rattle.resources.specs.Found.{◌>>=◌, found, within_texts}
+use Rattle.resources.specs.Joined.{dependencies_in, joined}
+use Rattle.target_arguments.specs.Sources.{NamedData, tree, built, outputs, output}
+use Rattle.target_calls.specs.Sources.{outputs_at}
+use Rattle.targets.specs.Libraries.{LinkedData}
+use Rattle.resource_calls.specs.OwnLists.{OwnData}
+
+-- ---- sources, as a value of the language has them
+
+-- how many outputs a target has
+abbrev pub count_at : List LinkedData → ℕ → ℕ
+count_at earlier number = unwrap_or (option_map length (outputs_at earlier number)) 0
+
+abbrev pub tree_source : Path → Result Source Refusal
+tree_source path = do
+  p ← within_bytes path
+  Ok (source.File p false)
+
+abbrev pub source_of : List LinkedData → NamedData → Result Source Refusal
+source_of earlier (tree path) = tree_source path
+source_of earlier (built path) = Ok (source.File path true)
+source_of earlier (outputs number) = Ok (source.CustomTarget number (count_at earlier number))
+source_of earlier (output target place) = Ok (source.CustomOutput target place)
+
+-- sources, and behind them those that are named
+abbrev pub sources_behind : List LinkedData → List Source → List NamedData → Result (List Source) Refusal
+sources_behind earlier ss [] = Ok ss
+sources_behind earlier ss (n ∷ ns) = source_of earlier n >>= (λ s. sources_behind earlier (ss ++ s ∷ []) ns)
+
+-- the sources that are named
+abbrev pub sources_within : List LinkedData → List NamedData → Result (List Source) Refusal
+sources_within earlier ns = sources_behind earlier [] ns
+
+-- ---- the dependency
+
+-- the keyword `version`, else the version of the project
+abbrev pub version_or : Text → ArgumentsData → Text
+version_or project a = unwrap_or (option_and_then text_in (keyword (codes "version") a)) project
+
+abbrev pub with_own : Dependency → (folders : List Path) → (libraries : List ℕ) → List Source → Dependency
+with_own d folders libraries sources =
+    record d { include_directories = folders; link_with = d.link_with ++ libraries; sources = sources }
+
+-- what it has but folders, libraries and sources; it has no name
+abbrev pub with_arguments : Text → ArgumentsData → Result Dependency Refusal
+with_arguments project a = found [] (version_or project a) (texts (codes "compile_args") a) (texts (codes "link_args") a)
+
+-- the dependency with the lists of its own
+abbrev pub own_dependency : Text → List LinkedData → ArgumentsData → OwnData → Result Dependency Refusal
+own_dependency project earlier a own = do
+  d ← with_arguments project a
+  folders ← within_texts own.folders
+  sources ← sources_within earlier own.sources
+  Ok (with_own d folders own.libraries sources)
+
+abbrev pub dependencies_given : Option Data → List Dependency
+dependencies_given None = []
+dependencies_given (Some d) = dependencies_in d
+
+-- with the lists of its dependencies behind its own
+abbrev pub joined_dependency : Text → List LinkedData → ArgumentsData → OwnData → Result Dependency Refusal
+joined_dependency project earlier a own = do
+  d ← own_dependency project earlier a own
+  joined d (dependencies_given (keyword (codes "dependencies") a))

@@ -1,0 +1,17 @@
+pub mod DeclareDependency
+pub mod Dependency
+pub mod Destinations
+pub mod DestinationsView
+pub mod Installs
+pub mod JoinedLists
+pub mod NamedFiles
+pub mod OwnLists
+pub mod OwnListsView
+pub mod Place
+pub mod PlaceView
+pub mod Programs
+pub mod Required
+pub mod Rows
+pub mod TestCommands
+pub mod TestCommandsView
+pub mod Tests

@@ -1,0 +1,36 @@
+-- What `declare_dependency` lists of its own, as its arguments name it.
+use Rattle.std.specs.Prelude.{ℕ, List, codes, Option, Some, None, if◌then◌else◌}
+use Rattle.std.specs.List.{list_all}
+use Rattle.arguments.specs.Arguments.{ArgumentsData}
+use Rattle.arguments.specs.Leaves.{leaves_named}
+use Rattle.data.specs.Data.{Data}
+use Rattle.edge.specs.Texts.{Path}
+use Rattle.target_arguments.specs.Folders.{folders_of}
+use Rattle.target_arguments.specs.Libraries.{numbers_of}
+use Rattle.target_arguments.specs.Sources.{NamedData, sources_of}
+use Rattle.targets.specs.Libraries.{LinkedData, is_library_at}
+use Rattle.target_calls.specs.Maybe.{◌>>=◌}
+use Rattle.resource_calls.specs.Place.{PlaceData}
+
+-- the numbers where each is that of a library
+abbrev pub if_libraries : List LinkedData → List ℕ → Option (List ℕ)
+if_libraries earlier ns = if list_all (is_library_at earlier) ns then Some ns else None
+
+-- the numbers of the libraries that values are; none where one is no library
+abbrev pub libraries_of : List LinkedData → List Data → Option (List ℕ)
+libraries_of earlier ds = do
+  ns ← numbers_of ds
+  if_libraries earlier ns
+
+pub record OwnData : Type 0 where
+  pub folders : List Path
+  pub libraries : List ℕ
+  pub sources : List NamedData
+
+-- what the call lists of its own; none where a path leads out of the tree, or something to link with is no library
+abbrev pub own_lists : PlaceData → ArgumentsData → Option OwnData
+own_lists place a = do
+  folders ← folders_of place.source_root place.folder (leaves_named (codes "include_directories") a)
+  libraries ← libraries_of place.earlier (leaves_named (codes "link_with") a)
+  sources ← sources_of place.source_root place.folder (leaves_named (codes "sources") a)
+  Some (record { folders = folders; libraries = libraries; sources = sources })

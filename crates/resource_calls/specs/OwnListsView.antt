@@ -1,0 +1,9 @@
+-- What a call lists of its own, without where it lies in memory.
+use Rattle.std.specs.Prelude.{map}
+use Rattle.edge.specs.Texts.{texts}
+use Rattle.target_arguments.specs.SourcesView.{named_view}
+use Rattle.resource_calls.specs.OwnLists.{OwnData}
+use Rattle.resource_calls.specs.declared.own_lists.Own.{Own}
+
+abbrev pub own_view : Own → OwnData
+own_view o = record { folders = texts o.folders.items; libraries = o.libraries.items; sources = map named_view o.sources.items }

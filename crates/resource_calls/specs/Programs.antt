@@ -1,0 +1,97 @@
+-- `find_program`: a program of the machine file, or a file of the tree.
+use Rattle.std.specs.Prelude.{Bool, true, false, List, [], ◌∷◌, Option, Some, None, option_map, ok_or, Result}
+use Rattle.arguments.specs.Arguments.{ArgumentsData}
+use Rattle.arguments.specs.Flat.{flat_all}
+use Rattle.arguments.specs.Given.{text_at}
+use Rattle.arguments.specs.declared.given.Requirement.{Requirement}
+use Rattle.arguments.specs.declared.given.Requirement.TheVariants as requirements
+use Rattle.data.specs.Data.{Data, object}
+use Rattle.data.specs.Limits.{within_bytes}
+use Rattle.data.specs.declared.object.Object.TheVariants as objects
+use Rattle.data.specs.declared.object.Program.{Program}
+use Rattle.data.specs.declared.object.Program.TheVariants as programs
+use Rattle.data.specs.declared.refusal.Refusal.{Refusal}
+use Rattle.edge.specs.Texts.{Path, Text}
+use Rattle.faults.specs.declared.refusal.Refusal.TheVariants as refusals
+use Rattle.paths.specs.Paths.{tree_path}
+use Rattle.resources.specs.Fitting.{program_words}
+use Rattle.resources.specs.Found.{within_texts}
+use Rattle.world.specs.Deed.{Deed, give, refuse, read, ◌>>=◌, answered, fitting, there}
+use Rattle.resource_calls.specs.Required.{missing_object, required_by}
+
+-- the words that `[binaries]` of the machine file has
+unfoldable pub program_of_words : Result (List Text) Refusal → Deed (Option Program)
+program_of_words said = do
+  words ← answered said
+  give (Some (programs.Words words))
+
+-- a file of the tree
+unfoldable pub file_program : Path → Deed (Option Program)
+file_program path = do
+  p ← answered (within_bytes path)
+  give (Some (programs.File p))
+
+-- the file at a path, if it is there
+unfoldable pub program_at : Path → Bool → Deed (Option Program)
+program_at path false = give None
+program_at path true = file_program path
+
+-- the file of the tree that a name of the present definition file means: E9 where it means none
+unfoldable pub named_path : Text → Deed Path
+named_path name = do
+  facts ← read
+  fitting (ok_or (tree_path facts.settings.source_root facts.folder name) refusals.Arguments)
+
+-- that file, which is looked at
+unfoldable pub file_named : Text → Deed (Option Program)
+file_named name = do
+  path ← named_path name
+  found ← there path
+  program_at path found
+
+unfoldable pub words_or_file : Option (Result (List Text) Refusal) → Text → Deed (Option Program)
+words_or_file (Some said) name = program_of_words said
+words_or_file None name = file_named name
+
+-- the program of a name: the machine file's, else a file
+unfoldable pub program_named : Text → Deed (Option Program)
+program_named name = do
+  facts ← read
+  words_or_file (option_map within_texts (program_words facts.machine name)) name
+
+abbrev pub or_else : Option Program → Deed (Option Program) → Deed (Option Program)
+or_else (Some p) others = give (Some p)
+or_else None others = others
+
+-- names are looked up one after another, up to the first that there is
+unfoldable pub first_program : List Text → Deed (Option Program)
+first_program [] = give None
+first_program (name ∷ names) = do
+  p ← program_named name
+  or_else p (first_program names)
+
+-- nothing is looked up where a feature is disabled
+unfoldable pub program_wanted : Requirement → ArgumentsData → Deed (Option Program)
+program_wanted requirements.Disabled a = give None
+program_wanted _ a = first_program (flat_all a.positional)
+
+unfoldable pub found_program : Program → Deed (Option Data)
+found_program p = give (Some (object (objects.Program p)))
+
+unfoldable pub missing_program : ArgumentsData → Deed (Option Data)
+missing_program a = give (Some (object (missing_object a (objects.Program programs.NotFound))))
+
+-- where none of the names is found: E17 of the first name where the program is required
+unfoldable pub no_program : Requirement → ArgumentsData → Deed (Option Data)
+no_program requirements.Required a = refuse refusals.NotFound (text_at 0 a)
+no_program _ a = missing_program a
+
+unfoldable pub give_program : ArgumentsData → Option Program → Deed (Option Data)
+give_program a (Some p) = found_program p
+give_program a None = no_program (required_by a) a
+
+-- `find_program(names..)`
+unfoldable pub find_program : ArgumentsData → Deed (Option Data)
+find_program a = do
+  p ← program_wanted (required_by a) a
+  give_program a p

@@ -1,0 +1,49 @@
+-- `test`: a program that the project is tested by.
+use Rattle.std.specs.Prelude.{ℤ, pos, false, Option, None, ok_or, codes, Result, Ok, Err}
+use Rattle.arguments.specs.Arguments.{ArgumentsData}
+use Rattle.arguments.specs.Given.{flag, integer_of, text_at, texts}
+use Rattle.data.specs.Data.{Data}
+use Rattle.data.specs.declared.refusal.Refusal.{Refusal}
+use Rattle.faults.specs.declared.refusal.Refusal.TheVariants as refusals
+use Rattle.project.specs.World.{TestData}
+use Rattle.resources.specs.Testing.{seconds_of}
+use Rattle.world.specs.Declaring.{add_test}
+use Rattle.world.specs.Deed.{Deed, give, read, ◌>>=◌, answered, fitting}
+use Rattle.resource_calls.specs.Place.{place_of}
+use Rattle.resource_calls.specs.TestCommands.{RunData, run_of}
+
+-- what runs, and with which variables: E9 where the arguments say none
+unfoldable pub said_run : ArgumentsData → Deed RunData
+said_run a = do
+  facts ← read
+  fitting (ok_or (run_of (place_of facts) a) refusals.Arguments)
+
+abbrev pub test_of : ArgumentsData → RunData → ℤ → TestData
+test_of a run seconds = record {
+  name = text_at 0 a;
+  command = run.command;
+  environment = run.environment;
+  suites = texts (codes "suite") a;
+  should_fail = flag (codes "should_fail") false a;
+  timeout = seconds;
+}
+
+-- the keyword `timeout`, which is 30 where it is not given; E7 where it needs more than 64 bits
+abbrev pub seconds_given : ArgumentsData → Result ℤ Refusal
+seconds_given a = seconds_of (integer_of (codes "timeout") (pos 30) a)
+
+abbrev pub with_seconds : ArgumentsData → RunData → Result ℤ Refusal → Result TestData Refusal
+with_seconds a run (Ok seconds) = Ok (test_of a run seconds)
+with_seconds a run (Err refusal) = Err refusal
+
+-- the test that the arguments say
+abbrev pub test_given : ArgumentsData → RunData → Result TestData Refusal
+test_given a run = with_seconds a run (seconds_given a)
+
+-- `test(name, program)`: E9; E7 of the timeout
+unfoldable pub test : ArgumentsData → Deed (Option Data)
+test a = do
+  run ← said_run a
+  t ← answered (test_given a run)
+  _ ← add_test t
+  give None

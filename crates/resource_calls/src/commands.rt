@@ -1,0 +1,276 @@
+//! The command and the environment of a test. Files and targets are absolute paths.
+ghost use Rattle.std.specs.Prelude.{◌≡◌, [], IfOk, map, option_map, string_bytes};
+ghost use Rattle.arguments.specs.Arguments.{arguments_data};
+ghost use Rattle.data.specs.View.{data_of};
+ghost use Rattle.edge.specs.Texts.{texts};
+ghost use Rattle.operators.specs.Texts.{path_below};
+ghost use Rattle.target_calls.specs.Sources.{outputs_at, output_at};
+ghost use Rattle.targets.specs.View.{build_view, linked_view};
+ghost use Rattle.resource_calls.specs.PlaceView.{place_view};
+ghost use Rattle.resource_calls.specs.TestCommands.{argument_words, command_given, command_of, command_of_object, file_word, one_word};
+ghost use Rattle.resource_calls.specs.TestCommands.{output_words, outputs_words, run_of, target_word, target_words, executable_words};
+ghost use Rattle.resource_calls.specs.TestCommands.{word_if_executable, words_behind, words_of_object, words_of_program};
+ghost use Rattle.resource_calls.specs.TestCommandsView.{run_view};
+
+use crate::place::Place;
+use arguments::Arguments;
+use data::{Object, Program, Text, Value};
+use operators::path_below;
+use resources::environment;
+use std::alloc::{AllocError, Global};
+use targets::{BuildTarget, Linked, build_target_at, file_path};
+
+/// What a test runs.
+#[derive(Drop)]
+pub struct Run {
+    /// The words of the program and of its arguments.
+    pub command: Vec<String>,
+    /// Texts `NAME=VALUE`.
+    pub environment: Vec<String>,
+}
+
+// ---- things of the project, by the words that they are
+
+fn one_word(alloc: Global, word: String) -> Result<Vec<String>, AllocError>
+    ensures { IfOk result (λ v. texts v.items ≡ one_word (string_bytes word)) }
+{
+    let mut words = Vec::new(alloc);
+    words.push(word)?;
+    Ok(words)
+}
+
+fn file_word(place: &Place<'_>, path: &str, is_built: bool) -> Result<String, AllocError>
+    ensures { IfOk result (λ s. string_bytes s ≡ file_word (place_view place.now) path.now is_built) }
+{
+    if is_built {
+        path_below(place.alloc, place.build_root, path)
+    } else {
+        path_below(place.alloc, place.source_root, path)
+    }
+}
+
+fn target_word(place: &Place<'_>, target: &BuildTarget) -> Result<String, AllocError>
+    ensures { IfOk result (λ s. string_bytes s ≡ target_word (place_view place.now) (build_view target.now)) }
+{
+    let path = file_path(place.alloc, target)?;
+    path_below(place.alloc, place.build_root, path.as_str())
+}
+
+fn target_words(place: &Place<'_>, number: usize) -> Result<Option<Vec<String>>, AllocError>
+    ensures { IfOk result (λ ws. option_map (λ v. texts v.items) ws ≡ target_words (place_view place.now) number) }
+{
+    match build_target_at(place.earlier, number) {
+        Some(target) => Ok(Some(one_word(place.alloc, target_word(place, target)?)?)),
+        None => Ok(None),
+    }
+}
+
+// Each path below the build root.
+fn built_words(place: &Place<'_>, paths: &[String]) -> Result<Vec<String>, AllocError>
+    ensures { IfOk result (λ v. texts v.items ≡ map (path_below (place_view place.now).build_root) (texts paths.now)) }
+{
+    let mut words = Vec::new(place.alloc);
+    for path in paths {
+        words.push(path_below(place.alloc, place.build_root, path.as_str())?)?;
+    }
+    Ok(words)
+}
+
+fn outputs_at(earlier: &[Linked], number: usize) -> Option<&[String]>
+    ensures { option_map (λ ps. texts ps.now) result ≡ outputs_at (map linked_view earlier.now) number }
+{
+    match earlier.get(number) {
+        Some(linked) => Some(linked.paths.as_slice()),
+        None => None,
+    }
+}
+
+fn output_at(earlier: &[Linked], number: usize, place: usize) -> Option<&str>
+    ensures { option_map (λ p. p.now) result ≡ output_at (map linked_view earlier.now) number place }
+{
+    match outputs_at(earlier, number)?.get(place) {
+        Some(path) => Some(path.as_str()),
+        None => None,
+    }
+}
+
+fn outputs_words(place: &Place<'_>, number: usize) -> Result<Option<Vec<String>>, AllocError>
+    ensures { IfOk result (λ ws. option_map (λ v. texts v.items) ws ≡ outputs_words (place_view place.now) number) }
+{
+    match outputs_at(place.earlier, number) {
+        Some(paths) => Ok(Some(built_words(place, paths)?)),
+        None => Ok(None),
+    }
+}
+
+fn output_words(
+    place: &Place<'_>,
+    target: usize,
+    output: usize,
+) -> Result<Option<Vec<String>>, AllocError>
+    ensures { IfOk result (λ ws. option_map (λ v. texts v.items) ws ≡ output_words (place_view place.now) target output) }
+{
+    match output_at(place.earlier, target, output) {
+        Some(path) => {
+            let word = path_below(place.alloc, place.build_root, path)?;
+            Ok(Some(one_word(place.alloc, word)?))
+        }
+        None => Ok(None),
+    }
+}
+
+// The words of a file, a target or an output of one; none of anything else.
+fn words_of_object(place: &Place<'_>, object: &Object) -> Result<Option<Vec<String>>, AllocError>
+    ensures { IfOk result (λ ws. option_map (λ v. texts v.items) ws ≡ words_of_object (place_view place.now) object.now) }
+{
+    match object {
+        Object::File { path, is_built } => {
+            let word = file_word(place, path.as_str(), *is_built)?;
+            Ok(Some(one_word(place.alloc, word)?))
+        }
+        Object::BuildTarget(number) => target_words(place, *number),
+        Object::CustomTarget { number, .. } => outputs_words(place, *number),
+        Object::CustomOutput { target, output } => output_words(place, *target, *output),
+        _ => Ok(None),
+    }
+}
+
+// ---- the program
+
+fn strings(alloc: Global, texts: &[Text]) -> Result<Vec<String>, AllocError>
+    ensures { IfOk result (λ v. map string_bytes v.items ≡ texts.now) }
+{
+    let mut strings = Vec::new(alloc);
+    for text in texts {
+        strings.push(String::from_str(alloc, text.as_str())?)?;
+    }
+    Ok(strings)
+}
+
+// A program that was not found can't run.
+fn words_of_program(place: &Place<'_>, program: &Program) -> Result<Option<Vec<String>>, AllocError>
+    ensures { IfOk result (λ ws. option_map (λ v. texts v.items) ws ≡ words_of_program (place_view place.now) program.now) }
+{
+    match program {
+        Program::NotFound => Ok(None),
+        Program::Words(words) => Ok(Some(strings(place.alloc, words.as_slice())?)),
+        Program::File(path) => {
+            let word = path_below(place.alloc, place.source_root, path.as_str())?;
+            Ok(Some(one_word(place.alloc, word)?))
+        }
+    }
+}
+
+// Nor can a library.
+fn word_if_executable(
+    place: &Place<'_>,
+    target: &BuildTarget,
+) -> Result<Option<Vec<String>>, AllocError>
+    ensures { IfOk result (λ ws. option_map (λ v. texts v.items) ws
+        ≡ word_if_executable (place_view place.now) (build_view target.now)) }
+{
+    if target.kind.is_library() {
+        Ok(None)
+    } else {
+        Ok(Some(one_word(place.alloc, target_word(place, target)?)?))
+    }
+}
+
+fn executable_words(place: &Place<'_>, number: usize) -> Result<Option<Vec<String>>, AllocError>
+    ensures { IfOk result (λ ws. option_map (λ v. texts v.items) ws ≡ executable_words (place_view place.now) number) }
+{
+    match build_target_at(place.earlier, number) {
+        Some(target) => word_if_executable(place, target),
+        None => Ok(None),
+    }
+}
+
+fn command_of_object(place: &Place<'_>, object: &Object) -> Result<Option<Vec<String>>, AllocError>
+    ensures { IfOk result (λ ws. option_map (λ v. texts v.items) ws ≡ command_of_object (place_view place.now) object.now) }
+{
+    match object {
+        Object::Program(program) => words_of_program(place, program),
+        Object::BuildTarget(number) => executable_words(place, *number),
+        _ => words_of_object(place, object),
+    }
+}
+
+// The words that call the program that a value is; none where it can't run.
+fn command_of(place: &Place<'_>, value: &Value) -> Result<Option<Vec<String>>, AllocError>
+    ensures { IfOk result (λ ws. option_map (λ v. texts v.items) ws ≡ command_of (place_view place.now) (data_of value.now)) }
+{
+    match value {
+        Value::Object(object) => command_of_object(place, object),
+        _ => Ok(None),
+    }
+}
+
+// ---- arguments
+
+// The words of an argument of the program: a text, a file, a target or an output of one.
+fn argument_words(place: &Place<'_>, value: &Value) -> Result<Option<Vec<String>>, AllocError>
+    ensures { IfOk result (λ ws. option_map (λ v. texts v.items) ws ≡ argument_words (place_view place.now) (data_of value.now)) }
+{
+    match value {
+        Value::Text(text) => {
+            let word = String::from_str(place.alloc, text.as_str())?;
+            Ok(Some(one_word(place.alloc, word)?))
+        }
+        Value::Object(object) => words_of_object(place, object),
+        _ => Ok(None),
+    }
+}
+
+// Words, and behind them those of values, or none where one of them has none.
+fn words_behind(
+    place: &Place<'_>,
+    words: Vec<String>,
+    values: &[&Value],
+) -> Result<Option<Vec<String>>, AllocError>
+    ensures { IfOk result (λ ws. option_map (λ v. texts v.items) ws
+        ≡ words_behind (place_view place.now) (texts words.items) (map (λ v. data_of v.now) values.now)) }
+{
+    let mut all = words;
+    for value in values {
+        match argument_words(place, value)? {
+            Some(mut more) => all.append(&mut more)?,
+            None => return Ok(None),
+        }
+    }
+    Ok(Some(all))
+}
+
+// ---- what runs
+
+// The program and its arguments.
+fn command_given(
+    place: &Place<'_>,
+    arguments: &Arguments,
+) -> Result<Option<Vec<String>>, AllocError>
+    ensures { IfOk result (λ ws. option_map (λ v. texts v.items) ws ≡ command_given (place_view place.now) (arguments_data arguments.now)) }
+{
+    let Some(program) = arguments.argument(1) else {
+        return Ok(None);
+    };
+    let Some(words) = command_of(place, program)? else {
+        return Ok(None);
+    };
+    let values = arguments.leaves(place.alloc, "args")?;
+    words_behind(place, words, &values)
+}
+
+/// The command and the variables that a call says. None where it says no command, or no variables.
+pub fn run_of(place: &Place<'_>, arguments: &Arguments) -> Result<Option<Run>, AllocError>
+    ensures { IfOk result (λ run. option_map run_view run ≡ run_of (place_view place.now) (arguments_data arguments.now)) }
+{
+    let Some(command) = command_given(place, arguments)? else {
+        return Ok(None);
+    };
+    match environment(place.alloc, arguments)? {
+        Some(environment) => Ok(Some(Run {
+            command,
+            environment,
+        })),
+        None => Ok(None),
+    }
+}

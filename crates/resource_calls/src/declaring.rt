@@ -1,0 +1,65 @@
+//! `declare_dependency`: <https://mesonbuild.com/Reference-manual_functions.html#declare_dependency>.
+ghost use Rattle.std.specs.Prelude.{◌≡◌, option_map};
+ghost use Rattle.arguments.specs.Arguments.{arguments_data};
+ghost use Rattle.data.specs.View.{data_of};
+ghost use Rattle.world.specs.Answering.{Carries, HasRoom};
+ghost use Rattle.world.specs.Caller.{state_of};
+ghost use Rattle.resource_calls.specs.DeclareDependency.{declare_dependency, joined_given, said_lists};
+ghost use Rattle.resource_calls.specs.OwnListsView.{own_view};
+
+use crate::joined_lists::joined_dependency;
+use crate::named_files::require_files;
+use crate::own_lists::{Own, own_lists};
+use crate::place::place_of;
+use arguments::Arguments;
+use data::{Dependency, Object, Value};
+use faults::Refusal;
+use ports::{Outputs, Tree};
+use world::{Caller, Stop};
+
+// What the call lists of its own, or the refusal of arguments that say none.
+fn said_lists<T: Tree, O: Outputs>(
+    caller: &Caller<'_, T, O>,
+    arguments: &Arguments,
+) -> Result<Own, Stop>
+    ensures { Carries own_view (said_lists (arguments_data arguments.now))
+        (state_of T.seen O.seen caller.now) result (state_of T.seen O.seen caller.now) }
+{
+    let place = place_of(caller);
+    let found = own_lists(&place, arguments)?;
+    match found {
+        Some(own) => Ok(own),
+        None => caller.refuse(Refusal::Arguments, ""),
+    }
+}
+
+// The dependency with these lists, or the refusal of lists that are too long.
+fn joined_given<T: Tree, O: Outputs>(
+    caller: &Caller<'_, T, O>,
+    arguments: &Arguments,
+    own: &Own,
+) -> Result<Dependency, Stop>
+    ensures { Carries (λ d. d) (joined_given (arguments_data arguments.now) (own_view own.now))
+        (state_of T.seen O.seen caller.now) result (state_of T.seen O.seen caller.now) }
+{
+    let place = place_of(caller);
+    let version = caller.store.project().facts().version.as_str();
+    let answer = joined_dependency(&place, version, arguments, own)?;
+    caller.answered(answer)
+}
+
+/// `declare_dependency()`: E9, E14, E22 in this order.
+pub fn declare_dependency<T: Tree, O: Outputs>(
+    caller: &mut Caller<'_, T, O>,
+    arguments: &Arguments,
+) -> Result<Option<Value>, Stop>
+    requires { HasRoom (state_of T.seen O.seen caller.old) }
+    ensures { Carries (option_map data_of) (declare_dependency (arguments_data arguments.now))
+        (state_of T.seen O.seen caller.old) result (state_of T.seen O.seen caller.new) }
+{
+    let own = said_lists(caller, arguments)?;
+    require_files(caller, &own.sources)?;
+    let dependency = joined_given(caller, arguments, &own)?;
+    let value = Value::of_object(caller.alloc, Object::Dependency(dependency))?;
+    Ok(Some(value))
+}

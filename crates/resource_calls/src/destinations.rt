@@ -1,0 +1,219 @@
+//! Where files go when they are installed.
+ghost use Rattle.std.specs.Prelude.{◌≡◌, [], IfOk, map, option_map, string_bytes};
+ghost use Rattle.arguments.specs.Arguments.{arguments_data};
+ghost use Rattle.project.specs.View.{install_view};
+ghost use Rattle.target_arguments.specs.SourcesView.{named_view};
+ghost use Rattle.target_calls.specs.Installs.{folder_given, option_text};
+ghost use Rattle.world.specs.Caller.{state_of};
+ghost use Rattle.resource_calls.specs.Destinations.{folders_in, given_or, install_at, install_folder, install_of, installs_behind, said_of};
+ghost use Rattle.resource_calls.specs.Destinations.{usual_folder};
+ghost use Rattle.resource_calls.specs.DestinationsView.{folders_view, said_view};
+
+use crate::names::plain_name;
+use arguments::Arguments;
+use operators::path_below;
+use options::OptionValue;
+use ports::{Outputs, Tree};
+use project::Install;
+use resources::{destination, headers_folder, man_folder};
+use std::alloc::{AllocError, Global};
+use target_arguments::{NamedSource, sources_of};
+use world::{Caller, Store};
+
+/// What sort of file is installed.
+#[derive(Clone, Copy)]
+pub enum Sort {
+    Header,
+    Data,
+    /// A page of the manual.
+    ManPage,
+}
+
+/// The roots, the present folder, and the folders of options that installed files go to.
+#[derive(Clone, Copy)]
+pub struct Folders<'a> {
+    pub alloc: Global,
+    /// An absolute path, as is `build_root`.
+    pub source_root: &'a str,
+    pub build_root: &'a str,
+    /// The folder of the definition file, `""` for the root.
+    pub folder: &'a str,
+    pub prefix: &'a str,
+    pub includedir: &'a str,
+    pub datadir: &'a str,
+    pub mandir: &'a str,
+    /// The name of the project.
+    pub project: &'a str,
+}
+
+/// What a call says.
+#[derive(Drop)]
+pub struct Said {
+    /// The files that it names.
+    pub named: Vec<NamedSource>,
+    pub installs: Vec<Install>,
+}
+
+// The text that an option has.
+fn option_text<'s>(store: &'s Store, name: &str) -> &'s str
+    ensures { result.now ≡ option_text store.now.options name.now }
+{
+    match store.option(name) {
+        Some(OptionValue::Text(text)) => text.as_str(),
+        _ => "",
+    }
+}
+
+/// The folders of the present project.
+pub fn folders_in<'c, T: Tree, O: Outputs>(caller: &'c Caller<'_, T, O>) -> Folders<'c>
+    ensures { folders_view result ≡ folders_in (state_of T.seen O.seen caller.now).world.facts }
+{
+    Folders {
+        alloc: caller.alloc,
+        source_root: caller.store.settings().source_root.as_str(),
+        build_root: caller.store.settings().build_root.as_str(),
+        folder: caller.store.folder(),
+        prefix: option_text(caller.store, "prefix"),
+        includedir: option_text(caller.store, "includedir"),
+        datadir: option_text(caller.store, "datadir"),
+        mandir: option_text(caller.store, "mandir"),
+        project: caller.store.project().facts().name.as_str(),
+    }
+}
+
+// ---- folders
+
+// Headers go to `includedir` and the keyword `subdir`, data to `datadir` and the project's name, a man page to the section of its name's
+// last digit in `mandir`; none where it has no digit.
+fn usual_folder(
+    folders: &Folders<'_>,
+    sort: Sort,
+    arguments: &Arguments,
+    name: &str,
+) -> Result<Option<String>, AllocError>
+    ensures { IfOk result (λ f. option_map string_bytes f
+        ≡ usual_folder (folders_view folders.now) sort (arguments_data arguments.now) name.now) }
+{
+    match sort {
+        Sort::Header => {
+            let folder = headers_folder(
+                folders.alloc,
+                folders.includedir,
+                arguments.text("subdir"),
+            )?;
+            Ok(Some(folder))
+        }
+        Sort::Data => Ok(Some(path_below(folders.alloc, folders.datadir, folders.project)?)),
+        Sort::ManPage => man_folder(folders.alloc, folders.mandir, name),
+    }
+}
+
+// The folder that the keyword `install_dir` says, else this one.
+fn given_or(alloc: Global, arguments: &Arguments, usual: String) -> Result<String, AllocError>
+    ensures { IfOk result (λ f. string_bytes f ≡ given_or (folder_given (arguments_data arguments.now)) (string_bytes usual)) }
+{
+    match arguments.keyword("install_dir") {
+        Some(value) => match value.as_text() {
+            Some(folder) => String::from_str(alloc, folder.as_str()),
+            None => Ok(usual),
+        },
+        None => Ok(usual),
+    }
+}
+
+fn install_folder(
+    folders: &Folders<'_>,
+    sort: Sort,
+    arguments: &Arguments,
+    name: &str,
+) -> Result<Option<String>, AllocError>
+    ensures { IfOk result (λ f. option_map string_bytes f
+        ≡ install_folder (folders_view folders.now) sort (arguments_data arguments.now) name.now) }
+{
+    match usual_folder(folders, sort, arguments, name)? {
+        Some(usual) => Ok(Some(given_or(folders.alloc, arguments, usual)?)),
+        None => Ok(None),
+    }
+}
+
+// ---- files
+
+// A file below a root, and where it goes.
+fn install_at(
+    folders: &Folders<'_>,
+    sort: Sort,
+    arguments: &Arguments,
+    root: &str,
+    path: &str,
+) -> Result<Option<Install>, AllocError>
+    ensures { IfOk result (λ i. option_map install_view i
+        ≡ install_at (folders_view folders.now) sort (arguments_data arguments.now) root.now path.now) }
+{
+    let name = plain_name(path);
+    match install_folder(folders, sort, arguments, name)? {
+        Some(folder) => Ok(Some(Install {
+            source: path_below(folders.alloc, root, path)?,
+            destination: destination(folders.alloc, folders.prefix, folder.as_str(), name)?,
+        })),
+        None => Ok(None),
+    }
+}
+
+fn install_of(
+    folders: &Folders<'_>,
+    sort: Sort,
+    arguments: &Arguments,
+    named: &NamedSource,
+) -> Result<Option<Install>, AllocError>
+    ensures { IfOk result (λ i. option_map install_view i
+        ≡ install_of (folders_view folders.now) sort (arguments_data arguments.now) (named_view named.now)) }
+{
+    match named {
+        NamedSource::Tree(path) => {
+            install_at(folders, sort, arguments, folders.source_root, path.as_str())
+        }
+        NamedSource::Built(path) => {
+            install_at(folders, sort, arguments, folders.build_root, path.as_str())
+        }
+        NamedSource::Outputs(_) | NamedSource::Output { .. } => Ok(None),
+    }
+}
+
+// What is installed of the files that are named, or none where one of them can't be.
+fn installs_of(
+    folders: &Folders<'_>,
+    sort: Sort,
+    arguments: &Arguments,
+    named: &[NamedSource],
+) -> Result<Option<Vec<Install>>, AllocError>
+    ensures { IfOk result (λ is. option_map (λ v. map install_view v.items) is
+        ≡ installs_behind (folders_view folders.now) sort (arguments_data arguments.now) [] (map named_view named.now)) }
+{
+    let mut installs = Vec::new(folders.alloc);
+    for one in named {
+        match install_of(folders, sort, arguments, one)? {
+            Some(install) => installs.push(install)?,
+            None => return Ok(None),
+        }
+    }
+    Ok(Some(installs))
+}
+
+/// What a call says that installs files of a sort. None where a path leads out of the tree, or a man page has no section.
+pub fn said_of(
+    folders: &Folders<'_>,
+    sort: Sort,
+    arguments: &Arguments,
+) -> Result<Option<Said>, AllocError>
+    ensures { IfOk result (λ s. option_map said_view s ≡ said_of (folders_view folders.now) sort (arguments_data arguments.now)) }
+{
+    let values = arguments.leaves_behind(folders.alloc, 0)?;
+    let Some(named) = sources_of(folders.alloc, folders.source_root, folders.folder, &values)?
+    else {
+        return Ok(None);
+    };
+    match installs_of(folders, sort, arguments, &named)? {
+        Some(installs) => Ok(Some(Said { named, installs })),
+        None => Ok(None),
+    }
+}

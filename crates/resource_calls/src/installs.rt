@@ -1,0 +1,113 @@
+//! `install_headers`, `install_data` and `install_man`: <https://mesonbuild.com/Reference-manual_functions.html#install_headers> and its
+//! like.
+ghost use Rattle.std.specs.Prelude.{◌≡◌, map, option_map, IfOk};
+ghost use Rattle.arguments.specs.Arguments.{arguments_data};
+ghost use Rattle.data.specs.View.{data_of};
+ghost use Rattle.project.specs.View.{install_view};
+ghost use Rattle.world.specs.Answering.{Carries, HasRoom};
+ghost use Rattle.world.specs.Caller.{state_of};
+ghost use Rattle.resource_calls.specs.DestinationsView.{said_view};
+ghost use Rattle.resource_calls.specs.Installs.{all_installed, install, install_data, install_headers, install_man, said_installs};
+
+use crate::destinations::{Said, Sort, folders_in, said_of};
+use crate::named_files::require_files;
+use arguments::Arguments;
+use data::Value;
+use faults::Refusal;
+use ports::{Outputs, Tree};
+use project::Install;
+use std::alloc::{AllocError, Global};
+use world::{Caller, Stop};
+
+// Which files are installed where, or the refusal of arguments that say none.
+fn said_installs<T: Tree, O: Outputs>(
+    caller: &Caller<'_, T, O>,
+    sort: Sort,
+    arguments: &Arguments,
+) -> Result<Said, Stop>
+    ensures { Carries said_view (said_installs sort (arguments_data arguments.now))
+        (state_of T.seen O.seen caller.now) result (state_of T.seen O.seen caller.now) }
+{
+    let folders = folders_in(caller);
+    let found = said_of(&folders, sort, arguments)?;
+    match found {
+        Some(said) => Ok(said),
+        None => caller.refuse(Refusal::Arguments, ""),
+    }
+}
+
+fn copy_of(alloc: Global, install: &Install) -> Result<Install, AllocError>
+    ensures { IfOk result (λ i. install_view i ≡ install_view install.now) }
+{
+    Ok(Install {
+        source: String::from_str(alloc, install.source.as_str())?,
+        destination: String::from_str(alloc, install.destination.as_str())?,
+    })
+}
+
+// Notes where each file goes.
+fn install_all<T: Tree, O: Outputs>(
+    caller: &mut Caller<'_, T, O>,
+    installs: &[Install],
+) -> Result<(), Stop>
+    ensures { Carries (λ u. u) (all_installed (map install_view installs.now))
+        (state_of T.seen O.seen caller.old) result (state_of T.seen O.seen caller.new) }
+{
+    for one in installs {
+        let install = copy_of(caller.alloc, one)?;
+        caller.add_install(install)?;
+    }
+    Ok(())
+}
+
+// Installs files of a sort.
+fn install<T: Tree, O: Outputs>(
+    caller: &mut Caller<'_, T, O>,
+    sort: Sort,
+    arguments: &Arguments,
+) -> Result<Option<Value>, Stop>
+    requires { HasRoom (state_of T.seen O.seen caller.old) }
+    ensures { Carries (option_map data_of) (install sort (arguments_data arguments.now))
+        (state_of T.seen O.seen caller.old) result (state_of T.seen O.seen caller.new) }
+{
+    let said = said_installs(caller, sort, arguments)?;
+    require_files(caller, &said.named)?;
+    install_all(caller, &said.installs)?;
+    Ok(None)
+}
+
+/// `install_headers(files..)`: E9, then E14 of the first missing file.
+pub fn install_headers<T: Tree, O: Outputs>(
+    caller: &mut Caller<'_, T, O>,
+    arguments: &Arguments,
+) -> Result<Option<Value>, Stop>
+    requires { HasRoom (state_of T.seen O.seen caller.old) }
+    ensures { Carries (option_map data_of) (install_headers (arguments_data arguments.now))
+        (state_of T.seen O.seen caller.old) result (state_of T.seen O.seen caller.new) }
+{
+    install(caller, Sort::Header, arguments)
+}
+
+/// `install_data(files..)`: E9, then E14 of the first missing file.
+pub fn install_data<T: Tree, O: Outputs>(
+    caller: &mut Caller<'_, T, O>,
+    arguments: &Arguments,
+) -> Result<Option<Value>, Stop>
+    requires { HasRoom (state_of T.seen O.seen caller.old) }
+    ensures { Carries (option_map data_of) (install_data (arguments_data arguments.now))
+        (state_of T.seen O.seen caller.old) result (state_of T.seen O.seen caller.new) }
+{
+    install(caller, Sort::Data, arguments)
+}
+
+/// `install_man(files..)`: E9, also of a page without a digit; then E14 of the first missing file.
+pub fn install_man<T: Tree, O: Outputs>(
+    caller: &mut Caller<'_, T, O>,
+    arguments: &Arguments,
+) -> Result<Option<Value>, Stop>
+    requires { HasRoom (state_of T.seen O.seen caller.old) }
+    ensures { Carries (option_map data_of) (install_man (arguments_data arguments.now))
+        (state_of T.seen O.seen caller.old) result (state_of T.seen O.seen caller.new) }
+{
+    install(caller, Sort::ManPage, arguments)
+}

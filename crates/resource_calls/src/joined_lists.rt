@@ -1,0 +1,185 @@
+//! The dependency that `declare_dependency` gives: its own lists, then those of its dependencies, all within the limits.
+ghost use Rattle.std.specs.Prelude.{◌≡◌, codes, IfOk, map};
+ghost use Rattle.arguments.specs.Arguments.{arguments_data};
+ghost use Rattle.arguments.specs.Given.{keyword};
+ghost use Rattle.target_arguments.specs.SourcesView.{named_view};
+ghost use Rattle.targets.specs.View.{linked_view};
+ghost use Rattle.resource_calls.specs.JoinedLists.{count_at, dependencies_given, joined_dependency, own_dependency, source_of};
+ghost use Rattle.resource_calls.specs.JoinedLists.{sources_within, tree_source, version_or, with_arguments, with_own};
+ghost use Rattle.resource_calls.specs.OwnListsView.{own_view};
+ghost use Rattle.resource_calls.specs.PlaceView.{place_view};
+
+use crate::own_lists::Own;
+use crate::place::Place;
+use arguments::Arguments;
+use data::{Dependency, Refusal, Source, Sources, Text, Texts};
+use resources::{dependencies_in, found_dependency, joined, within_texts};
+use std::alloc::{AllocError, Global};
+use target_arguments::NamedSource;
+use targets::Linked;
+
+// ---- sources
+
+// How many outputs a target has.
+#[tactic(auto, using(crate::proofs::Counting::as_many))]
+fn count_at(earlier: &[Linked], number: usize) -> usize
+    ensures { result ≡ count_at (map linked_view earlier.now) number }
+{
+    match earlier.get(number) {
+        Some(linked) => linked.paths.len(),
+        None => 0,
+    }
+}
+
+fn tree_source(alloc: Global, path: &str) -> Result<Result<Source, Refusal>, AllocError>
+    ensures { IfOk result (λ r. r ≡ tree_source path.now) }
+{
+    match Text::new(alloc, String::from_str(alloc, path)?)? {
+        Ok(path) => Ok(Ok(Source::File {
+            path,
+            is_built: false,
+        })),
+        Err(refusal) => Ok(Err(refusal)),
+    }
+}
+
+fn source_of(
+    alloc: Global,
+    earlier: &[Linked],
+    named: &NamedSource,
+) -> Result<Result<Source, Refusal>, AllocError>
+    ensures { IfOk result (λ r. r ≡ source_of (map linked_view earlier.now) (named_view named.now)) }
+{
+    match named {
+        NamedSource::Tree(path) => tree_source(alloc, path.as_str()),
+        NamedSource::Built(path) => Ok(Ok(Source::File {
+            path: path.clone()?,
+            is_built: true,
+        })),
+        NamedSource::Outputs(number) => Ok(Ok(Source::CustomTarget {
+            number: *number,
+            outputs: count_at(earlier, *number),
+        })),
+        NamedSource::Output { target, place } => Ok(Ok(Source::CustomOutput {
+            target: *target,
+            output: *place,
+        })),
+    }
+}
+
+// The sources that are named, or `Refusal::Limit` where the path of one is too long for a text.
+fn sources_within(
+    alloc: Global,
+    earlier: &[Linked],
+    named: &[NamedSource],
+) -> Result<Result<Sources, Refusal>, AllocError>
+    ensures { IfOk result (λ r. r ≡ sources_within (map linked_view earlier.now) (map named_view named.now)) }
+{
+    let mut sources = Sources::new(alloc);
+    for one in named {
+        match source_of(alloc, earlier, one)? {
+            Ok(source) => sources.push(source)?,
+            Err(refusal) => return Ok(Err(refusal)),
+        }
+    }
+    Ok(Ok(sources))
+}
+
+// ---- the dependency
+
+// The keyword `version`, else the version of the project.
+fn version_or<'a>(project: &'a str, arguments: &'a Arguments) -> &'a str
+    ensures { result.now ≡ version_or project.now (arguments_data arguments.now) }
+{
+    match arguments.keyword("version") {
+        Some(value) => match value.as_text() {
+            Some(version) => version.as_str(),
+            None => project,
+        },
+        None => project,
+    }
+}
+
+fn with_own(
+    dependency: Dependency,
+    folders: Texts,
+    libraries: &[usize],
+    sources: Sources,
+) -> Result<Dependency, AllocError>
+    ensures { IfOk result (λ d. d ≡ with_own dependency folders libraries.now sources) }
+{
+    let mut whole = dependency;
+    whole.include_directories = folders;
+    whole.sources = sources;
+    whole.link_with.extend(libraries)?;
+    Ok(whole)
+}
+
+// What it has but folders, libraries and sources.
+fn with_arguments(
+    alloc: Global,
+    project: &str,
+    arguments: &Arguments,
+) -> Result<Result<Dependency, Refusal>, AllocError>
+    ensures { IfOk result (λ r. r ≡ with_arguments project.now (arguments_data arguments.now)) }
+{
+    let compile_args = arguments.texts(alloc, "compile_args")?;
+    let link_args = arguments.texts(alloc, "link_args")?;
+    let version = version_or(project, arguments);
+    found_dependency(alloc, "", version, &compile_args, &link_args)
+}
+
+// The dependency with the lists of its own.
+fn own_dependency(
+    place: &Place<'_>,
+    project: &str,
+    arguments: &Arguments,
+    own: &Own,
+) -> Result<Result<Dependency, Refusal>, AllocError>
+    ensures { IfOk result (λ r. r
+        ≡ own_dependency project.now (place_view place.now).earlier (arguments_data arguments.now) (own_view own.now)) }
+{
+    let dependency = match with_arguments(place.alloc, project, arguments)? {
+        Ok(dependency) => dependency,
+        Err(refusal) => return Ok(Err(refusal)),
+    };
+    let folders = match within_texts(place.alloc, &own.folders)? {
+        Ok(folders) => folders,
+        Err(refusal) => return Ok(Err(refusal)),
+    };
+    let sources = match sources_within(place.alloc, place.earlier, &own.sources)? {
+        Ok(sources) => sources,
+        Err(refusal) => return Ok(Err(refusal)),
+    };
+    let whole = with_own(dependency, folders, &own.libraries, sources)?;
+    Ok(Ok(whole))
+}
+
+fn dependencies_given(alloc: Global, arguments: &Arguments) -> Result<Vec<&Dependency>, AllocError>
+    ensures { IfOk result (λ ds. map (λ d. d.now) ds.items
+        ≡ dependencies_given (keyword (codes "dependencies") (arguments_data arguments.now))) }
+{
+    match arguments.keyword("dependencies") {
+        Some(value) => dependencies_in(alloc, value),
+        None => Ok(Vec::new(alloc)),
+    }
+}
+
+/// The dependency of a call that lists this of its own, in a project of this version; or `Refusal::Limit` where one of its lists is too
+/// long.
+pub fn joined_dependency(
+    place: &Place<'_>,
+    project: &str,
+    arguments: &Arguments,
+    own: &Own,
+) -> Result<Result<Dependency, Refusal>, AllocError>
+    ensures { IfOk result (λ r. r
+        ≡ joined_dependency project.now (place_view place.now).earlier (arguments_data arguments.now) (own_view own.now)) }
+{
+    let dependency = match own_dependency(place, project, arguments, own)? {
+        Ok(dependency) => dependency,
+        Err(refusal) => return Ok(Err(refusal)),
+    };
+    let others = dependencies_given(place.alloc, arguments)?;
+    joined(dependency, &others)
+}

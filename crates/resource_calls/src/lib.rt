@@ -1,0 +1,30 @@
+//! The functions of the page "Reference manual" that say what a project takes from outside and gives away: dependencies, programs,
+//! installed files and tests.
+//!
+//! What a function does is a deed of `specs/`, and its code carries it out on a [`world::Caller`].
+#![tactic(auto)]
+
+mod commands;
+mod declaring;
+mod dependencies;
+mod destinations;
+mod installs;
+mod joined_lists;
+mod named_files;
+mod names;
+mod own_lists;
+mod place;
+mod programs;
+mod required;
+mod rows;
+mod testing;
+
+pub use declaring::declare_dependency;
+pub use dependencies::dependency;
+pub use installs::{install_data, install_headers, install_man};
+pub use programs::find_program;
+pub use rows::{
+    declare_dependency_row, dependency_row, find_program_row, install_data_row,
+    install_headers_row, install_man_row, test_row,
+};
+pub use testing::test;

@@ -1,0 +1,41 @@
+//! The files of the tree among sources.
+ghost use Rattle.std.specs.Prelude.{map};
+ghost use Rattle.target_arguments.specs.SourcesView.{named_view};
+ghost use Rattle.world.specs.Answering.{Carries, HasRoom};
+ghost use Rattle.world.specs.Caller.{state_of};
+ghost use Rattle.resource_calls.specs.NamedFiles.{file_required, files_required};
+
+use ports::{Outputs, Tree};
+use target_arguments::NamedSource;
+use world::{Caller, Stop};
+
+fn require_file<T: Tree, O: Outputs>(
+    caller: &mut Caller<'_, T, O>,
+    named: &NamedSource,
+) -> Result<(), Stop>
+    requires { HasRoom (state_of T.seen O.seen caller.old) }
+    ensures { Carries (λ u. u) (file_required (named_view named.now))
+        (state_of T.seen O.seen caller.old) result (state_of T.seen O.seen caller.new) }
+{
+    match named {
+        NamedSource::Tree(path) => caller.require_file(path.as_str()),
+        NamedSource::Built(_) => Ok(()),
+        NamedSource::Outputs(_) => Ok(()),
+        NamedSource::Output { .. } => Ok(()),
+    }
+}
+
+/// Refuses the call unless each file of the tree among sources is there.
+pub fn require_files<T: Tree, O: Outputs>(
+    caller: &mut Caller<'_, T, O>,
+    named: &[NamedSource],
+) -> Result<(), Stop>
+    requires { HasRoom (state_of T.seen O.seen caller.old) }
+    ensures { Carries (λ u. u) (files_required (map named_view named.now))
+        (state_of T.seen O.seen caller.old) result (state_of T.seen O.seen caller.new) }
+{
+    for one in named {
+        require_file(caller, one)?;
+    }
+    Ok(())
+}

@@ -1,0 +1,81 @@
+//! What `declare_dependency` lists of its own, as its arguments name it.
+ghost use Rattle.std.specs.Prelude.{◌≡◌, IfOk, map, option_map};
+ghost use Rattle.std.specs.List.{list_all};
+ghost use Rattle.arguments.specs.Arguments.{arguments_data};
+ghost use Rattle.data.specs.View.{data_of};
+ghost use Rattle.targets.specs.Libraries.{is_library_at};
+ghost use Rattle.targets.specs.View.{linked_view};
+ghost use Rattle.resource_calls.specs.OwnLists.{if_libraries, libraries_of, own_lists};
+ghost use Rattle.resource_calls.specs.OwnListsView.{own_view};
+ghost use Rattle.resource_calls.specs.PlaceView.{place_view};
+
+use crate::place::Place;
+use arguments::Arguments;
+use data::Value;
+use std::alloc::{AllocError, Global};
+use target_arguments::{NamedSource, folders_of, numbers_of, sources_of};
+use targets::{Linked, is_library_at};
+
+/// What a call lists of its own.
+#[derive(Drop)]
+pub struct Own {
+    /// Paths of folders for `include_directories`.
+    pub folders: Vec<String>,
+    /// The numbers of the libraries to link with.
+    pub libraries: Vec<usize>,
+    pub sources: Vec<NamedSource>,
+}
+
+fn are_libraries(earlier: &[Linked], numbers: &[usize]) -> bool
+    ensures { result ≡ list_all (is_library_at (map linked_view earlier.now)) numbers.now }
+{
+    numbers.iter().all(|number| is_library_at(earlier, *number))
+}
+
+fn if_libraries(earlier: &[Linked], numbers: Vec<usize>) -> Option<Vec<usize>>
+    ensures { option_map (λ v. v.items) result ≡ if_libraries (map linked_view earlier.now) numbers.items }
+{
+    if are_libraries(earlier, &numbers) {
+        Some(numbers)
+    } else {
+        None
+    }
+}
+
+// The libraries that values are.
+fn libraries_of(
+    alloc: Global,
+    earlier: &[Linked],
+    values: &[&Value],
+) -> Result<Option<Vec<usize>>, AllocError>
+    ensures { IfOk result (λ ns. option_map (λ v. v.items) ns
+        ≡ libraries_of (map linked_view earlier.now) (map (λ v. data_of v.now) values.now)) }
+{
+    let Some(numbers) = numbers_of(alloc, values)? else {
+        return Ok(None);
+    };
+    Ok(if_libraries(earlier, numbers))
+}
+
+/// What the call lists of its own. None where a path leads out of the tree, or something to link with is no library.
+pub fn own_lists(place: &Place<'_>, arguments: &Arguments) -> Result<Option<Own>, AllocError>
+    ensures { IfOk result (λ own. option_map own_view own ≡ own_lists (place_view place.now) (arguments_data arguments.now)) }
+{
+    let values = arguments.leaves(place.alloc, "include_directories")?;
+    let Some(folders) = folders_of(place.alloc, place.source_root, place.folder, &values)? else {
+        return Ok(None);
+    };
+    let values = arguments.leaves(place.alloc, "link_with")?;
+    let Some(libraries) = libraries_of(place.alloc, place.earlier, &values)? else {
+        return Ok(None);
+    };
+    let values = arguments.leaves(place.alloc, "sources")?;
+    let Some(sources) = sources_of(place.alloc, place.source_root, place.folder, &values)? else {
+        return Ok(None);
+    };
+    Ok(Some(Own {
+        folders,
+        libraries,
+        sources,
+    }))
+}

@@ -1,0 +1,83 @@
+//! `test`: <https://mesonbuild.com/Reference-manual_functions.html#test>.
+ghost use Rattle.std.specs.Prelude.{◌≡◌, IfOk, option_map};
+ghost use Rattle.arguments.specs.Arguments.{arguments_data};
+ghost use Rattle.data.specs.View.{data_of};
+ghost use Rattle.project.specs.View.{test_view};
+ghost use Rattle.world.specs.Answering.{Carries, HasRoom, Views};
+ghost use Rattle.world.specs.Caller.{state_of};
+ghost use Rattle.resource_calls.specs.TestCommandsView.{run_view};
+ghost use Rattle.resource_calls.specs.Tests.{said_run, seconds_given, test, test_given};
+
+use crate::commands::{Run, run_of};
+use crate::place::place_of;
+use arguments::Arguments;
+use data::Value;
+use faults::Refusal;
+use ports::{Outputs, Tree};
+use project::Test;
+use resources::seconds_of;
+use std::alloc::{AllocError, Global};
+use world::{Caller, Stop};
+
+// What runs, or the refusal of arguments that say none.
+fn said_run<T: Tree, O: Outputs>(
+    caller: &Caller<'_, T, O>,
+    arguments: &Arguments,
+) -> Result<Run, Stop>
+    ensures { Carries run_view (said_run (arguments_data arguments.now))
+        (state_of T.seen O.seen caller.now) result (state_of T.seen O.seen caller.now) }
+{
+    let place = place_of(caller);
+    let found = run_of(&place, arguments)?;
+    match found {
+        Some(run) => Ok(run),
+        None => caller.refuse(Refusal::Arguments, ""),
+    }
+}
+
+// The seconds that the keyword `timeout` says, else 30.
+fn seconds_given(arguments: &Arguments) -> Result<i64, data::Refusal>
+    ensures { result ≡ seconds_given (arguments_data arguments.now) }
+{
+    seconds_of(arguments.integer("timeout", 30))
+}
+
+// The test that the arguments say, or `Refusal::Range` of its timeout.
+fn test_given(
+    alloc: Global,
+    arguments: &Arguments,
+    run: Run,
+) -> Result<Result<Test, data::Refusal>, AllocError>
+    ensures { IfOk result (λ t. Views test_view (test_given (arguments_data arguments.now) (run_view run)) t) }
+{
+    let seconds = match seconds_given(arguments) {
+        Ok(seconds) => seconds,
+        Err(refusal) => return Ok(Err(refusal)),
+    };
+    let name = String::from_str(alloc, arguments.text_at(0))?;
+    let suites = arguments.texts(alloc, "suite")?;
+    Ok(Ok(Test {
+        name,
+        command: run.command,
+        environment: run.environment,
+        suites,
+        should_fail: arguments.flag("should_fail", false),
+        timeout: seconds,
+    }))
+}
+
+/// `test(name, program)`: E9, then E7 of a `timeout` past 64 bits.
+pub fn test<T: Tree, O: Outputs>(
+    caller: &mut Caller<'_, T, O>,
+    arguments: &Arguments,
+) -> Result<Option<Value>, Stop>
+    requires { HasRoom (state_of T.seen O.seen caller.old) }
+    ensures { Carries (option_map data_of) (test (arguments_data arguments.now))
+        (state_of T.seen O.seen caller.old) result (state_of T.seen O.seen caller.new) }
+{
+    let run = said_run(caller, arguments)?;
+    let made = test_given(caller.alloc, arguments, run)?;
+    let planned = caller.answered(made)?;
+    caller.add_test(planned)?;
+    Ok(None)
+}
