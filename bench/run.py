@@ -86,6 +86,11 @@ def setup_otherwise(load, size):
     return {name: [path, "setup", f"build-{name}"] for name, path in found if path}
 
 
+def setup_sources_otherwise(load, size):
+    """The same without libraries behind one another, of which thousands take others longer than can be waited for."""
+    return {} if load.name in ("chain", "ladder") else setup_otherwise(load, size)
+
+
 GROUPS = {
     "first_path": Group(
         "whole runs: the smallest project, and so many assignments before its program", "an assignment",
@@ -113,11 +118,12 @@ GROUPS = {
         [
             Load("programs", (2_000, 20_000), loads.programs, growth=1.5),
             Load("one_program", (800, 8_000), loads.one_program, growth=1.5),
-            Load("chain", (400, 4_000), loads.chain, growth=1.5),
-            Load("ladder", (400, 4_000), loads.ladder, growth=1.5),
+            # Each library keeps the list of all below it, so together these grow with the square of their number.
+            Load("chain", (400, 4_000), loads.chain, growth=None, seconds=1e-3, peak=256 * 2**20),
+            Load("ladder", (400, 4_000), loads.ladder, growth=None, seconds=1e-3, peak=256 * 2**20),
             Load("custom_targets", (500, 5_000), loads.custom_targets, growth=1.5),
         ],
-        rounds=3, beside=setup_otherwise, beside_rounds=1,
+        rounds=3, beside=setup_sources_otherwise, beside_rounds=1,
     ),
     "hostile": Group(
         "whole runs: tables whose keys collide in a hash that is quick", "a key", lambda load, size: [MESON, "setup", "build"],
