@@ -1,10 +1,10 @@
 -- Deeds that the files of the tree make, against code that reads a file as it writes.
-use Rattle.std.proofs.Common.{◌≡◌, ℕ, ◌+◌, ◌≤◌, Bool, true, false, IsTrue, List, [], ◌∷◌, ◌++◌, Option, Some, None, Result, Ok, Err, IsErrAnd, is_some, unwrap_or, ◌⊎◌, inl, inr, refl, sym, ap, subst, ◌∙◌, arith}
+use Rattle.std.proofs.Common.{◌≡◌, ℕ, ◌+◌, ◌≤◌, true, false, IsTrue, List, [], Option, Some, None, Result, Ok, Err, IsErrAnd, is_some, unwrap_or, inl, inr, refl, sym, subst, ◌∙◌, arith}
 use Rattle.edge.specs.Texts.{Path}
-use Rattle.faults.specs.Faults.{FaultData, plain_fault}
+use Rattle.faults.specs.Faults.{plain_fault}
 use Rattle.faults.specs.declared.refusal.Refusal.{Refusal}
 use Rattle.faults.specs.declared.refusal.Refusal.TheVariants as refusals
-use Rattle.ports.specs.Outputs.{OutputState, Sends, Step}
+use Rattle.ports.specs.Outputs.{OutputState, Sends}
 use Rattle.ports.specs.Tree.{Stays, TreeState, bytes_at, file_at}
 use Rattle.template.specs.Config.{Entries}
 use Rattle.template.specs.Line.{BadDefine, LongLine, Refusal as LineRefusal}
@@ -12,11 +12,11 @@ use Rattle.template.specs.Template.{Agrees, PassFailures, OneMore, ending_of, te
 use Rattle.template.specs.declared.stop.PassStop.{PassStop}
 use Rattle.template.specs.declared.stop.PassStop.TheVariants as pass_stops
 use Rattle.ports.specs.Endings.{is_whole}
-use Rattle.world.specs.Answering.{Carries, Fails, Refuses, State, seen_at}
+use Rattle.world.specs.Answering.{Carries, Fails, State, seen_at}
 use Rattle.world.specs.Deed.{Deed, Files, give, need, perform, required, tell, then, there}
 use Rattle.world.specs.Gives.{Gives, Continues, IsRefusal, failures_after}
-use Rattle.world.specs.Run.{Done, Run, follow, marks_of, ran}
-use Rattle.world.specs.Trace.{Begins, Seen, seen}
+use Rattle.world.specs.Run.{Done, Run, follow, ran}
+use Rattle.world.specs.Trace.{Seen, seen}
 use Rattle.world.specs.World.{World, looking, with_facts}
 use Rattle.world.specs.declared.stop.Stop.{Stop}
 use Rattle.world.specs.declared.stop.Stop.TheVariants as stops

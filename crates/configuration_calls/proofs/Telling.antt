@@ -1,6 +1,6 @@
 -- Outputs that are told steps, against the deed that tells them.
-use Rattle.std.proofs.Common.{◌≡◌, ℕ, ◌+◌, true, false, List, [], ◌++◌, Result, Ok, Err, IsErrAnd, IsSome, refl, sym, subst, ◌∙◌, arith}
-use Rattle.ports.specs.Endings.{Failed, Whole}
+use Rattle.std.proofs.Common.{◌≡◌, ℕ, ◌+◌, true, false, List, [], Result, Ok, IsErrAnd, IsSome, refl, sym, subst, ◌∙◌, arith}
+use Rattle.ports.specs.Endings.{Failed}
 use Rattle.ports.specs.Outputs.{IsOpen, OutputState, Sends, Step, Took, all, part}
 use Rattle.ports.specs.Tree.{TreeState}
 use Rattle.world.specs.Answering.{Carries}

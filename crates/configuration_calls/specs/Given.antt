@@ -1,5 +1,5 @@
 -- Configuration data among arguments.
-use Rattle.std.specs.Prelude.{ℕ, List, Option, Some, None, option_map}
+use Rattle.std.specs.Prelude.{ℕ, Option, Some, None, option_map}
 use Rattle.data.specs.Data.{Data, dictionary, object}
 use Rattle.data.specs.declared.object.Object.TheVariants as objects
 use Rattle.template.specs.Config.{Configuration, Entries}

@@ -1,4 +1,3 @@
-use Rattle.std.proofs.Common.{List, ℕ}
 use Rattle.arguments.specs.Arguments.{arguments_data}
 use Rattle.world.proofs.Answering.{room_later}
 use Rattle.configuration_calls.specs.ConfigureFile.{configured, made}

@@ -1,4 +1,4 @@
-use Rattle.std.proofs.Common.{refl, sym, ap, ◌∙◌}
+use Rattle.std.proofs.Common.{ap, ◌∙◌}
 use Rattle.data.specs.Limits.{within_bytes}
 use Rattle.targets.specs.Files.{path_in}
 use Rattle.world.specs.Declaring.{add_output}

@@ -1,4 +1,4 @@
-use Rattle.std.proofs.Common.{[], map, option_map, sym, ap, refl, ◌∙◌}
+use Rattle.std.proofs.Common.{map, option_map, sym, ap, ◌∙◌}
 use Rattle.template.specs.Config.{Configuration, names}
 use Rattle.configuration_calls.proofs.Data.{found_at, list_as, none_at}
 use Rattle.configuration_calls.proofs.methods.names_at.Goals as goal

@@ -1,4 +1,3 @@
-use Rattle.std.proofs.Common.{refl}
 use Rattle.ports.specs.Outputs.{all, opening}
 use Rattle.configuration_calls.proofs.Telling.{carries_told, carries_untold, nothing_sent}
 use Rattle.configuration_calls.proofs.written.open.Goals as goal

@@ -1,4 +1,3 @@
-use Rattle.std.proofs.Common.{◌∙◌}
 use Rattle.world.proofs.Answering.{room_later}
 use Rattle.configuration_calls.specs.Written.{output_written}
 use Rattle.configuration_calls.proofs.Filling.{of_fixed, of_none, of_stop, of_then}
