@@ -1,10 +1,13 @@
 //! Runs over devices in memory that fail once, take and give a few bytes a call, or answer for a few paths only.
 ghost use Rattle.std.specs.Prelude.{◌<◌};
 
-use crate::expected::{Expected, outputs};
-use crate::given::{EMPTY, Given, SMALLEST, SMALLEST_BUILD_FILE, run_over, strings, tree_of};
+use crate::given::{
+    CAPTURED, EMPTY, Given, REFUSED, SMALLEST, TURNED_OFF, TWO_FOLDERS, WARNING, run_over, strings,
+    tree_of,
+};
+use crate::whole::{Whole, bytes_of, outputs, whole_run};
 use meson::Status;
-use ports::{MemOutputs, OutputCall, Outputs, Tree, TreeCall};
+use ports::{Event, MemOutputs, OutputCall, Outputs, Tree, TreeCall};
 use std::alloc::{AllocError, Global};
 use std::test::Fail;
 
@@ -18,11 +21,11 @@ enum Ran {
     Wrong,
 }
 
-fn judged(failures: u64, status: Status, expected: Expected<'_>, out: &MemOutputs) -> Ran {
-    let is_whole = expected.has_ended(out);
-    if !expected.is_begun(out) {
+fn judged(failures: u64, status: Status, whole: &Whole, out: &MemOutputs) -> Ran {
+    let is_whole = whole.is_as_long(out);
+    if !whole.begins_with(out) {
         Ran::Wrong
-    } else if failures == 0 && status == expected.status() && is_whole {
+    } else if failures == 0 && status == whole.status && is_whole {
         Ran::Whole
     } else if failures == 1 && status == Status::Device && !is_whole {
         Ran::Failed
@@ -31,52 +34,53 @@ fn judged(failures: u64, status: Status, expected: Expected<'_>, out: &MemOutput
     }
 }
 
-// Runs where outputs take so many bytes a call and fail at this call.
+// Runs where the outputs fail at this call.
 fn run_to_outputs(
     alloc: Global,
     given: &Given<'_>,
+    whole: &Whole,
     piece: usize,
     fail: (OutputCall, u64),
 ) -> Result<Ran, AllocError>
     requires { 0 < piece }
 {
-    let mut tree = tree_of(alloc, given)?;
+    let mut tree = tree_of(alloc, given.files)?;
     let mut out = outputs(alloc)?.with_plan(piece, Some(fail));
-    let status = run_over(alloc, &mut tree, &mut out)?;
-    let failures = out.failures();
-    Ok(judged(failures, status, given.expected, &out))
+    let status = run_over(alloc, given, &mut tree, &mut out)?;
+    Ok(judged(out.failures(), status, whole, &out))
 }
 
-// Runs where the tree gives so many bytes a call and fails at this call.
+// Runs where the tree fails at this call.
 fn run_from_tree(
     alloc: Global,
     given: &Given<'_>,
+    whole: &Whole,
     piece: usize,
     fail: (TreeCall, u64),
 ) -> Result<Ran, AllocError>
     requires { 0 < piece }
 {
-    let mut tree = tree_of(alloc, given)?.with_plan(piece, Some(fail));
+    let mut tree = tree_of(alloc, given.files)?.with_plan(piece, Some(fail));
     let mut out = outputs(alloc)?;
-    let status = run_over(alloc, &mut tree, &mut out)?;
-    let failures = tree.failures();
-    Ok(judged(failures, status, given.expected, &out))
+    let status = run_over(alloc, given, &mut tree, &mut out)?;
+    Ok(judged(tree.failures(), status, whole, &out))
 }
 
 // More than the calls of one kind in each run of these tests.
-const CALLS: u64 = 4096;
+const CALLS: u64 = 8192;
 
 // How many calls of a kind a run makes of its outputs, where the run goes right whichever of them fails.
 fn calls_of_outputs(
     alloc: Global,
     given: &Given<'_>,
+    whole: &Whole,
     piece: usize,
     call: OutputCall,
 ) -> Result<Option<u64>, AllocError>
     requires { 0 < piece }
 {
     for number in 1..CALLS {
-        match run_to_outputs(alloc, given, piece, (call, number))? {
+        match run_to_outputs(alloc, given, whole, piece, (call, number))? {
             Ran::Failed => {}
             Ran::Whole => return Ok(Some(number - 1)),
             Ran::Wrong => return Ok(None),
@@ -89,13 +93,14 @@ fn calls_of_outputs(
 fn calls_of_tree(
     alloc: Global,
     given: &Given<'_>,
+    whole: &Whole,
     piece: usize,
     call: TreeCall,
 ) -> Result<Option<u64>, AllocError>
     requires { 0 < piece }
 {
     for number in 1..CALLS {
-        match run_from_tree(alloc, given, piece, (call, number))? {
+        match run_from_tree(alloc, given, whole, piece, (call, number))? {
             Ran::Failed => {}
             Ran::Whole => return Ok(Some(number - 1)),
             Ran::Wrong => return Ok(None),
@@ -104,103 +109,143 @@ fn calls_of_tree(
     Ok(None)
 }
 
+// Whether a project goes right whichever call of a device fails, with pieces of one byte, of seven and of any size.
+fn fails_well(alloc: Global, given: &Given<'_>) -> Result<bool, AllocError> {
+    let whole = whole_run(alloc, given)?;
+    for piece in [1, 7, usize::MAX] {
+        let of_outputs = calls_of_outputs(alloc, given, &whole, piece, OutputCall::Any)?;
+        let of_tree = calls_of_tree(alloc, given, &whole, piece, TreeCall::Any)?;
+        if of_outputs.is_none() || of_tree.is_none() {
+            return Ok(false);
+        }
+    }
+    Ok(true)
+}
+
+#[test]
+fn each_call_fails_in_a_small_project(rt: HostRuntime) -> Result<(), Fail> {
+    assert!(rt; fails_well(rt.alloc(), &SMALLEST)?);
+    assert!(rt; fails_well(rt.alloc(), &EMPTY)?);
+    Ok(())
+}
+
+#[test]
+fn each_call_fails_in_projects_of_targets(rt: HostRuntime) -> Result<(), Fail> {
+    assert!(rt; fails_well(rt.alloc(), &TWO_FOLDERS)?);
+    assert!(rt; fails_well(rt.alloc(), &CAPTURED)?);
+    Ok(())
+}
+
+#[test]
+fn each_call_fails_in_projects_of_templates(rt: HostRuntime) -> Result<(), Fail> {
+    assert!(rt; fails_well(rt.alloc(), &WARNING)?);
+    assert!(rt; fails_well(rt.alloc(), &REFUSED)?);
+    Ok(())
+}
+
+#[test]
+fn each_call_fails_in_a_project_with_an_option(rt: HostRuntime) -> Result<(), Fail> {
+    assert!(rt; fails_well(rt.alloc(), &TURNED_OFF)?);
+    Ok(())
+}
+
 // The 777 bytes of `build.ninja` and the 1236 of the document, the begin and the end of both.
 #[test]
-fn each_call_of_the_outputs_fails(rt: HostRuntime) -> Result<(), Fail> {
+fn calls_of_the_outputs(rt: HostRuntime) -> Result<(), Fail> {
+    let whole = whole_run(rt.alloc(), &SMALLEST)?;
     for (call, calls) in [
         (OutputCall::Open, 2),
+        (OutputCall::Put, 2013),
         (OutputCall::Close, 2),
         (OutputCall::Log, 0),
         (OutputCall::Fault, 0),
-        (OutputCall::Any, 2017),
     ] {
-        let made = calls_of_outputs(rt.alloc(), &SMALLEST, 1, call)?;
+        let made = calls_of_outputs(rt.alloc(), &SMALLEST, &whole, 1, call)?;
         assert_eq!(rt; made, Some(calls), "calls of {call:?}");
     }
-    Ok(())
-}
-
-#[test]
-fn each_call_of_the_outputs_fails_in_larger_pieces(rt: HostRuntime) -> Result<(), Fail> {
-    for piece in [7, usize::MAX] {
-        assert!(rt; calls_of_outputs(rt.alloc(), &SMALLEST, piece, OutputCall::Any)?.is_some());
-        assert!(rt; calls_of_outputs(rt.alloc(), &EMPTY, piece, OutputCall::Fault)?.is_some());
-    }
-    Ok(())
-}
-
-// The bytes of the fault line.
-#[test]
-fn each_call_of_the_outputs_fails_at_a_fault(rt: HostRuntime) -> Result<(), Fail> {
-    let made = calls_of_outputs(rt.alloc(), &EMPTY, 1, OutputCall::Any)?;
-    assert_eq!(rt; made, Some(39));
     Ok(())
 }
 
 // The bytes of the definition file, and how large it and the three other paths are that are looked at.
 #[test]
-fn each_call_of_the_tree_fails(rt: HostRuntime) -> Result<(), Fail> {
+fn calls_of_the_tree(rt: HostRuntime) -> Result<(), Fail> {
+    let whole = whole_run(rt.alloc(), &SMALLEST)?;
     for (call, calls) in [
         (TreeCall::Size, 4),
         (TreeCall::ReadAt, 45),
         (TreeCall::Any, 49),
     ] {
-        let made = calls_of_tree(rt.alloc(), &SMALLEST, 1, call)?;
+        let made = calls_of_tree(rt.alloc(), &SMALLEST, &whole, 1, call)?;
         assert_eq!(rt; made, Some(calls), "calls of {call:?}");
     }
     Ok(())
 }
 
-#[test]
-fn each_call_of_the_tree_fails_in_larger_pieces(rt: HostRuntime) -> Result<(), Fail> {
-    for piece in [7, usize::MAX] {
-        assert!(rt; calls_of_tree(rt.alloc(), &SMALLEST, piece, TreeCall::Any)?.is_some());
-    }
-    assert!(rt; calls_of_tree(rt.alloc(), &EMPTY, 1, TreeCall::Any)?.is_some());
-    Ok(())
+// Runs a project where the outputs take so many bytes a call and fail at this call.
+fn failed_at(
+    alloc: Global,
+    given: &Given<'_>,
+    piece: usize,
+    fail: (OutputCall, u64),
+) -> Result<(Status, MemOutputs), AllocError>
+    requires { 0 < piece }
+{
+    let mut tree = tree_of(alloc, given.files)?;
+    let mut out = outputs(alloc)?.with_plan(piece, Some(fail));
+    let status = run_over(alloc, given, &mut tree, &mut out)?;
+    Ok((status, out))
 }
 
-// `build.ninja` is whole and closed before the document is begun.
-#[test]
-fn the_document_is_not_begun(rt: HostRuntime) -> Result<(), Fail> {
-    let mut tree = tree_of(rt.alloc(), &SMALLEST)?;
-    let mut out = outputs(rt.alloc())?.with_plan(usize::MAX, Some((OutputCall::Open, 2)));
-    let status = run_over(rt.alloc(), &mut tree, &mut out)?;
-    assert_eq!(rt; status, Status::Device);
-    assert_eq!(rt; out.event_count(), SMALLEST_BUILD_FILE.len() + 2);
-    assert!(rt; SMALLEST.expected.is_begun(&out));
-    Ok(())
-}
-
-// The bytes that are taken end in `rule c_co`.
 #[test]
 fn the_fortieth_byte_is_not_taken(rt: HostRuntime) -> Result<(), Fail> {
-    let mut tree = tree_of(rt.alloc(), &SMALLEST)?;
-    let mut out = outputs(rt.alloc())?.with_plan(1, Some((OutputCall::Put, 40)));
-    let status = run_over(rt.alloc(), &mut tree, &mut out)?;
+    let (status, out) = failed_at(rt.alloc(), &SMALLEST, 1, (OutputCall::Put, 40))?;
     assert_eq!(rt; status, Status::Device);
+    assert_eq!(rt;
+        bytes_of(rt.alloc(), &out)?.as_slice(),
+        b"ninja_required_version = 1.3\n\nrule c_co".as_slice()
+    );
     assert_eq!(rt; out.event_count(), 40);
-    assert!(rt; SMALLEST.expected.is_begun(&out));
+    Ok(())
+}
+
+#[test]
+fn the_document_is_not_begun(rt: HostRuntime) -> Result<(), Fail> {
+    let (status, out) = failed_at(rt.alloc(), &SMALLEST, usize::MAX, (OutputCall::Open, 2))?;
+    assert_eq!(rt; status, Status::Device);
+    let name = b"build.ninja".as_slice();
+    assert_eq!(rt; out.event_count(), 779);
+    assert_eq!(rt; out.event(778), Some(Event::Close(name)));
+    Ok(())
+}
+
+#[test]
+fn the_fault_line_is_not_begun(rt: HostRuntime) -> Result<(), Fail> {
+    let (status, out) = failed_at(rt.alloc(), &EMPTY, usize::MAX, (OutputCall::Fault, 1))?;
+    assert_eq!(rt; status, Status::Device);
+    assert_eq!(rt; out.event_count(), 0);
     Ok(())
 }
 
 #[test]
 fn a_few_paths_are_looked_at(rt: HostRuntime) -> Result<(), Fail> {
     let alloc = rt.alloc();
-    let given = Given {
-        others: &["main.c", "other.c", "meson.build.bak"],
-        ..SMALLEST
-    };
     let paths = [
         "meson.build",
         "meson.options",
         "meson_options.txt",
         "main.c",
     ];
-    let mut tree = tree_of(alloc, &given)?.only(alloc, strings(alloc, &paths)?)?;
+    let files = [
+        SMALLEST.files[0],
+        SMALLEST.files[1],
+        ("other.c", ""),
+        ("meson.build.bak", ""),
+    ];
+    let whole = whole_run(alloc, &SMALLEST)?;
+    let mut tree = tree_of(alloc, &files)?.only(alloc, strings(alloc, &paths)?)?;
     let mut out = outputs(alloc)?;
-    let status = run_over(alloc, &mut tree, &mut out)?;
+    let status = run_over(alloc, &SMALLEST, &mut tree, &mut out)?;
     assert_eq!(rt; status, Status::Done);
-    assert!(rt; given.expected.is_begun(&out) && given.expected.has_ended(&out));
+    assert!(rt; whole.begins_with(&out) && whole.is_as_long(&out));
     Ok(())
 }

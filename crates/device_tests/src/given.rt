@@ -1,113 +1,117 @@
-//! The projects that are run, and their outputs.
+//! The projects that are run.
 ghost use Rattle.ports.specs.Endings.{HasRoom};
 ghost use Rattle.std.specs.Prelude.{◌≡◌, IfOk};
 ghost use Rattle.ports.specs.MemTree.{mem_tree_seen};
 ghost use Rattle.ports.specs.Outputs.{OutputState};
 ghost use Rattle.ports.specs.Tree.{TreeState};
 
-use crate::expected::Expected;
 use meson::{Settings, Status, setup};
 use ports::{MemTree, Outputs, Tree};
 use std::alloc::{AllocError, Global};
 
-/// The bytes of the root's `meson.build`, the paths of the other files, which are empty, and what a run of these comes to.
+/// The files of a project, each a path and its text, the words of the command line, and the machine file.
 #[derive(Clone, Copy)]
 pub struct Given<'a> {
-    pub definitions: &'a str,
-    pub others: &'a [&'a str],
-    pub expected: Expected<'a>,
+    pub files: &'a [(&'a str, &'a str)],
+    pub words: &'a [&'a str],
+    pub machine: &'a str,
 }
-
-pub const SMALLEST_PROJECT: &str = "project('p','c')\nexecutable('prog','main.c')\n";
-
-/// The `build.ninja` of the smallest project.
-pub const SMALLEST_BUILD_FILE: &str = "ninja_required_version = 1.3\n\
-\n\
-rule c_compile\n\
-\x20command = $COMMAND\n\
-\x20description = $DESC\n\
-\x20depfile = $DEPFILE\n\
-\x20deps = gcc\n\
-\n\
-rule ar\n\
-\x20command = $COMMAND\n\
-\x20description = $DESC\n\
-\n\
-rule c_link\n\
-\x20command = $COMMAND\n\
-\x20description = $DESC\n\
-\n\
-rule symlink\n\
-\x20command = $COMMAND\n\
-\x20description = $DESC\n\
-\n\
-rule custom\n\
-\x20command = $COMMAND\n\
-\x20description = $DESC\n\
-\n\
-rule custom_dep\n\
-\x20command = $COMMAND\n\
-\x20description = $DESC\n\
-\x20depfile = $DEPFILE\n\
-\n\
-build prog.p/main.c.o: c_compile ../main.c\n\
-\x20COMMAND = cc -I. -I.. -Wall -O0 -g -MD -MQ prog.p/main.c.o -MF prog.p/main.c.o.d -o prog.p/main.c.o -c ../main.c\n\
-\x20DESC = Compiling C object prog.p/main.c.o\n\
-\x20DEPFILE = prog.p/main.c.o.d\n\
-\n\
-build prog: c_link prog.p/main.c.o\n\
-\x20COMMAND = cc -o prog prog.p/main.c.o\n\
-\x20DESC = Linking target prog\n\
-\n\
-build all: phony prog\n\
-\n\
-default all\n\
-";
-
-/// The introspection document of the smallest project.
-pub const SMALLEST_DOCUMENT: &str = "{\"buildoptions\":[\
-{\"name\":\"prefix\",\"type\":\"string\",\"value\":\"/usr/local\"},\
-{\"name\":\"bindir\",\"type\":\"string\",\"value\":\"bin\"},\
-{\"name\":\"libdir\",\"type\":\"string\",\"value\":\"lib\"},\
-{\"name\":\"includedir\",\"type\":\"string\",\"value\":\"include\"},\
-{\"name\":\"datadir\",\"type\":\"string\",\"value\":\"share\"},\
-{\"name\":\"mandir\",\"type\":\"string\",\"value\":\"share/man\"},\
-{\"name\":\"sysconfdir\",\"type\":\"string\",\"value\":\"etc\"},\
-{\"name\":\"buildtype\",\"type\":\"combo\",\"value\":\"debug\"},\
-{\"name\":\"debug\",\"type\":\"boolean\",\"value\":true},\
-{\"name\":\"optimization\",\"type\":\"combo\",\"value\":\"0\"},\
-{\"name\":\"warning_level\",\"type\":\"combo\",\"value\":\"1\"},\
-{\"name\":\"werror\",\"type\":\"boolean\",\"value\":false},\
-{\"name\":\"c_std\",\"type\":\"combo\",\"value\":\"none\"},\
-{\"name\":\"default_library\",\"type\":\"combo\",\"value\":\"shared\"},\
-{\"name\":\"c_args\",\"type\":\"array\",\"value\":[]},\
-{\"name\":\"c_link_args\",\"type\":\"array\",\"value\":[]},\
-{\"name\":\"auto_features\",\"type\":\"feature\",\"value\":\"auto\"}\
-],\
-\"buildsystem_files\":{\"absent\":[\"meson.options\",\"meson_options.txt\"],\"present\":[\"meson.build\",\"main.c\"]},\
-\"dependencies\":[],\
-\"installed\":{},\
-\"projectinfo\":{\"license\":[],\"name\":\"p\",\"version\":\"undefined\"},\
-\"targets\":[{\"build_by_default\":true,\"defined_in\":\"meson.build\",\
-\"filename\":[\"prog\"],\"installed\":false,\"name\":\"prog\",\"type\":\"executable\"}],\
-\"tests\":[]}\
-";
 
 /// The smallest project of one program.
 pub const SMALLEST: Given<'static> = Given {
-    definitions: SMALLEST_PROJECT,
-    others: &["main.c"],
-    expected: Expected::Outputs {
-        build_file: SMALLEST_BUILD_FILE,
-        document: SMALLEST_DOCUMENT,
-    },
+    files: &[
+        (
+            "meson.build",
+            "project('p','c')\nexecutable('prog','main.c')\n",
+        ),
+        ("main.c", ""),
+    ],
+    words: &[],
+    machine: "",
 };
 
 /// An empty definition file.
 pub const EMPTY: Given<'static> = Given {
-    definitions: "",
-    others: &[],
-    expected: Expected::Fault("meson.build:1: ERROR: E13 project call\n"),
+    files: &[("meson.build", "")],
+    words: &[],
+    machine: "",
+};
+
+/// A library and a program in two folders.
+pub const TWO_FOLDERS: Given<'static> = Given {
+    files: &[
+        (
+            "meson.build",
+            "project('p','c')\nsubdir('lib')\nsubdir('app')\n",
+        ),
+        (
+            "lib/meson.build",
+            "foo = shared_library('foo', 'foo.c', version: '1.2.3')\n",
+        ),
+        (
+            "app/meson.build",
+            "executable('run', 'run.c', link_with: foo)\n",
+        ),
+        ("lib/foo.c", ""),
+        ("app/run.c", ""),
+    ],
+    words: &[],
+    machine: "",
+};
+
+/// A custom target, of which the output of the command is captured.
+pub const CAPTURED: Given<'static> = Given {
+    files: &[
+        (
+            "meson.build",
+            "project('p','c')\n\
+         custom_target('g', input: 'g.in', output: 'g.c', command: ['sed', 's/x/y z/', '@INPUT@'], capture: true)\n",
+        ),
+        ("g.in", ""),
+    ],
+    words: &[],
+    machine: "",
+};
+
+/// A template with a warning.
+pub const WARNING: Given<'static> = Given {
+    files: &[
+        (
+            "meson.build",
+            "project('p','c')\nconfigure_file(input: 'c.h.in', output: 'c.h', configuration: {'A': true})\n",
+        ),
+        ("c.h.in", "#mesondefine A\nx@B@y\nz"),
+    ],
+    words: &[],
+    machine: "",
+};
+
+/// An output that is written whole, and one whose template is refused at its third line.
+pub const REFUSED: Given<'static> = Given {
+    files: &[
+        (
+            "meson.build",
+            "project('p','c')\n\
+         configure_file(output: 'a.h', configuration: {})\n\
+         configure_file(input: 'b.h.in', output: 'b.h', configuration: {})\n",
+        ),
+        ("b.h.in", "one\ntwo\n#mesondefine A B\n"),
+    ],
+    words: &[],
+    machine: "",
+};
+
+/// A dependency that a feature turns off.
+pub const TURNED_OFF: Given<'static> = Given {
+    files: &[
+        (
+            "meson.build",
+            "project('p','c')\nmessage(dependency('zlib', required: get_option('z')).found())\n",
+        ),
+        ("meson.options", "option('z', type: 'feature')\n"),
+    ],
+    words: &["auto_features=disabled"],
+    machine: "[dependency zlib]\n",
 };
 
 pub fn strings(alloc: Global, texts: &[&str]) -> Result<Vec<String>, AllocError> {
@@ -118,22 +122,25 @@ pub fn strings(alloc: Global, texts: &[&str]) -> Result<Vec<String>, AllocError>
     Ok(strings)
 }
 
-/// The tree of the given files.
-pub fn tree_of(alloc: Global, given: &Given<'_>) -> Result<MemTree, AllocError>
+/// The tree of these files.
+pub fn tree_of(alloc: Global, files: &[(&str, &str)]) -> Result<MemTree, AllocError>
     ensures { IfOk result (λ tree. (mem_tree_seen tree).failures ≡ 0) }
 {
-    let mut files = Vec::new(alloc);
-    for path in given.others {
-        files.push((String::from_str(alloc, path)?, Vec::new(alloc)))?;
+    let mut made = Vec::new(alloc);
+    for (path, text) in files {
+        let file = (
+            String::from_str(alloc, path)?,
+            text.as_bytes().to_vec(alloc)?,
+        );
+        made.push(file)?;
     }
-    let path = String::from_str(alloc, "meson.build")?;
-    files.push((path, given.definitions.as_bytes().to_vec(alloc)?))?;
-    MemTree::new(alloc, files)
+    MemTree::new(alloc, made)
 }
 
-/// Runs `setup` over these devices, for a build one folder below the sources. Want of memory of the run itself is a status.
+/// Runs `setup` of a project over these devices, for a build one folder below the sources. Want of memory of the run itself is a status.
 pub fn run_over<T: Tree, O: Outputs>(
     alloc: Global,
+    given: &Given<'_>,
     tree: &mut T,
     out: &mut O,
 ) -> Result<Status, AllocError>
@@ -141,10 +148,10 @@ pub fn run_over<T: Tree, O: Outputs>(
     requires out { HasRoom (O.seen out.old).failures }
 {
     let settings = Settings {
-        words: Vec::new(alloc),
+        words: strings(alloc, given.words)?,
         depth: 1,
         source_root: String::from_str(alloc, "/s")?,
         build_root: String::from_str(alloc, "/s/build")?,
     };
-    Ok(setup(alloc, tree, &settings, &[], out))
+    Ok(setup(alloc, tree, &settings, given.machine.as_bytes(), out))
 }

@@ -7,10 +7,10 @@ mod device_failures;
 #[cfg(test)]
 mod devices;
 #[cfg(test)]
-mod expected;
-#[cfg(test)]
 mod given;
 #[cfg(test)]
 mod ninja_text;
 #[cfg(test)]
 mod no_words;
+#[cfg(test)]
+mod whole;

@@ -3,22 +3,12 @@ ghost use Rattle.ports.specs.Endings.{HasRoom};
 ghost use Rattle.ports.specs.Outputs.{OutputState};
 
 use crate::given::strings;
+use crate::whole::bytes_of;
 use edge::{Edge, Rule, are_writable, can_hold_path, can_hold_value};
 use ninja::{write_edge, write_path, write_value, write_words};
-use ports::{DeviceFault, Event, MemOutputs, Outputs};
-use std::alloc::{AllocError, Global};
+use ports::{DeviceFault, MemOutputs, Outputs};
+use std::alloc::Global;
 use std::test::Fail;
-
-// The bytes of all outputs, one behind the other.
-fn written(alloc: Global, out: &MemOutputs) -> Result<Vec<u8>, AllocError> {
-    let mut bytes = Vec::new(alloc);
-    for i in 0..out.event_count() {
-        if let Some(Event::Byte(_, byte)) = out.event(i) {
-            bytes.push(byte)?;
-        }
-    }
-    Ok(bytes)
-}
 
 #[tactic(auto, using(ports::proofs::Sending::sending))]
 fn put_path_and_value<O: Outputs>(out: &mut O) -> Result<(), DeviceFault>
@@ -55,7 +45,7 @@ fn paths_and_values(rt: HostRuntime) -> Result<(), Fail> {
     let mut out = MemOutputs::new(alloc, 100)?;
     put_path_and_value(&mut out)?;
     assert_eq!(rt;
-        written(alloc, &out)?.as_slice(),
+        bytes_of(alloc, &out)?.as_slice(),
         b"a$ b$:c$$$ a$$".as_slice()
     );
     assert!(rt; !can_hold_path("a|b") && !can_hold_path("\u{7f}") && can_hold_path("é"));
@@ -81,7 +71,7 @@ fn words(rt: HostRuntime) -> Result<(), Fail> {
         let words = strings(alloc, words)?;
         let mut out = MemOutputs::new(alloc, 100)?;
         put_words(&words, file, &mut out)?;
-        assert_eq!(rt; written(alloc, &out)?.as_slice(), expected.as_bytes());
+        assert_eq!(rt; bytes_of(alloc, &out)?.as_slice(), expected.as_bytes());
     }
     Ok(())
 }
@@ -105,7 +95,7 @@ fn an_edge_with_blanks_and_quotes(rt: HostRuntime) -> Result<(), Fail> {
     let mut out = MemOutputs::new(alloc, 1000)?;
     put_edge(&edges[0], &mut out)?;
     assert_eq!(rt;
-        written(alloc, &out)?.as_slice(),
+        bytes_of(alloc, &out)?.as_slice(),
         b"build q.p/a$ b$:c$$.c.o: c_compile ../a$ b$:c$$.c | i || o
  COMMAND = cc -I. 'it'\"'\"'s' -c '../a b:c$$.c'
  DESC = Compiling C object q.p/a b:c$$.c.o
