@@ -1,2 +1,3 @@
 pub mod BuildFile
 pub mod Parts
+pub mod Means

@@ -4,12 +4,13 @@ ghost use Rattle.ports.specs.Endings.{HasRoom, ended};
 ghost use Rattle.ports.specs.Outputs.{Makes};
 ghost use Rattle.faults.specs.View.{fault_view};
 ghost use Rattle.build_file.specs.BuildFile.{ending_of};
+ghost use Rattle.build_file.specs.Means.{Means};
 ghost use Rattle.conclusion.specs.Concluding.{Agrees, done_with, failed_devices, faulted_with, outputs_steps, status_of_fault};
 ghost use Rattle.conclusion.specs.Concluding.{status_of_outputs};
 
 use crate::document::write_document;
 use crate::fault::write_fault;
-use build_file::{WriteStop, write_build_file};
+use build_file::{WriteStop, meaning, write_build_file};
 use faults::Fault;
 use ports::{DeviceFault, Outputs};
 use project::Project;
@@ -57,12 +58,15 @@ fn write_outputs<O: Outputs>(alloc: Global, project: &Project, out: &mut O) -> R
 
 /// Writes the outputs of a project whose definitions are evaluated: `build.ninja`, then the introspection document.
 ///
-/// Status `Done` is answered where the outputs took all of it. With `Device` or `Memory` they took a beginning.
+/// Status `Done` is answered where the outputs took all of it. With `Device` or `Memory` they took a beginning. What Ninja and a shell
+/// read in `build.ninja` is the project's edges.
 pub fn conclude<O: Outputs>(alloc: Global, project: &Project, out: &mut O) -> Status
     requires { HasRoom (O.seen out.old).failures }
     ensures agrees { Agrees (done_with project.now) result (O.seen out.old) (O.seen out.new) }
+    ensures means { Means project.now }
     ensures device { (O.seen out.new).failures ≡ (O.seen out.old).failures + failed_devices result }
 {
+    meaning(project);
     let answer = write_outputs(alloc, project, out);
     status_of_outputs(answer)
 }

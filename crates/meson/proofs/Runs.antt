@@ -6,18 +6,19 @@ use Rattle.ports.specs.Outputs.{OutputState, Step, Sends, faults}
 use Rattle.ports.proofs.Sending.{sends_part, sends_stop, sends_then}
 use Rattle.faults.specs.Faults.{FaultData, fault_line}
 use Rattle.faults.specs.View.{fault_view}
+use Rattle.build_file.specs.Means.{Means}
 use Rattle.conclusion.specs.Concluding.{Agrees, Whole, done_with, failed_devices, faulted_with, is_finished, outputs_steps, told_before}
 use Rattle.conclusion.specs.declared.concluding.Status.{Status}
 use Rattle.conclusion.specs.declared.concluding.Status.TheVariants as statuses
 use Rattle.world.specs.Gives.{failures_after}
-use Rattle.world.specs.Run.{Outcome, Run, ran, Done, Faulted, marks_of, outcome_of}
+use Rattle.world.specs.Run.{Outcome, Run, ran, Done, Faulted, marks_of, outcome_of, world_after}
 use Rattle.world.specs.Store.{Kept}
 use Rattle.world.specs.Trace.{Begins, Seen, steps_of}
 use Rattle.world.specs.declared.stop.Stop.{Stop}
 use Rattle.world.specs.declared.stop.Stop.TheVariants as stops
 use Rattle.world.proofs.Marks.{steps_of-append}
 use Rattle.interp.specs.Evaluated.{Evaluated}
-use Rattle.meson.specs.Setup.{Keeps, OnEnd, Settles, whole_of}
+use Rattle.meson.specs.Setup.{Keeps, OnDone, OnEnd, OnProject, Settles, whole_of}
 
 -- the steps of a run begin with what its marks tell
 whole_steps : (r : Run (Unit {0})) → (rest : List Step) × ((whole_of r).steps ≡ steps_of (marks_of r) ++ rest)
@@ -51,6 +52,22 @@ agrees run (Ok kept) status old mid new e s = subst (λ w. Agrees w status old.o
 agrees run (Err (stops.Refused fault)) status old mid new e s = subst (λ w. Agrees w status old.out new) (sym (fault_whole run (fault_view fault) e.is)) (told e.written.sent s.agrees)
 agrees run (Err stops.Device) status old mid new e s = unfinished (whole_of run) statuses.Device status old.out mid.out new refl s (begun_steps run old mid e)
 agrees run (Err stops.Memory) status old mid new e s = unfinished (whole_of run) statuses.Memory status old.out mid.out new refl s (begun_steps run old mid e)
+
+-- ---- meaning
+
+on_done : (status : Status) {p : Type 0} → (status ≡ statuses.Done → p) → OnDone status p
+on_done statuses.Done h = h refl
+on_done statuses.Fault h = tt
+on_done statuses.Device h = tt
+on_done statuses.Memory h = tt
+
+-- a run is done only where its evaluation was, and then its project is that of the evaluation
+pub means : (run : Run (Unit {0})) (answer : Result Kept Stop) (status : Status) (old mid : Seen) (new : OutputState) → Evaluated run answer old mid → Settles answer status mid.out new
+    → OnProject answer Means → OnDone status (Means (world_after run).facts.project)
+means run (Ok kept) status old mid new e s m = on_done status (λ d. subst (λ r. Means (world_after r).facts.project) (sym e.is) m)
+means run (Err (stops.Refused fault)) status old mid new e s m = on_done status (λ d. absurd (let f : statuses.Done ≡ statuses.Fault = sym d ∙ s.agrees.status (ap is_finished d) in cc))
+means run (Err stops.Device) status old mid new e s m = on_done status (λ d. absurd (let f : statuses.Done ≡ statuses.Device = sym d ∙ s.ended in cc))
+means run (Err stops.Memory) status old mid new e s m = on_done status (λ d. absurd (let f : statuses.Done ≡ statuses.Memory = sym d ∙ s.ended in cc))
 
 -- ---- failures: `t` and `o` of the two devices before an evaluation, `u` and those of `mid` after it
 

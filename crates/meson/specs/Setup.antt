@@ -2,12 +2,13 @@
 use Rattle.std.specs.Prelude.{◌≡◌, ◌+◌, Result, Ok, Err}
 use Rattle.ports.specs.Outputs.{OutputState}
 use Rattle.faults.specs.View.{fault_view}
+use Rattle.project.specs.World.{WorldData}
 use Rattle.conclusion.specs.Concluding.{Agrees, Whole, done_with, failed_devices, faulted_with, told_before}
 use Rattle.conclusion.specs.declared.concluding.Status.{Status}
 use Rattle.conclusion.specs.declared.concluding.Status.TheVariants as statuses
 use Rattle.world.specs.Deed.{Files}
 use Rattle.world.specs.Plan.{carry}
-use Rattle.world.specs.Run.{Run, ran, Done, Faulted}
+use Rattle.world.specs.Run.{Run, ran, Done, Faulted, world_after}
 use Rattle.world.specs.Settings.{SettingsData}
 use Rattle.world.specs.Start.{first_world}
 use Rattle.world.specs.Store.{Kept}
@@ -28,6 +29,22 @@ whole_of (ran (Faulted f) w ms) = told_before (steps_of ms) (faulted_with f)
 -- the run of these files, settings and what a machine file says
 abbrev pub run_of : Files → SettingsData → MachineSaid → Whole
 run_of files s said = whole_of (evaluated files s said)
+
+-- the project that the definitions of these files describe
+abbrev pub project_of : Files → SettingsData → MachineSaid → WorldData
+project_of files s said = (world_after (evaluated files s said)).facts.project
+
+-- of a run whose outputs are all written, and nothing of another
+abbrev pub OnDone : Status → Type 0 → Type 0
+OnDone statuses.Done p = p
+OnDone statuses.Fault p = Unit {0}
+OnDone statuses.Device p = Unit {0}
+OnDone statuses.Memory p = Unit {0}
+
+-- of the project of an evaluation that was done, and nothing of another
+abbrev pub OnProject : Result Kept Stop → (WorldData → Type 0) → Type 0
+OnProject (Ok kept) p = p kept.project
+OnProject (Err stop) p = Unit {0}
 
 -- of an evaluation that came to its end, and nothing of another
 abbrev pub OnEnd : {A : Type 0} → Result A Stop → Type 0 → Type 0

@@ -1,12 +1,13 @@
 //! One run, from the bytes of a tree to the events of the outputs.
 ghost use Rattle.std.specs.Prelude.{◌≡◌, ◌+◌, ◌<◌};
 ghost use Rattle.ports.specs.Endings.{HasRoom};
+ghost use Rattle.build_file.specs.Means.{Means};
 ghost use Rattle.conclusion.specs.Concluding.{Agrees, failed_devices};
 ghost use Rattle.interp.specs.Evaluation.{IsSaid, MachineSaid};
 ghost use Rattle.world.specs.Deed.{Files};
 ghost use Rattle.world.specs.Gives.{Holds};
 ghost use Rattle.world.specs.SettingsView.{settings_view};
-ghost use Rattle.meson.specs.Setup.{OnEnd, Settles, run_of};
+ghost use Rattle.meson.specs.Setup.{OnDone, OnEnd, OnProject, Settles, project_of, run_of};
 
 use conclusion::{Status, conclude, refuse};
 use interp::{Inputs, evaluate};
@@ -19,7 +20,8 @@ use world::{Settings, Stop, Store, new_steps};
 // What is done after an evaluation: all outputs of its project are written, or the line of its fault.
 fn settle<O: Outputs>(alloc: Global, answer: Result<Store, Stop>, out: &mut O) -> Status
     requires { OnEnd answer (HasRoom (O.seen out.old).failures) }
-    ensures { Settles answer result (O.seen out.old) (O.seen out.new) }
+    ensures settles { Settles answer result (O.seen out.old) (O.seen out.new) }
+    ensures meaning { OnProject answer Means }
 {
     match answer {
         Ok(store) => conclude(alloc, store.project(), out),
@@ -44,6 +46,8 @@ fn run_with<T: Tree, O: Outputs, L: Ledger>(
     requires some { 0 < blank.parts }
     ensures run { (files : Files) (said : MachineSaid) → Holds (T.seen tree.old) files → IsSaid inputs.now.machine.now said
         → Agrees (run_of files (settings_view inputs.now.settings.now) said) result (O.seen out.old) (O.seen out.new) }
+    ensures meaning { (files : Files) (said : MachineSaid) → Holds (T.seen tree.old) files → IsSaid inputs.now.machine.now said
+        → OnDone result (Means (project_of files (settings_view inputs.now.settings.now) said)) }
     ensures device { (T.seen tree.new).failures + (O.seen out.new).failures
         ≡ (T.seen tree.old).failures + (O.seen out.old).failures + failed_devices result }
 {
@@ -71,6 +75,11 @@ pub fn setup<T: Tree, O: Outputs>(
     // `Device` or `Memory` they took a beginning. The bytes of a machine file are read as one that says one thing: `machine_files_say`.
     ensures run { (files : Files) (said : MachineSaid) → Holds (T.seen tree.old) files → IsSaid machine.now said
         → Agrees (run_of files (settings_view settings.now) said) result (O.seen out.old) (O.seen out.new) }
+
+    // With status `Done` the Ninja manual reads `build.ninja` as just what the definitions declare, and a shell each command as its
+    // words. No path is made twice, each that is needed is made before or there, and no edge reaches itself.
+    ensures meaning { (files : Files) (said : MachineSaid) → Holds (T.seen tree.old) files → IsSaid machine.now said
+        → OnDone result (Means (project_of files (settings_view settings.now) said)) }
 
     // Of any devices: one of them failed once where the status is `Device`, and else none did.
     ensures device { (T.seen tree.new).failures + (O.seen out.new).failures

@@ -3,13 +3,15 @@ use Rattle.build_file.specs.BuildFile.{default_outputs}
 use Rattle.build_file.proofs.DefaultPaths.{defaults_are_paths}
 use Rattle.build_file.proofs.law.meaning.Goals as goal
 
-pub returns-clause-read : goal.returns-clause-read
-returns-clause-read c =
+pub returns : goal.returns
+returns c =
     let w = c.args.project.now in
-    c.file_law.ensures.read (edges_in w) (default_outputs w) c.edges_are_writable.ensures
-    (defaults_are_paths w.surroundings w.targets c.edges_are_writable.ensures)
-
-pub returns-clause-runs : goal.returns-clause-runs
-returns-clause-runs c =
-    let w = c.args.project.now in
-    c.file_law.ensures.runs (edges_in w) (default_outputs w) c.edges_are_writable.ensures
+    let writable = c.edges_are_writable.ensures in
+    let paths = defaults_are_paths w.surroundings w.targets writable in
+    record {
+      read = c.file_law.ensures.read (edges_in w) (default_outputs w) writable paths;
+      runs = c.file_law.ensures.runs (edges_in w) (default_outputs w) writable;
+      once = c.outputs_differ.ensures;
+      made = c.needs_are_made.ensures;
+      no_circle = c.no_circle.ensures;
+    }

@@ -2,7 +2,7 @@ use Rattle.std.proofs.Common.{[]}
 use Rattle.world.specs.SettingsView.{settings_view}
 use Rattle.world.specs.Trace.{seen}
 use Rattle.meson.specs.Setup.{evaluated}
-use Rattle.meson.proofs.Runs.{agrees, failures_settled, room_after}
+use Rattle.meson.proofs.Runs.{agrees, failures_settled, means, room_after}
 use Rattle.meson.proofs.running.run_with.Goals as goal
 
 pub settle-requires : goal.settle-requires
@@ -16,10 +16,17 @@ unfolding evaluated
 returns-clause-run g c = λ files said holds is.
     agrees (evaluated files (settings_view c.args.inputs.now.settings.now) said) c.evaluate-answer.result c.settle.result
     (seen (g.O.Outputs.seen c.args.out.now) c.new_steps-steps.result []) (seen (g.O.Outputs.seen c.evaluate-answer.new.out) c.evaluate-answer.new.steps []) (g.O.Outputs.seen c.settle.new.out)
-    (c.evaluate-answer.ensures.gives files said holds is) c.settle.ensures
+    (c.evaluate-answer.ensures.gives files said holds is) c.settle.ensures.settles
+
+pub returns-clause-meaning : goal.returns-clause-meaning
+unfolding evaluated
+returns-clause-meaning g c = λ files said holds is.
+    means (evaluated files (settings_view c.args.inputs.now.settings.now) said) c.evaluate-answer.result c.settle.result
+    (seen (g.O.Outputs.seen c.args.out.now) c.new_steps-steps.result []) (seen (g.O.Outputs.seen c.evaluate-answer.new.out) c.evaluate-answer.new.steps []) (g.O.Outputs.seen c.settle.new.out)
+    (c.evaluate-answer.ensures.gives files said holds is) c.settle.ensures.settles c.settle.ensures.meaning
 
 pub returns-clause-device : goal.returns-clause-device
 returns-clause-device g c =
     failures_settled c.evaluate-answer.result c.settle.result (g.T.Tree.seen c.args.tree.now).failures (g.O.Outputs.seen c.args.out.now).failures
     (g.T.Tree.seen c.evaluate-answer.new.tree).failures (g.O.Outputs.seen c.evaluate-answer.new.out) (g.O.Outputs.seen c.settle.new.out)
-    c.evaluate-answer.ensures.device.sum c.settle.ensures
+    c.evaluate-answer.ensures.device.sum c.settle.ensures.settles
