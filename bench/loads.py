@@ -113,13 +113,22 @@ def folders(folder, count):
 SOURCES_A_PROGRAM = 10
 
 
-def programs(folder, count):
+def programs(folder, count, begin="project('p','c')\n", prefix=""):
     """So many sources, ten for each program."""
     for i in range(count):
         write(folder, f"s{i}.c", "")
     named = [f"'s{i}.c'" for i in range(count)]
-    lines = (f"executable('p{i}', {', '.join(named[i : i + SOURCES_A_PROGRAM])})\n" for i in range(0, count, SOURCES_A_PROGRAM))
-    write(folder, "meson.build", "project('p','c')\n" + "".join(lines))
+    lines = (f"executable('{prefix}p{i}', {', '.join(named[i : i + SOURCES_A_PROGRAM])})\n" for i in range(0, count, SOURCES_A_PROGRAM))
+    write(folder, "meson.build", begin + "".join(lines))
+    return count
+
+
+def programs_in_folders(folder, count):
+    """So many sources, ten for each program, in a hundred folders."""
+    each = count // 100
+    write(folder, "meson.build", "project('p','c')\n" + "".join(f"subdir('d{i}')\n" for i in range(100)))
+    for i in range(100):
+        programs(os.path.join(folder, f"d{i}"), each, begin="", prefix=f"d{i}_")
     return count
 
 
@@ -146,6 +155,20 @@ def ladder(folder, count):
     lines = "".join(f"c = static_library('l{i}', 'x.c', link_with: [a, b])\n{step}" for i in range(count))
     write(folder, "meson.build", f"project('p','c')\na = []\nb = []\n{lines}executable('p', 'x.c', link_with: [a, b])\n")
     return count
+
+
+def listed_ladder(folder, count):
+    """The same; one item is one of the libraries that a library or the program keeps in its list of all below it."""
+    ladder(folder, count)
+    return count * (count + 1) // 2
+
+
+def configured(folder, size):
+    """A template of about so many bytes that a project configures."""
+    data = ", ".join(f"'{name}': '{value}'" for name, value in NAMES.items())
+    call = f"configure_file(input: 't.in', output: 't.h', configuration: configuration_data({{{data}}}))\n"
+    write(folder, "meson.build", f"project('p','c')\n{call}")
+    return template(folder, size)
 
 
 def custom_targets(folder, count):

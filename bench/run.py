@@ -28,6 +28,9 @@ CALLS = os.path.join(CHECKOUT, "crates", "bench", "out", "bench")
 # Other programs of the same use, whose times are shown beside ours where they are installed.
 OTHERS = ("muon-meson", "muon", "meson")
 
+# What another program may take of the clock.
+OTHERS_SECONDS = 60
+
 # Starts a program from a small process: what this interpreter holds would count as the peak of a program that it starts.
 GNU_TIME = "/usr/bin/time"
 
@@ -83,7 +86,7 @@ def replace_names_otherwise(load, size):
 
 def setup_otherwise(load, size):
     found = [(name, shutil.which(name)) for name in OTHERS]
-    return {name: [path, "setup", f"build-{name}"] for name, path in found if path}
+    return {name: ["timeout", str(OTHERS_SECONDS), path, "setup", f"build-{name}"] for name, path in found if path}
 
 
 def setup_sources_otherwise(load, size):
@@ -91,7 +94,26 @@ def setup_sources_otherwise(load, size):
     return {} if load.name in ("chain", "ladder") else setup_otherwise(load, size)
 
 
+def setup_greatest_otherwise(load, size):
+    return setup_otherwise(load, size) if size == load.sizes[-1] else {}
+
+
 GROUPS = {
+    "run": Group(
+        "whole runs: a little of everything that projects are large in", "one", lambda load, size: [MESON, "setup", "build"],
+        [
+            Load("smallest", (0,), loads.assignments, growth=None),
+            Load("sources", (2_000, 20_000), loads.programs_in_folders, growth=1.26),
+            Load("folders", (200, 2_000), loads.folders, growth=1.26),
+            Load("custom_targets", (500, 5_000), loads.custom_targets, growth=1.26),
+            Load("ladder", (96, 960), loads.listed_ladder, growth=1.26),
+            Load("template", (1_000_000, 10_000_000), loads.configured, growth=1.26),
+            Load("rounds", (6_000, 60_000), loads.rounds, growth=1.26),
+            Load("growing_list", (6_000, 60_000), loads.growing_list, growth=1.26),
+            Load("growing_dictionary", (6_000, 60_000), loads.growing_dictionary, growth=1.26),
+        ],
+        beside=setup_greatest_otherwise, beside_rounds=1,
+    ),
     "first_path": Group(
         "whole runs: the smallest project, and so many assignments before its program", "an assignment",
         lambda load, size: [MESON, "setup", "build"],
@@ -246,11 +268,11 @@ def measured(group, load, size, rounds):
     ours = best["ours"]
     each = f" {shown_time(ours.seconds() / count)} each" if count else ""
     memory = "" if group.is_told else f" {ours.peak / 2**20:9.1f} MiB"
-    print(f"  {load.name:<17}{shown_size(size):>11} {shown_time(ours.seconds())}{each}{memory}   {ours.printed}".rstrip(), flush=True)
+    print(f"  {load.name:<19}{shown_size(size):>11} {shown_time(ours.seconds())}{each}{memory}   {ours.printed}".rstrip(), flush=True)
     for name, other in best.items():
         if name != "ours":
-            ratio = other.wall / ours.wall
-            print(f"  {'by ' + name:<28} {shown_time(other.wall)} by the clock, {ratio:.1f} times ours {other.peak / 2**20:9.1f} MiB", flush=True)
+            clock = f"{shown_time(other.wall)} by the clock, {other.wall / ours.wall:.1f} times ours"
+            print(f"  {'by ' + name:<30} {shown_time(other.processor)}; {clock} {other.peak / 2**20:9.1f} MiB", flush=True)
     return count, ours
 
 
@@ -262,22 +284,22 @@ def judged(group, load, rounds):
         (few, first), (many, last) = runs[0], runs[-1]
         growth = last.seconds() / many / (first.seconds() / few)
         bound = "not judged" if load.growth is None else f"at most {load.growth:g}"
-        print(f"  {load.name:<17}{group.one} at {shown_size(load.sizes[-1])} over {group.one} at {shown_size(load.sizes[0])}: {growth:.2f} ({bound})", flush=True)
+        print(f"  {load.name:<19}{group.one} at {shown_size(load.sizes[-1])} over {group.one} at {shown_size(load.sizes[0])}: {growth:.2f} ({bound})", flush=True)
         is_good = load.growth is None or growth <= load.growth
     if load.memory is not None:
         most = max(it.peak / count for count, it in runs)
-        print(f"  {load.name:<17}most memory for {group.one}: {most:.1f} bytes (at most {load.memory:g})", flush=True)
+        print(f"  {load.name:<19}most memory for {group.one}: {most:.1f} bytes (at most {load.memory:g})", flush=True)
         is_good = is_good and most <= load.memory
     many, last = runs[-1]
     if load.seconds is not None:
         each = last.seconds() / many
-        print(f"  {load.name:<17}time of {group.one} at {shown_size(load.sizes[-1])}: {shown_time(each)} (at most {shown_time(load.seconds)})", flush=True)
+        print(f"  {load.name:<19}time of {group.one} at {shown_size(load.sizes[-1])}: {shown_time(each)} (at most {shown_time(load.seconds)})", flush=True)
         is_good = is_good and each <= load.seconds
     if load.peak is not None:
-        print(f"  {load.name:<17}memory of the whole run: {last.peak / 2**20:.1f} MiB (at most {load.peak / 2**20:g})", flush=True)
+        print(f"  {load.name:<19}memory of the whole run: {last.peak / 2**20:.1f} MiB (at most {load.peak / 2**20:g})", flush=True)
         is_good = is_good and last.peak <= load.peak
     if not is_good:
-        print(f"  {load.name:<17}IS OVER ITS BOUND", flush=True)
+        print(f"  {load.name:<19}IS OVER ITS BOUND", flush=True)
     return is_good
 
 
@@ -301,7 +323,7 @@ def main():
             try:
                 is_good = judged(group, load, words.rounds or group.rounds) and is_good
             except RuntimeError as error:
-                print(f"  {load.name:<17}FAILED: {error}")
+                print(f"  {load.name:<19}FAILED: {error}")
                 is_good = False
     print("all within their bounds" if is_good else "not all are within their bounds")
     return 0 if is_good else 1
