@@ -43,6 +43,13 @@ def template(folder, size):
     return write(folder, "t.in", "".join(lines))
 
 
+def configured(folder, size):
+    """A project whose `configure_file` writes that template, each of its names from a dictionary."""
+    entries = ", ".join(f"'{name}': '{value}'" for name, value in NAMES.items())
+    write(folder, "meson.build", f"project('p','c')\nconfigure_file(input: 't.in', output: 't.out', configuration: {{{entries}}})\n")
+    return template(folder, size)
+
+
 # Projects of a whole run, with so many items.
 
 
@@ -111,24 +118,30 @@ def folders(folder, count):
 # Projects of many targets.
 
 SOURCES_A_PROGRAM = 10
+SOURCES_A_FOLDER = 200
 
 
-def programs(folder, count, begin="project('p','c')\n", prefix=""):
-    """So many sources, ten for each program."""
+def sources_and_programs(folder, count):
+    """So many sources, and the lines of their programs, ten sources for each."""
     for i in range(count):
         write(folder, f"s{i}.c", "")
     named = [f"'s{i}.c'" for i in range(count)]
-    lines = (f"executable('{prefix}p{i}', {', '.join(named[i : i + SOURCES_A_PROGRAM])})\n" for i in range(0, count, SOURCES_A_PROGRAM))
-    write(folder, "meson.build", begin + "".join(lines))
+    return "".join(f"executable('p{i}', {', '.join(named[i : i + SOURCES_A_PROGRAM])})\n" for i in range(0, count, SOURCES_A_PROGRAM))
+
+
+def programs(folder, count):
+    """So many sources, ten for each program."""
+    write(folder, "meson.build", "project('p','c')\n" + sources_and_programs(folder, count))
     return count
 
 
 def programs_in_folders(folder, count):
-    """So many sources, ten for each program, in a hundred folders."""
-    each = count // 100
-    write(folder, "meson.build", "project('p','c')\n" + "".join(f"subdir('d{i}')\n" for i in range(100)))
-    for i in range(100):
-        programs(os.path.join(folder, f"d{i}"), each, begin="", prefix=f"d{i}_")
+    """So many sources, ten for each program and twenty programs in each folder."""
+    numbers = range(count // SOURCES_A_FOLDER)
+    write(folder, "meson.build", "project('p','c')\n" + "".join(f"subdir('d{i}')\n" for i in numbers))
+    for i in numbers:
+        inner = os.path.join(folder, f"d{i}")
+        write(inner, "meson.build", sources_and_programs(inner, SOURCES_A_FOLDER))
     return count
 
 
@@ -157,18 +170,11 @@ def ladder(folder, count):
     return count
 
 
-def listed_ladder(folder, count):
-    """The same; one item is one of the libraries that a library or the program keeps in its list of all below it."""
+def ladder_by_libraries(folder, count):
+    """The same ladder; one item is a library in the list of those that one target links. The i-th library, from 0, has the i before it
+    in its list, since of equal ones one is kept, and the program has all."""
     ladder(folder, count)
     return count * (count + 1) // 2
-
-
-def configured(folder, size):
-    """A template of about so many bytes that a project configures."""
-    data = ", ".join(f"'{name}': '{value}'" for name, value in NAMES.items())
-    call = f"configure_file(input: 't.in', output: 't.h', configuration: configuration_data({{{data}}}))\n"
-    write(folder, "meson.build", f"project('p','c')\n{call}")
-    return template(folder, size)
 
 
 def custom_targets(folder, count):

@@ -28,9 +28,6 @@ CALLS = os.path.join(CHECKOUT, "crates", "bench", "out", "bench")
 # Other programs of the same use, whose times are shown beside ours where they are installed.
 OTHERS = ("muon-meson", "muon", "meson")
 
-# What another program may take of the clock.
-OTHERS_SECONDS = 60
-
 # Starts a program from a small process: what this interpreter holds would count as the peak of a program that it starts.
 GNU_TIME = "/usr/bin/time"
 
@@ -48,6 +45,8 @@ class Load:
     # The most seconds of one at the last size, and the most bytes of memory of a whole run; None: not judged.
     seconds: float = None
     peak: float = None
+    # The most that the memory of one at the last size may be over that at the first; None: not judged.
+    memory_growth: float = None
 
 
 @dataclasses.dataclass
@@ -86,7 +85,12 @@ def replace_names_otherwise(load, size):
 
 def setup_otherwise(load, size):
     found = [(name, shutil.which(name)) for name in OTHERS]
-    return {name: ["timeout", str(OTHERS_SECONDS), path, "setup", f"build-{name}"] for name, path in found if path}
+    return {name: [path, "setup", f"build-{name}"] for name, path in found if path}
+
+
+def setup_within_limit(load, size):
+    """The same, ended with status 124 after 120 seconds."""
+    return {name: ["timeout", "120", *command] for name, command in setup_otherwise(load, size).items()}
 
 
 def setup_sources_otherwise(load, size):
@@ -94,25 +98,26 @@ def setup_sources_otherwise(load, size):
     return {} if load.name in ("chain", "ladder") else setup_otherwise(load, size)
 
 
-def setup_greatest_otherwise(load, size):
-    return setup_otherwise(load, size) if size == load.sizes[-1] else {}
+def tenfold(name, size, make):
+    """A load at a tenth of a size and the whole, whose time and memory may grow with an exponent of 1.1: 10^0.1 times as much for one."""
+    return Load(name, (size // 10, size), make, growth=10**0.1, memory_growth=10**0.1)
 
 
 GROUPS = {
     "run": Group(
-        "whole runs: a little of everything that projects are large in", "one", lambda load, size: [MESON, "setup", "build"],
+        "whole runs, beside others: the smallest project, and great ones of each kind", "one", lambda load, size: [MESON, "setup", "build"],
         [
             Load("smallest", (0,), loads.assignments, growth=None),
-            Load("sources", (2_000, 20_000), loads.programs_in_folders, growth=1.26),
-            Load("folders", (200, 2_000), loads.folders, growth=1.26),
-            Load("custom_targets", (500, 5_000), loads.custom_targets, growth=1.26),
-            Load("ladder", (96, 960), loads.listed_ladder, growth=1.26),
-            Load("template", (1_000_000, 10_000_000), loads.configured, growth=1.26),
-            Load("rounds", (6_000, 60_000), loads.rounds, growth=1.26),
-            Load("growing_list", (6_000, 60_000), loads.growing_list, growth=1.26),
-            Load("growing_dictionary", (6_000, 60_000), loads.growing_dictionary, growth=1.26),
+            tenfold("programs", 20_000, loads.programs_in_folders),
+            tenfold("folders", 2_000, loads.folders),
+            tenfold("custom_targets", 5_000, loads.custom_targets),
+            tenfold("ladder", 960, loads.ladder_by_libraries),
+            tenfold("template", 10_000_000, loads.configured),
+            tenfold("rounds", 60_000, loads.rounds),
+            tenfold("growing_list", 60_000, loads.growing_list),
+            tenfold("growing_dictionary", 60_000, loads.growing_dictionary),
         ],
-        beside=setup_greatest_otherwise, beside_rounds=1,
+        rounds=3, beside=setup_within_limit, beside_rounds=3,
     ),
     "first_path": Group(
         "whole runs: the smallest project, and so many assignments before its program", "an assignment",
@@ -271,8 +276,10 @@ def measured(group, load, size, rounds):
     print(f"  {load.name:<19}{shown_size(size):>11} {shown_time(ours.seconds())}{each}{memory}   {ours.printed}".rstrip(), flush=True)
     for name, other in best.items():
         if name != "ours":
-            clock = f"{shown_time(other.wall)} by the clock, {other.wall / ours.wall:.1f} times ours"
-            print(f"  {'by ' + name:<30} {shown_time(other.processor)}; {clock} {other.peak / 2**20:9.1f} MiB", flush=True)
+            ratio = other.wall / ours.wall
+            clock = f"{shown_time(other.wall)} by the clock, {ratio:.1f} times ours"
+            processor = f"{shown_time(other.processor)} of the processor, {other.processor / max(ours.processor, 1e-4):.1f} times"
+            print(f"  {'by ' + name:<30} {clock}, {processor} {other.peak / 2**20:9.1f} MiB", flush=True)
     return count, ours
 
 
@@ -283,9 +290,13 @@ def judged(group, load, rounds):
     if len(runs) > 1:
         (few, first), (many, last) = runs[0], runs[-1]
         growth = last.seconds() / many / (first.seconds() / few)
-        bound = "not judged" if load.growth is None else f"at most {load.growth:g}"
+        bound = "not judged" if load.growth is None else f"at most {load.growth:.3g}"
         print(f"  {load.name:<19}{group.one} at {shown_size(load.sizes[-1])} over {group.one} at {shown_size(load.sizes[0])}: {growth:.2f} ({bound})", flush=True)
         is_good = load.growth is None or growth <= load.growth
+        if load.memory_growth is not None:
+            growth = last.peak / many / (first.peak / few)
+            print(f"  {load.name:<19}the same of memory: {growth:.2f} (at most {load.memory_growth:.2f})", flush=True)
+            is_good = is_good and growth <= load.memory_growth
     if load.memory is not None:
         most = max(it.peak / count for count, it in runs)
         print(f"  {load.name:<19}most memory for {group.one}: {most:.1f} bytes (at most {load.memory:g})", flush=True)
