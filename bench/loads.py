@@ -236,3 +236,27 @@ def hostile_options(folder, kind):
     write(folder, "meson.options", "".join(f"option('{key}', type: 'boolean')\n" for key in keys(kind, HOSTILE_KEYS)))
     write(folder, "meson.build", "project('p','c')\n")
     return HOSTILE_KEYS
+
+
+def hostile_outputs(folder, kind):
+    """A custom target with so many outputs."""
+    names = ", ".join(f"'{name}'" for name in keys(kind, HOSTILE_KEYS))
+    write(folder, "meson.build", f"project('p','c')\ncustom_target('t', output: [{names}], command: ['gen'])\n")
+    return HOSTILE_KEYS
+
+
+def hostile_paths(folder, kind):
+    """So many files of the tree that are looked at."""
+    for name in keys(kind, HOSTILE_KEYS):
+        write(folder, name, "")
+    names = ", ".join(f"'{name}'" for name in keys(kind, HOSTILE_KEYS))
+    write(folder, "meson.build", f"project('p','c')\nf = files({names})\n")
+    return HOSTILE_KEYS
+
+
+def hostile_sections(folder, kind):
+    """A machine file with so many values in a section that names what programs are called."""
+    lines = "".join(f"{name} = 'x'\n" for name in keys(kind, HOSTILE_KEYS))
+    write(folder, "machine.ini", f"[binaries]\n{lines}")
+    write(folder, "meson.build", "project('p','c')\n")
+    return HOSTILE_KEYS

@@ -83,6 +83,11 @@ def replace_names_otherwise(load, size):
     return {"sed": ["sed", "-n", f"{sed};w t.sed", "t.in"], "python": [sys.executable, "-c", python]}
 
 
+def setup_hostile(load, size):
+    machine = ["--native-file", "machine.ini"] if load.name == "sections" else []
+    return [MESON, "setup", "build", *machine]
+
+
 def setup_otherwise(load, size):
     found = [(name, shutil.which(name)) for name in OTHERS]
     return {name: [path, "setup", f"build-{name}"] for name, path in found if path}
@@ -153,11 +158,14 @@ GROUPS = {
         rounds=3, beside=setup_sources_otherwise, beside_rounds=1,
     ),
     "hostile": Group(
-        "whole runs: tables whose keys collide in a hash that is quick", "a key", lambda load, size: [MESON, "setup", "build"],
+        "whole runs: tables whose keys collide in a hash that is quick", "a key", setup_hostile,
         [
             Load("names", ("plain", "colliding"), loads.hostile_names),
             Load("dictionary", ("plain", "colliding"), loads.hostile_dictionary),
             Load("options", ("plain", "colliding"), loads.hostile_options),
+            Load("sections", ("plain", "colliding"), loads.hostile_sections),
+            Load("outputs", ("plain", "colliding"), loads.hostile_outputs),
+            Load("paths", ("plain", "colliding"), loads.hostile_paths),
         ],
     ),
     "syntax": Group(
