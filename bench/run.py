@@ -108,6 +108,9 @@ def tenfold(name, size, make):
     return Load(name, (size // 10, size), make, growth=10**0.1, memory_growth=10**0.1)
 
 
+# Ten times as many libraries have 100 times as many in the lists that they keep: an exponent of 1.1 against these, for one library.
+LISTS_GROWTH = 100**1.1 / 10
+
 GROUPS = {
     "run": Group(
         "whole runs, beside others: the smallest project, and great ones of each kind", "one", lambda load, size: [MESON, "setup", "build"],
@@ -148,12 +151,12 @@ GROUPS = {
     "project": Group(
         "whole runs: projects of many sources, libraries and custom targets", "one", lambda load, size: [MESON, "setup", "build"],
         [
-            Load("programs", (2_000, 20_000), loads.programs, growth=1.5),
-            Load("one_program", (800, 8_000), loads.one_program, growth=1.5),
+            tenfold("programs", 20_000, loads.programs),
+            tenfold("one_program", 8_000, loads.one_program),
             # Each library keeps the list of all below it, so together these grow with the square of their number.
-            Load("chain", (400, 4_000), loads.chain, growth=None, seconds=1e-3, peak=256 * 2**20),
-            Load("ladder", (400, 4_000), loads.ladder, growth=None, seconds=1e-3, peak=256 * 2**20),
-            Load("custom_targets", (500, 5_000), loads.custom_targets, growth=1.5),
+            Load("chain", (400, 4_000), loads.chain, growth=LISTS_GROWTH, seconds=1e-3, peak=256 * 2**20),
+            Load("ladder", (400, 4_000), loads.ladder, growth=LISTS_GROWTH, seconds=1e-3, peak=256 * 2**20),
+            tenfold("custom_targets", 5_000, loads.custom_targets),
         ],
         rounds=3, beside=setup_sources_otherwise, beside_rounds=1,
     ),
