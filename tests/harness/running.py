@@ -277,9 +277,6 @@ def differs_from_failing(came, whole, kind):
     same = (came.status, came.log, came.complaint, came.outputs) == (whole.status, whole.log, whole.complaint, whole.outputs)
     if same and came.may_go_on:
         return None
-    # What a fault leaves begun is written when the program lets go of it, and nobody is told where that fails.
-    if came.failed == "write" and came.status == whole.status == 1 and ended_outputs(came) == ended_outputs(whole):
-        return None if (came.log, came.complaint) == (whole.log, whole.complaint) else "something else was said"
     # Want of memory in a call of a device is a device fault.
     statuses = (3, 2) if kind == "memory" else (2,)
     if came.status not in statuses:
@@ -290,11 +287,6 @@ def differs_from_failing(came, whole, kind):
     if said == came.complaint or not whole.complaint.startswith(said):
         return f"it complained:\n{shown(came.complaint)}"
     return why_no_beginning(begun_outputs(came), begun_outputs(whole), whole.begun)
-
-
-def ended_outputs(came):
-    """The outputs that are whole and in their places."""
-    return {name: text for name, text in came.outputs.items() if not name.endswith(UNENDED)}
 
 
 def begun_outputs(came):

@@ -20,8 +20,9 @@ const LINE_BUFFER: usize = 1024;
 /// with its time. What an earlier run left beside is written over.
 ///
 /// `open` makes the folders that an output needs, and gives up one that was open. What is put waits in a buffer, which is written out as
-/// it fills, and at `close`: where that fails, the call answers a device fault. A line of the log or of a fault is written out at its
-/// end, and the one before anything of the other, so a user sees both in their order. Want of memory in a call is a device fault.
+/// it fills, at `close`, and before another output is begun or a fault's bytes are taken: where that fails, the call answers a device
+/// fault. A line of the log or of a fault is written out at its end, and the one before anything of the other, so a user sees both in
+/// their order. Want of memory in a call is a device fault.
 #[derive(Drop)]
 pub struct DiskOutputs<'a, R: Files, L: Write + Drop, F: Write + Drop> {
     files: &'a R,
@@ -69,15 +70,28 @@ fn make_file<R: Files>(files: &R, place: &str, beside: &str) -> io::Result<R::Fi
     fs::create(files, beside)
 }
 
-// Begins the output of this name.
+// Writes out what waits for the open output, if one is open.
+fn flush_output<W: Write + Drop>(current: &mut Option<DiskOutput<W>>) -> io::Result<()>
+    ensures { option_map name_of current.new ≡ option_map name_of current.old }
+{
+    match current {
+        Some(output) => output.file.flush(),
+        None => Ok(()),
+    }
+}
+
+// Begins the output of this name, after what waits for the open one is written out.
 fn make_output<R: Files>(
     files: &R,
     alloc: Global,
     folder: &str,
+    current: &mut Option<DiskOutput<R::File>>,
     name: &str,
 ) -> io::Result<DiskOutput<R::File>>
-    ensures { IfOk result (λ made. string_bytes made.paths.name ≡ name.now) }
+    ensures made { IfOk result (λ made. string_bytes made.paths.name ≡ name.now) }
+    ensures name { option_map name_of current.new ≡ option_map name_of current.old }
 {
+    flush_output(current)?;
     let paths = paths_of(alloc, folder, name)?;
     let file = make_file(files, paths.place.as_str(), paths.beside.as_str())?;
     let file = BufWriter::new(alloc, file)?;
@@ -186,6 +200,23 @@ fn write_line<V: Write, W: Write>(
     Ok(count)
 }
 
+// Writes some of these bytes of a fault's line, after all that waits for the open output and for the log.
+fn write_fault<W: Write + Drop, L: Write, F: Write>(
+    current: &mut Option<DiskOutput<W>>,
+    log: &mut L,
+    faults: &mut F,
+    bytes: &[u8],
+) -> Result<usize, DeviceFault>
+    ensures within { IfOk result (λ n. n ≤ length bytes.now) }
+    ensures some { IfOk result (λ n. 0 < length bytes.now → 0 < n) }
+    ensures name { option_map name_of current.new ≡ option_map name_of current.old }
+{
+    match flush_output(current) {
+        Ok(()) => write_line(log, faults, bytes),
+        Err(_) => Err(DeviceFault),
+    }
+}
+
 impl<'a, R: Files, L: Write + Drop, F: Write + Drop> DiskOutputs<'a, R, L, F> {
     /// Outputs as files below this folder, with this log and this place for fault lines.
     pub fn new(
@@ -224,7 +255,8 @@ impl<'a, R: Files, L: Write + Drop, F: Write + Drop> Outputs for DiskOutputs<'a,
     }
 
     fn open(&mut self, name: &str) -> Result<(), DeviceFault> {
-        match make_output(self.files, self.alloc, self.folder.as_str(), name) {
+        let folder = self.folder.as_str();
+        match make_output(self.files, self.alloc, folder, &mut self.current, name) {
             Ok(output) => {
                 self.current = Some(output);
                 Ok(())
@@ -262,7 +294,7 @@ impl<'a, R: Files, L: Write + Drop, F: Write + Drop> Outputs for DiskOutputs<'a,
     }
 
     fn fault(&mut self, bytes: &[u8]) -> Result<usize, DeviceFault> {
-        let taken = write_line(&mut self.log, &mut self.faults, bytes);
+        let taken = write_fault(&mut self.current, &mut self.log, &mut self.faults, bytes);
         if taken.is_err() {
             self.failures += 1;
         }

@@ -4,7 +4,7 @@ use Rattle.ports.proofs.Untold.{untold_faults}
 use Rattle.ports.proofs.disk_outputs.DiskOutputsOutputs.fault.Goals as goal
 
 pub returns-then-is_err-clause-took : goal.returns-then-is_err-clause-took
-returns-then-is_err-clause-took g c = untold_faults _ refl refl (failures_failed _ _ (sym c.is_err.ensures.value ∙ c.if-is_err.true))
+returns-then-is_err-clause-took g c = untold_faults _ refl c.write_fault-taken.ensures.name (failures_failed _ _ (sym c.is_err.ensures.value ∙ c.if-is_err.true))
 
 pub returns-else-is_err-clause-took : goal.returns-else-is_err-clause-took
-returns-else-is_err-clause-took g c = untold_faults _ refl refl (failures_whole _ _ (sym c.is_err.ensures.value ∙ c.if-is_err.false))
+returns-else-is_err-clause-took g c = untold_faults _ refl c.write_fault-taken.ensures.name (failures_whole _ _ (sym c.is_err.ensures.value ∙ c.if-is_err.false))
