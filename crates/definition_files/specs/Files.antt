@@ -9,11 +9,13 @@ use Rattle.grammar.specs.Parsed.{parsed}
 use Rattle.grammar.specs.Tree.{FileTree, Statements, statements}
 use Rattle.faults.specs.declared.refusal.Refusal.{Refusal}
 use Rattle.faults.specs.declared.refusal.Refusal.TheVariants as refusals
+use Rattle.limits.specs.Limits.{text_bytes}
 use Rattle.world.specs.World.{with_line}
 use Rattle.world.specs.Deed.{Deed, give, refuse, change, ◌>>=◌, need}
 
+-- the bytes of a definition file
 abbrev pub most_bytes : ℕ
-most_bytes = 16777216
+most_bytes = text_bytes
 
 -- the line of the byte at a place
 abbrev pub line_at : List ℕ → ℕ → ℕ
