@@ -10,12 +10,13 @@ ghost use Rattle.calls.specs.Range.{how_many, integer_at, integers_from, range, 
 
 use arguments::Arguments;
 use data::{List, Refusal, Value};
+use limits::ITEMS;
 use ports::{Outputs, Tree};
 use std::alloc::{AllocError, Global};
 use world::{Caller, Stop};
 
 /// The most items of a list.
-const MOST_ITEMS: u128 = 65_536;
+const MOST_ITEMS: u128 = ITEMS as u128;
 
 // How many integers there are from a start to below a stop, by steps.
 fn how_many(start: u128, stop: u128, step: u128) -> u128

@@ -1,4 +1,3 @@
-pub mod Refusal
 pub mod Data
 pub mod Coding
 pub mod Weight

@@ -1,5 +1,6 @@
--- How large a value may be: 65,536 items, 64 levels and a weight of 33,554,432; a text 16,777,216 bytes.
+-- How large a value may be.
 use Rattle.std.specs.Prelude.{◌≡◌, ◌<◌, ◌≤◌, ◌++◌, ◌+◌, ℕ, Bool, true, ◌&&◌, nat_le, List, length, Result, Ok, Err, if◌then◌else◌}
+use Rattle.limits.specs.Limits.{items as most_items, levels as most_levels, weight as most_weight, text_bytes, is_short}
 use Rattle.data.specs.declared.refusal.Refusal.{Refusal}
 use Rattle.data.specs.declared.refusal.Refusal.TheVariants as refusal
 use Rattle.data.specs.Data.{Data, boolean, integer, text, list, dictionary, object, Items, Entries, count, entry_count}
@@ -7,7 +8,7 @@ use Rattle.data.specs.Weight.{items_weight, items_depth, entries_weight, entries
 
 -- a list or a dictionary of this many items, this weight and this many levels is within the limits
 abbrev pub is_within : ℕ → ℕ → ℕ → Bool
-is_within items weight levels = nat_le items 65536 && (nat_le weight 33554432 && nat_le levels 64)
+is_within items weight levels = nat_le items most_items && (nat_le weight most_weight && nat_le levels most_levels)
 
 abbrev pub items_fit : Items → Bool
 items_fit ds = is_within (count ds) (items_weight ds + 1) (items_depth ds + 1)
@@ -19,19 +20,19 @@ entries_fit es = is_within (entry_count es) (entries_weight es + 1) (entries_dep
 abbrev pub fits : Data → Bool
 fits (boolean b) = true
 fits (integer z) = true
-fits (text t) = nat_le (length t) 16777216
+fits (text t) = is_short t
 fits (list ds) = items_fit ds
 fits (dictionary es) = entries_fit es
 fits (object o) = true
 
 -- a text within the limit, or the refusal
 abbrev pub within_bytes : List ℕ → Result (List ℕ) Refusal
-within_bytes t = if nat_le (length t) 16777216 then Ok t else Err refusal.Limit
+within_bytes t = if is_short t then Ok t else Err refusal.Limit
 
 -- a text has become longer by a piece, or it would have become too long
 abbrev pub Appends : List ℕ → List ℕ → List ℕ → Result (Unit {0}) Refusal → Type 0
-Appends before piece after (Ok done) = (after ≡ before ++ piece) × (length after ≤ 16777216)
-Appends before piece after (Err e) = (e ≡ refusal.Limit) × (16777216 < length (before ++ piece))
+Appends before piece after (Ok done) = (after ≡ before ++ piece) × (length after ≤ text_bytes)
+Appends before piece after (Err e) = (e ≡ refusal.Limit) × (text_bytes < length (before ++ piece))
 
 -- a value within the limits, or the refusal
 abbrev pub within : Data → Result Data Refusal

@@ -1,8 +1,5 @@
 //! Why an operation gives no value.
 
-ghost use Rattle.std.specs.Prelude.{◌≡◌};
-ghost use Rattle.data.specs.Refusal.{number_of};
-
 /// Why an operation on values is refused.
 #[derive(Clone, Copy, PartialEq, Eq, Debug)]
 pub enum Refusal {
@@ -20,21 +17,4 @@ pub enum Refusal {
     Duplicate,
     /// E22: a result past a limit.
     Limit,
-}
-
-impl Refusal {
-    /// The number of the fault, as 6 for E6.
-    pub fn number(self) -> u8
-        ensures { result ≡ number_of self }
-    {
-        match self {
-            Refusal::Type => 6,
-            Refusal::Range => 7,
-            Refusal::UnknownMethod => 8,
-            Refusal::Arguments => 9,
-            Refusal::Absent => 10,
-            Refusal::Duplicate => 11,
-            Refusal::Limit => 22,
-        }
-    }
 }

@@ -2,8 +2,10 @@
 
 ghost use Rattle.std.specs.Prelude.{◌≡◌, ◌++◌, ◌∷◌, [], ◌≤◌, length, OnOk, IfOk, string_bytes};
 ghost use Rattle.data.specs.Limits.{within_bytes, Appends};
+ghost use Rattle.limits.specs.Limits.{text_bytes};
 
 use crate::refusal::Refusal;
+use limits::TEXT_BYTES;
 use std::alloc::{AllocError, Global};
 use std::cmp::Ordering;
 use std::hash::{Hash, Hasher};
@@ -18,23 +20,21 @@ pub struct Text {
 
 impl Model for Text {
     ghost use Rattle.std.specs.Prelude.{◌≤◌, List, ℕ, length, string_bytes};
+    ghost use Rattle.limits.specs.Limits.{text_bytes};
 
     ghost Value = { List ℕ };
 
     ghost view = { λ t. string_bytes t.string.value };
 
-    ghost invariant = { λ t. length (string_bytes t.string.value) ≤ 16777216 };
+    ghost invariant = { λ t. length (string_bytes t.string.value) ≤ text_bytes };
 }
 
 impl Text {
-    /// The most bytes that a text may have.
-    pub const MOST_BYTES: usize = 16_777_216;
-
     /// The text of a string, or `Refusal::Limit` where that is too long.
     pub fn new(alloc: Global, string: String) -> Result<Result<Text, Refusal>, AllocError>
         ensures { IfOk result (λ r. r ≡ within_bytes (string_bytes string)) }
     {
-        if string.len() > Text::MOST_BYTES {
+        if string.len() > TEXT_BYTES {
             return Ok(Err(Refusal::Limit));
         }
         let string = Rc::new(alloc, string)?;
@@ -43,7 +43,7 @@ impl Text {
 
     pub fn as_str(&self) -> &str
         ensures text { result.now ≡ self.now }
-        ensures within { length self.now ≤ 16777216 }
+        ensures within { length self.now ≤ text_bytes }
     {
         self.string.as_str()
     }
@@ -54,7 +54,7 @@ impl Text {
     pub fn append(self, alloc: Global, piece: &str) -> Result<Result<Text, Refusal>, AllocError>
         ensures { IfOk result (λ r. r ≡ within_bytes (self ++ piece.now)) }
     {
-        if self.as_str().len() + piece.len() > Text::MOST_BYTES {
+        if self.as_str().len() + piece.len() > TEXT_BYTES {
             return Ok(Err(Refusal::Limit));
         }
         let mut string = self.into_string(alloc)?;
@@ -156,7 +156,7 @@ impl Hash for Text {
 pub fn append(string: &mut String, piece: &str) -> Result<Result<(), Refusal>, AllocError>
     ensures { IfOk result (λ r. Appends (string_bytes string.old) piece.now (string_bytes string.new) r) }
 {
-    if string.len() + piece.len() > Text::MOST_BYTES {
+    if string.len() + piece.len() > TEXT_BYTES {
         return Ok(Err(Refusal::Limit));
     }
     string.push_str(piece)?;

@@ -17,13 +17,11 @@ use crate::object::Object;
 use crate::refusal::Refusal;
 use crate::text::Text;
 pub use builder::DictionaryBuilder;
+use limits::{ITEMS, LEVELS, WEIGHT};
 use std::alloc::{AllocError, Global};
 use std::marker::Model;
 use std::rc::Rc;
 use tables::{SipSet, new_set};
-
-/// The most items of a list, and the most entries of a dictionary.
-const MOST_ITEMS: usize = 65_536;
 
 /// A value.
 #[cycle(value)]
@@ -266,7 +264,7 @@ impl Value {
 fn is_within(items: usize, weight: u128, levels: u32) -> bool
     ensures { result ≡ is_within_limits items weight levels }
 {
-    items <= MOST_ITEMS && weight <= 33_554_432 && levels <= 64
+    items <= ITEMS && weight <= u128::from(WEIGHT) && levels <= LEVELS
 }
 
 impl List {
@@ -285,7 +283,7 @@ impl List {
     pub fn from_items(items: Vec<Value>) -> Result<List, Refusal>
         ensures { result ≡ (if items_fit (items_of items.items) then Ok (items_of items.items) else Err refusal.Limit) }
     {
-        if items.len() > MOST_ITEMS {
+        if items.len() > ITEMS {
             return Err(Refusal::Limit);
         }
         let weight = weight_of(&items);

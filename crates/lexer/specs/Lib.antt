@@ -1,6 +1,5 @@
 pub mod Bytes
 pub mod Escapes
-pub mod Fault
 pub mod Kinds
 pub mod Lexeme
 pub mod Lexing

@@ -2,7 +2,6 @@
 
 ghost use Rattle.std.specs.Prelude.{◌≡◌};
 ghost use Rattle.lexer.specs.declared.fault.SyntaxError.TheVariants.{Memory};
-ghost use Rattle.lexer.specs.Fault.{number_of};
 
 use std::alloc::{AllocError, AllocFailed};
 
@@ -15,19 +14,6 @@ pub enum FaultKind {
     Grammar,
     /// More than 64 levels would be open here.
     Nesting,
-}
-
-impl FaultKind {
-    /// The number of the fault: E2, E3 or E4.
-    pub fn number(self) -> u8
-        ensures { result ≡ number_of self }
-    {
-        match self {
-            FaultKind::Token => 2,
-            FaultKind::Grammar => 3,
-            FaultKind::Nesting => 4,
-        }
-    }
 }
 
 /// A fault, and the line, from 1, of the token that it is at.

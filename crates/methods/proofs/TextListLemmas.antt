@@ -11,7 +11,8 @@ use Rattle.data.proofs.ItemsLemmas.{items_append_assoc, items_append_none, front
 use Rattle.methods.specs.declared.stop.Stop.{Stop}
 use Rattle.methods.specs.declared.stop.Stop.TheVariants as stop
 use Rattle.methods.specs.Steps.{Gives}
-use Rattle.methods.specs.TextLists.{texts, is_short, text_list, Puts}
+use Rattle.limits.specs.Limits.{is_short}
+use Rattle.methods.specs.TextLists.{texts, text_list, Puts}
 
 -- the list so far and what is left make the whole, and the list is within the limits
 pub record Grows (so_far : Items) (left all : List (List ℕ)) : Type 0 where

@@ -1,9 +1,10 @@
 -- Lists of texts.
-use Rattle.std.specs.Prelude.{◌≡◌, ℕ, Bool, true, false, ◌&&◌, List, [], ◌∷◌, length, nat_le, Result, Ok, Err, if◌then◌else◌}
+use Rattle.std.specs.Prelude.{◌≡◌, ℕ, true, false, ◌&&◌, List, [], ◌∷◌, Result, Ok, Err, if◌then◌else◌}
 use Rattle.std.specs.List.{list_all}
 use Rattle.data.specs.declared.refusal.Refusal.{Refusal}
 use Rattle.data.specs.declared.refusal.Refusal.TheVariants as refusal
 use Rattle.data.specs.Data.{Data, text, list, Items, no_items, item, items_append}
+use Rattle.limits.specs.Limits.{is_short}
 use Rattle.data.specs.Limits.{items_fit}
 use Rattle.methods.specs.declared.stop.Stop.{Stop}
 use Rattle.methods.specs.declared.stop.Stop.TheVariants as stop
@@ -11,10 +12,6 @@ use Rattle.methods.specs.declared.stop.Stop.TheVariants as stop
 abbrev pub texts : List (List ℕ) → Items
 texts [] = no_items
 texts (t ∷ ts) = item (text t) (texts ts)
-
--- whether a text is within the limit
-abbrev pub is_short : List ℕ → Bool
-is_short t = nat_le (length t) 16777216
 
 -- the list of these texts, where each of them and the list are within the limits
 abbrev pub text_list : List (List ℕ) → Result Data Refusal

@@ -2,6 +2,7 @@
 use Rattle.std.specs.Prelude.{ℕ, zero, suc, ◌-◌, Bool, true, false, List, [], ◌∷◌, length, filter, nat_eq, nat_le, ◌==◌, ◌||◌, Result}
 use Rattle.std.specs.Prelude.{Ok, Err, if◌then◌else◌}
 use Rattle.std.specs.List.{starts_with, slice_split, onto_first}
+use Rattle.limits.specs.Limits.{items}
 use Rattle.data.specs.declared.refusal.Refusal.{Refusal}
 use Rattle.data.specs.declared.refusal.Refusal.TheVariants as refusal
 use Rattle.texts.specs.Strip.{is_blank}
@@ -46,7 +47,7 @@ lines text = lines_after false text
 
 -- pieces that a list can hold, or the refusal
 abbrev pub within_items : List (List ℕ) → Result (List (List ℕ)) Refusal
-within_items pieces = if nat_le (length pieces) 65536 then Ok pieces else Err refusal.Limit
+within_items pieces = if nat_le (length pieces) items then Ok pieces else Err refusal.Limit
 
 -- the parts of a text, or why it has none
 abbrev pub split_at : List ℕ → List ℕ → Result (List (List ℕ)) Refusal

@@ -9,10 +9,8 @@ ghost use Rattle.texts.specs.Answers.{pieces_in};
 
 use crate::cut::Cut;
 use data::Refusal;
+use limits::ITEMS;
 use std::alloc::{AllocError, Global};
-
-// The most items of a list.
-const MOST_PIECES: usize = 65_536;
 
 /// The parts of `text` between the places where `separator` stands: the method `split` with an argument.
 ///
@@ -65,7 +63,7 @@ fn cut_up<'a>(
     let mut found = Vec::new(alloc);
     let mut rest = text;
     while let Some((piece, after)) = cut.first(rest) {
-        if found.len() == MOST_PIECES {
+        if found.len() == ITEMS {
             return Ok(Err(Refusal::Limit));
         }
         found.push(piece)?;

@@ -4,7 +4,7 @@ use Rattle.std.proofs.lemmas.List.{append-nil, length-map, length_push}
 use Rattle.texts.specs.Cut.{pieces, left}
 use Rattle.texts.proofs.PiecesLemmas.{too_many, few_enough, one_more_piece}
 use Rattle.texts.proofs.split.cut_up.Goals as goal
-use Rattle.texts.proofs.split.cut_up.Goals.{in-Some+else-len-eq-MOST_PIECES+in_ok-push+in_default-after, in_default}
+use Rattle.texts.proofs.split.cut_up.Goals.{in-Some+else-len-eq-ITEMS+in_ok-push+in_default-after, in_default}
 
 pub loop-piece-init : goal.loop-piece-init
 loop-piece-init c = (
@@ -14,8 +14,8 @@ loop-piece-init c = (
   omega (arith, ap length c.new-found.ensures.items),
 )
 
-pub returns-then-len-eq-MOST_PIECES : goal.returns-then-len-eq-MOST_PIECES
-returns-then-len-eq-MOST_PIECES c =
+pub returns-then-len-eq-ITEMS : goal.returns-then-len-eq-ITEMS
+returns-then-len-eq-ITEMS c =
     too_many (pieces c.args.cut c.args.text.now) (map (λ piece. piece.now) c.loop-piece.found.items)
     (left (pieces c.args.cut) c.in-Some.after) c.in-Some.piece.now
     (c.loop-piece.invariant.1 ∙ ap (λ more. map (λ piece. piece.now) c.loop-piece.found.items ++ more) c.in-Some.ensures.first)
@@ -39,7 +39,7 @@ loop-piece-preserved c = (
 
 pub returns : goal.returns
 returns c = elim c.match-first.branch [
-  | in-Some+else-len-eq-MOST_PIECES+in_ok-push+in_default-after w ↦
+  | in-Some+else-len-eq-ITEMS+in_ok-push+in_default-after w ↦
       ap (λ v. Ok (map (λ piece. piece.now) v.items)) w.found-is
       ∙ few_enough (pieces c.args.cut c.args.text.now) (map (λ piece. piece.now) w.push.new.self.items)
       (one_more_piece (pieces c.args.cut c.args.text.now) c.loop-piece.found.items w.push.new.self.items w.in-Some.piece

@@ -4,8 +4,8 @@ use Rattle.data.specs.Weight.{items_weight, items_depth}
 use Rattle.data.proofs.ItemsLemmas.{count-items_of, refused_many, taken_where}
 use Rattle.data.proofs.value.List.from_items.Goals as goal
 
-pub returns-then-len-gt-MOST_ITEMS : goal.returns-then-len-gt-MOST_ITEMS
-returns-then-len-gt-MOST_ITEMS c =
+pub returns-then-len-gt-ITEMS : goal.returns-then-len-gt-ITEMS
+returns-then-len-gt-ITEMS c =
     refused_many (items_of c.args.items.items) (omega (arith, count-items_of c.args.items.items, c.len.ensures))
 
 pub returns : goal.returns
