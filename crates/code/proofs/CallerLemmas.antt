@@ -11,7 +11,7 @@ use Rattle.code.specs.declared.node.StatementNode.{StatementNode}
 use Rattle.code.specs.declared.node.StatementNode.TheVariants as block
 use Rattle.code.specs.Nodes.{tree_at, tree_of, with_node, trees, within, all_within, entry_at, entry_within, argument_at, argument_within, operand_at, operand_within, link_at, link_within}
 use Rattle.code.specs.Statements.{name_at, statement_at, branch_at, branch_within, second_within, statement_tree, statement_within, with_statement, statement_trees, all_placed}
-use Rattle.code.specs.Draft.{Begins}
+use Rattle.code.specs.Draft.{IsFront}
 use Rattle.code.proofs.Trees.{both_true, is_less, at_end}
 use Rattle.code.proofs.Parts.{tree_same, all_same, keeps_number, keeps_entry, keeps_argument, keeps_operand, keeps_link}
 use Rattle.code.proofs.Lists.{map_alike}
@@ -44,7 +44,7 @@ node_kept names ts more k (flat.Ternary test one other line) h =
     ∙ ap (λ t. TernaryTree (tree_at ts test) t (tree_at (ts ++ more) other) line) (tree_same ts more one q.0)
     ∙ ap (λ t. TernaryTree (tree_at ts test) (tree_at ts one) t line) (tree_same ts more other q.1)
 
-nodes_stay : (names : List (List ℕ)) (done : List ExpressionTree) (xs : List Node) → Begins done (fold (with_node names) done xs)
+nodes_stay : (names : List (List ℕ)) (done : List ExpressionTree) (xs : List Node) → IsFront done (fold (with_node names) done xs)
 nodes_stay names done [] = record { more = []; is = sym (append-nil done) }
 nodes_stay names done (x ∷ xs) =
     let t = tree_of names done x in
@@ -118,7 +118,7 @@ block_kept names ts ss more k m (block.Foreach line first second list list_line 
     (map_alike test (statement_at (ss ++ more)) (statement_at ss) (λ i g. statement_same ss more i g) body.items r.1)
 
 statements_stay : (names : List (List ℕ)) (ts : List ExpressionTree) (done : List StatementTree) (xs : List StatementNode)
-    → Begins done (fold (with_statement names ts) done xs)
+    → IsFront done (fold (with_statement names ts) done xs)
 statements_stay names ts done [] = record { more = []; is = sym (append-nil done) }
 statements_stay names ts done (x ∷ xs) =
     let t = statement_tree names ts done x in

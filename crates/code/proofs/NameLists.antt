@@ -13,7 +13,7 @@ use Rattle.std.proofs.lemmas.Slice.Eq.{bytes_eq-Decides}
 use Rattle.indexmap.specs.IndexSet.{insert_key}
 use Rattle.code.specs.Names.{texts, number_in, with_name}
 use Rattle.std.specs.declared.alloc.AllocError.{AllocError}
-use Rattle.code.specs.Draft.{Begins}
+use Rattle.code.specs.Draft.{IsFront}
 use Rattle.code.proofs.Trees.{is_less}
 
 prefix_len-map : {X Y : Type 0} (f : X → Y) (p : Y → Bool) (xs : List X) → prefix_len p (map f xs) ≡ prefix_len (λ x. p (f x)) xs
@@ -90,16 +90,16 @@ name_at q names n e =
     let p = position-Some (bytes_eq q) names n [] e in
     (p.0, sym ((bytes_eq-Decides q (get_or names n [])).0 p.1))
 
-begins_chosen : (b : Bool) (q : List ℕ) (names : List (List ℕ)) → Begins names (if b then names else names ++ q ∷ [])
+begins_chosen : (b : Bool) (q : List ℕ) (names : List (List ℕ)) → IsFront names (if b then names else names ++ q ∷ [])
 begins_chosen true q names = record { more = []; is = grind (arith, common_steps) }
 begins_chosen false q names = record { more = q ∷ []; is = refl }
 
-pub begins_with_name : (q : List ℕ) (names : List (List ℕ)) → Begins names (with_name q names)
+pub begins_with_name : (q : List ℕ) (names : List (List ℕ)) → IsFront names (with_name q names)
 begins_with_name q names = begins_chosen (list_any (bytes_eq q) names) q names
 
 -- the old names are a beginning of the new ones, also where memory is refused
 pub begins_put : (q : List ℕ) (old new : List (List ℕ)) (r : Result ℕ AllocError) → OnOk r (new ≡ with_name q old) → OnErr r (new
-    ≡ old) → Begins old new
+    ≡ old) → IsFront old new
 begins_put q old new (Ok n) h g = let b = begins_with_name q old in record { more = b.more; is = h ∙ b.is }
 begins_put q old new (Err e) h g = record { more = []; is = g ∙ grind (arith, common_steps) }
 

@@ -9,16 +9,16 @@ use Rattle.std.proofs.lemmas.Grind.{common_steps}
 use Rattle.std.proofs.lemmas.List.Folds.{list_all-append}
 use Rattle.grammar.specs.ExpressionTree.{ExpressionTree, NameTree, MethodTree, IndexTree, arguments}
 use Rattle.code.specs.Nodes.{tree_at, entry_at, argument_at, operand_at, link_at, entry_within, argument_within, operand_within, link_within}
-use Rattle.code.specs.Draft.{Begins, Stands, Parts, Grows, trees_in}
+use Rattle.code.specs.Draft.{IsFront, Stands, Parts, Grows, trees_in}
 use Rattle.code.specs.declared.draft.Draft.{Draft}
 use Rattle.code.specs.declared.node.LinkNode.{LinkNode}
 use Rattle.code.specs.declared.node.LinkNode.TheVariants.{Method, Index}
 use Rattle.code.proofs.Trees.{both_true, and_both, less, is_less, at_front, length_begins}
 
-pub begins_same : {A : Type 0} (old new : List A) → new ≡ old → Begins old new
+pub begins_same : {A : Type 0} (old new : List A) → new ≡ old → IsFront old new
 begins_same old new e = record { more = []; is = e ∙ sym (append-nil old) }
 
-pub begins_trans : {A : Type 0} (x y z : List A) → Begins x y → Begins y z → Begins x z
+pub begins_trans : {A : Type 0} (x y z : List A) → IsFront x y → IsFront y z → IsFront x z
 begins_trans x y z p q = record { more = p.more ++ q.more; is = q.is ∙ ap (λ l. l ++ q.more) p.is ∙ append_assoc x p.more q.more }
 
 pub grows_same : (d : Draft) → Grows d d
@@ -81,14 +81,14 @@ module _ {N T : Type 0} (test : ℕ → N → Bool) (at : List ExpressionTree �
       let p = both_true (test (length ts) x) (list_all (test (length ts)) xs) h in
       ap (λ t. t ∷ map (at (ts ++ more)) xs) (keeps.same ts more x p.0) ∙ ap (λ l. at ts x ∷ l) (all_same ts more xs p.1)
 
-  pub parts_more : (ts us : List ExpressionTree) (xs : List N) (wanted : List T) → Begins ts us → Parts test at ts xs wanted
+  pub parts_more : (ts us : List ExpressionTree) (xs : List N) (wanted : List T) → IsFront ts us → Parts test at ts xs wanted
       → Parts test at us xs wanted
   parts_more ts us xs wanted b p = record {
     within = all_wider (length ts) (length us) xs (length_begins ts us b) p.within;
     are = ap (λ l. map (at l) xs) b.is ∙ all_same ts b.more xs p.within ∙ p.are;
   }
 
-  pub parts_push : (ts us : List ExpressionTree) (xs : List N) (wanted : List T) (x : N) (t : T) → Begins ts us
+  pub parts_push : (ts us : List ExpressionTree) (xs : List N) (wanted : List T) (x : N) (t : T) → IsFront ts us
       → Parts test at ts xs wanted → IsTrue (test (length us) x) → at us x ≡ t → Parts test at us (xs ++ x ∷ []) (wanted ++ t ∷ [])
   parts_push ts us xs wanted x t b p h e =
       let q = parts_more ts us xs wanted b p in
@@ -115,7 +115,7 @@ pub wanted_more : {A T : Type 0} (f : A → T) (xs : List A) (i : ℕ) (x : A) �
     → map f (take (i + 1) xs) ≡ map f (take i xs) ++ f x ∷ []
 wanted_more f xs i x l e = ap (map f) (grind (arith, common_steps)) ∙ map_push f (take i xs) x
 
-pub stands_more : (ts us : List ExpressionTree) (i : ℕ) (t : ExpressionTree) → Begins ts us → Stands ts i t → Stands us i t
+pub stands_more : (ts us : List ExpressionTree) (i : ℕ) (t : ExpressionTree) → IsFront ts us → Stands ts i t → Stands us i t
 stands_more ts us i t b s = record {
   within = lt_wider i (length ts) (length us) (length_begins ts us b) s.within;
   is = ap (λ l. tree_at l i) b.is ∙ tree_same ts b.more i s.within ∙ s.is;
@@ -124,7 +124,7 @@ stands_more ts us i t b s = record {
 module _ {A N T : Type 0} (test : ℕ → N → Bool) (at : List ExpressionTree → N → T) (keeps : Keeps test at) (f : A → T) where
   -- one round of a loop over what is wanted
   pub parts_step : (xs : List A) (i : ℕ) (a : A) (ts us : List ExpressionTree) (parts new : List N) (x : N) → i < length xs → a
-      ≡ get_or xs i a → new ≡ parts ++ x ∷ [] → Begins ts us → Parts test at ts parts (map f (take i xs))
+      ≡ get_or xs i a → new ≡ parts ++ x ∷ [] → IsFront ts us → Parts test at ts parts (map f (take i xs))
       → IsTrue (test (length us) x) → at us x ≡ f a → Parts test at us new (map f (take (i + 1) xs))
   parts_step xs i a ts us parts new x l is e b p h t =
       let q = parts_push test at keeps ts us parts (map f (take i xs)) x (f a) b p h t in

@@ -13,7 +13,7 @@ use Rattle.code.specs.declared.node.StatementNode.TheVariants as flat
 use Rattle.code.specs.declared.node.Node.{Node}
 use Rattle.code.specs.Nodes.{tree_at, trees, all_within}
 use Rattle.code.specs.Statements.{name_at, statement_at, branch_at, statement_tree, with_statement, statement_trees, branch_within, second_within, statement_within, all_placed}
-use Rattle.code.specs.Draft.{Begins, Grows, trees_in}
+use Rattle.code.specs.Draft.{IsFront, Grows, trees_in}
 use Rattle.code.proofs.Trees.{both_true, and_both, less, is_less, at_front, at_end, length_begins, length-trees, trees_kept, all_wider as nodes_wider}
 use Rattle.code.proofs.Parts.{lt_wider, tree_same}
 use Rattle.code.proofs.Lists.{all_imply, map_alike}
@@ -201,7 +201,7 @@ last_is names ts old new x i e at =
     ∙ at_end ss t (BreakTree 0)
 
 -- a name keeps its number
-pub name_kept : (old new : List (List ℕ)) (i : ℕ) (name : List ℕ) → Begins old new → IsTrue (nat_lt i (length old)) → name_at old i
+pub name_kept : (old new : List (List ℕ)) (i : ℕ) (name : List ℕ) → IsFront old new → IsTrue (nat_lt i (length old)) → name_at old i
     ≡ name → IsTrue (nat_lt i (length new)) × (name_at new i ≡ name)
 name_kept old new i name b h e = (
   lt_wider i (length old) (length new) (length_begins old new b) h,

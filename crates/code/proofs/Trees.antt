@@ -5,7 +5,7 @@ use Rattle.std.proofs.lemmas.Bool.Decides.{nat_tests}
 use Rattle.std.proofs.lemmas.List.Sums.{fold_push}
 use Rattle.grammar.specs.ExpressionTree.{ExpressionTree, NameTree}
 use Rattle.code.specs.Nodes.{tree_of, with_node, trees, within, all_within}
-use Rattle.code.specs.Draft.{Begins, Stands}
+use Rattle.code.specs.Draft.{IsFront, Stands}
 use Rattle.code.specs.declared.node.Node.{Node}
 use Rattle.code.specs.declared.node.Node.TheVariants as flat
 
@@ -66,7 +66,7 @@ kept_from names more m ts (n ∷ ns) h =
     ap (λ t. fold (with_node (names ++ more)) (ts ++ t ∷ []) ns) (tree_kept names more m ts n p.0)
     ∙ kept_from names more (m + 1) (ts ++ tree_of names ts n ∷ []) ns p.1
 
-pub trees_kept : (old new : List (List ℕ)) (nodes : List Node) → Begins old new → IsTrue (all_within (length old) 0 nodes)
+pub trees_kept : (old new : List (List ℕ)) (nodes : List Node) → IsFront old new → IsTrue (all_within (length old) 0 nodes)
     → trees new nodes ≡ trees old nodes
 trees_kept old new nodes b h = ap (λ names. trees names nodes) b.is ∙ kept_from old b.more 0 [] nodes h
 
@@ -87,11 +87,11 @@ all_wider j k n (x ∷ xs) l h =
     let p = both_true (within j n x) (all_within j (n + 1) xs) h in
     and_both (within k n x) (all_within k (n + 1) xs) (within_wider j k n x l p.0) (all_wider j k (n + 1) xs l p.1)
 
-pub length_begins : {A : Type 0} (old new : List A) → Begins old new → length old ≤ length new
+pub length_begins : {A : Type 0} (old new : List A) → IsFront old new → length old ≤ length new
 length_begins old new b = let e = ap length b.is ∙ length-append old b.more in omega (arith, e)
 
 -- nodes stay ordered where names are put behind the others
-pub ordered_wider : (old new : List (List ℕ)) (nodes : List Node) → Begins old new → IsTrue (all_within (length old) 0 nodes)
+pub ordered_wider : (old new : List (List ℕ)) (nodes : List Node) → IsFront old new → IsTrue (all_within (length old) 0 nodes)
     → IsTrue (all_within (length new) 0 nodes)
 ordered_wider old new nodes b h = all_wider (length old) (length new) 0 nodes (length_begins old new b) h
 
@@ -122,12 +122,12 @@ pub ordered_put : (b : Bool) (names : List (List ℕ)) (old new : List Node) (x 
 ordered_put b names old new x e h w = subst (λ l. IsTrue (all_within (length names) 0 l)) (sym e) (ordered_chosen b names old x h w)
 
 begins_chosen : (b : Bool) (names : List (List ℕ)) (nodes : List Node) (x : Node)
-    → Begins (trees names nodes) (trees names (if b then nodes ++ x ∷ [] else nodes))
+    → IsFront (trees names nodes) (trees names (if b then nodes ++ x ∷ [] else nodes))
 begins_chosen true names nodes x = record { more = tree_of names (trees names nodes) x ∷ []; is = trees_push names nodes x }
 begins_chosen false names nodes x = record { more = []; is = sym (append-nil (trees names nodes)) }
 
 pub begins_node : (b : Bool) (names : List (List ℕ)) (old new : List Node) (x : Node) → new ≡ (if b then old ++ x ∷ [] else old)
-    → Begins (trees names old) (trees names new)
+    → IsFront (trees names old) (trees names new)
 begins_node b names old new x e = let h = begins_chosen b names old x in record { more = h.more; is = ap (trees names) e ∙ h.is }
 
 pub at_end : {A : Type 0} (xs : List A) (t d : A) → get_or (xs ++ t ∷ []) (length xs) d ≡ t

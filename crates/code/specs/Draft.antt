@@ -6,7 +6,7 @@ use Rattle.code.specs.declared.draft.Draft.{Draft}
 use Rattle.code.specs.Nodes.{tree_at, trees}
 
 -- the second list is the first and more
-pub record Begins {A : Type 0} (old new : List A) : Type 0 where
+pub record IsFront {A : Type 0} (old new : List A) : Type 0 where
   pub more : List A
   pub is : new ≡ old ++ more
 
@@ -16,8 +16,8 @@ trees_in d = trees d.names d.nodes.items
 
 -- the names and the trees stay, and further ones stand behind them
 pub record Grows (old new : Draft) : Type 0 where
-  pub names : Begins old.names new.names
-  pub trees : Begins (trees_in old) (trees_in new)
+  pub names : IsFront old.names new.names
+  pub trees : IsFront (trees_in old) (trees_in new)
 
 -- the node with this number is there, and has this tree
 pub record Stands (ts : List ExpressionTree) (i : ℕ) (t : ExpressionTree) : Type 0 where

@@ -4,7 +4,7 @@ use Rattle.std.specs.List.{list_all}
 use Rattle.grammar.specs.Tree.{StatementTree, BranchTree}
 use Rattle.code.specs.declared.file_draft.FileDraft.{FileDraft}
 use Rattle.code.specs.declared.node.BranchNode.{BranchNode}
-use Rattle.code.specs.Draft.{Begins, Grows, trees_in}
+use Rattle.code.specs.Draft.{IsFront, Grows, trees_in}
 use Rattle.code.specs.Statements.{statement_at, statement_trees, branch_at, branch_within}
 
 -- the trees of a draft's statements
@@ -14,7 +14,7 @@ statements_in d = statement_trees d.draft.names (trees_in d.draft) d.statements.
 -- names, expressions and statements stay, and further ones stand behind them
 pub record Extends (old new : FileDraft) : Type 0 where
   pub draft : Grows old.draft new.draft
-  pub statements : Begins (statements_in old) (statements_in new)
+  pub statements : IsFront (statements_in old) (statements_in new)
 
 -- the statement with this number is there, and has this tree
 pub record IsStatement (d : FileDraft) (i : ℕ) (s : StatementTree) : Type 0 where

@@ -1,7 +1,7 @@
 //! From the tree of a file to its code.
 ghost use Rattle.std.specs.Prelude.{◌≡◌, IfOk, length};
 ghost use Rattle.grammar.specs.Tree.{file_of};
-ghost use Rattle.code.specs.Draft.{Begins};
+ghost use Rattle.code.specs.Draft.{IsFront};
 ghost use Rattle.code.specs.Code.{code_tree, KeepsTree};
 
 use crate::code::Code;
@@ -17,7 +17,7 @@ use std::mem;
 pub fn flatten(alloc: Global, file: &File<'_>, names: &mut Names) -> Result<Code, AllocError>
     ensures tree { IfOk result (λ code. code_tree names.new code ≡ file_of file.now) }
     ensures count { IfOk result (λ code. code.names ≡ length names.new) }
-    ensures names { Begins names.old names.new }
+    ensures names { IsFront names.old names.new }
 {
     let table = mem::replace(names, Names::new(alloc));
     let mut made = FileDraft::new(alloc, table);

@@ -10,7 +10,7 @@ use Rattle.std.proofs.lemmas.Slice.Eq.{bytes_eq-Decides}
 use Rattle.indexmap.specs.IndexSet.{insert_key}
 use Rattle.edge.specs.Texts.{Path, texts, holds}
 use Rattle.project.specs.Laws.{all_new, times, AtMostOnce}
-use Rattle.project.specs.Whole.{SamePaths, Begins}
+use Rattle.project.specs.Whole.{SamePaths, IsFront}
 
 pub list_any-map : {X Y : Type 0} (p : Y → Bool) (f : X → Y) (xs : List X) → list_any p (map f xs) ≡ list_any (λ x. p (f x)) xs
 list_any-map p f [] = refl
@@ -79,10 +79,10 @@ added_more old ks new fresh i item h at one so_far =
     ∙ ap (λ x. old ++ (texts (take i fresh) ++ string_bytes x ∷ [])) at
     ∙ ap (λ l. old ++ l) (sym (ap texts (take_more fresh i item h) ∙ map-append string_bytes (take i fresh) (get_or fresh i item ∷ [])))
 
-pub begins_more : (old ks new : List (String Global)) (item : Path) → Inserted ks new item → Begins old ks → Begins old new
+pub begins_more : (old ks new : List (String Global)) (item : Path) → Inserted ks new item → IsFront old ks → IsFront old new
 begins_more old ks new item one b = record { more = b.more ++ one.key ∷ []; is = one.is ∙ ap (λ l. l ++ one.key ∷ []) b.is ∙ append_assoc old b.more (one.key ∷ []) }
 
-pub begins_take : (old new : List (String Global)) → Begins old new → take (length old) new ≡ old
+pub begins_take : (old new : List (String Global)) → IsFront old new → take (length old) new ≡ old
 begins_take old new b = ap (take (length old)) b.is ∙ take-append_seam old b.more
 
 -- ---- new paths

@@ -15,7 +15,7 @@ abbrev pub SamePaths : List Path → List Path → Type 0
 SamePaths xs ys = (p : Path) → holds p xs ≡ holds p ys
 
 -- the second list is the first and more
-pub record Begins (old new : List (String Global)) : Type 0 where
+pub record IsFront (old new : List (String Global)) : Type 0 where
   pub more : List (String Global)
   pub is : new ≡ old ++ more
 

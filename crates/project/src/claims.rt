@@ -3,7 +3,7 @@ ghost use Rattle.std.specs.Prelude.{◌≡◌, ◌++◌, map, IfOk, OnErr, IsTru
 ghost use Rattle.edge.specs.Texts.{texts};
 ghost use Rattle.edge.specs.View.{edge_view};
 ghost use Rattle.project.specs.Laws.{outputs_of, all_new};
-ghost use Rattle.project.specs.Whole.{Begins};
+ghost use Rattle.project.specs.Whole.{IsFront};
 
 use edge::{Edge, push_copies};
 use std::alloc::{AllocError, Global};
@@ -24,7 +24,7 @@ pub fn outputs_of(alloc: Global, edges: &[Edge]) -> Result<Vec<String>, AllocErr
 fn insert_new(paths: &mut SipSet<String>, fresh: &[String]) -> Result<bool, AllocError>
     ensures tested { IfOk result (λ new. new ≡ all_new (texts paths.old.keys) (texts fresh.now)) }
     ensures added { IfOk result (λ new. IsTrue new → texts paths.new.keys ≡ texts paths.old.keys ++ texts fresh.now) }
-    ensures begins { Begins paths.old.keys paths.new.keys }
+    ensures begins { IsFront paths.old.keys paths.new.keys }
 {
     for path in fresh {
         if !paths.insert(path.clone()?)? {

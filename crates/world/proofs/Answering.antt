@@ -1,6 +1,6 @@
 -- Calls one after another, against their deeds.
 use Rattle.std.proofs.Common.{◌≡◌, ℕ, ◌+◌, Option, Some, None, option_map, is_some, IsTrue, length, Bool, true, false, List, [], Result, Ok, Err, IsErrAnd, refl, sym, ap, subst, ◌∙◌, arith}
-use Rattle.code.specs.Draft.{Begins as IsFront}
+use Rattle.code.specs.Draft.{IsFront}
 use Rattle.ports.specs.Outputs.{OutputState, logs, Sends}
 use Rattle.ports.specs.Tree.{TreeState, Stays, file_at}
 use Rattle.data.specs.Data.{Data}

@@ -1,6 +1,6 @@
 -- Marks, one after another.
 use Rattle.std.proofs.Common.{◌≡◌, ◌+◌, List, [], ◌∷◌, ◌++◌, true, refl, sym, ap, subst, ◌∙◌, append_assoc, append-nil, arith}
-use Rattle.code.specs.Draft.{Begins as IsFront}
+use Rattle.code.specs.Draft.{IsFront}
 use Rattle.ports.specs.Outputs.{Sends}
 use Rattle.ports.proofs.Sending.{sends_nothing, sends_then}
 use Rattle.world.specs.Trace.{Mark, Told, Ended, steps_of, ends_of, Seen, seen, Adds}

@@ -13,7 +13,7 @@ use Rattle.data.specs.View.{data_of}
 use Rattle.data.specs.declared.value.Value.{Value}
 use Rattle.world.specs.World.{World, variables_with, with_variable, with_variables}
 use Rattle.world.specs.Store.{Kept, slot_value, kept_variables, world_of, changing}
-use Rattle.code.specs.Draft.{Begins as IsFront}
+use Rattle.code.specs.Draft.{IsFront}
 use Rattle.std.specs.List.{IsDistinct}
 use Rattle.std.proofs.lemmas.List.{get_or_past}
 use Rattle.std.proofs.Common.{append_assoc, append-nil}

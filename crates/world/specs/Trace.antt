@@ -1,6 +1,6 @@
 -- What a run leaves of itself: the steps that the outputs were asked to take, and the ends of rules, in order.
 use Rattle.std.specs.Prelude.{◌≡◌, ℕ, ◌+◌, List, [], ◌∷◌, ◌++◌, true}
-use Rattle.code.specs.Draft.{Begins as IsFront}
+use Rattle.code.specs.Draft.{IsFront}
 use Rattle.ports.specs.Outputs.{OutputState, Step, Sends}
 
 -- a step of the outputs, or the end of the rule of a node or a round

@@ -3,7 +3,7 @@ ghost use Rattle.std.specs.Prelude.{◌≡◌, ◌≢◌, ◌<◌, ◌≤◌, �
 ghost use Rattle.std.specs.Prelude.{max, option_map, slice_index_or, string_bytes, [], bytes_eq};
 ghost use Rattle.std.specs.List.{list_any};
 ghost use Rattle.code.specs.Code.{code_tree};
-ghost use Rattle.code.specs.Draft.{Begins as IsFront};
+ghost use Rattle.code.specs.Draft.{IsFront};
 ghost use Rattle.data.specs.View.{data_of};
 ghost use Rattle.grammar.specs.Tree.{file_of};
 ghost use Rattle.machine_file.specs.View.{machine_in};
