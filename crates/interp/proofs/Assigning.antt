@@ -1,7 +1,7 @@
 -- Variables that take values.
 use Rattle.std.proofs.Common.{◌≡◌, ℕ, ◌+◌, ◌<◌, List, [], length, length-append, get_or, arith, Bool, true, false, Option, Some, None, Result, Ok, Err, IsErrAnd, bytes_eq, refl, sym, ap, subst, ◌∙◌}
 use Rattle.std.specs.Prelude.{if◌then◌else◌}
-use Rattle.code.specs.Draft.{Begins as IsFront}
+use Rattle.code.specs.Draft.{IsFront}
 use Rattle.code.proofs.Trees.{at_front}
 use Rattle.data.specs.Data.{Data}
 use Rattle.data.specs.declared.refusal.Refusal.{Refusal as OperationRefusal}

@@ -4,7 +4,7 @@ use Rattle.std.specs.Str.{IsUtf8, is_utf8}
 use Rattle.std.specs.Str.Lossy.{utf8_valid_len}
 use Rattle.std.proofs.lemmas.Bool.{lt-leb, le-leb}
 use Rattle.std.proofs.lemmas.Str.{IsUtf8-from_is_utf8, is_utf8-from_IsUtf8}
-use Rattle.code.specs.Draft.{Begins as IsFront}
+use Rattle.code.specs.Draft.{IsFront}
 use Rattle.grammar.specs.Parsed.{parsed}
 use Rattle.grammar.specs.Tree.{FileTree, Statements, statements}
 use Rattle.lexer.specs.declared.fault.SyntaxFault.{SyntaxFault}

@@ -10,7 +10,7 @@ use Rattle.code.specs.declared.node.ArgumentNode.{ArgumentNode}
 use Rattle.code.specs.declared.node.OperandNode.{OperandNode}
 use Rattle.code.specs.declared.node.LinkNode.{LinkNode}
 use Rattle.code.specs.declared.node.LinkNode.TheVariants.{Method, Index}
-use Rattle.code.specs.Draft.{Begins as IsFront}
+use Rattle.code.specs.Draft.{IsFront}
 use Rattle.code.specs.Nodes.{tree_at, tree_of, trees, within, all_within, entry_within, argument_within, operand_within, link_within}
 use Rattle.code.proofs.CallerLemmas.{node_opens, parts_before}
 use Rattle.code.proofs.Trees.{both_true, less, at_front}

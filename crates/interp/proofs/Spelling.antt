@@ -2,7 +2,7 @@
 use Rattle.std.proofs.Common.{◌≡◌, ℕ, zero, suc, ◌+◌, ◌<◌, ◌≤◌, List, [], ◌∷◌, drop, drop_of_length-le, IsErrAnd, Result, Ok, Err, length, length-append, length-drop, get_or, string_bytes, String, Global, Vec, map, IsTrue, Option, Some, None, option_map, refl, sym, ap, subst, ◌∙◌, arith}
 use Rattle.std.specs.Prelude.{nat_lt}
 use Rattle.std.specs.List.{list_all}
-use Rattle.code.specs.Draft.{Begins as IsFront}
+use Rattle.code.specs.Draft.{IsFront}
 use Rattle.code.specs.Nodes.{argument_at, tree_at, tree_of}
 use Rattle.code.specs.Statements.{branch_at, branch_within, name_at, second_within, statement_at, statement_tree, statement_within}
 use Rattle.code.specs.declared.code.Code.{Code}

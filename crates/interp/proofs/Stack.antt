@@ -1,6 +1,6 @@
 -- Plans under a stack of frames.
 use Rattle.std.proofs.Common.{◌≡◌, ℕ, ◌+◌, List, [], ◌∷◌, ◌++◌, Result, Ok, Err, IsErrAnd, drop, length, refl, sym, subst, ap, ◌∙◌, append-nil, append_assoc, option_map, arith}
-use Rattle.code.specs.Draft.{Begins as IsFront}
+use Rattle.code.specs.Draft.{IsFront}
 use Rattle.code.specs.declared.code.Code.{Code}
 use Rattle.code.specs.Statements.{name_at, statement_at}
 use Rattle.world.specs.Deed.{Files}

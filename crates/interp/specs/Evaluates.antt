@@ -1,6 +1,6 @@
 -- What a call of the evaluator does.
 use Rattle.std.specs.Prelude.{◌≡◌, ℕ, ◌+◌, ◌<◌, ◌≤◌, ◌^◌, List, length, Result}
-use Rattle.code.specs.Draft.{Begins as IsFront}
+use Rattle.code.specs.Draft.{IsFront}
 use Rattle.code.specs.Nodes.{trees}
 use Rattle.code.specs.declared.code.Code.{Code}
 use Rattle.grammar.specs.ExpressionTree.{ExpressionTree}

@@ -12,8 +12,8 @@ ghost use Rattle.interp.specs.Expressions.{at_place, filled, format_string, is_p
 use crate::evaluator::Evaluator;
 use data::{Value, append};
 use faults::Refusal;
-use lexer::text_of;
-use lexer::token::{Kind, Token};
+use lexer::text_of_slice;
+use lexer::token::Kind;
 use ports::{Outputs, Tree};
 use printing::printed;
 use std::alloc::{AllocError, Global};
@@ -125,12 +125,7 @@ impl<'a, T: Tree, O: Outputs, L: Ledger> Evaluator<'a, T, O, L> {
         ensures gives { Answers T.seen O.seen data_of (format_string line (text_of kind slice.now)) self.now result self.now }
         ensures quiet { (n : ℕ) → failures_after n result ≡ n }
     {
-        let token = Token {
-            kind,
-            text: slice,
-            line,
-        };
-        let string = text_of(self.alloc, &token)?;
+        let string = text_of_slice(self.alloc, kind, slice)?;
         let parts = segments(self.alloc, Places::Names, string.as_str())?;
         self.filled(line, &parts)
     }

@@ -13,8 +13,8 @@ ghost use Rattle.interp.specs.Expressions.{literal_value, number};
 use crate::evaluator::Evaluator;
 use data::Value;
 use grammar::tree::Literal;
-use lexer::token::{Kind, Token};
-use lexer::{magnitude, text_of};
+use lexer::token::Kind;
+use lexer::{magnitude, text_of_slice};
 use ports::{Outputs, Tree};
 use std::sync::ledger::Ledger;
 use world::Stop;
@@ -41,12 +41,7 @@ impl<'a, T: Tree, O: Outputs, L: Ledger> Evaluator<'a, T, O, L> {
         ensures gives { Answers T.seen O.seen data_of (answered line (within (text (text_of kind slice.now)))) self.now result self.now }
         ensures quiet { (n : ℕ) → failures_after n result ≡ n }
     {
-        let token = Token {
-            kind,
-            text: slice,
-            line,
-        };
-        let string = text_of(self.alloc, &token)?;
+        let string = text_of_slice(self.alloc, kind, slice)?;
         let answer = Value::of_string(self.alloc, string)?;
         self.answered(line, answer)
     }

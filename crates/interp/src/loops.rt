@@ -7,6 +7,7 @@ ghost use Rattle.interp.specs.Statements.{entry_rounds, item_rounds};
 
 use data::{Dictionary, Value};
 use faults::Refusal;
+use limits::ITEMS;
 use std::alloc::{AllocError, Global};
 
 /// The values of a round's variables: of the first, and of the second where there is one.
@@ -15,9 +16,6 @@ pub struct Round {
     pub first: Value,
     pub second: Option<Value>,
 }
-
-/// The most rounds of a loop: no list or dictionary has more items.
-const MOST_ROUNDS: usize = 65_536;
 
 // The item of a list at a place.
 fn item_at(items: &[Value], at: usize) -> Result<Option<Round>, AllocError>
@@ -60,10 +58,11 @@ pub fn round_at(whole: &Value, at: usize) -> Result<Option<Round>, AllocError>
     }
 }
 
+// No list or dictionary has more items than this, so it never refuses.
 fn limited(rounds: usize) -> Result<(), Refusal>
     ensures { result ≡ Rattle.interp.specs.Rounds.limit rounds }
 {
-    if rounds <= MOST_ROUNDS {
+    if rounds <= ITEMS {
         Ok(())
     } else {
         Err(Refusal::Limit)

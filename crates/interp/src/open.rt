@@ -15,22 +15,17 @@ ghost use Rattle.interp.specs.Folders.{fresh, fresh_by, opened, opened_by};
 
 use crate::evaluator::Evaluator;
 use code::Code;
-use definition_files::{line_at, read_file, refusal_of};
+use definition_files::{MOST_BYTES, line_at, read_file, refusal_of};
 use faults::Refusal;
 use grammar::fault::SyntaxError;
 use grammar::parse;
 use grammar::tree::File;
+use limits::FOLDERS;
 use paths::{folder_below, path_in};
 use ports::{Outputs, Tree};
 use std::str;
 use std::sync::ledger::Ledger;
 use world::{Place, Stop};
-
-/// The most bytes of a definition file.
-const MOST_BYTES: u64 = 16_777_216;
-
-/// The most folders of a project.
-const MOST_FOLDERS: usize = 4_096;
 
 impl<'a, T: Tree, O: Outputs, L: Ledger> Evaluator<'a, T, O, L> {
     ghost use Rattle.interp.specs.Evaluates.{Answers, Fails, Given, HasRoom, Same, stand_of};
@@ -58,7 +53,7 @@ impl<'a, T: Tree, O: Outputs, L: Ledger> Evaluator<'a, T, O, L> {
         if self.store.is_entered(&folder) {
             return self.refuse(line, Refusal::Subdir, "");
         }
-        if self.store.entered() < MOST_FOLDERS {
+        if self.store.entered() < FOLDERS {
             Ok(folder)
         } else {
             self.refuse(line, Refusal::Limit, "")
