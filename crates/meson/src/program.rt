@@ -6,6 +6,7 @@ ghost use Rattle.conclusion.specs.Concluding.{exit_status};
 use crate::running::setup;
 use command::{Line, LineFault, command_line};
 use conclusion::Status;
+use operators::path_below;
 use ports::{DiskOutputs, DiskTree};
 use std::alloc::{AllocError, Global};
 use std::io::{ErrorKind, Write};
@@ -104,19 +105,6 @@ fn machine_bytes<R: Files + AllocGlobal>(
         Some(file) => fs::read(rt, path_below(rt.alloc(), root, file.as_str())?),
         None => Ok(Vec::new(rt.alloc())),
     }
-}
-
-// The path, seen from this folder.
-fn path_below(alloc: Global, folder: &str, path: &str) -> Result<String, AllocError> {
-    if path.starts_with('/') {
-        return String::from_str(alloc, path);
-    }
-    let mut whole = String::from_str(alloc, folder)?;
-    if !folder.ends_with('/') {
-        whole.push('/')?;
-    }
-    whole.push_str(path)?;
-    Ok(whole)
 }
 
 fn status_of(error: &io::Error) -> Status {
