@@ -193,7 +193,7 @@ GROUPS = {
     "options": Group(
         "calls on options and machine files", "one", calls("options"),
         [
-            *(Load(name, (1_000, 10_000)) for name in ("declare", "words", "places", "get", "at", "sections", "keys")),
+            *(Load(name, (1_000, 10_000)) for name in ("declare", "words", "places", "get", "at", "choices", "sections", "keys")),
             # A thousand sections lie in the processor's cache and ten thousand don't, so these are compared with more.
             Load("answers", (10_000, 100_000)),
         ],
