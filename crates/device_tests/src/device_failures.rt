@@ -8,9 +8,9 @@ use ports::{MemOutputs, OutputCall, Outputs, Tree, TreeCall};
 use std::alloc::{AllocError, Global};
 use std::test::Fail;
 
-// How a run went over a device that was to fail once.
+/// How a run went over a device that was to fail once.
 #[derive(Clone, Copy, Debug, PartialEq, Eq)]
-enum Ran {
+pub enum Ran {
     /// The call did not come: the run is whole.
     Whole,
     /// The call failed: the status says so, and the events are a beginning of those of the whole run.

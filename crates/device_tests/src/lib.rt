@@ -1,5 +1,6 @@
-//! Tests of calls that the program can't show: devices in memory with their plans, and runs over them; the writer's calls for edges that
-//! no project has yet. What the program shows of whole runs, with its own devices and memory failing too, is written as cases.
+//! Tests of calls that the program can't show: devices in memory with their plans, and runs and templates over them; the writer's calls
+//! for edges that no project has yet. What the program shows of whole runs, with its own devices and memory failing too, is written as
+//! cases.
 #![tactic(auto)]
 
 #[cfg(test)]
@@ -14,3 +15,5 @@ mod given;
 mod ninja_text;
 #[cfg(test)]
 mod no_words;
+#[cfg(test)]
+mod templates;
