@@ -4,7 +4,7 @@ use Rattle.std.specs.Prelude.{nat_lt, ◌&&◌, IsTrue}
 use Rattle.std.specs.List.{list_all}
 use Rattle.std.specs.Option.{option_map}
 use Rattle.std.specs.String.{string_bytes}
-use Rattle.std.proofs.lemmas.List.{map_push}
+use Rattle.std.proofs.lemmas.List.{map_push, take_all}
 use Rattle.std.proofs.lemmas.Grind.{common_steps}
 use Rattle.std.proofs.lemmas.List.Folds.{list_all-append}
 use Rattle.grammar.specs.ExpressionTree.{ExpressionTree, NameTree, MethodTree, IndexTree, arguments}
@@ -130,3 +130,8 @@ module _ {A N T : Type 0} (test : ℕ → N → Bool) (at : List ExpressionTree 
       let q = parts_push test at keeps ts us parts (map f (take i xs)) x (f a) b p h t in
       let made : map f (take (i + 1) xs) ≡ map f (take i xs) ++ f a ∷ [] = wanted_more f xs i a l is in
       subst (λ w. Parts test at us new w) (sym made) (subst (λ l. Parts test at us l (map f (take i xs) ++ f a ∷ [])) (sym e) q)
+
+  -- and its end
+  pub parts_end : (xs : List A) (i : ℕ) (ts : List ExpressionTree) (parts : List N) → length xs ≤ i
+      → Parts test at ts parts (map f (take i xs)) → Parts test at ts parts (map f xs)
+  parts_end xs i ts parts l p = subst (λ (ys : List A). Parts test at ts parts (map f ys)) (take_all i xs l) p

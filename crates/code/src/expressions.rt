@@ -1,7 +1,7 @@
 //! Expressions, made flat.
-ghost use Rattle.std.specs.Prelude.{◌≡◌, IfOk, IsTrue, map, length, nat_lt, option_map, string_bytes};
+ghost use Rattle.std.specs.Prelude.{◌≡◌, IfOk, IsTrue, map, length, option_map, string_bytes};
 ghost use Rattle.grammar.specs.ExpressionTree.{NameTree, LiteralTree, ListTree, DictionaryTree, FunctionTree, PostfixTree, PrefixTree, ChainTree, TernaryTree, expressions, entries as entry_trees, argument_trees, links as link_trees, operands as operand_trees, expression_of, entry_of, argument_of, operand_of, link_of};
-ghost use Rattle.code.specs.Nodes.{tree_at, entry_at, argument_at, operand_at, link_at, entry_within, argument_within, operand_within, link_within};
+ghost use Rattle.code.specs.Nodes.{argument_at, link_at, argument_within, link_within};
 
 use crate::draft::Draft;
 use crate::node::{ArgumentNode, EntryNode, LinkNode, Node, OperandNode};
@@ -90,8 +90,15 @@ impl Draft {
         ensures stands { IfOk result (λ number. Stands (trees_in self.new) number
             (ListTree (expressions (map expression_of items.now)) line)) }
     {
-        let items = self.items(items)?;
-        self.push(Node::List { items, line })
+        let mut numbers = Vec::new(self.alloc);
+        for item in items {
+            let number = self.expression(item)?;
+            numbers.push(number)?;
+        }
+        self.push(Node::List {
+            items: numbers,
+            line,
+        })
     }
 
     // `{key : value, key : value}`
@@ -101,8 +108,16 @@ impl Draft {
         ensures stands { IfOk result (λ number. Stands (trees_in self.new) number
             (DictionaryTree (entry_trees (map entry_of entries.now)) line)) }
     {
-        let entries = self.entries(entries)?;
-        self.push(Node::Dictionary { entries, line })
+        let mut nodes = Vec::new(self.alloc);
+        for entry in entries {
+            let key = self.expression(&entry.key)?;
+            let value = self.expression(&entry.value)?;
+            nodes.push(EntryNode { key, value })?;
+        }
+        self.push(Node::Dictionary {
+            entries: nodes,
+            line,
+        })
     }
 
     // `name(argument, name: argument)`
@@ -139,8 +154,16 @@ impl Draft {
             (PostfixTree (expression_of first.now) (link_trees (map link_of links.now)) line)) }
     {
         let first = self.expression(first)?;
-        let links = self.links(links)?;
-        self.push(Node::Postfix { first, links, line })
+        let mut nodes = Vec::new(self.alloc);
+        for link in links {
+            let node = self.link(link)?;
+            nodes.push(node)?;
+        }
+        self.push(Node::Postfix {
+            first,
+            links: nodes,
+            line,
+        })
     }
 
     // `not value` or `-value`
@@ -175,10 +198,17 @@ impl Draft {
             (ChainTree (expression_of first.now) (operand_trees (map operand_of others.now)) line)) }
     {
         let first = self.expression(first)?;
-        let others = self.operands(others)?;
+        let mut nodes = Vec::new(self.alloc);
+        for operand in others {
+            let value = self.expression(&operand.value)?;
+            nodes.push(OperandNode {
+                operator: operand.operator,
+                value,
+            })?;
+        }
         self.push(Node::Chain {
             first,
-            others,
+            others: nodes,
             line,
         })
     }
@@ -207,34 +237,6 @@ impl Draft {
         })
     }
 
-    // The items of a list, by their numbers.
-    #[cycle(flatten)]
-    fn items(&mut self, items: &[Expression<'_>]) -> Result<Vec<usize>, AllocError>
-        ensures grows { Grows self.old self.new }
-        ensures parts { IfOk result (λ v. Parts (λ n i. nat_lt i n) tree_at (trees_in self.new) v.items (map expression_of items.now)) }
-    {
-        let mut numbers = Vec::new(self.alloc);
-        for item in items {
-            let number = self.expression(item)?;
-            numbers.push(number)?;
-        }
-        Ok(numbers)
-    }
-
-    #[cycle(flatten)]
-    fn entries(&mut self, entries: &[Entry<'_>]) -> Result<Vec<EntryNode>, AllocError>
-        ensures grows { Grows self.old self.new }
-        ensures parts { IfOk result (λ v. Parts entry_within entry_at (trees_in self.new) v.items (map entry_of entries.now)) }
-    {
-        let mut nodes = Vec::new(self.alloc);
-        for entry in entries {
-            let key = self.expression(&entry.key)?;
-            let value = self.expression(&entry.value)?;
-            nodes.push(EntryNode { key, value })?;
-        }
-        Ok(nodes)
-    }
-
     #[cycle(flatten)]
     fn arguments(&mut self, arguments: &[Argument<'_>]) -> Result<Vec<ArgumentNode>, AllocError>
         ensures grows { Grows self.old self.new }
@@ -245,35 +247,6 @@ impl Draft {
             let name = own_name(self.alloc, argument.name)?;
             let value = self.expression(&argument.value)?;
             nodes.push(ArgumentNode { name, value })?;
-        }
-        Ok(nodes)
-    }
-
-    #[cycle(flatten)]
-    fn operands(&mut self, operands: &[Operand<'_>]) -> Result<Vec<OperandNode>, AllocError>
-        ensures grows { Grows self.old self.new }
-        ensures parts { IfOk result (λ v. Parts operand_within operand_at (trees_in self.new) v.items (map operand_of operands.now)) }
-    {
-        let mut nodes = Vec::new(self.alloc);
-        for operand in operands {
-            let value = self.expression(&operand.value)?;
-            nodes.push(OperandNode {
-                operator: operand.operator,
-                value,
-            })?;
-        }
-        Ok(nodes)
-    }
-
-    #[cycle(flatten)]
-    fn links(&mut self, links: &[Link<'_>]) -> Result<Vec<LinkNode>, AllocError>
-        ensures grows { Grows self.old self.new }
-        ensures parts { IfOk result (λ v. Parts link_within link_at (trees_in self.new) v.items (map link_of links.now)) }
-    {
-        let mut nodes = Vec::new(self.alloc);
-        for link in links {
-            let node = self.link(link)?;
-            nodes.push(node)?;
         }
         Ok(nodes)
     }

@@ -4,12 +4,12 @@ use Rattle.grammar.specs.ExpressionTree.{ExpressionTree, ListTree, DictionaryTre
 use Rattle.code.specs.Nodes.{tree_at, entry_at, argument_at, operand_at, link_at, entry_within, argument_within, operand_within, link_within}
 use Rattle.code.specs.Draft.{trees_in}
 use Rattle.code.proofs.Trees.{and_both}
-use Rattle.code.proofs.Parts.{grows_trans, stands_more, parts_step, keeps_number, keeps_entry, keeps_argument, keeps_operand, keeps_link}
+use Rattle.code.proofs.Parts.{grows_trans, stands_more, parts_step, parts_end, keeps_number, keeps_entry, keeps_argument, keeps_operand, keeps_link}
 use Rattle.code.proofs.Made.{entry_is, argument_is, operand_is, stands_as, name_made, literal_made, list_made, dictionary_made, call_made, postfix_made, prefix_made, chain_made, ternary_made}
 use Rattle.code.proofs.draft.Draft.+flatten.Goals as goal
 
-pub items-loop-item-preserved : goal.items-loop-item-preserved
-items-loop-item-preserved t c =
+pub list-loop-item-preserved : goal.list-loop-item-preserved
+list-loop-item-preserved t c =
     let old = c.loop-item.self in
     let new = c.expression.new.self in
     record {
@@ -22,14 +22,14 @@ items-loop-item-preserved t c =
           c.in_ok-number.ensures.stands.is;
     }
 
-pub entries-returns-in_err-push-clause-grows : goal.entries-returns-in_err-push-clause-grows
-entries-returns-in_err-push-clause-grows t c =
+pub dictionary-returns-in_err-push-clause-grows : goal.dictionary-returns-in_err-push-clause-grows
+dictionary-returns-in_err-push-clause-grows t c =
     let new = c.expression-in-loop-entry.new.self in
     grows_trans c.args.self.now c.expression.new.self new (grows_trans c.args.self.now c.loop-entry.self c.expression.new.self
     c.loop-entry.invariant.grows c.expression.ensures.grows) c.expression-in-loop-entry.ensures.grows
 
-pub entries-loop-entry-preserved : goal.entries-loop-entry-preserved
-entries-loop-entry-preserved t c =
+pub dictionary-loop-entry-preserved : goal.dictionary-loop-entry-preserved
+dictionary-loop-entry-preserved t c =
     let old = c.loop-entry.self in
     let mid = c.expression.new.self in
     let new = c.expression-in-loop-entry.new.self in
@@ -66,29 +66,31 @@ arguments-loop-argument-preserved t c =
           ∙ ap (λ v. (option_map (λ k. k.now) a.name, v)) c.in_ok-value.ensures.stands.is ∙ sym (argument_is a));
     }
 
-pub operands-loop-operand-preserved : goal.operands-loop-operand-preserved
-operands-loop-operand-preserved t c =
+pub chain-loop-operand-preserved : goal.chain-loop-operand-preserved
+chain-loop-operand-preserved t c =
     let old = c.loop-operand.self in
-    let new = c.expression.new.self in
+    let new = c.expression-in-loop-operand.new.self in
     record {
-      grows = grows_trans c.args.self.now old new c.loop-operand.invariant.grows c.expression.ensures.grows;
-      parts = parts_step operand_within operand_at keeps_operand operand_of c.args.operands.now c.loop-operand.operand-index
+      grows = grows_trans c.args.self.now old new c.loop-operand.invariant.grows c.expression-in-loop-operand.ensures.grows;
+      later = grows_trans c.expression.new.self old new c.loop-operand.invariant.later c.expression-in-loop-operand.ensures.grows;
+      parts = parts_step operand_within operand_at keeps_operand operand_of c.args.others.now c.loop-operand.operand-index
           c.operand-item.result (trees_in old) (trees_in new)
           c.loop-operand.nodes.items c.push.new.self.items record {
             operator = c.operand-item.result.operator;
             value =
                 c.in_ok-value.value;
           } c.loop-operand-test.true c.operand-item.is c.in_ok-push.ensures.items
-          c.expression.ensures.grows.trees c.loop-operand.invariant.parts c.in_ok-value.ensures.stands.within
+          c.expression-in-loop-operand.ensures.grows.trees c.loop-operand.invariant.parts c.in_ok-value.ensures.stands.within
           (ap (λ v. (c.operand-item.result.operator, v)) c.in_ok-value.ensures.stands.is ∙ sym (operand_is c.operand-item.result));
     }
 
-pub links-loop-link-preserved : goal.links-loop-link-preserved
-links-loop-link-preserved t c =
+pub postfix-loop-link-preserved : goal.postfix-loop-link-preserved
+postfix-loop-link-preserved t c =
     let old = c.loop-link.self in
     let new = c.link.new.self in
     record {
       grows = grows_trans c.args.self.now old new c.loop-link.invariant.grows c.link.ensures.grows;
+      later = grows_trans c.expression.new.self old new c.loop-link.invariant.later c.link.ensures.grows;
       parts = parts_step link_within link_at keeps_link link_of c.args.links.now c.loop-link.link-index c.link-item.result
           (trees_in old) (trees_in new)
           c.loop-link.nodes.items c.push.new.self.items c.in_ok-node.node c.loop-link-test.true c.link-item.is c.in_ok-push.ensures.items
@@ -181,29 +183,29 @@ expression-returns-in-Ternary-clause-stands t c = stands_as c.ternary.result (tr
 
 -- ---- a node over its parts
 
-pub list-returns-in_err-items-clause-grows : goal.list-returns-in_err-items-clause-grows
-list-returns-in_err-items-clause-grows t c = c.items.ensures.grows
-
-pub list-push-requires : goal.list-push-requires
-list-push-requires t c = c.in_ok-items.ensures.parts.within
+pub list-push-requires-2 : goal.list-push-requires-2
+list-push-requires-2 t c = c.loop-item.invariant.parts.within
 
 pub list-returns-clause-grows : goal.list-returns-clause-grows
-list-returns-clause-grows t c = grows_trans c.args.self.now c.items.new.self c.push.new.self c.items.ensures.grows c.push.ensures.grows
+list-returns-clause-grows t c = grows_trans c.args.self.now c.loop-item.self c.push-2.new.self c.loop-item.invariant.grows c.push-2.ensures.grows
 
 pub list-returns-clause-stands : goal.list-returns-clause-stands
-list-returns-clause-stands t c = stands_as c.push.result (trees_in c.push.new.self) _ _ c.push.ensures.stands (ap (λ l. ListTree (expressions l) c.args.line) c.in_ok-items.ensures.parts.are)
+list-returns-clause-stands t c =
+    let all = parts_end (λ n i. nat_lt i n) tree_at keeps_number expression_of c.args.items.now c.loop-item.item-index (trees_in c.loop-item.self)
+    c.loop-item.numbers.items c.loop-item-test.false c.loop-item.invariant.parts in
+    stands_as c.push-2.result (trees_in c.push-2.new.self) _ _ c.push-2.ensures.stands (ap (λ l. ListTree (expressions l) c.args.line) all.are)
 
-pub dictionary-returns-in_err-entries-clause-grows : goal.dictionary-returns-in_err-entries-clause-grows
-dictionary-returns-in_err-entries-clause-grows t c = c.entries.ensures.grows
-
-pub dictionary-push-requires : goal.dictionary-push-requires
-dictionary-push-requires t c = c.in_ok-entries.ensures.parts.within
+pub dictionary-push-requires-2 : goal.dictionary-push-requires-2
+dictionary-push-requires-2 t c = c.loop-entry.invariant.parts.within
 
 pub dictionary-returns-clause-grows : goal.dictionary-returns-clause-grows
-dictionary-returns-clause-grows t c = grows_trans c.args.self.now c.entries.new.self c.push.new.self c.entries.ensures.grows c.push.ensures.grows
+dictionary-returns-clause-grows t c = grows_trans c.args.self.now c.loop-entry.self c.push-2.new.self c.loop-entry.invariant.grows c.push-2.ensures.grows
 
 pub dictionary-returns-clause-stands : goal.dictionary-returns-clause-stands
-dictionary-returns-clause-stands t c = stands_as c.push.result (trees_in c.push.new.self) _ _ c.push.ensures.stands (ap (λ l. DictionaryTree (entries l) c.args.line) c.in_ok-entries.ensures.parts.are)
+dictionary-returns-clause-stands t c =
+    let all = parts_end entry_within entry_at keeps_entry entry_of c.args.entries.now c.loop-entry.entry-index (trees_in c.loop-entry.self)
+    c.loop-entry.nodes.items c.loop-entry-test.false c.loop-entry.invariant.parts in
+    stands_as c.push-2.result (trees_in c.push-2.new.self) _ _ c.push-2.ensures.stands (ap (λ l. DictionaryTree (entries l) c.args.line) all.are)
 
 pub call-returns-in_err-arguments-clause-grows : goal.call-returns-in_err-arguments-clause-grows
 call-returns-in_err-arguments-clause-grows t c = c.arguments.ensures.grows
@@ -234,50 +236,51 @@ prefix-returns-clause-stands t c = stands_as c.push.result (trees_in c.push.new.
 pub postfix-returns-in_err-first-clause-grows : goal.postfix-returns-in_err-first-clause-grows
 postfix-returns-in_err-first-clause-grows t c = c.expression.ensures.grows
 
-pub postfix-returns-in_err-links-clause-grows : goal.postfix-returns-in_err-links-clause-grows
-postfix-returns-in_err-links-clause-grows t c = grows_trans c.args.self.now c.expression.new.self c.links.new.self c.expression.ensures.grows c.links.ensures.grows
-
-pub postfix-push-requires : goal.postfix-push-requires
-postfix-push-requires t c =
-    let ts = trees_in c.links.new.self in
-    let first = stands_more (trees_in c.expression.new.self) ts c.in_ok-first.first (expression_of c.args.first.now) c.links.ensures.grows.trees c.in_ok-first.ensures.stands in
-    and_both (nat_lt c.in_ok-first.first (length ts)) (list_all (link_within (length ts)) c.in_ok-links.links.items) first.within c.in_ok-links.ensures.parts.within
+pub postfix-push-requires-2 : goal.postfix-push-requires-2
+postfix-push-requires-2 t c =
+    let ts = trees_in c.loop-link.self in
+    let first = stands_more (trees_in c.expression.new.self) ts c.in_ok-first.first (expression_of c.args.first.now) c.loop-link.invariant.later.trees c.in_ok-first.ensures.stands in
+    and_both (nat_lt c.in_ok-first.first (length ts)) (list_all (link_within (length ts)) c.loop-link.nodes.items) first.within c.loop-link.invariant.parts.within
 
 pub postfix-returns-clause-grows : goal.postfix-returns-clause-grows
-postfix-returns-clause-grows t c = grows_trans c.args.self.now c.links.new.self c.push.new.self
-    (grows_trans c.args.self.now c.expression.new.self c.links.new.self c.expression.ensures.grows c.links.ensures.grows) c.push.ensures.grows
+postfix-returns-clause-grows t c = grows_trans c.args.self.now c.loop-link.self c.push-2.new.self c.loop-link.invariant.grows c.push-2.ensures.grows
 
 pub postfix-returns-clause-stands : goal.postfix-returns-clause-stands
 postfix-returns-clause-stands t c =
-    let ts = trees_in c.links.new.self in
-    let first = stands_more (trees_in c.expression.new.self) ts c.in_ok-first.first (expression_of c.args.first.now) c.links.ensures.grows.trees c.in_ok-first.ensures.stands in
-    stands_as c.push.result (trees_in c.push.new.self) _ _ c.push.ensures.stands
-    (ap (λ e. PostfixTree e (links (map (link_at ts) c.in_ok-links.links.items)) c.args.line) first.is
-    ∙ ap (λ l. PostfixTree (expression_of c.args.first.now) (links l) c.args.line) c.in_ok-links.ensures.parts.are)
+    let ts = trees_in c.loop-link.self in
+    let first = stands_more (trees_in c.expression.new.self) ts c.in_ok-first.first (expression_of c.args.first.now) c.loop-link.invariant.later.trees c.in_ok-first.ensures.stands in
+    let all = parts_end link_within link_at keeps_link link_of c.args.links.now c.loop-link.link-index ts c.loop-link.nodes.items c.loop-link-test.false
+    c.loop-link.invariant.parts in
+    stands_as c.push-2.result (trees_in c.push-2.new.self) _ _ c.push-2.ensures.stands
+    (ap (λ e. PostfixTree e (links (map (link_at ts) c.loop-link.nodes.items)) c.args.line) first.is
+    ∙ ap (λ l. PostfixTree (expression_of c.args.first.now) (links l) c.args.line) all.are)
 
 pub chain-returns-in_err-first-clause-grows : goal.chain-returns-in_err-first-clause-grows
 chain-returns-in_err-first-clause-grows t c = c.expression.ensures.grows
 
-pub chain-returns-in_err-others-clause-grows : goal.chain-returns-in_err-others-clause-grows
-chain-returns-in_err-others-clause-grows t c = grows_trans c.args.self.now c.expression.new.self c.operands.new.self c.expression.ensures.grows c.operands.ensures.grows
+pub chain-returns-in_err-push-clause-grows : goal.chain-returns-in_err-push-clause-grows
+chain-returns-in_err-push-clause-grows t c =
+    grows_trans c.args.self.now c.loop-operand.self c.expression-in-loop-operand.new.self c.loop-operand.invariant.grows
+    c.expression-in-loop-operand.ensures.grows
 
-pub chain-push-requires : goal.chain-push-requires
-chain-push-requires t c =
-    let ts = trees_in c.operands.new.self in
-    let first = stands_more (trees_in c.expression.new.self) ts c.in_ok-first.first (expression_of c.args.first.now) c.operands.ensures.grows.trees c.in_ok-first.ensures.stands in
-    and_both (nat_lt c.in_ok-first.first (length ts)) (list_all (operand_within (length ts)) c.in_ok-others.others.items) first.within c.in_ok-others.ensures.parts.within
+pub chain-push-requires-2 : goal.chain-push-requires-2
+chain-push-requires-2 t c =
+    let ts = trees_in c.loop-operand.self in
+    let first = stands_more (trees_in c.expression.new.self) ts c.in_ok-first.first (expression_of c.args.first.now) c.loop-operand.invariant.later.trees c.in_ok-first.ensures.stands in
+    and_both (nat_lt c.in_ok-first.first (length ts)) (list_all (operand_within (length ts)) c.loop-operand.nodes.items) first.within c.loop-operand.invariant.parts.within
 
 pub chain-returns-clause-grows : goal.chain-returns-clause-grows
-chain-returns-clause-grows t c = grows_trans c.args.self.now c.operands.new.self c.push.new.self
-    (grows_trans c.args.self.now c.expression.new.self c.operands.new.self c.expression.ensures.grows c.operands.ensures.grows) c.push.ensures.grows
+chain-returns-clause-grows t c = grows_trans c.args.self.now c.loop-operand.self c.push-2.new.self c.loop-operand.invariant.grows c.push-2.ensures.grows
 
 pub chain-returns-clause-stands : goal.chain-returns-clause-stands
 chain-returns-clause-stands t c =
-    let ts = trees_in c.operands.new.self in
-    let first = stands_more (trees_in c.expression.new.self) ts c.in_ok-first.first (expression_of c.args.first.now) c.operands.ensures.grows.trees c.in_ok-first.ensures.stands in
-    stands_as c.push.result (trees_in c.push.new.self) _ _ c.push.ensures.stands
-    (ap (λ e. ChainTree e (operands (map (operand_at ts) c.in_ok-others.others.items)) c.args.line) first.is
-    ∙ ap (λ l. ChainTree (expression_of c.args.first.now) (operands l) c.args.line) c.in_ok-others.ensures.parts.are)
+    let ts = trees_in c.loop-operand.self in
+    let first = stands_more (trees_in c.expression.new.self) ts c.in_ok-first.first (expression_of c.args.first.now) c.loop-operand.invariant.later.trees c.in_ok-first.ensures.stands in
+    let all = parts_end operand_within operand_at keeps_operand operand_of c.args.others.now c.loop-operand.operand-index ts c.loop-operand.nodes.items
+    c.loop-operand-test.false c.loop-operand.invariant.parts in
+    stands_as c.push-2.result (trees_in c.push-2.new.self) _ _ c.push-2.ensures.stands
+    (ap (λ e. ChainTree e (operands (map (operand_at ts) c.loop-operand.nodes.items)) c.args.line) first.is
+    ∙ ap (λ l. ChainTree (expression_of c.args.first.now) (operands l) c.args.line) all.are)
 
 pub ternary-returns-clause-grows : goal.ternary-returns-clause-grows
 ternary-returns-clause-grows t c = grows_trans c.args.self.now c.expression-3.new.self c.push.new.self
