@@ -13,7 +13,8 @@ use Rattle.interp.specs.declared.frames.BlockRest.{BlockRest}
 use Rattle.interp.specs.declared.frames.Frame.TheVariants as frames
 use Rattle.interp.specs.declared.frames.Frame.{Frame}
 use Rattle.interp.specs.Frames.{EachMeans, Made, Moved, Moves, Stacked, Stepped, others_by, unwound}
-use Rattle.interp.proofs.Stack.{given_counting, leads_start, moves_block}
+use Rattle.interp.proofs.Evaluating.{leads_start}
+use Rattle.interp.proofs.Stack.{given_counting, moves_block}
 
 abbrev pub ticking : ℕ → Stand → Stand
 ticking n s = record { world = s.world; names = s.names; tree = s.tree; out = s.out; ticks = n }

@@ -1,27 +1,26 @@
 -- Calls of an evaluation one after another, against their plans.
-use Rattle.std.proofs.Common.{◌≡◌, ℕ, ◌+◌, ◌<◌, ◌≤◌, List, [], ◌∷◌, map, length, drop, get_or, add-one, drop-cons, drop_of_length-le, Option, Some, None, Result, Ok, Err, IsErrAnd, refl, sym, ap, subst, ◌∙◌, arith}
+use Rattle.std.proofs.Common.{◌≡◌, ℕ, ◌+◌, ◌<◌, ◌≤◌, List, [], ◌∷◌, ◌++◌, map, length, drop, get_or, append-nil, add-one, drop-cons, drop_of_length-le, Result, Ok, Err, IsErrAnd, refl, sym, ap, subst, ◌∙◌, append_assoc}
 use Rattle.ports.specs.Outputs.{OutputState}
-use Rattle.ports.specs.Tree.{TreeState, Stays}
+use Rattle.ports.specs.Tree.{TreeState}
 use Rattle.data.specs.Data.{Data}
-use Rattle.data.specs.Tables.{Answers}
-use Rattle.data.specs.View.{data_of}
-use Rattle.data.specs.declared.refusal.Refusal.{Refusal as OperationRefusal}
-use Rattle.data.specs.declared.value.Value.{Value}
 use Rattle.faults.specs.declared.refusal.Refusal.{Refusal}
-use Rattle.world.specs.Answering.{State, Carries, Refuses}
+use Rattle.world.specs.Answering.{Carries, Refuses}
 use Rattle.world.specs.Deed.{Files, Deed, read, change}
 use Rattle.world.specs.Store.{changing}
-use Rattle.world.specs.Gives.{Gives, Holds, Continues, is_ended}
-use Rattle.world.specs.Plan.{Plan, deed, ruled, next, carry, give, refuse, answered}
-use Rattle.world.specs.Trace.{Seen, seen}
-use Rattle.world.specs.Run.{Run, fails}
-use Rattle.world.specs.World.{World, Facts, fault_here, with_facts, with_line}
+use Rattle.world.specs.Gives.{Gives, Holds, is_ended}
+use Rattle.world.specs.Plan.{Plan, deed, ruled, next, carry, give, refuse}
+use Rattle.world.specs.Trace.{Mark, Seen, seen}
+use Rattle.world.specs.Run.{Run, ran, Act, Done, Faulted, after, follow, marks_of}
+use Rattle.world.specs.World.{World, Facts, with_facts, with_line}
 use Rattle.world.specs.declared.stop.Stop.{Stop}
 use Rattle.world.specs.declared.stop.Stop.TheVariants as stops
 use Rattle.world.proofs.Follow.{begun, done, further, gives_later, stopped_later, wanted_later, ended_later, refused_later, gives_rule}
 use Rattle.world.proofs.Holding.{holds_later}
 use Rattle.world.proofs.Marks.{none_added}
-use Rattle.interp.specs.Evaluates.{Stand, Given, seen_of}
+use Rattle.interp.specs.Evaluates.{Stand, Given, Leads, seen_of}
+use Rattle.interp.specs.Operations.{Goes}
+use Rattle.interp.specs.declared.operation.Begun.{Begun}
+use Rattle.interp.specs.declared.operation.Begun.TheVariants.{Decided, Waits}
 
 -- one call, and then the rest
 pub given_then : {A B C D : Type 0} {view : C → A} {view' : D → B} {files : Files} {p : Plan A} {others : A → Plan B} {s0 s1 s2 : Stand} {x : C} {result : Result D Stop}
@@ -113,31 +112,92 @@ given_refused (Ok x) h is = absurd is
 given_refused {A = A} {view = view} {files = files} {line = line} {refusal = refusal} {detail = detail} {s = s} (Err e) h is =
     given_stop {view = λ (a : A). a} (given_refuse {A = A} {B = A} {view = λ (a : A). a} {files = files} {line = line} {refusal = refusal} {detail = detail} {s = s} {result = Err e} h is) refl
 
+-- a call that stops, inside of what comes first
+pub given_stop_inside : {A B C D E : Type 0} {view : C → A} {view' : D → B} {files : Files} {p : Plan A} {others : A → Plan E} {more : E → Plan B} {s0 s1 : Stand} {s : Stop} {result : Result D Stop}
+    → Given view files p s0 (Err s) s1 → IsErrAnd result (λ e. e ≡ s) → Given view' files (next (next p others) more) s0 result s1
+given_stop_inside {E = E} {s = s} g is = given_stop {view = λ (x : E). x} (given_stop {view' = λ (x : E). x} {result = Err s} g refl) is
+
+-- ---- operators
+
+-- the same plan, written otherwise
+pub goes_as : (files : Files) (line : ℕ) {whole other : Plan Data} (right : Plan Data) (s : Stand) (result : Result Begun Stop)
+    → whole ≡ other → Goes files line whole right s result → Goes files line other right s result
+goes_as files line right s (Ok (Decided value)) e g = given_as e g
+goes_as files line right s (Ok (Waits half)) e g = λ result new given. given_as e (g result new given)
+goes_as files line right s (Err stop) e g = given_as e g
+
+-- what the left side came to
+pub goes_on : (files : Files) (line : ℕ) (whole right : Plan Data) (s : Stand) {b begun : Begun} → b ≡ begun → Goes files line whole right s (Ok b) → Goes files line whole right s (Ok begun)
+goes_on files line whole right s e g = subst (λ x. Goes files line whole right s (Ok x)) e g
+
+-- the left side is refused
+pub goes_refused : {A : Type 0} (files : Files) (line : ℕ) (refusal : Refusal) (detail : List ℕ) (others : A → Plan Data) {whole : Plan Data} (right : Plan Data) (s : Stand) (result : Result Begun Stop)
+    → whole ≡ next (refuse line refusal detail) others → Holds s.tree files
+    → Refuses (record { file = s.world.facts.file; line = line; refusal = refusal; detail = detail }) result → Goes files line whole right s result
+goes_refused files line refusal detail others right s (Ok x) e h is = absurd is
+goes_refused files line refusal detail others right s (Err stop) e h is = given_as (sym e) (given_refused (Err stop) h is)
+
 -- ---- loops
 
+after-after : {A : Type 0} (ms ns : List Mark) (r : Run A) → after ms (after ns r) ≡ after (ms ++ ns) r
+after-after ms ns (ran o w os) = ap (ran o w) (sym (append_assoc ms ns os))
+
+pub follow-after : {A B : Type 0} (ms : List Mark) (r : Run A) (others : A → Act B) → follow (after ms r) others ≡ after ms (follow r others)
+follow-after ms (ran (Done x) w ns) others = sym (after-after ms ns (others x w))
+follow-after ms (ran (Faulted f) w ns) others = refl
+
 -- what was done of a plan, and what is left of it
-pub record Led {A : Type 0} (files : Files) (whole : Plan A) (old : Stand) (rest : Plan A) (now : Stand) : Type 0 where
-  pub continues : Continues (carry files whole old.world) (carry files rest now.world) (seen_of old) (seen_of now)
-  pub holds : Holds now.tree files
+pub leads_start : {A : Type 0} {files : Files} {p : Plan A} {s : Stand} → Holds s.tree files → Leads files p s p s
+leads_start {files = files} {p = p} {s = s} h = record { continues = begun (carry files p s.world) (seen_of s); holds = h }
 
-pub led_start : {A : Type 0} {files : Files} {p : Plan A} {s : Stand} → Holds s.tree files → Led files p s p s
-led_start {files = files} {p = p} {s = s} h = record { continues = begun (carry files p s.world) (seen_of s); holds = h }
+pub leads_further : {A : Type 0} {files : Files} {p q r : Plan A} {s0 s1 s2 : Stand} → Leads files p s0 q s1 → Leads files q s1 r s2 → Leads files p s0 r s2
+leads_further l m = record { continues = further l.continues m.continues; holds = m.holds }
 
--- one call more
-pub led_on : {A B C : Type 0} {view : C → A} {files : Files} {whole : Plan B} {p : Plan A} {others : A → Plan B} {s0 s s1 : Stand} {x : C}
-    → Led files whole s0 (next p others) s → Given view files p s (Ok x) s1 → Led files whole s0 (others (view x)) s1
-led_on {view = view} {files = files} {p = p} {others = others} {s = s} {x = x} l g = record {
-  continues = further l.continues (done (carry files p s.world) (λ a. carry files (others a)) (view x) g.gives);
+-- one call, and then the rest
+pub leads_next : {A B C : Type 0} {view : C → A} {files : Files} {p : Plan A} {others : A → Plan B} {s0 s1 : Stand} {x : C}
+    → Given view files p s0 (Ok x) s1 → Leads files (next p others) s0 (others (view x)) s1
+leads_next {view = view} {files = files} {p = p} {others = others} {s0 = s0} {x = x} g = record {
+  continues = done (carry files p s0.world) (λ a. carry files (others a)) (view x) g.gives;
   holds = g.holds;
 }
 
+-- a call, and what it gave
+pub leads_given : {A C : Type 0} {view : C → A} {files : Files} {p : Plan A} {s0 s1 : Stand} {x : C} → Given view files p s0 (Ok x) s1 → Leads files p s0 (give (view x)) s1
+leads_given {view = view} {files = files} {p = p} {s0 = s0} {s1 = s1} {x = x} g = record {
+  continues = record {
+    made = marks_of (carry files p s0.world);
+    is = g.gives.is ∙ ap (ran (Done (view x)) s1.world) (sym (append-nil (marks_of (carry files p s0.world))));
+    written = g.gives.written;
+  };
+  holds = g.holds;
+}
+
+-- one call more
+pub leads_on : {A B C : Type 0} {view : C → A} {files : Files} {whole : Plan B} {p : Plan A} {others : A → Plan B} {s0 s s1 : Stand} {x : C}
+    → Leads files whole s0 (next p others) s → Given view files p s (Ok x) s1 → Leads files whole s0 (others (view x)) s1
+leads_on l g = leads_further l (leads_next g)
+
 -- what the rest gives, the whole gives
-pub led_end : {B D : Type 0} {view : D → B} {files : Files} {whole rest : Plan B} {s0 s s1 : Stand} {result : Result D Stop} → Led files whole s0 rest s → Given view files rest s result s1 → Given view files whole s0 result s1
-led_end {view = view} {s1 = s1} {result = result} l g = record { gives = gives_later view result s1.world (seen_of s1) l.continues g.gives; holds = g.holds }
+pub leads_end : {B D : Type 0} {view : D → B} {files : Files} {whole rest : Plan B} {s0 s s1 : Stand} {result : Result D Stop} → Leads files whole s0 rest s → Given view files rest s result s1 → Given view files whole s0 result s1
+leads_end {view = view} {s1 = s1} {result = result} l g = record { gives = gives_later view result s1.world (seen_of s1) l.continues g.gives; holds = g.holds }
+
+-- one call more, inside of what comes first
+pub leads_inside : {A B C E : Type 0} {view : C → A} {files : Files} {whole : Plan B} {p : Plan A} {others : A → Plan E} {more : E → Plan B} {s0 s s1 : Stand} {x : C}
+    → Leads files whole s0 (next (next p others) more) s → Given view files p s (Ok x) s1 → Leads files whole s0 (next (others (view x)) more) s1
+leads_inside {view = view} {files = files} {p = p} {others = others} {more = more} {s = s} {s1 = s1} {x = x} l g =
+    let m = done (carry files p s.world) (λ a. carry files (others a)) (view x) g.gives in
+    record {
+      continues = further l.continues (record {
+        made = m.made;
+        is = ap (λ r. follow r (λ a. carry files (more a))) m.is ∙ follow-after m.made (carry files (others (view x)) s1.world) (λ a. carry files (more a));
+        written = m.written;
+      });
+      holds = g.holds;
+    }
 
 -- the same rest, written otherwise
-pub led_as : {B : Type 0} {files : Files} {whole rest other : Plan B} {s0 s : Stand} → rest ≡ other → Led files whole s0 rest s → Led files whole s0 other s
-led_as {files = files} {whole = whole} {s0 = s0} {s = s} e l = subst (λ p. Led files whole s0 p s) e l
+pub leads_as : {B : Type 0} {files : Files} {whole rest other : Plan B} {s0 s : Stand} → rest ≡ other → Leads files whole s0 rest s → Leads files whole s0 other s
+leads_as {files = files} {whole = whole} {s0 = s0} {s = s} e l = subst (λ p. Leads files whole s0 p s) e l
 
 -- the next item comes, and the others are left
 pub next_item : {X Y : Type 0} (h : X → Y) (xs : List X) (i : ℕ) (d : X) → i < length xs → map h (drop i xs) ≡ h (get_or xs i d) ∷ map h (drop (i + 1) xs)

@@ -1,4 +1,5 @@
 -- Folders that are entered.
+use Rattle.interp.proofs.Evaluating.{leads_further, leads_next}
 use Rattle.std.proofs.Common.{◌≡◌, ℕ, zero, suc, List, [], Result, Ok, Err, refl, subst}
 use Rattle.faults.specs.declared.refusal.Refusal.{Refusal}
 use Rattle.faults.specs.declared.refusal.Refusal.TheVariants as refusals
@@ -10,13 +11,11 @@ use Rattle.world.specs.World.{Facts, fault_here}
 use Rattle.world.specs.declared.stop.Stop.{Stop}
 use Rattle.world.proofs.Follow.{begun, refused_later}
 use Rattle.world.proofs.Marks.{none_added}
-use Rattle.interp.specs.Evaluates.{Stand, Given, seen_of}
+use Rattle.interp.specs.Evaluates.{Stand, Given, seen_of, Leads}
 use Rattle.interp.specs.Folders.{folder, fresh, go_back, opened}
-use Rattle.interp.specs.Frames.{Leads}
 use Rattle.interp.specs.Statements.{do_all}
 use Rattle.interp.specs.declared.flow.Flow.{Flow}
 use Rattle.interp.specs.declared.flow.Flow.TheVariants.{Next}
-use Rattle.interp.proofs.Stack.{leads_further, leads_next}
 
 -- a folder that is fresh, at the place before
 abbrev pub entered_from : ℕ → List ℕ → Facts → Plan Flow

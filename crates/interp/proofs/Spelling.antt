@@ -21,18 +21,17 @@ use Rattle.world.specs.Deed.{Files}
 use Rattle.world.specs.Plan.{Plan, give, next, ruled}
 use Rattle.world.specs.declared.stop.Stop.{Stop}
 use Rattle.interp.specs.Blocks.{branch_or, expressions_by, node_at, statements_by}
-use Rattle.interp.specs.Evaluates.{Given, Reads, Stand}
+use Rattle.interp.specs.Evaluates.{Given, Reads, Stand, Leads}
 use Rattle.interp.specs.Expressions.{given_by, value_of}
-use Rattle.interp.specs.Frames.{Chooses, Leads, Made, above_branch, part_done}
+use Rattle.interp.specs.Frames.{Chooses, Made, above_branch, part_done}
 use Rattle.interp.specs.Parts.{above}
 use Rattle.interp.specs.Rounds.{RoundAt, round_data}
 use Rattle.interp.specs.Statements.{Round, bound, do_all, stated}
 use Rattle.interp.specs.declared.loops.Round.{Round as Declared}
 use Rattle.interp.specs.declared.flow.Flow.{Flow}
 use Rattle.interp.specs.declared.flow.Flow.TheVariants.{Next}
-use Rattle.interp.proofs.Evaluating.{given_stop, next_is}
+use Rattle.interp.proofs.Evaluating.{given_stop, leads_end, next_is}
 use Rattle.interp.proofs.Reading.{name_of, opened}
-use Rattle.interp.proofs.Stack.{leads_end}
 
 -- the trees of the expressions
 pub reads_at : {c d : Code} {names table : List (List ℕ)} → d ≡ c → Made c names table → Reads (expressions_by table c) d names

@@ -1,20 +1,20 @@
 -- Plans under a stack of frames.
-use Rattle.std.proofs.Common.{◌≡◌, ℕ, ◌+◌, List, [], ◌∷◌, ◌++◌, Result, Ok, Err, IsErrAnd, drop, length, refl, sym, subst, ap, ◌∙◌, append-nil, append_assoc, option_map, arith}
+use Rattle.std.proofs.Common.{◌≡◌, ℕ, ◌+◌, List, [], ◌∷◌, ◌++◌, Result, Ok, Err, IsErrAnd, drop, length, refl, sym, subst, ap, ◌∙◌, append_assoc, option_map, arith}
 use Rattle.code.specs.Draft.{IsFront}
 use Rattle.code.specs.declared.code.Code.{Code}
 use Rattle.code.specs.Statements.{name_at, statement_at}
 use Rattle.world.specs.Deed.{Files}
 use Rattle.world.specs.Gives.{Gives, Holds, is_ended}
 use Rattle.world.specs.Plan.{Plan, next, carry, give}
-use Rattle.world.specs.Run.{Run, ran, Act, Done, Faulted, after, follow, with_end, marks_of}
+use Rattle.world.specs.Run.{Run, ran, after, follow, with_end}
 use Rattle.world.specs.Trace.{Mark, Ended, seen}
 use Rattle.world.specs.World.{World}
 use Rattle.world.specs.declared.stop.Stop.{Stop}
 use Rattle.world.specs.declared.stop.Stop.TheVariants as stops
-use Rattle.world.proofs.Follow.{after-nil, begun, done, further, gives_later}
+use Rattle.world.proofs.Follow.{after-nil, done}
 use Rattle.world.proofs.Marks.{front_of_front, none_added, same_front}
 use Rattle.interp.specs.Blocks.{block_by, statements_by, statements_of}
-use Rattle.interp.specs.Evaluates.{Stand, Given, seen_of}
+use Rattle.interp.specs.Evaluates.{Stand, Given, seen_of, Leads}
 use Rattle.interp.specs.Folders.{folder}
 use Rattle.interp.specs.Statements.{Round, after_round, do_all, does, on_next, rounds_of}
 use Rattle.interp.specs.declared.flow.Flow.{Flow}
@@ -23,17 +23,10 @@ use Rattle.interp.specs.declared.frames.BlockRest.{BlockRest}
 use Rattle.interp.specs.declared.frames.LoopRest.{LoopRest}
 use Rattle.interp.specs.declared.frames.Frame.{Frame}
 use Rattle.interp.specs.declared.frames.Frame.TheVariants as frames
-use Rattle.interp.specs.Frames.{Rest, Others, Rounds, End, Left, one_round, gone_back, behind, behind_all, Made, Means, EachMeans, Stacked, ends_in, pending, unwound, Leads, Moved, Moves, Stepped, others_by, round_by, rounds_left}
-use Rattle.interp.proofs.Evaluating.{given_give, given_none, given_rule, given_stop}
+use Rattle.interp.specs.Frames.{Rest, Others, Rounds, End, Left, one_round, gone_back, behind, behind_all, Made, Means, EachMeans, Stacked, ends_in, pending, unwound, Moved, Moves, Stepped, others_by, round_by, rounds_left}
+use Rattle.interp.proofs.Evaluating.{follow-after, given_give, given_none, given_rule, given_stop, leads_as, leads_end, leads_further, leads_given, leads_next}
 
 -- ---- marks that come first
-
-after-after : {A : Type 0} (ms ns : List Mark) (r : Run A) → after ms (after ns r) ≡ after (ms ++ ns) r
-after-after ms ns (ran o w os) = ap (ran o w) (sym (append_assoc ms ns os))
-
-follow-after : {A B : Type 0} (ms : List Mark) (r : Run A) (others : A → Act B) → follow (after ms r) others ≡ after ms (follow r others)
-follow-after ms (ran (Done x) w ns) others = sym (after-after ms ns (others x w))
-follow-after ms (ran (Faulted f) w ns) others = refl
 
 with_end-after : {A : Type 0} (ms : List Mark) (r : Run A) → with_end (after ms r) ≡ after ms (with_end r)
 with_end-after ms (ran o w ns) = ap (ran o w) (append_assoc ms ns (Ended ∷ []))
@@ -58,39 +51,6 @@ onto-after files End ms x = with_end-after ms x
 onto-after files (Left file below line) ms x = follow-after ms x _
 
 -- ---- what was done, and the rest
-
-pub leads_start : {A : Type 0} {files : Files} {p : Plan A} {s : Stand} → Holds s.tree files → Leads files p s p s
-leads_start {files = files} {p = p} {s = s} h = record { continues = begun (carry files p s.world) (seen_of s); holds = h }
-
-pub leads_further : {A : Type 0} {files : Files} {p q r : Plan A} {s0 s1 s2 : Stand} → Leads files p s0 q s1 → Leads files q s1 r s2 → Leads files p s0 r s2
-leads_further l m = record { continues = further l.continues m.continues; holds = m.holds }
-
--- one call, and then the rest
-pub leads_next : {A B C : Type 0} {view : C → A} {files : Files} {p : Plan A} {others : A → Plan B} {s0 s1 : Stand} {x : C}
-    → Given view files p s0 (Ok x) s1 → Leads files (next p others) s0 (others (view x)) s1
-leads_next {view = view} {files = files} {p = p} {others = others} {s0 = s0} {x = x} g = record {
-  continues = done (carry files p s0.world) (λ a. carry files (others a)) (view x) g.gives;
-  holds = g.holds;
-}
-
--- a call, and what it gave
-pub leads_given : {A C : Type 0} {view : C → A} {files : Files} {p : Plan A} {s0 s1 : Stand} {x : C} → Given view files p s0 (Ok x) s1 → Leads files p s0 (give (view x)) s1
-leads_given {view = view} {files = files} {p = p} {s0 = s0} {s1 = s1} {x = x} g = record {
-  continues = record {
-    made = marks_of (carry files p s0.world);
-    is = g.gives.is ∙ ap (ran (Done (view x)) s1.world) (sym (append-nil (marks_of (carry files p s0.world))));
-    written = g.gives.written;
-  };
-  holds = g.holds;
-}
-
--- what the rest gives, the whole gives
-pub leads_end : {B D : Type 0} {view : D → B} {files : Files} {whole rest : Plan B} {s0 s s1 : Stand} {result : Result D Stop}
-    → Leads files whole s0 rest s → Given view files rest s result s1 → Given view files whole s0 result s1
-leads_end {view = view} {s1 = s1} {result = result} l g = record { gives = gives_later view result s1.world (seen_of s1) l.continues g.gives; holds = g.holds }
-
-pub leads_as : {B : Type 0} {files : Files} {whole rest other : Plan B} {s0 s : Stand} → rest ≡ other → Leads files whole s0 rest s → Leads files whole s0 other s
-leads_as {files = files} {whole = whole} {s0 = s0} {s = s} e l = subst (λ p. Leads files whole s0 p s) e l
 
 -- what is done is done behind a rest
 leads_behind : (r : Rest) {files : Files} {p q : Plan Flow} {s s1 : Stand} → Leads files p s q s1 → Leads files (behind r p) s (behind r q) s1

@@ -8,9 +8,8 @@ use Rattle.ports.specs.Outputs.{OutputState}
 use Rattle.ports.specs.Tree.{TreeState}
 use Rattle.faults.specs.Faults.{FaultData}
 use Rattle.faults.specs.declared.refusal.Refusal.{Refusal}
-use Rattle.world.specs.Answering.{State}
 use Rattle.world.specs.Deed.{Files}
-use Rattle.world.specs.Gives.{Gives, Holds, failures_after}
+use Rattle.world.specs.Gives.{Continues, Gives, Holds, failures_after}
 use Rattle.world.specs.Plan.{Plan, carry}
 use Rattle.world.specs.Store.{world_of}
 use Rattle.world.specs.Trace.{Seen, seen}
@@ -34,6 +33,11 @@ pub record Given {A B : Type 0} (view : B
     → A) (files : Files) (plan : Plan A) (old : Stand) (result : Result B Stop) (new : Stand) : Type 0 where
   pub gives : Gives view (carry files plan old.world) result new.world (seen_of old) (seen_of new)
   pub holds : Holds new.tree files
+
+-- the whole plan is the rest, after what was done
+pub record Leads {A : Type 0} (files : Files) (whole : Plan A) (old : Stand) (rest : Plan A) (now : Stand) : Type 0 where
+  pub continues : Continues (carry files whole old.world) (carry files rest now.world) (seen_of old) (seen_of now)
+  pub holds : Holds now.tree files
 
 -- These are the trees of the code's expressions, by the table of names as it was when the code was made. The names only grow since.
 pub record Reads (ts : List ExpressionTree) (code : Code) (names : List (List ℕ)) : Type 0 where

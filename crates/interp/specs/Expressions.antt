@@ -14,7 +14,7 @@ use Rattle.data.specs.declared.object.Object.{Object}
 use Rattle.data.specs.declared.object.Object.TheVariants as objects
 use Rattle.data.specs.declared.refusal.Refusal.{Refusal as OperationRefusal}
 use Rattle.data.specs.declared.refusal.Refusal.TheVariants as operation
-use Rattle.data.specs.Data.{Data, boolean, integer, text, list, dictionary, object, Items, no_items, item, items_append, boolean_in, object_in, is_disabler}
+use Rattle.data.specs.Data.{Data, boolean, integer, text, list, object, Items, no_items, item, items_append, boolean_in, object_in, is_disabler}
 use Rattle.data.specs.Limits.{within}
 use Rattle.faults.specs.declared.refusal.Refusal.{Refusal}
 use Rattle.faults.specs.declared.refusal.Refusal.TheVariants as refusals
@@ -178,6 +178,23 @@ chosen line (Some true) disabled one other = one
 chosen line (Some false) disabled one other = other
 chosen line None disabled one other = unchosen line disabled
 
+-- ---- forms, by the values of their parts
+
+abbrev pub listed : ℕ → Items → Plan Data
+listed line ds = answered line (within (list ds))
+
+abbrev pub paired : ℕ → List (Data × Data) → Plan Data
+paired line ps = answered line (literal_answer ps)
+
+abbrev pub prefixed : ℕ → Prefix → Data → Plan Data
+prefixed line prefix d = answered line (unary_answer (unary_of prefix) d)
+
+-- the part of a value at a place or key
+abbrev pub part_at : ℕ → Data → Data → Plan (Option Data)
+part_at line d i = do
+  part ← answered line (index_answer d i)
+  give (Some part)
+
 -- ---- calls
 
 -- a call that gives nothing is no expression
@@ -317,10 +334,10 @@ abbrev mutual
   value_of (LiteralTree literal t line) = literal_value line literal t
   value_of (ListTree es line) = do
     ds ← values_of no_items es
-    answered line (within (list ds))
+    listed line ds
   value_of (DictionaryTree es line) = do
     ps ← entries_of [] es
-    answered line (literal_answer ps)
+    paired line ps
   value_of (FunctionTree name es line) = do
     f ← function_inside line name
     a ← arguments_of no_arguments es
@@ -331,7 +348,7 @@ abbrev mutual
     needed line o
   value_of (PrefixTree prefix value line) = do
     d ← ruled (value_of value)
-    answered line (unary_answer (unary_of prefix) d)
+    prefixed line prefix d
   value_of (ChainTree first others line) = do
     d ← ruled (value_of first)
     chain_of line d others
@@ -371,8 +388,7 @@ abbrev mutual
   link_of line d (MethodTree name es) = method_of line d name (arguments_of no_arguments es)
   link_of line d (IndexTree index) = do
     i ← ruled (value_of index)
-    part ← answered line (index_answer d i)
-    give (Some part)
+    part_at line d i
 
   -- a chain of operators, with the value so far
   pub chain_of : ℕ → Data → OperandTrees → Plan Data

@@ -10,8 +10,8 @@ use Rattle.grammar.specs.ExpressionTree.{ExpressionTree}
 use Rattle.ports.specs.Outputs.{OutputState}
 use Rattle.ports.specs.Tree.{TreeState}
 use Rattle.world.specs.Deed.{Files, change}
-use Rattle.world.specs.Gives.{Continues, Holds}
-use Rattle.world.specs.Plan.{Plan, deed, ruled, ◌>>=◌, give, carry}
+use Rattle.world.specs.Gives.{Holds}
+use Rattle.world.specs.Plan.{Plan, deed, ruled, ◌>>=◌, give}
 use Rattle.world.specs.World.{with_place}
 use Rattle.world.specs.declared.stop.Stop.{Stop}
 use Rattle.world.specs.declared.stop.Stop.TheVariants as stops
@@ -24,7 +24,7 @@ use Rattle.interp.specs.declared.frames.LoopRest.{LoopRest}
 use Rattle.interp.specs.declared.frames.Frame.{Frame}
 use Rattle.interp.specs.declared.frames.Frame.TheVariants as frames
 use Rattle.interp.specs.Blocks.{block_by, statements_of}
-use Rattle.interp.specs.Evaluates.{Stand, Given, Reads, seen_of, stand_of}
+use Rattle.interp.specs.Evaluates.{Stand, Given, Leads, Reads, stand_of}
 use Rattle.interp.specs.Folders.{folder}
 use Rattle.interp.specs.Rounds.{rounds_in}
 use Rattle.interp.specs.Statements.{Round, after_round, bound, branches_of, do_all, on_next, rounds_of}
@@ -136,11 +136,6 @@ abbrev pub ticked : ℕ → Stand → Stand
 ticked n s = record { world = s.world; names = s.names; tree = s.tree; out = s.out; ticks = s.ticks + n }
 
 -- ---- what a step does
-
--- the whole plan is the rest, after what was done
-pub record Leads {A : Type 0} (files : Files) (whole : Plan A) (old : Stand) (rest : Plan A) (now : Stand) : Type 0 where
-  pub continues : Continues (carry files whole old.world) (carry files rest now.world) (seen_of old) (seen_of now)
-  pub holds : Holds now.tree files
 
 -- the whole plan is what a stack still does behind this flow
 pub record Moved (files : Files) (whole : Plan Flow) (old : Stand) (flow : Flow) (fs : List Frame) (now : Stand) : Type 0 where

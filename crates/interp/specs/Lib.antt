@@ -10,6 +10,7 @@ pub mod Expressions
 pub mod Folders
 pub mod Frames
 pub mod Laws
+pub mod Operations
 pub mod Parts
 pub mod Rounds
 pub mod Statements

@@ -1,17 +1,15 @@
-use Rattle.std.proofs.Common.{◌≡◌, ℕ, suc, ◌+◌, ◌*◌, max, List, [], Option, Some, drop, map, option_map}
-use Rattle.grammar.specs.ExpressionTree.{ExpressionTree, ChainTree, expressions, entries, arguments, links, operands}
+use Rattle.std.proofs.Common.{◌≡◌, ℕ, suc, ◌+◌, ◌*◌, max, List, Some, drop, map, option_map}
+use Rattle.grammar.specs.ExpressionTree.{ExpressionTree, ListTree, DictionaryTree, ChainTree, expressions, entries, arguments, links, operands}
 use Rattle.code.specs.Nodes.{tree_at, entry_at, argument_at, operand_at, link_at}
-use Rattle.data.specs.Data.{no_items}
 use Rattle.data.specs.View.{data_of, items_of}
 use Rattle.operators.specs.Literal.{pairs_of}
 use Rattle.arguments.specs.Arguments.{arguments_data, no_arguments}
 use Rattle.world.specs.Deed.{Files}
 use Rattle.world.specs.Gives.{Holds}
 use Rattle.world.specs.Plan.{next, ruled}
-use Rattle.interp.specs.Evaluates.{Reads, Same, stand_of}
-use Rattle.interp.specs.Expressions.{value_of, values_of, entries_of, arguments_of, links_of, chain_of}
+use Rattle.interp.specs.Evaluates.{Leads, Reads, Same, stand_of}
+use Rattle.interp.specs.Expressions.{value_of, values_of, entries_of, arguments_of, links_of, chain_of, listed, paired}
 use Rattle.interp.specs.Parts.{above, above_number, above_entry, above_argument, above_operand, above_link}
-use Rattle.interp.proofs.Evaluating.{Led}
 use Rattle.interp.proofs.evaluator.Evaluator.+eval.Given as goal
 
 -- A node is above its parts, and the parts of a form are no higher than the form. Beside that each function has a rank.
@@ -25,14 +23,8 @@ decreases-form g l = 8 * l.node + 6
 abbrev pub decreases-list : goal.decreases-list
 decreases-list g l = 8 * above above_number l.items.now + 5
 
-abbrev pub decreases-values : goal.decreases-values
-decreases-values g l = 8 * above above_number l.items.now + 4
-
 abbrev pub decreases-dictionary : goal.decreases-dictionary
 decreases-dictionary g l = 8 * above above_entry l.entries.now + 5
-
-abbrev pub decreases-pairs : goal.decreases-pairs
-decreases-pairs g l = 8 * above above_entry l.entries.now + 4
 
 abbrev pub decreases-call : goal.decreases-call
 decreases-call g l = 8 * above above_argument l.arguments.now + 5
@@ -40,46 +32,22 @@ decreases-call g l = 8 * above above_argument l.arguments.now + 5
 abbrev pub decreases-arguments : goal.decreases-arguments
 decreases-arguments g l = 8 * above above_argument l.arguments.now
 
-abbrev pub decreases-postfix : goal.decreases-postfix
-decreases-postfix g l = 8 * max (suc l.first) (above above_link l.links.now) + 5
-
 abbrev pub decreases-asked : goal.decreases-asked
 decreases-asked g l = 8 * max (suc l.first) (above above_link l.links.now) + 4
 
 abbrev pub decreases-link : goal.decreases-link
 decreases-link g l = 8 * above_link l.link.now + 2
 
-abbrev pub decreases-method : goal.decreases-method
-decreases-method g l = 8 * above above_argument l.arguments.now + 1
-
-abbrev pub decreases-part : goal.decreases-part
-decreases-part g l = 8 * suc l.at + 1
-
-abbrev pub decreases-prefix : goal.decreases-prefix
-decreases-prefix g l = 8 * suc l.value + 5
-
 abbrev pub decreases-chain : goal.decreases-chain
 decreases-chain g l = 8 * max (suc l.first) (above above_operand l.others.now) + 5
-
-abbrev pub decreases-operation : goal.decreases-operation
-decreases-operation g l = 8 * suc l.right + 4
-
-abbrev pub decreases-combined : goal.decreases-combined
-decreases-combined g l = 8 * suc l.right + 3
-
-abbrev pub decreases-connected : goal.decreases-connected
-decreases-connected g l = 8 * suc l.right + 3
-
-abbrev pub decreases-right : goal.decreases-right
-decreases-right g l = 8 * suc l.right + 2
 
 abbrev pub decreases-ternary : goal.decreases-ternary
 decreases-ternary g l = 8 * max (suc l.test) (max (suc l.yes) (suc l.no)) + 5
 
 -- ---- loops: what was done, and the rest, are all
 
-abbrev pub invariant-values-loop-item : goal.invariant-values-loop-item
-invariant-values-loop-item g l =
+abbrev pub invariant-list-loop-item : goal.invariant-list-loop-item
+invariant-list-loop-item g l =
     let see = g.T.Tree.seen in
     let heard = g.O.Outputs.seen in
     record {
@@ -87,11 +55,12 @@ invariant-values-loop-item g l =
       tree : (see l.self.tree.now).failures ≡ (see l.fn.self.tree.now).failures;
       out : (heard l.self.out.now).failures ≡ (heard l.fn.self.out.now).failures;
       done : (files : Files) (ts : List ExpressionTree) → Holds (see l.fn.self.tree.now) files → Reads ts l.code l.fn.self.store.now.names
-          → Led files (values_of no_items (expressions (map (tree_at ts) l.fn.items))) (stand_of see heard l.fn.self) (values_of (items_of l.values.items) (expressions (map (tree_at ts) (drop l.item-index l.items)))) (stand_of see heard l.self);
+          → Leads files (value_of (ListTree (expressions (map (tree_at ts) l.fn.items)) l.fn.line)) (stand_of see heard l.fn.self)
+          (next (values_of (items_of l.values.items) (expressions (map (tree_at ts) (drop l.item-index l.items)))) (listed l.line)) (stand_of see heard l.self);
     }
 
-abbrev pub invariant-pairs-loop-entry : goal.invariant-pairs-loop-entry
-invariant-pairs-loop-entry g l =
+abbrev pub invariant-dictionary-loop-entry : goal.invariant-dictionary-loop-entry
+invariant-dictionary-loop-entry g l =
     let see = g.T.Tree.seen in
     let heard = g.O.Outputs.seen in
     record {
@@ -99,7 +68,8 @@ invariant-pairs-loop-entry g l =
       tree : (see l.self.tree.now).failures ≡ (see l.fn.self.tree.now).failures;
       out : (heard l.self.out.now).failures ≡ (heard l.fn.self.out.now).failures;
       done : (files : Files) (ts : List ExpressionTree) → Holds (see l.fn.self.tree.now) files → Reads ts l.code l.fn.self.store.now.names
-          → Led files (entries_of [] (entries (map (entry_at ts) l.fn.entries))) (stand_of see heard l.fn.self) (entries_of (pairs_of l.pairs.items) (entries (map (entry_at ts) (drop l.entry-index l.entries)))) (stand_of see heard l.self);
+          → Leads files (value_of (DictionaryTree (entries (map (entry_at ts) l.fn.entries)) l.fn.line)) (stand_of see heard l.fn.self)
+          (next (entries_of (pairs_of l.pairs.items) (entries (map (entry_at ts) (drop l.entry-index l.entries)))) (paired l.line)) (stand_of see heard l.self);
     }
 
 abbrev pub invariant-arguments-loop-argument : goal.invariant-arguments-loop-argument
@@ -111,7 +81,7 @@ invariant-arguments-loop-argument g l =
       tree : (see l.self.tree.now).failures ≡ (see l.fn.self.tree.now).failures;
       out : (heard l.self.out.now).failures ≡ (heard l.fn.self.out.now).failures;
       done : (files : Files) (ts : List ExpressionTree) → Holds (see l.fn.self.tree.now) files → Reads ts l.code l.fn.self.store.now.names
-          → Led files (arguments_of no_arguments (arguments (map (argument_at ts) l.fn.arguments))) (stand_of see heard l.fn.self) (arguments_of (arguments_data l.evaluated) (arguments (map (argument_at ts) (drop l.argument-index l.arguments)))) (stand_of see heard l.self);
+          → Leads files (arguments_of no_arguments (arguments (map (argument_at ts) l.fn.arguments))) (stand_of see heard l.fn.self) (arguments_of (arguments_data l.evaluated) (arguments (map (argument_at ts) (drop l.argument-index l.arguments)))) (stand_of see heard l.self);
     }
 
 abbrev pub invariant-asked-loop-link : goal.invariant-asked-loop-link
@@ -123,7 +93,7 @@ invariant-asked-loop-link g l =
       tree : (see l.self.tree.now).failures ≡ (see l.fn.self.tree.now).failures;
       out : (heard l.self.out.now).failures ≡ (heard l.fn.self.out.now).failures;
       done : (files : Files) (ts : List ExpressionTree) → Holds (see l.fn.self.tree.now) files → Reads ts l.code l.fn.self.store.now.names
-          → Led files (next (ruled (value_of (tree_at ts l.fn.first))) (λ d. links_of l.fn.line (Some d) (links (map (link_at ts) l.fn.links)))) (stand_of see heard l.fn.self) (links_of l.line (option_map data_of l.given) (links (map (link_at ts) (drop l.link-index l.links)))) (stand_of see heard l.self);
+          → Leads files (next (ruled (value_of (tree_at ts l.fn.first))) (λ d. links_of l.fn.line (Some d) (links (map (link_at ts) l.fn.links)))) (stand_of see heard l.fn.self) (links_of l.line (option_map data_of l.given) (links (map (link_at ts) (drop l.link-index l.links)))) (stand_of see heard l.self);
     }
 
 abbrev pub invariant-chain-loop-operand : goal.invariant-chain-loop-operand
@@ -135,5 +105,5 @@ invariant-chain-loop-operand g l =
       tree : (see l.self.tree.now).failures ≡ (see l.fn.self.tree.now).failures;
       out : (heard l.self.out.now).failures ≡ (heard l.fn.self.out.now).failures;
       done : (files : Files) (ts : List ExpressionTree) → Holds (see l.fn.self.tree.now) files → Reads ts l.code l.fn.self.store.now.names
-          → Led files (value_of (ChainTree (tree_at ts l.fn.first) (operands (map (operand_at ts) l.fn.others)) l.fn.line)) (stand_of see heard l.fn.self) (chain_of l.line (data_of l.value) (operands (map (operand_at ts) (drop l.operand-index l.others)))) (stand_of see heard l.self);
+          → Leads files (value_of (ChainTree (tree_at ts l.fn.first) (operands (map (operand_at ts) l.fn.others)) l.fn.line)) (stand_of see heard l.fn.self) (chain_of l.line (data_of l.value) (operands (map (operand_at ts) (drop l.operand-index l.others)))) (stand_of see heard l.self);
     }

@@ -8,9 +8,9 @@ use Rattle.interp.specs.Frames.{part_done}
 use Rattle.interp.specs.Statements.{do_all}
 use Rattle.interp.specs.declared.block.Block.TheVariants.{Part}
 use Rattle.interp.specs.declared.flow.Flow.TheVariants as flows
-use Rattle.interp.proofs.Evaluating.{given_give}
+use Rattle.interp.proofs.Evaluating.{given_give, leads_as, leads_end}
 use Rattle.interp.proofs.Spelling.{part_is, reads_at}
-use Rattle.interp.proofs.Stack.{leads_as, leads_end, leads_under, made_as, made_on, moves_block, moves_given, moves_none, run_stopped, stacked_on}
+use Rattle.interp.proofs.Stack.{leads_under, made_as, made_on, moves_block, moves_given, moves_none, run_stopped, stacked_on}
 use Rattle.interp.proofs.evaluator.Evaluator.begin_branch.Goals as goal
 
 pub returns-in_err-part-clause-gives : goal.returns-in_err-part-clause-gives

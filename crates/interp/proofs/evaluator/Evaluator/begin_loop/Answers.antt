@@ -7,10 +7,10 @@ use Rattle.interp.specs.Blocks.{expressions_by}
 use Rattle.interp.specs.Frames.{behind_all, round_by}
 use Rattle.interp.specs.Rounds.{rounds_in}
 use Rattle.interp.specs.Statements.{rounds_of}
-use Rattle.interp.proofs.Evaluating.{given_as, given_refuse, given_stop, given_then}
+use Rattle.interp.proofs.Evaluating.{given_as, given_refuse, given_stop, given_then, leads_as, leads_next}
 use Rattle.interp.proofs.Looping.{loops_few, walks, walks_not}
 use Rattle.interp.proofs.Spelling.{reads_at}
-use Rattle.interp.proofs.Stack.{leads_as, leads_next, leads_under, made_as, made_on, moves_given, moves_loop, moves_none, stacked_on}
+use Rattle.interp.proofs.Stack.{leads_under, made_as, made_on, moves_given, moves_loop, moves_none, stacked_on}
 use Rattle.interp.proofs.evaluator.Evaluator.begin_loop.Goals as goal
 
 pub returns-in_err-whole-clause-gives : goal.returns-in_err-whole-clause-gives

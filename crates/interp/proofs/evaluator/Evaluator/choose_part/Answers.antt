@@ -7,9 +7,9 @@ use Rattle.interp.specs.Folders.{folder}
 use Rattle.interp.specs.Frames.{part_done}
 use Rattle.interp.specs.Statements.{branches_of, do_all}
 use Rattle.interp.specs.declared.conditions.Choice.{Choice}
+use Rattle.interp.proofs.Evaluating.{leads_as, leads_further, leads_next, leads_start}
 use Rattle.interp.proofs.Reading.{reads_on}
 use Rattle.interp.proofs.Spelling.{branch_next, chooses_stop, drop_all, part_behind, part_there}
-use Rattle.interp.proofs.Stack.{leads_as, leads_further, leads_next, leads_start}
 use Rattle.interp.proofs.evaluator.Evaluator.choose_part.Goals as goal
 
 pub loop-part-init : goal.loop-part-init

@@ -4,9 +4,8 @@ use Rattle.grammar.specs.ExpressionTree.{ExpressionTree}
 use Rattle.grammar.specs.Tree.{StatementTree, Statements, branches}
 use Rattle.world.specs.Deed.{Files}
 use Rattle.world.specs.Gives.{Holds}
-use Rattle.interp.specs.Evaluates.{Reads, Same, stand_of}
+use Rattle.interp.specs.Evaluates.{Reads, Same, stand_of, Leads}
 use Rattle.interp.specs.Folders.{folder}
-use Rattle.interp.specs.Frames.{Leads}
 use Rattle.interp.specs.Statements.{branches_of, do_all}
 use Rattle.interp.proofs.evaluator.Evaluator.choose_part.Given as goal
 

@@ -4,9 +4,9 @@ use Rattle.interp.specs.Frames.{behind_all, round_by}
 use Rattle.interp.specs.Rounds.{round_data, rounds_in}
 use Rattle.interp.specs.Statements.{Round, rounds_of}
 use Rattle.interp.specs.declared.flow.Flow.TheVariants as flows
-use Rattle.interp.proofs.Evaluating.{given_as, given_give, given_stop}
+use Rattle.interp.proofs.Evaluating.{given_as, given_give, given_stop, leads_next, leads_start}
 use Rattle.interp.proofs.Spelling.{bound_as, named, place_there, second_named, round_is, round_none}
-use Rattle.interp.proofs.Stack.{leads_next, leads_start, leads_under, made_on, moves_as, moves_block, moves_given, moves_none, moves_round, stacked_on}
+use Rattle.interp.proofs.Stack.{leads_under, made_on, moves_as, moves_block, moves_given, moves_none, moves_round, stacked_on}
 use Rattle.interp.proofs.evaluator.Evaluator.next_round.Goals as goal
 
 pub returns-in_err-round-clause-gives : goal.returns-in_err-round-clause-gives

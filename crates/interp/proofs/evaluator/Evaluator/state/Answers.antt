@@ -12,10 +12,10 @@ use Rattle.interp.specs.Parts.{above, above_argument}
 use Rattle.interp.specs.Statements.{stated}
 use Rattle.interp.specs.declared.flow.Flow.TheVariants as flows
 use Rattle.interp.specs.declared.frames.Frame.TheVariants as frames
-use Rattle.interp.proofs.Evaluating.{given_as, given_give, given_stop, given_then}
+use Rattle.interp.proofs.Evaluating.{given_as, given_give, given_stop, given_then, leads_next, leads_start}
 use Rattle.interp.proofs.Reading.{arguments_reach, parts_at}
 use Rattle.interp.proofs.Spelling.{call_at, reads_at, stated_at}
-use Rattle.interp.proofs.Stack.{behind_top, leads_next, leads_start, leads_under, moves_as, moves_given, moves_none, moves_then, stacked_on, stacked_top}
+use Rattle.interp.proofs.Stack.{behind_top, leads_under, moves_as, moves_given, moves_none, moves_then, stacked_on, stacked_top}
 use Rattle.interp.proofs.evaluator.Evaluator.state.Goals as goal
 
 pub perform-requires-clause-here : goal.perform-requires-clause-here
