@@ -1,6 +1,6 @@
 -- No evaluation ends more rules than its tree costs.
-use Rattle.std.proofs.Common.{◌≡◌, ℕ, zero, suc, ◌+◌, ◌*◌, ◌≤◌, Bool, true, false, List, [], ◌∷◌, ◌++◌, Option, Some, None, is_some, Result, Ok, Err, refl, sym, ap, ◌∙◌, arith}
-use Rattle.std.specs.Prelude.{if◌then◌else◌, nat_le, nat_lt, not, ◌||◌, ◌&&◌, length, bytes_eq, map}
+use Rattle.std.proofs.Common.{◌≡◌, ℕ, zero, suc, ◌+◌, ◌*◌, ◌≤◌, Bool, true, false, List, [], ◌∷◌, ◌++◌, Option, Some, None, is_some, Result, Ok, Err, refl, ap, ◌∙◌, arith}
+use Rattle.std.specs.Prelude.{if◌then◌else◌, nat_le, nat_lt, not, ◌||◌, ◌&&◌, length, bytes_eq}
 use Rattle.std.specs.List.{list_any}
 use Rattle.std.specs.Str.{is_utf8}
 use Rattle.std.proofs.lemmas.Bool.Decides.{nat_tests}
@@ -8,7 +8,7 @@ use Rattle.std.proofs.Math.Nat.{suc-mul, mul-le-mul_right}
 use Rattle.lexer.specs.declared.fault.SyntaxFault.{SyntaxFault}
 use Rattle.grammar.specs.declared.tree.Literal.{Literal}
 use Rattle.grammar.specs.declared.tree.Literal.TheVariants as literals
-use Rattle.grammar.specs.ExpressionTree.{ExpressionTree, NameTree, LiteralTree, ListTree, DictionaryTree, FunctionTree, PostfixTree, PrefixTree, ChainTree, TernaryTree, ExpressionTrees, NoExpression, MoreExpressions, EntryTrees, NoEntry, MoreEntries, ArgumentTrees, NoArgument, MoreArguments, LinkTree, MethodTree, IndexTree, LinkTrees, NoLink, MoreLinks, OperandTrees, NoOperand, MoreOperands, line_of}
+use Rattle.grammar.specs.ExpressionTree.{ExpressionTree, NameTree, LiteralTree, ListTree, DictionaryTree, FunctionTree, PostfixTree, PrefixTree, ChainTree, TernaryTree, ExpressionTrees, NoExpression, MoreExpressions, EntryTrees, NoEntry, MoreEntries, ArgumentTrees, NoArgument, MoreArguments, LinkTree, MethodTree, IndexTree, LinkTrees, NoLink, MoreLinks, OperandTrees, NoOperand, MoreOperands}
 use Rattle.grammar.specs.Parsed.{parsed}
 use Rattle.grammar.specs.Tree.{StatementTree, AssignTree, AppendTree, ValueTree, BreakTree, ContinueTree, IfTree, ForeachTree, Statements, NoStatement, MoreStatements, Branches, NoBranch, MoreBranches, FileTree, statements}
 use Rattle.data.specs.declared.object.Object.{Object}
@@ -19,7 +19,7 @@ use Rattle.data.specs.Limits.{within}
 use Rattle.faults.specs.declared.refusal.Refusal.{Refusal}
 use Rattle.faults.specs.declared.refusal.Refusal.TheVariants as refusals
 use Rattle.operators.specs.declared.operator.Binary.TheVariants.{Add}
-use Rattle.operators.specs.Operations.{unary_answer, binary_answer}
+use Rattle.operators.specs.Operations.{binary_answer}
 use Rattle.operators.specs.Logic.{left_answer, right_answer}
 use Rattle.operators.specs.Index.{index_answer}
 use Rattle.operators.specs.Literal.{literal_answer}
@@ -34,19 +34,18 @@ use Rattle.calls.specs.Names.{function_named, is_left_out, is_predefined}
 use Rattle.paths.specs.Paths.{folder_below}
 use Rattle.calls.specs.declared.function.Function.{Function}
 use Rattle.calls.specs.declared.function.Function.TheVariants as functions
-use Rattle.world.specs.Trace.{ends_of}
 use Rattle.ports.specs.Tree.{file_at}
 use Rattle.world.specs.World.{World, Facts, looking, entering, with_facts, with_machine, with_place}
-use Rattle.world.specs.Run.{Run, ran, marks_of, follow, after, Done, Faulted}
-use Rattle.world.specs.Deed.{Files, Deed, ask, read, refuse as refuse_deed, then as andthen, perform, need}
-use Rattle.world.specs.Plan.{Plan, deed, ruled, enter, entered, next as next_plan, carry, answered, refuse, give}
+use Rattle.world.specs.Run.{Run, ran, follow, after, Done, Faulted}
+use Rattle.world.specs.Deed.{Files, Deed, read, refuse as refuse_deed, then as andthen, perform, need}
+use Rattle.world.specs.Plan.{Plan, deed, ruled, entered, next as next_plan, carry, answered, refuse, give}
 use Rattle.world.specs.Costs.{definition_file, is_opened, unopened, spent}
 use Rattle.world.specs.Start.{first_world}
-use Rattle.world.proofs.Costs.{Takes, more as more_in, free as free_in, none as none_in, chain as chain_in, rules as rules_in, opens, unopened-append, paid, paid-after, spent-after, spent-paid, deed-costs}
+use Rattle.world.proofs.Costs.{Takes, more as more_in, free as free_in, none as none_in, chain as chain_in, rules as rules_in, opens, paid, paid-after, spent-after, spent-paid, deed-costs}
 use Rattle.interp.specs.declared.meaning.Meaning.{Meaning}
 use Rattle.interp.specs.declared.meaning.Meaning.TheVariants.{Combines, Connects}
-use Rattle.interp.specs.Cost.{value_cost, values_cost, entries_cost, arguments_cost, links_cost, link_cost, chain_cost, statement_cost, branches_cost, statements_cost, parsed_cost, file_cost, tree_cost, is_definition_file}
-use Rattle.interp.specs.Expressions.{known, variable, variable_by, set_variable, is_plain, printed_plain, part_text, filled, number, literal_value, meaning_of, unless_decided, combined, unchosen, chosen, needed, known_function, refused_name, function_at, may_come_first, allowed, function_inside, called_by, called, fitted, known_method, may_be_asked_first, known_object_method, method_at_by, method_at, value_method, object_method_called, method_by, method_called_by, method_called, method_of, value_of, values_of, entries_of, arguments_of, links_of, link_of, chain_of}
+use Rattle.interp.specs.Cost.{value_cost, values_cost, entries_cost, arguments_cost, links_cost, link_cost, chain_cost, statement_cost, branches_cost, statements_cost, parsed_cost, file_cost, tree_cost}
+use Rattle.interp.specs.Expressions.{known, variable, variable_by, is_plain, printed_plain, part_text, filled, number, literal_value, meaning_of, unless_decided, combined, unchosen, chosen, needed, known_function, refused_name, function_at, may_come_first, allowed, function_inside, called_by, called, entered_inside, inside_by, known_method, may_be_asked_first, known_object_method, method_at_by, method_at, value_method, object_method_called, method_by, method_called_by, method_of, value_of, values_of, entries_of, arguments_of, links_of, link_of, chain_of}
 use Rattle.interp.specs.declared.flow.Flow.{Flow}
 use Rattle.interp.specs.declared.flow.Flow.TheVariants.{Next, Continued, Broken, Finished}
 use Rattle.interp.specs.declared.conditions.Choice.{Choice}
@@ -54,9 +53,10 @@ use Rattle.interp.specs.declared.conditions.Choice.TheVariants.{Body, Others, Sk
 use Rattle.interp.specs.Conditions.{choice_of, choice_without, by_choice}
 use Rattle.interp.specs.declared.acting.Action.{Action}
 use Rattle.interp.specs.declared.acting.Action.TheVariants.{Call, Enter, Leave}
-use Rattle.interp.specs.Acting.{WayData, Ends, Enters, action_of, acted_by, by_way, done_by, performed, subdir_by}
-use Rattle.interp.specs.Statements.{configuration_in, own_by, own, added, appended, summed, assigned_by, assigned, Round, looped, limited, item_rounds, entry_rounds, bound, on_next, after_round, rounds_of, walked, stated, does, branches_of, do_all}
-use Rattle.interp.specs.Folders.{opened_by, opened, fresh_by, fresh, go_to, go_back, folder}
+use Rattle.interp.specs.Acting.{acted_by, done_by, performed}
+use Rattle.interp.specs.Entering.{WayData, Ends, Enters, action_of, by_way, fitted, subdir_by}
+use Rattle.interp.specs.Statements.{configuration_in, own_by, own, added, appended, summed, assigned_by, assigned, Round, looped, item_rounds, entry_rounds, bound, on_next, after_round, rounds_of, walked, stated, does, branches_of, do_all}
+use Rattle.interp.specs.Folders.{opened_by, opened, fresh_by, fresh, go_back, folder}
 use Rattle.definition_files.specs.Files.{most_bytes, refuse_line, tree_or_fault, spelled_by, spelled}
 use Rattle.interp.specs.Evaluation.{begun_by, is_project, begins, begins_all, root, MachineSaid, take_machine, evaluation}
 use Rattle.interp.specs.Laws.{StepsWithinCost}
@@ -212,42 +212,6 @@ module _ (files : Files) where
   method_of-cost : {evaluated : Plan ArgumentsData} {c : ℕ} (line : ℕ) (d : Data) (name : List ℕ) → Takes file_cost files c evaluated → Takes file_cost files c (method_of line d name evaluated)
   method_of-cost line d name p = first (method_at-cost line d name) (λ u. last p (λ a. called_method-cost (is_disabler d) line d name a))
 
-  mutual
-    value-cost : (e : ExpressionTree) → Takes file_cost files (value_cost e) (ruled (value_of e))
-    value-cost (NameTree name line) = rules (variable-cost line name)
-    value-cost (LiteralTree literal t line) = rules (literal-cost line literal t)
-    value-cost (ListTree es line) = rules (last (values-cost no_items es) (λ ds. answered-cost line (within (list ds))))
-    value-cost (DictionaryTree es line) = rules (last (entries-cost [] es) (λ ps. answered-cost line (literal_answer ps)))
-    value-cost (FunctionTree name es line) = rules (first (function_inside-cost line name) (λ f. last (arguments-cost no_arguments es) (λ a. first (called-cost line f a) (λ d. needed-cost line d))))
-    value-cost (PostfixTree e ls line) = rules (last (chain (value-cost e) (λ d. links-cost line (Some d) ls)) (λ o. needed-cost line o))
-    value-cost (PrefixTree prefix value line) = rules (last (value-cost value) (λ d. answered-cost line _))
-    value-cost (ChainTree e others line) = rules (chain (value-cost e) (λ d. chain-cost line d others))
-    value-cost (TernaryTree test one other line) = rules (chain (value-cost test) (λ d. chosen-cost line (boolean_in d) (is_disabler d) (value-cost one) (value-cost other)))
-
-    values-cost : (ds : Items) (es : ExpressionTrees) → Takes file_cost files (values_cost es) (values_of ds es)
-    values-cost ds NoExpression = free _
-    values-cost ds (MoreExpressions e es) = chain (value-cost e) (λ d. values-cost (items_append ds (item d no_items)) es)
-
-    entries-cost : (ps : List (Data × Data)) (es : EntryTrees) → Takes file_cost files (entries_cost es) (entries_of ps es)
-    entries-cost ps NoEntry = free _
-    entries-cost ps (MoreEntries key value es) = chain (value-cost key) (λ k. chain (value-cost value) (λ d. entries-cost (ps ++ (k, d) ∷ []) es))
-
-    arguments-cost : (a : ArgumentsData) (es : ArgumentTrees) → Takes file_cost files (arguments_cost es) (arguments_of a es)
-    arguments-cost a NoArgument = free _
-    arguments-cost a (MoreArguments name e es) = chain (value-cost e) (λ d. arguments-cost (with_argument a name d) es)
-
-    links-cost : (line : ℕ) (o : Option Data) (ls : LinkTrees) → Takes file_cost files (links_cost ls) (links_of line o ls)
-    links-cost line o NoLink = free _
-    links-cost line o (MoreLinks l ls) = first (needed-cost line o) (λ d. chain (link-cost line d l) (λ e. links-cost line e ls))
-
-    link-cost : (line : ℕ) (d : Data) (l : LinkTree) → Takes file_cost files (link_cost l) (link_of line d l)
-    link-cost line d (MethodTree name es) = method_of-cost line d name (arguments-cost no_arguments es)
-    link-cost line d (IndexTree index) = last (value-cost index) (λ i. first (answered-cost line (index_answer d i)) (λ part. none _))
-
-    chain-cost : (line : ℕ) (d : Data) (es : OperandTrees) → Takes file_cost files (chain_cost es) (chain_of line d es)
-    chain-cost line d NoOperand = free _
-    chain-cost line d (MoreOperands operator e es) = chain (combined-cost line (meaning_of operator) d (value-cost e)) (λ x. chain-cost line x es)
-
   -- ---- statements
 
   assigned_by-cost : (b : Bool) (line : ℕ) (name : List ℕ) (d : Data) → Takes file_cost files 0 (assigned_by b line name d)
@@ -332,13 +296,58 @@ module _ (files : Files) where
   acted_by-cost Leave line f a = done_by-cost (gives_disabler a) line a
   acted_by-cost Call line f a = first (called-cost line f a) (λ d. none _)
 
-  performed-cost : (line : ℕ) (name : List ℕ) (es : ArgumentTrees) → Takes file_cost files (arguments_cost es) (performed line name es)
-  performed-cost line name es = first (function_at-cost line name) (λ f. last (arguments-cost no_arguments es) (λ a. acted_by-cost (action_of f) line f a))
-
   module _ (into : List ℕ → Plan Flow) (into-cost : (t : List ℕ) → Takes file_cost files 0 (into t)) where
     by_way-cost : (way : WayData) → Takes file_cost files 0 (by_way into way)
     by_way-cost (Ends flow) = free _
     by_way-cost (Enters t) = into-cost t
+
+    entered_inside-cost : (b : Bool) (line : ℕ) (a : ArgumentsData) → Takes file_cost files 0 (entered_inside into b line a)
+    entered_inside-cost true line a = free _
+    entered_inside-cost false line a = first (subdir-cost (gives_disabler a) line a) (λ way. first (by_way-cost way) (λ flow. refuse-cost line refusals.Type []))
+
+    inside-cost : (action : Action) (line : ℕ) (f : Function) (a : ArgumentsData) → Takes file_cost files 0 (inside_by into action line f a)
+    inside-cost Enter line f a = entered_inside-cost (gives_disabler a) line a
+    inside-cost Leave line f a = first (called-cost line f a) (λ d. needed-cost line d)
+    inside-cost Call line f a = first (called-cost line f a) (λ d. needed-cost line d)
+
+    mutual
+      value-cost : (e : ExpressionTree) → Takes file_cost files (value_cost e) (ruled (value_of into e))
+      value-cost (NameTree name line) = rules (variable-cost line name)
+      value-cost (LiteralTree literal t line) = rules (literal-cost line literal t)
+      value-cost (ListTree es line) = rules (last (values-cost no_items es) (λ ds. answered-cost line (within (list ds))))
+      value-cost (DictionaryTree es line) = rules (last (entries-cost [] es) (λ ps. answered-cost line (literal_answer ps)))
+      value-cost (FunctionTree name es line) = rules (first (function_inside-cost line name) (λ f. last (arguments-cost no_arguments es) (λ a. inside-cost (action_of f) line f a)))
+      value-cost (PostfixTree e ls line) = rules (last (chain (value-cost e) (λ d. links-cost line (Some d) ls)) (λ o. needed-cost line o))
+      value-cost (PrefixTree prefix value line) = rules (last (value-cost value) (λ d. answered-cost line _))
+      value-cost (ChainTree e others line) = rules (chain (value-cost e) (λ d. chain-cost line d others))
+      value-cost (TernaryTree test one other line) = rules (chain (value-cost test) (λ d. chosen-cost line (boolean_in d) (is_disabler d) (value-cost one) (value-cost other)))
+
+      values-cost : (ds : Items) (es : ExpressionTrees) → Takes file_cost files (values_cost es) (values_of into ds es)
+      values-cost ds NoExpression = free _
+      values-cost ds (MoreExpressions e es) = chain (value-cost e) (λ d. values-cost (items_append ds (item d no_items)) es)
+
+      entries-cost : (ps : List (Data × Data)) (es : EntryTrees) → Takes file_cost files (entries_cost es) (entries_of into ps es)
+      entries-cost ps NoEntry = free _
+      entries-cost ps (MoreEntries key value es) = chain (value-cost key) (λ k. chain (value-cost value) (λ d. entries-cost (ps ++ (k, d) ∷ []) es))
+
+      arguments-cost : (a : ArgumentsData) (es : ArgumentTrees) → Takes file_cost files (arguments_cost es) (arguments_of into a es)
+      arguments-cost a NoArgument = free _
+      arguments-cost a (MoreArguments name e es) = chain (value-cost e) (λ d. arguments-cost (with_argument a name d) es)
+
+      links-cost : (line : ℕ) (o : Option Data) (ls : LinkTrees) → Takes file_cost files (links_cost ls) (links_of into line o ls)
+      links-cost line o NoLink = free _
+      links-cost line o (MoreLinks l ls) = first (needed-cost line o) (λ d. chain (link-cost line d l) (λ e. links-cost line e ls))
+
+      link-cost : (line : ℕ) (d : Data) (l : LinkTree) → Takes file_cost files (link_cost l) (link_of into line d l)
+      link-cost line d (MethodTree name es) = method_of-cost line d name (arguments-cost no_arguments es)
+      link-cost line d (IndexTree index) = last (value-cost index) (λ i. first (answered-cost line (index_answer d i)) (λ part. none _))
+
+      chain-cost : (line : ℕ) (d : Data) (es : OperandTrees) → Takes file_cost files (chain_cost es) (chain_of into line d es)
+      chain-cost line d NoOperand = free _
+      chain-cost line d (MoreOperands operator e es) = chain (combined-cost line (meaning_of operator) d (value-cost e)) (λ x. chain-cost line x es)
+
+    performed-cost : (line : ℕ) (name : List ℕ) (es : ArgumentTrees) → Takes file_cost files (arguments_cost es) (performed into line name es)
+    performed-cost line name es = first (function_at-cost line name) (λ f. last (arguments-cost no_arguments es) (λ a. acted_by-cost (action_of f) line f a))
 
     added-cost : (line : ℕ) (name : List ℕ) (d e : Data) → Takes file_cost files 0 (added line name d e)
     added-cost line name d e = first (answered-cost line (binary_answer Add d e)) (λ sum. assigned-cost line name sum)
@@ -346,7 +355,7 @@ module _ (files : Files) where
     summed-cost : (line : ℕ) (name : List ℕ) (e : Data) → Takes file_cost files 0 (summed line name e)
     summed-cost line name e = first (variable-cost line name) (λ d. added-cost line name d e)
 
-    appended-cost : (line : ℕ) (name : List ℕ) (value : ExpressionTree) → Takes file_cost files (value_cost value) (appended line name (ruled (value_of value)))
+    appended-cost : (line : ℕ) (name : List ℕ) (value : ExpressionTree) → Takes file_cost files (value_cost value) (appended line name (ruled (value_of into value)))
     appended-cost line name value = first (variable-cost line name) (λ o. last (value-cost value) (λ e. summed-cost line name e))
 
     alone-cost : {p : Plan Data} {c : ℕ} → Takes file_cost files c p

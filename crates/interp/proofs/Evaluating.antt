@@ -9,8 +9,8 @@ use Rattle.world.specs.Deed.{Files, Deed, read, change}
 use Rattle.world.specs.Store.{changing}
 use Rattle.world.specs.Gives.{Gives, Holds, is_ended}
 use Rattle.world.specs.Plan.{Plan, deed, ruled, next, carry, give, refuse}
-use Rattle.world.specs.Trace.{Mark, Seen, seen}
-use Rattle.world.specs.Run.{Run, ran, Act, Done, Faulted, after, follow, marks_of}
+use Rattle.world.specs.Trace.{Mark, Ended, Seen, seen}
+use Rattle.world.specs.Run.{Run, ran, Act, Done, Faulted, after, follow, marks_of, with_end}
 use Rattle.world.specs.World.{World, Facts, with_facts, with_line}
 use Rattle.world.specs.declared.stop.Stop.{Stop}
 use Rattle.world.specs.declared.stop.Stop.TheVariants as stops
@@ -117,26 +117,6 @@ pub given_stop_inside : {A B C D E : Type 0} {view : C → A} {view' : D → B} 
     → Given view files p s0 (Err s) s1 → IsErrAnd result (λ e. e ≡ s) → Given view' files (next (next p others) more) s0 result s1
 given_stop_inside {E = E} {s = s} g is = given_stop {view = λ (x : E). x} (given_stop {view' = λ (x : E). x} {result = Err s} g refl) is
 
--- ---- operators
-
--- the same plan, written otherwise
-pub goes_as : (files : Files) (line : ℕ) {whole other : Plan Data} (right : Plan Data) (s : Stand) (result : Result Begun Stop)
-    → whole ≡ other → Goes files line whole right s result → Goes files line other right s result
-goes_as files line right s (Ok (Decided value)) e g = given_as e g
-goes_as files line right s (Ok (Waits half)) e g = λ result new given. given_as e (g result new given)
-goes_as files line right s (Err stop) e g = given_as e g
-
--- what the left side came to
-pub goes_on : (files : Files) (line : ℕ) (whole right : Plan Data) (s : Stand) {b begun : Begun} → b ≡ begun → Goes files line whole right s (Ok b) → Goes files line whole right s (Ok begun)
-goes_on files line whole right s e g = subst (λ x. Goes files line whole right s (Ok x)) e g
-
--- the left side is refused
-pub goes_refused : {A : Type 0} (files : Files) (line : ℕ) (refusal : Refusal) (detail : List ℕ) (others : A → Plan Data) {whole : Plan Data} (right : Plan Data) (s : Stand) (result : Result Begun Stop)
-    → whole ≡ next (refuse line refusal detail) others → Holds s.tree files
-    → Refuses (record { file = s.world.facts.file; line = line; refusal = refusal; detail = detail }) result → Goes files line whole right s result
-goes_refused files line refusal detail others right s (Ok x) e h is = absurd is
-goes_refused files line refusal detail others right s (Err stop) e h is = given_as (sym e) (given_refused (Err stop) h is)
-
 -- ---- loops
 
 after-after : {A : Type 0} (ms ns : List Mark) (r : Run A) → after ms (after ns r) ≡ after (ms ++ ns) r
@@ -145,6 +125,9 @@ after-after ms ns (ran o w os) = ap (ran o w) (sym (append_assoc ms ns os))
 pub follow-after : {A B : Type 0} (ms : List Mark) (r : Run A) (others : A → Act B) → follow (after ms r) others ≡ after ms (follow r others)
 follow-after ms (ran (Done x) w ns) others = sym (after-after ms ns (others x w))
 follow-after ms (ran (Faulted f) w ns) others = refl
+
+pub with_end-after : {A : Type 0} (ms : List Mark) (r : Run A) → with_end (after ms r) ≡ after ms (with_end r)
+with_end-after ms (ran o w ns) = ap (ran o w) (append_assoc ms ns (Ended ∷ []))
 
 -- what was done of a plan, and what is left of it
 pub leads_start : {A : Type 0} {files : Files} {p : Plan A} {s : Stand} → Holds s.tree files → Leads files p s p s
@@ -181,23 +164,30 @@ leads_on l g = leads_further l (leads_next g)
 pub leads_end : {B D : Type 0} {view : D → B} {files : Files} {whole rest : Plan B} {s0 s s1 : Stand} {result : Result D Stop} → Leads files whole s0 rest s → Given view files rest s result s1 → Given view files whole s0 result s1
 leads_end {view = view} {s1 = s1} {result = result} l g = record { gives = gives_later view result s1.world (seen_of s1) l.continues g.gives; holds = g.holds }
 
+-- what was done of what comes first
+pub leads_within : {A B : Type 0} {files : Files} {whole : Plan B} {p q : Plan A} {others : A → Plan B} {s0 s s1 : Stand}
+    → Leads files whole s0 (next p others) s → Leads files p s q s1 → Leads files whole s0 (next q others) s1
+leads_within {files = files} {q = q} {others = others} {s1 = s1} l m = record {
+  continues = further l.continues (record {
+    made = m.continues.made;
+    is = ap (λ r. follow r (λ a. carry files (others a))) m.continues.is ∙ follow-after m.continues.made (carry files q s1.world) (λ a. carry files (others a));
+    written = m.continues.written;
+  });
+  holds = m.holds;
+}
+
 -- one call more, inside of what comes first
 pub leads_inside : {A B C E : Type 0} {view : C → A} {files : Files} {whole : Plan B} {p : Plan A} {others : A → Plan E} {more : E → Plan B} {s0 s s1 : Stand} {x : C}
     → Leads files whole s0 (next (next p others) more) s → Given view files p s (Ok x) s1 → Leads files whole s0 (next (others (view x)) more) s1
-leads_inside {view = view} {files = files} {p = p} {others = others} {more = more} {s = s} {s1 = s1} {x = x} l g =
-    let m = done (carry files p s.world) (λ a. carry files (others a)) (view x) g.gives in
-    record {
-      continues = further l.continues (record {
-        made = m.made;
-        is = ap (λ r. follow r (λ a. carry files (more a))) m.is ∙ follow-after m.made (carry files (others (view x)) s1.world) (λ a. carry files (more a));
-        written = m.written;
-      });
-      holds = g.holds;
-    }
+leads_inside l g = leads_within l (leads_next g)
 
 -- the same rest, written otherwise
 pub leads_as : {B : Type 0} {files : Files} {whole rest other : Plan B} {s0 s : Stand} → rest ≡ other → Leads files whole s0 rest s → Leads files whole s0 other s
 leads_as {files = files} {whole = whole} {s0 = s0} {s = s} e l = subst (λ p. Leads files whole s0 p s) e l
+
+-- the same whole, written otherwise
+pub leads_other : {B : Type 0} {files : Files} {whole other rest : Plan B} {s0 s : Stand} → whole ≡ other → Leads files whole s0 rest s → Leads files other s0 rest s
+leads_other {files = files} {rest = rest} {s0 = s0} {s = s} e l = subst (λ p. Leads files p s0 rest s) e l
 
 -- the next item comes, and the others are left
 pub next_item : {X Y : Type 0} (h : X → Y) (xs : List X) (i : ℕ) (d : X) → i < length xs → map h (drop i xs) ≡ h (get_or xs i d) ∷ map h (drop (i + 1) xs)
@@ -209,3 +199,23 @@ next_is h xs i x lt is = next_item h xs i x lt ∙ ap (λ y. h y ∷ map h (drop
 -- none is left
 pub no_item : {X Y : Type 0} (h : X → Y) (xs : List X) (i : ℕ) → length xs ≤ i → map h (drop i xs) ≡ []
 no_item h xs i le = ap (map h) (drop_of_length-le xs le)
+
+-- ---- operators
+
+-- the same plan, written otherwise
+pub goes_as : (files : Files) (line : ℕ) {whole other : Plan Data} (right : Plan Data) (s : Stand) (result : Result Begun Stop)
+    → whole ≡ other → Goes files line whole right s result → Goes files line other right s result
+goes_as files line right s (Ok (Decided value)) e g = given_as e g
+goes_as files line right s (Ok (Waits half)) e g = leads_other e g
+goes_as files line right s (Err stop) e g = given_as e g
+
+-- what the left side came to
+pub goes_on : (files : Files) (line : ℕ) (whole right : Plan Data) (s : Stand) {b begun : Begun} → b ≡ begun → Goes files line whole right s (Ok b) → Goes files line whole right s (Ok begun)
+goes_on files line whole right s e g = subst (λ x. Goes files line whole right s (Ok x)) e g
+
+-- the left side is refused
+pub goes_refused : {A : Type 0} (files : Files) (line : ℕ) (refusal : Refusal) (detail : List ℕ) (others : A → Plan Data) {whole : Plan Data} (right : Plan Data) (s : Stand) (result : Result Begun Stop)
+    → whole ≡ next (refuse line refusal detail) others → Holds s.tree files
+    → Refuses (record { file = s.world.facts.file; line = line; refusal = refusal; detail = detail }) result → Goes files line whole right s result
+goes_refused files line refusal detail others right s (Ok x) e h is = absurd is
+goes_refused files line refusal detail others right s (Err stop) e h is = given_as (sym e) (given_refused (Err stop) h is)

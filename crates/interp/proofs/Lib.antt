@@ -1,5 +1,6 @@
 pub mod Assigning
 pub mod Blocks
+pub mod Coming
 mod Costs
 pub mod Ending
 pub mod Evaluating

@@ -21,7 +21,7 @@ use Rattle.world.specs.Deed.{Files}
 use Rattle.world.specs.Plan.{Plan, give, next, ruled}
 use Rattle.world.specs.declared.stop.Stop.{Stop}
 use Rattle.interp.specs.Blocks.{branch_or, expressions_by, node_at, statements_by}
-use Rattle.interp.specs.Evaluates.{Given, Reads, Stand, Leads}
+use Rattle.interp.specs.Evaluates.{Comes, Given, HaltsTo, Reads, Stand, Leads}
 use Rattle.interp.specs.Expressions.{given_by, value_of}
 use Rattle.interp.specs.Frames.{Chooses, Made, above_branch, part_done}
 use Rattle.interp.specs.Parts.{above}
@@ -30,6 +30,9 @@ use Rattle.interp.specs.Statements.{Round, bound, do_all, stated}
 use Rattle.interp.specs.declared.loops.Round.{Round as Declared}
 use Rattle.interp.specs.declared.flow.Flow.{Flow}
 use Rattle.interp.specs.declared.flow.Flow.TheVariants.{Next}
+use Rattle.interp.specs.declared.halt.Halt.{Halt}
+use Rattle.interp.specs.declared.halt.Halt.TheVariants as halts
+use Rattle.interp.proofs.Coming.{halts_end, halts_then}
 use Rattle.interp.proofs.Evaluating.{given_stop, leads_end, next_is}
 use Rattle.interp.proofs.Reading.{name_of, opened}
 
@@ -134,11 +137,19 @@ pub branch_next : (ts : List ExpressionTree) (ss : List StatementTree) (bs : Lis
     → branches (map (branch_at ts ss) (drop i bs)) ≡ MoreBranches (tree_at ts b.condition) b.line (statements (map (statement_at ss) b.body.items)) (branches (map (branch_at ts ss) (drop (i + 1) bs)))
 branch_next ts ss bs i b l at = ap branches (next_is (branch_at ts ss) bs i b l at)
 
+-- a condition that halts
+pub chooses_halt : {A C : Type 0} {view : C → A} {files : Files} {left : ℕ} {whole : Plan Flow} {p : Plan A} {others : A → Plan Flow} {s0 s1 s2 : Stand} {halt : Halt} (part : Option ℕ → Plan Flow) (result : Result (Option ℕ) Halt)
+    → IsErrAnd result (λ e. e ≡ halt) → Leads files whole s0 (next p others) s1 → Comes view files left p s1 (Err halt) s2 → Chooses files left whole s0 part result s2
+chooses_halt part (Ok x) is l h = absurd is
+chooses_halt {files = files} {left = left} {whole = whole} {p = p} {others = others} {s0 = s0} {s1 = s1} {s2 = s2} {halt = halt} part (Err e) is l h =
+    subst (λ d. HaltsTo files left whole s0 d s2) (sym is) (halts_end files left whole (next p others) s0 s1 s2 halt l (halts_then files left p others s1 s2 halt h.comes))
+
 -- a choice that stops
-pub chooses_stop : {A C : Type 0} {view : C → A} {files : Files} {whole : Plan Flow} {p : Plan A} {others : A → Plan Flow} {s0 s1 s2 : Stand} {stop : Stop} (part : Option ℕ → Plan Flow) (result : Result (Option ℕ) Stop)
-    → IsErrAnd result (λ e. e ≡ stop) → Leads files whole s0 (next p others) s1 → Given view files p s1 (Err stop) s2 → Chooses files whole s0 part result s2
-chooses_stop part (Ok x) is l g = absurd is
-chooses_stop part (Err e) is l g = leads_end l (given_stop g is)
+pub chooses_refused : {A C : Type 0} {view : C → A} {files : Files} (left : ℕ) {whole : Plan Flow} {p : Plan A} {others : A → Plan Flow} {s0 s1 s2 : Stand} {stop : Stop} (part : Option ℕ → Plan Flow) (result : Result (Option ℕ) Halt)
+    → IsErrAnd result (λ e. e ≡ halts.Stops stop) → Leads files whole s0 (next p others) s1 → Given view files p s1 (Err stop) s2 → Chooses files left whole s0 part result s2
+chooses_refused left part (Ok x) is l g = absurd is
+chooses_refused {files = files} left {whole = whole} {s0 = s0} {s2 = s2} {stop = stop} part (Err e) is l g =
+    subst (λ d. HaltsTo files left whole s0 d s2) (sym is) (leads_end l (given_stop {view' = λ (f : Flow). f} {result = Err stop} g refl))
 
 pub drop_all : {A : Type 0} (xs : List A) (i : ℕ) → length xs ≤ i → drop i xs ≡ []
 drop_all xs i le = drop_of_length-le xs le
@@ -152,7 +163,7 @@ call_at table c value x name items line l at is = node_opens table c.names c.nod
 
 stated_other : (into : List ℕ → Plan Flow) (table : List (List ℕ)) (ts : List ExpressionTree) (x : Node)
     → ((name : String Global) (items : Vec ArgumentNode Global) (line : ℕ) → x ≡ nodes.Call name items line → ⊥)
-    → stated into (tree_of table ts x) ≡ next (ruled (given_by (tree_of table ts x))) (λ _. give Next)
+    → stated into (tree_of table ts x) ≡ next (ruled (given_by into (tree_of table ts x))) (λ _. give Next)
 stated_other into table ts (nodes.Name number line) h = refl
 stated_other into table ts (nodes.Literal literal text line) h = refl
 stated_other into table ts (nodes.List items line) h = refl
@@ -166,31 +177,31 @@ stated_other into table ts (nodes.Ternary test one other line) h = refl
 -- what is stated by a node that is none
 pub stated_at : (into : List ℕ → Plan Flow) (table : List (List ℕ)) (c : Code) (value : ℕ) (x : Node) → value < length c.nodes.items → x ≡ get_or c.nodes.items value x
     → ((name : String Global) (items : Vec ArgumentNode Global) (line : ℕ) → x ≡ nodes.Call name items line → ⊥)
-    → next (ruled (given_by (tree_at (expressions_by table c) value))) (λ _. give Next) ≡ stated into (tree_at (expressions_by table c) value)
+    → next (ruled (given_by into (tree_at (expressions_by table c) value))) (λ _. give Next) ≡ stated into (tree_at (expressions_by table c) value)
 stated_at into table c value x l at h =
     let e : tree_at (expressions_by table c) value ≡ tree_of table (expressions_by table c) x = node_opens table c.names c.nodes.items value x c.ordered l ∙ ap (tree_of table (expressions_by table c)) (sym at) in
-    sym (ap (stated into) e ∙ stated_other into table (expressions_by table c) x h ∙ ap (λ (t : ExpressionTree). next (ruled (given_by t)) (λ _. give Next)) (sym e))
+    sym (ap (stated into) e ∙ stated_other into table (expressions_by table c) x h ∙ ap (λ (t : ExpressionTree). next (ruled (given_by into t)) (λ _. give Next)) (sym e))
 
-given_other : (table : List (List ℕ)) (ts : List ExpressionTree) (x : Node)
+given_other : (into : List ℕ → Plan Flow) (table : List (List ℕ)) (ts : List ExpressionTree) (x : Node)
     → ((first : ℕ) (ls : Vec LinkNode Global) (line : ℕ) → x ≡ nodes.Postfix first ls line → ⊥)
-    → next (value_of (tree_of table ts x)) (λ d. give (Some d)) ≡ given_by (tree_of table ts x)
-given_other table ts (nodes.Name number line) h = refl
-given_other table ts (nodes.Literal literal text line) h = refl
-given_other table ts (nodes.List items line) h = refl
-given_other table ts (nodes.Dictionary es line) h = refl
-given_other table ts (nodes.Call name items line) h = refl
-given_other table ts (nodes.Postfix first ls line) h = absurd (h first ls line refl)
-given_other table ts (nodes.Prefix prefix value line) h = refl
-given_other table ts (nodes.Chain first others line) h = refl
-given_other table ts (nodes.Ternary test one other line) h = refl
+    → next (value_of into (tree_of table ts x)) (λ d. give (Some d)) ≡ given_by into (tree_of table ts x)
+given_other into table ts (nodes.Name number line) h = refl
+given_other into table ts (nodes.Literal literal text line) h = refl
+given_other into table ts (nodes.List items line) h = refl
+given_other into table ts (nodes.Dictionary es line) h = refl
+given_other into table ts (nodes.Call name items line) h = refl
+given_other into table ts (nodes.Postfix first ls line) h = absurd (h first ls line refl)
+given_other into table ts (nodes.Prefix prefix value line) h = refl
+given_other into table ts (nodes.Chain first others line) h = refl
+given_other into table ts (nodes.Ternary test one other line) h = refl
 
 -- what a node gives that asks nothing of a value
-pub given_at : {ts : List ExpressionTree} {c : Code} {names : List (List ℕ)} (r : Reads ts c names) (value : ℕ) (x : Node) → value < length c.nodes.items → x ≡ get_or c.nodes.items value x
+pub given_at : (into : List ℕ → Plan Flow) {ts : List ExpressionTree} {c : Code} {names : List (List ℕ)} (r : Reads ts c names) (value : ℕ) (x : Node) → value < length c.nodes.items → x ≡ get_or c.nodes.items value x
     → ((first : ℕ) (ls : Vec LinkNode Global) (line : ℕ) → x ≡ nodes.Postfix first ls line → ⊥)
-    → next (value_of (tree_at ts value)) (λ d. give (Some d)) ≡ given_by (tree_at ts value)
-given_at {ts = ts} r value x l at h =
+    → next (value_of into (tree_at ts value)) (λ d. give (Some d)) ≡ given_by into (tree_at ts value)
+given_at into {ts = ts} r value x l at h =
     let e : tree_at ts value ≡ tree_of r.table ts x = opened r value x x l at refl in
-    ap (λ (t : ExpressionTree). next (value_of t) (λ d. give (Some d))) e ∙ given_other r.table ts x h ∙ ap given_by (sym e)
+    ap (λ (t : ExpressionTree). next (value_of into t) (λ d. give (Some d))) e ∙ given_other into r.table ts x h ∙ ap (given_by into) (sym e)
 
 -- the conditions of branches are there
 pub branches_reach : (m n : ℕ) (bs : List BranchNode) → IsTrue (list_all (branch_within m n) bs) → above above_branch bs ≤ m

@@ -1,13 +1,14 @@
 -- Plans under a stack of frames.
-use Rattle.std.proofs.Common.{◌≡◌, ℕ, ◌+◌, List, [], ◌∷◌, ◌++◌, Result, Ok, Err, IsErrAnd, drop, length, refl, sym, subst, ap, ◌∙◌, append_assoc, option_map, arith}
+use Rattle.std.proofs.Common.{◌≡◌, ℕ, zero, suc, ◌+◌, List, [], ◌∷◌, ◌++◌, Result, Ok, Err, IsErrAnd, drop, length, refl, sym, subst, ap, ◌∙◌, option_map, arith}
 use Rattle.code.specs.Draft.{IsFront}
 use Rattle.code.specs.declared.code.Code.{Code}
 use Rattle.code.specs.Statements.{name_at, statement_at}
+use Rattle.faults.specs.declared.refusal.Refusal.TheVariants as refusals
 use Rattle.world.specs.Deed.{Files}
 use Rattle.world.specs.Gives.{Gives, Holds, is_ended}
-use Rattle.world.specs.Plan.{Plan, next, carry, give}
-use Rattle.world.specs.Run.{Run, ran, after, follow, with_end}
-use Rattle.world.specs.Trace.{Mark, Ended, seen}
+use Rattle.world.specs.Plan.{Plan, next, ruled, carry, give, refuse}
+use Rattle.world.specs.Run.{Run, after, follow, with_end}
+use Rattle.world.specs.Trace.{Mark, seen}
 use Rattle.world.specs.World.{World}
 use Rattle.world.specs.declared.stop.Stop.{Stop}
 use Rattle.world.specs.declared.stop.Stop.TheVariants as stops
@@ -23,13 +24,11 @@ use Rattle.interp.specs.declared.frames.BlockRest.{BlockRest}
 use Rattle.interp.specs.declared.frames.LoopRest.{LoopRest}
 use Rattle.interp.specs.declared.frames.Frame.{Frame}
 use Rattle.interp.specs.declared.frames.Frame.TheVariants as frames
-use Rattle.interp.specs.Frames.{Rest, Others, Rounds, End, Left, one_round, gone_back, behind, behind_all, Made, Means, EachMeans, Stacked, ends_in, pending, unwound, Moved, Moves, Stepped, others_by, round_by, rounds_left}
-use Rattle.interp.proofs.Evaluating.{follow-after, given_give, given_none, given_rule, given_stop, leads_as, leads_end, leads_further, leads_given, leads_next}
+use Rattle.interp.specs.Frames.{Rest, Others, Rounds, End, Left, Refuses, one_round, gone_back, behind, behind_all, Made, Means, EachMeans, Stacked, ends_in, pending, unwound, Moved, Moves, Stepped, others_by, round_by, rounds_left}
+use Rattle.interp.specs.Inside.{ended_all}
+use Rattle.interp.proofs.Evaluating.{follow-after, with_end-after, given_give, given_none, given_rule, given_stop, leads_as, leads_end, leads_further, leads_given, leads_next}
 
 -- ---- marks that come first
-
-with_end-after : {A : Type 0} (ms : List Mark) (r : Run A) → with_end (after ms r) ≡ after ms (with_end r)
-with_end-after ms (ran o w ns) = ap (ran o w) (append_assoc ms ns (Ended ∷ []))
 
 -- a run, and what is left behind it
 abbrev onto : Files → Rest → Run Flow → Run Flow
@@ -37,18 +36,21 @@ onto files (Others left ss) r = follow r (λ flow. carry files (on_next flow (do
 onto files (Rounds left line first second body rounds) r = follow r (λ flow. carry files (after_round flow (rounds_of (one_round left line first second body) rounds)))
 onto files End r = with_end r
 onto files (Left file below line) r = follow r (λ flow. carry files (gone_back file below line flow))
+onto files (Refuses line) r = follow r (λ flow. carry files (refuse line refusals.Type []))
 
 onto-is : (files : Files) (r : Rest) (p : Plan Flow) (w : World) → carry files (behind r p) w ≡ onto files r (carry files p w)
 onto-is files (Others left ss) p w = refl
 onto-is files (Rounds left line first second body rounds) p w = refl
 onto-is files End p w = refl
 onto-is files (Left file below line) p w = refl
+onto-is files (Refuses line) p w = refl
 
 onto-after : (files : Files) (r : Rest) (ms : List Mark) (x : Run Flow) → onto files r (after ms x) ≡ after ms (onto files r x)
 onto-after files (Others left ss) ms x = follow-after ms x _
 onto-after files (Rounds left line first second body rounds) ms x = follow-after ms x _
 onto-after files End ms x = with_end-after ms x
 onto-after files (Left file below line) ms x = follow-after ms x _
+onto-after files (Refuses line) ms x = follow-after ms x _
 
 -- ---- what was done, and the rest
 
@@ -75,6 +77,7 @@ ends_of_rest (Others left ss) = 0
 ends_of_rest (Rounds left line first second body rounds) = 0
 ends_of_rest End = 1
 ends_of_rest (Left file below line) = 0
+ends_of_rest (Refuses line) = 0
 
 abbrev ends_of_all : List Rest → ℕ
 ends_of_all [] = 0
@@ -121,6 +124,7 @@ stops_behind (Others left ss) {s = s} stop n e g = given_counting n (omega (arit
 stops_behind (Rounds left line first second body rounds) {s = s} stop n e g = given_counting n (omega (arith, e, counted-none stop)) (given_stop g refl)
 stops_behind End {s = s} stop n e g = given_rule (e ∙ ap (λ k. s.ticks + k) (sym (counted-ended stop))) g
 stops_behind (Left file below line) {s = s} stop n e g = given_counting n (omega (arith, e, counted-none stop)) (given_stop g refl)
+stops_behind (Refuses line) {s = s} stop n e g = given_counting n (omega (arith, e, counted-none stop)) (given_stop g refl)
 
 stops_under : (rs : List Rest) {files : Files} {p : Plan Flow} {s0 s : Stand} (stop : Stop) (n : ℕ) → n ≡ s.ticks + counted stop (ends_of_all rs)
     → Given {B = Flow} (λ f. f) files p s0 (Err stop) s → Given {B = Flow} (λ f. f) files (behind_all rs p) s0 (Err stop) (counting n s)
@@ -135,6 +139,7 @@ means-ends names (frames.Block b) r m = sym (ap ends_of_rest m.is)
 means-ends names (frames.Loop l) r m = sym (ap ends_of_rest m.is)
 means-ends names frames.End r m = sym (ap ends_of_rest m)
 means-ends names (frames.Left place) r m = sym (ap ends_of_rest m)
+means-ends names (frames.Refuses line) r m = sym (ap ends_of_rest m)
 
 stacked-ends : (names : List (List ℕ)) (fs : List Frame) (rs : List Rest) → EachMeans names fs rs → pending fs ≡ ends_of_all rs
 stacked-ends names [] [] h = refl
@@ -151,6 +156,7 @@ means-on (frames.Block b) r h m = record { table = m.table; made = made_on h m.m
 means-on (frames.Loop l) r h m = record { table = m.table; made = made_on h m.made; is = m.is }
 means-on frames.End r h m = m
 means-on (frames.Left place) r h m = m
+means-on (frames.Refuses line) r h m = m
 
 stacked-on : {old new : List (List ℕ)} (fs : List Frame) (rs : List Rest) → IsFront old new → EachMeans old fs rs → EachMeans new fs rs
 stacked-on [] [] h m = tt
@@ -177,6 +183,27 @@ behind_top (s ∷ rs) r p = ap (behind s) (behind_top rs r p)
 
 pub behind_two : (rs : List Rest) (r s : Rest) (p : Plan Flow) → behind_all ((rs ++ r ∷ []) ++ s ∷ []) p ≡ behind_all rs (behind r (behind s p))
 behind_two rs r s p = behind_top (rs ++ r ∷ []) s p ∙ behind_top rs r (behind s p)
+
+-- so many ends more
+abbrev pub over_ends : List Frame → ℕ → List Frame
+over_ends fs zero = fs
+over_ends fs (suc n) = over_ends fs n ++ frames.End ∷ []
+
+abbrev pub under_ends : List Rest → ℕ → List Rest
+under_ends rs zero = rs
+under_ends rs (suc n) = under_ends rs n ++ End ∷ []
+
+pub stacked_ends : {names : List (List ℕ)} (fs : List Frame) (rs : List Rest) (n : ℕ) → Stacked names fs rs → Stacked names (over_ends fs n) (under_ends rs n)
+stacked_ends fs rs zero h = h
+stacked_ends fs rs (suc n) h = stacked_top (over_ends fs n) (over_ends fs (suc n)) (under_ends rs n) frames.End End refl (stacked_ends fs rs n h) refl
+
+ended-within : (n : ℕ) (p : Plan Flow) → ended_all n (ruled p) ≡ ruled (ended_all n p)
+ended-within zero p = refl
+ended-within (suc n) p = ap ruled (ended-within n p)
+
+pub behind_ends : (rs : List Rest) (n : ℕ) (p : Plan Flow) → behind_all (under_ends rs n) p ≡ behind_all rs (ended_all n p)
+behind_ends rs zero p = refl
+behind_ends rs (suc n) p = behind_top (under_ends rs n) End p ∙ behind_ends rs n (ruled p) ∙ ap (behind_all rs) (ended-within n p)
 
 -- one frame less
 pub record Popped (names : List (List ℕ)) (fs : List Frame) (f : Frame) (rs : List Rest) : Type 0 where

@@ -16,7 +16,6 @@ use Rattle.data.specs.declared.refusal.Refusal.{Refusal as OperationRefusal}
 use Rattle.data.specs.declared.refusal.Refusal.TheVariants as operation
 use Rattle.data.specs.Data.{Data, boolean, integer, text, list, object, Items, no_items, item, items_append, boolean_in, object_in, is_disabler}
 use Rattle.data.specs.Limits.{within}
-use Rattle.faults.specs.declared.refusal.Refusal.{Refusal}
 use Rattle.faults.specs.declared.refusal.Refusal.TheVariants as refusals
 use Rattle.printing.specs.Printed.{printed}
 use Rattle.texts.specs.declared.placed.Places.TheVariants as places
@@ -43,8 +42,12 @@ use Rattle.objects.specs.Methods.{has_method as has_object_method, object_method
 use Rattle.predefined.specs.Predefined.{predefined}
 use Rattle.world.specs.Deed.{read}
 use Rattle.world.specs.Plan.{Plan, deed, ruled, ◌>>=◌, give, at, refuse, answered}
+use Rattle.interp.specs.declared.acting.Action.{Action}
+use Rattle.interp.specs.declared.acting.Action.TheVariants.{Call, Enter, Leave}
+use Rattle.interp.specs.declared.flow.Flow.{Flow}
 use Rattle.interp.specs.declared.meaning.Meaning.{Meaning}
 use Rattle.interp.specs.declared.meaning.Meaning.TheVariants.{Combines, Connects}
+use Rattle.interp.specs.Entering.{action_of, by_way, entering, fitted}
 
 -- ---- names
 
@@ -256,11 +259,6 @@ is_empty a = are_none a.positional a.named
 abbrev pub disabler_method : List ℕ → ArgumentsData → Data
 disabler_method name a = if bytes_eq name (codes "found") && is_empty a then boolean false else disabler
 
--- what a test of arguments answers, or its refusal at a line
-abbrev pub fitted : ℕ → Result (Unit {0}) Refusal → Plan (Unit {0})
-fitted line (Ok u) = give tt
-fitted line (Err refusal) = refuse line refusal []
-
 abbrev pub known_method : Bool → ℕ → List ℕ → Plan (Unit {0})
 known_method true line name = give tt
 known_method false line name = refuse line refusals.UnknownFunction name
@@ -328,78 +326,100 @@ method_of line d name evaluated = do
 
 -- ---- expressions
 
-abbrev mutual
-  pub value_of : ExpressionTree → Plan Data
-  value_of (NameTree name line) = variable line name
-  value_of (LiteralTree literal t line) = literal_value line literal t
-  value_of (ListTree es line) = do
-    ds ← values_of no_items es
-    listed line ds
-  value_of (DictionaryTree es line) = do
-    ps ← entries_of [] es
-    paired line ps
-  value_of (FunctionTree name es line) = do
-    f ← function_inside line name
-    a ← arguments_of no_arguments es
+-- Here `into` is what it does to enter the folder that a text names.
+module _ (into : List ℕ → Plan Flow) where
+  -- A call of `subdir` inside of an expression enters its folder. It gives nothing, so it is refused then.
+  abbrev pub entered_inside : Bool → ℕ → ArgumentsData → Plan Data
+  entered_inside true line a = give disabler
+  entered_inside false line a = do
+    way ← entering line a
+    _ ← by_way into way
+    refuse line refusals.Type []
+
+  abbrev pub inside_by : Action → ℕ → Function → ArgumentsData → Plan Data
+  inside_by Enter line f a = entered_inside (gives_disabler a) line a
+  inside_by Leave line f a = do
     d ← called line f a
     needed line d
-  value_of (PostfixTree first ls line) = do
-    o ← ruled (value_of first) >>= λ d. links_of line (Some d) ls
-    needed line o
-  value_of (PrefixTree prefix value line) = do
-    d ← ruled (value_of value)
-    prefixed line prefix d
-  value_of (ChainTree first others line) = do
-    d ← ruled (value_of first)
-    chain_of line d others
-  value_of (TernaryTree test one other line) = do
-    d ← ruled (value_of test)
-    chosen line (boolean_in d) (is_disabler d) (ruled (value_of one)) (ruled (value_of other))
+  inside_by Call line f a = do
+    d ← called line f a
+    needed line d
 
-  -- the items so far, and those of the rest
-  pub values_of : Items → ExpressionTrees → Plan Items
-  values_of ds NoExpression = give ds
-  values_of ds (MoreExpressions e es) = do
-    d ← ruled (value_of e)
-    values_of (items_append ds (item d no_items)) es
+  -- a function inside of an expression, on its evaluated arguments: it has to give a value
+  abbrev pub called_inside : ℕ → Function → ArgumentsData → Plan Data
+  called_inside line f a = inside_by (action_of f) line f a
 
-  pub entries_of : List (Data × Data) → EntryTrees → Plan (List (Data × Data))
-  entries_of ps NoEntry = give ps
-  entries_of ps (MoreEntries key value es) = do
-    k ← ruled (value_of key)
-    d ← ruled (value_of value)
-    entries_of (ps ++ (k, d) ∷ []) es
+  abbrev mutual
+    pub value_of : ExpressionTree → Plan Data
+    value_of (NameTree name line) = variable line name
+    value_of (LiteralTree literal t line) = literal_value line literal t
+    value_of (ListTree es line) = do
+      ds ← values_of no_items es
+      listed line ds
+    value_of (DictionaryTree es line) = do
+      ps ← entries_of [] es
+      paired line ps
+    value_of (FunctionTree name es line) = do
+      f ← function_inside line name
+      a ← arguments_of no_arguments es
+      called_inside line f a
+    value_of (PostfixTree first ls line) = do
+      o ← ruled (value_of first) >>= λ d. links_of line (Some d) ls
+      needed line o
+    value_of (PrefixTree prefix value line) = do
+      d ← ruled (value_of value)
+      prefixed line prefix d
+    value_of (ChainTree first others line) = do
+      d ← ruled (value_of first)
+      chain_of line d others
+    value_of (TernaryTree test one other line) = do
+      d ← ruled (value_of test)
+      chosen line (boolean_in d) (is_disabler d) (ruled (value_of one)) (ruled (value_of other))
 
-  pub arguments_of : ArgumentsData → ArgumentTrees → Plan ArgumentsData
-  arguments_of a NoArgument = give a
-  arguments_of a (MoreArguments name e es) = do
-    d ← ruled (value_of e)
-    arguments_of (with_argument a name d) es
+    -- the items so far, and those of the rest
+    pub values_of : Items → ExpressionTrees → Plan Items
+    values_of ds NoExpression = give ds
+    values_of ds (MoreExpressions e es) = do
+      d ← ruled (value_of e)
+      values_of (items_append ds (item d no_items)) es
 
-  -- what is asked of a value in turn: methods and indexes; of nothing nothing is asked
-  pub links_of : ℕ → Option Data → LinkTrees → Plan (Option Data)
-  links_of line o NoLink = give o
-  links_of line o (MoreLinks l ls) = do
-    d ← needed line o
-    next ← link_of line d l
-    links_of line next ls
+    pub entries_of : List (Data × Data) → EntryTrees → Plan (List (Data × Data))
+    entries_of ps NoEntry = give ps
+    entries_of ps (MoreEntries key value es) = do
+      k ← ruled (value_of key)
+      d ← ruled (value_of value)
+      entries_of (ps ++ (k, d) ∷ []) es
 
-  pub link_of : ℕ → Data → LinkTree → Plan (Option Data)
-  link_of line d (MethodTree name es) = method_of line d name (arguments_of no_arguments es)
-  link_of line d (IndexTree index) = do
-    i ← ruled (value_of index)
-    part_at line d i
+    pub arguments_of : ArgumentsData → ArgumentTrees → Plan ArgumentsData
+    arguments_of a NoArgument = give a
+    arguments_of a (MoreArguments name e es) = do
+      d ← ruled (value_of e)
+      arguments_of (with_argument a name d) es
 
-  -- a chain of operators, with the value so far
-  pub chain_of : ℕ → Data → OperandTrees → Plan Data
-  chain_of line d NoOperand = give d
-  chain_of line d (MoreOperands operator e es) = do
-    x ← combined line (meaning_of operator) d (ruled (value_of e))
-    chain_of line x es
+    -- what is asked of a value in turn: methods and indexes; of nothing nothing is asked
+    pub links_of : ℕ → Option Data → LinkTrees → Plan (Option Data)
+    links_of line o NoLink = give o
+    links_of line o (MoreLinks l ls) = do
+      d ← needed line o
+      next ← link_of line d l
+      links_of line next ls
 
--- what an expression gives that is a statement: its last method may give nothing
-abbrev pub given_by : ExpressionTree → Plan (Option Data)
-given_by (PostfixTree first ls line) = ruled (value_of first) >>= λ d. links_of line (Some d) ls
-given_by e = do
-  d ← value_of e
-  give (Some d)
+    pub link_of : ℕ → Data → LinkTree → Plan (Option Data)
+    link_of line d (MethodTree name es) = method_of line d name (arguments_of no_arguments es)
+    link_of line d (IndexTree index) = do
+      i ← ruled (value_of index)
+      part_at line d i
+
+    -- a chain of operators, with the value so far
+    pub chain_of : ℕ → Data → OperandTrees → Plan Data
+    chain_of line d NoOperand = give d
+    chain_of line d (MoreOperands operator e es) = do
+      x ← combined line (meaning_of operator) d (ruled (value_of e))
+      chain_of line x es
+
+  -- what an expression gives that is a statement: its last method may give nothing
+  abbrev pub given_by : ExpressionTree → Plan (Option Data)
+  given_by (PostfixTree first ls line) = ruled (value_of first) >>= λ d. links_of line (Some d) ls
+  given_by e = do
+    d ← value_of e
+    give (Some d)

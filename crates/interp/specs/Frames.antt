@@ -5,26 +5,28 @@ use Rattle.code.specs.Statements.{branch_at, name_at}
 use Rattle.code.specs.declared.code.Code.{Code}
 use Rattle.code.specs.declared.node.BranchNode.{BranchNode}
 use Rattle.data.specs.View.{data_of}
+use Rattle.faults.specs.declared.refusal.Refusal.TheVariants as refusals
 use Rattle.grammar.specs.Tree.{StatementTree, Statements, Branches, NoBranch, MoreBranches, branches}
 use Rattle.grammar.specs.ExpressionTree.{ExpressionTree}
 use Rattle.ports.specs.Outputs.{OutputState}
 use Rattle.ports.specs.Tree.{TreeState}
 use Rattle.world.specs.Deed.{Files, change}
 use Rattle.world.specs.Gives.{Holds}
-use Rattle.world.specs.Plan.{Plan, deed, ruled, ◌>>=◌, give}
+use Rattle.world.specs.Plan.{Plan, deed, ruled, ◌>>=◌, give, refuse}
 use Rattle.world.specs.World.{with_place}
 use Rattle.world.specs.declared.stop.Stop.{Stop}
 use Rattle.world.specs.declared.stop.Stop.TheVariants as stops
 use Rattle.interp.specs.declared.evaluator.Evaluator.{Evaluator}
 use Rattle.interp.specs.declared.flow.Flow.{Flow}
 use Rattle.interp.specs.declared.flow.Flow.TheVariants.{Next}
+use Rattle.interp.specs.declared.halt.Halt.{Halt}
 use Rattle.interp.specs.declared.frames.BlockRest.{BlockRest}
 use Rattle.interp.specs.declared.frames.LoopHead.{LoopHead}
 use Rattle.interp.specs.declared.frames.LoopRest.{LoopRest}
 use Rattle.interp.specs.declared.frames.Frame.{Frame}
 use Rattle.interp.specs.declared.frames.Frame.TheVariants as frames
 use Rattle.interp.specs.Blocks.{block_by, statements_of}
-use Rattle.interp.specs.Evaluates.{Stand, Given, Leads, Reads, stand_of}
+use Rattle.interp.specs.Evaluates.{Stand, Given, HaltsTo, Leads, Reads, stand_of}
 use Rattle.interp.specs.Folders.{folder}
 use Rattle.interp.specs.Rounds.{rounds_in}
 use Rattle.interp.specs.Statements.{Round, after_round, bound, branches_of, do_all, on_next, rounds_of}
@@ -40,6 +42,8 @@ pub data Rest : Type 0 where
   End : Rest
   -- a file is left, for this file, its folder and this line
   Left : List ℕ → List ℕ → ℕ → Rest
+  -- a call at this line is refused, since it gives nothing
+  Refuses : ℕ → Rest
 
 -- one round of a loop
 abbrev pub one_round : ℕ → ℕ → List ℕ → Option (List ℕ) → Statements → Round → Plan Flow
@@ -60,6 +64,7 @@ behind (Rounds left line first second body rounds) p =
     p >>= λ flow. after_round flow (rounds_of (one_round left line first second body) rounds)
 behind End p = ruled p
 behind (Left file folder line) p = p >>= gone_back file folder line
+behind (Refuses line) p = p >>= λ _. refuse line refusals.Type []
 
 -- the last of these comes first
 abbrev pub behind_all : List Rest → Plan Flow → Plan Flow
@@ -102,6 +107,7 @@ Means names (frames.Block b) rest = MeansBlock names b rest
 Means names (frames.Loop l) rest = MeansLoop names l rest
 Means names frames.End rest = rest ≡ End
 Means names (frames.Left place) rest = rest ≡ Left (string_bytes place.file) (string_bytes place.folder) place.line
+Means names (frames.Refuses line) rest = rest ≡ Refuses line
 
 abbrev pub EachMeans : List (List ℕ) → List Frame → List Rest → Type 0
 EachMeans names [] [] = Unit {0}
@@ -121,6 +127,7 @@ ends_in (frames.Block b) = 0
 ends_in (frames.Loop l) = 0
 ends_in frames.End = 1
 ends_in (frames.Left place) = 0
+ends_in (frames.Refuses line) = 0
 
 abbrev pub pending : List Frame → ℕ
 pending [] = 0
@@ -170,10 +177,10 @@ NumberAt numbers at (Some number) = drop at numbers ≡ number ∷ drop (at + 1)
 abbrev pub above_branch : BranchNode → ℕ
 above_branch b = suc b.condition
 
--- a choice was made of the parts of an `if`, from which on the whole plan is this one; or the plan stopped
-abbrev pub Chooses : Files → Plan Flow → Stand → (Option ℕ → Plan Flow) → Result (Option ℕ) Stop → Stand → Type 0
-Chooses files whole old part (Ok chosen) now = Leads files whole old (part chosen) now
-Chooses files whole old part (Err stop) now = Given {B = Flow} (λ f. f) files whole old (Err stop) now
+-- a choice was made of the parts of an `if`, from which on the whole plan is this one; or none was
+abbrev pub Chooses : Files → ℕ → Plan Flow → Stand → (Option ℕ → Plan Flow) → Result (Option ℕ) Halt → Stand → Type 0
+Chooses files left whole old part (Ok chosen) now = Leads files whole old (part chosen) now
+Chooses files left whole old part (Err halt) now = HaltsTo files left whole old halt now
 
 -- what is done of a part of an `if`, by its place; nothing, where the whole is skipped
 abbrev pub part_done : (List ℕ → Plan Flow) → Branches → Statements → Option ℕ → Plan Flow
@@ -216,9 +223,9 @@ module _ {T O L : Type 0} where
 
   -- the call chooses of the parts of an `if` with these branches
   abbrev pub ChoosesOf : (T → TreeState) → (O → OutputState) → List BranchNode → Code
-      → Evaluator T O L → Result (Option ℕ) Stop → Evaluator T O L → Type 0
+      → Evaluator T O L → Result (Option ℕ) Halt → Evaluator T O L → Type 0
   ChoosesOf tree out parts code old result new =
       (files : Files) (ts : List ExpressionTree) (ss : List StatementTree) (left : ℕ) (otherwise : Statements)
       → Holds (tree old.tree.now) files → Reads ts code old.store.now.names
-      → Chooses files (branches_of (folder left) (branches (map (branch_at ts ss) parts)) (do_all (folder left) otherwise))
+      → Chooses files left (branches_of (folder left) (branches (map (branch_at ts ss) parts)) (do_all (folder left) otherwise))
       (stand_of tree out old) (part_done (folder left) (branches (map (branch_at ts ss) parts)) otherwise) result (stand_of tree out new)

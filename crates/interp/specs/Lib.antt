@@ -3,12 +3,14 @@ pub mod Beginnings
 pub mod Blocks
 pub mod Conditions
 pub mod Cost
+pub mod Entering
 pub mod Evaluated
 pub mod Evaluates
 pub mod Evaluation
 pub mod Expressions
 pub mod Folders
 pub mod Frames
+pub mod Inside
 pub mod Laws
 pub mod Operations
 pub mod Parts

@@ -12,17 +12,15 @@ use Rattle.interp.specs.declared.operation.Begun.{Begun}
 use Rattle.interp.specs.declared.operation.Begun.TheVariants.{Decided, Waits}
 use Rattle.interp.specs.declared.operation.Half.{Half}
 use Rattle.interp.specs.declared.operation.Half.TheVariants as halves
-use Rattle.interp.specs.Evaluates.{Stand, Given}
+use Rattle.interp.specs.Evaluates.{Stand, Given, Leads}
 
 -- what waited for its right side, which has this value
 abbrev pub completed : ℕ → Half → Data → Plan Data
 completed line (halves.Combines operator left) e = answered line (binary_answer operator (data_of left) e)
 completed line halves.Connects e = answered line (right_answer e)
 
--- From here the whole plan gives what the left side decided; or what the right side's plan, once completed, gives; or it stopped.
+-- From here the whole plan gives what the left side decided; or it is the right side's plan, which is then completed; or it stopped.
 abbrev pub Goes : Files → ℕ → Plan Data → Plan Data → Stand → Result Begun Stop → Type 0
 Goes files line whole right s (Ok (Decided value)) = Given data_of files whole s (Ok value) s
-Goes files line whole right s (Ok (Waits half)) =
-    (result : Result Value Stop) (new : Stand) → Given data_of files (next right (completed line half)) s result new
-    → Given data_of files whole s result new
+Goes files line whole right s (Ok (Waits half)) = Leads files whole s (next right (completed line half)) s
 Goes files line whole right s (Err stop) = Given {B = Value} data_of files whole s (Err stop) s

@@ -17,8 +17,9 @@ use Rattle.world.specs.Deed.{change}
 use Rattle.world.specs.Plan.{Plan, deed, ruled, ◌>>=◌, give, refuse, answered}
 use Rattle.interp.specs.declared.flow.Flow.{Flow}
 use Rattle.interp.specs.declared.flow.Flow.TheVariants.{Next, Continued, Broken, Finished}
-use Rattle.interp.specs.Acting.{performed, by_way}
+use Rattle.interp.specs.Acting.{performed}
 use Rattle.interp.specs.Conditions.{choice_of, by_choice}
+use Rattle.interp.specs.Entering.{by_way}
 use Rattle.interp.specs.Expressions.{variable, value_of, given_by}
 
 -- ---- assignments
@@ -131,9 +132,9 @@ walked line round (Err refusal) = refuse line refusal []
 module _ (into : List ℕ → Plan Flow) where
   -- an expression that is a statement: a call may give nothing
   abbrev pub stated : ExpressionTree → Plan Flow
-  stated (FunctionTree name es line) = ruled (performed line name es >>= λ way. by_way into way)
+  stated (FunctionTree name es line) = ruled (performed into line name es >>= λ way. by_way into way)
   stated e = do
-    _ ← ruled (given_by e)
+    _ ← ruled (given_by into e)
     give Next
 
   -- ---- statements
@@ -141,25 +142,25 @@ module _ (into : List ℕ → Plan Flow) where
   abbrev mutual
     pub does : StatementTree → Plan Flow
     does (AssignTree name line value) = do
-      d ← ruled (value_of value)
+      d ← ruled (value_of into value)
       e ← own d
       _ ← assigned line name e
       give Next
     does (AppendTree name line value) = do
-      _ ← appended line name (ruled (value_of value))
+      _ ← appended line name (ruled (value_of into value))
       give Next
     does (ValueTree e line) = stated e
     does (BreakTree line) = give Broken
     does (ContinueTree line) = give Continued
     does (IfTree line branches otherwise) = branches_of branches (do_all otherwise)
     does (ForeachTree line first second items items_line body) = do
-      d ← ruled (value_of items)
+      d ← ruled (value_of into items)
       walked line (λ r. bound line first second r >>= λ _. do_all body) (looped second d)
 
     pub branches_of : Branches → Plan Flow → Plan Flow
     branches_of NoBranch otherwise = otherwise
     branches_of (MoreBranches test line body bs) otherwise = do
-      d ← ruled (value_of test)
+      d ← ruled (value_of into test)
       choice ← choice_of line (boolean_in d) (is_disabler d)
       by_choice choice (do_all body) (branches_of bs otherwise)
 

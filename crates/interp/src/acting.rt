@@ -4,12 +4,14 @@ ghost use Rattle.arguments.specs.Arguments.{arguments_data};
 ghost use Rattle.code.specs.Nodes.{argument_at};
 ghost use Rattle.grammar.specs.ExpressionTree.{arguments as argument_trees};
 ghost use Rattle.world.specs.Gives.{failures_after};
-ghost use Rattle.interp.specs.Acting.{acted, acted_by, action_of, entered_by, entering, is_wanted, leaving, performed, way_view};
+ghost use Rattle.interp.specs.Acting.{acted, acted_by, leaving, performed, way_view};
+ghost use Rattle.interp.specs.Entering.{action_of, entered_by, entering, is_wanted};
 ghost use Rattle.interp.specs.declared.acting.Action.TheVariants.{Call};
 ghost use Rattle.interp.specs.Parts.{above, above_argument};
 
 use crate::evaluator::Evaluator;
 use crate::flow::Flow;
+use crate::halt::Halt;
 use arguments::{Arguments, are_found, check, gives_disabler};
 use calls::{Function, row};
 use code::Code;
@@ -72,10 +74,10 @@ fn entered(alloc: Global, arguments: &Arguments) -> Result<Way, AllocError>
 }
 
 impl<'a, T: Tree, O: Outputs, L: Ledger> Evaluator<'a, T, O, L> {
-    ghost use Rattle.interp.specs.Evaluates.{Answers, Evaluates, Fails, HasRoom, Same};
+    ghost use Rattle.interp.specs.Evaluates.{Answers, Evaluates, Fails, FailsInside, HasRoom, Same};
 
-    // `subdir`, up to its folder.
-    fn subdir(&mut self, line: usize, arguments: &Arguments) -> Result<Way, Stop>
+    /// `subdir`, up to its folder.
+    pub fn subdir(&mut self, line: usize, arguments: &Arguments) -> Result<Way, Stop>
         ensures same { Same self.old self.new }
         ensures device { Fails T.seen O.seen self.old result self.new }
         ensures gives { Answers T.seen O.seen way_view (entering line (arguments_data arguments.now)) self.old result self.new }
@@ -140,16 +142,16 @@ impl<'a, T: Tree, O: Outputs, L: Ledger> Evaluator<'a, T, O, L> {
         line: usize,
         name: &str,
         arguments: &[ArgumentNode],
-    ) -> Result<Way, Stop>
+    ) -> Result<Way, Halt>
         requires here { above above_argument arguments.now ≤ length code.now.nodes.items }
         requires room { HasRoom T.seen O.seen self.old }
         ensures same { Same self.old self.new }
-        ensures device { Fails T.seen O.seen self.old result self.new }
-        ensures gives { Evaluates T.seen O.seen way_view (λ ts. performed line name.now (argument_trees
+        ensures device { FailsInside T.seen O.seen self.old result self.new }
+        ensures gives { Evaluates T.seen O.seen way_view (λ into ts. performed into line name.now (argument_trees
             (map (argument_at ts) arguments.now))) code.now self.old result self.new }
     {
         let function = self.function_at(line, name)?;
         let arguments = self.arguments(code, arguments)?;
-        self.acted(line, function, &arguments)
+        Ok(self.acted(line, function, &arguments)?)
     }
 }

@@ -10,6 +10,7 @@ ghost use Rattle.interp.specs.Rounds.{round_data};
 ghost use Rattle.interp.specs.Statements.{added, appended, assigned, bound, configuration_in, configuration_of, copied, own, summed};
 
 use crate::evaluator::Evaluator;
+use crate::halt::Halt;
 use crate::loops::Round;
 use calls::is_predefined;
 use code::Code;
@@ -39,7 +40,7 @@ fn configuration_in(value: &Value) -> Option<usize>
 }
 
 impl<'a, T: Tree, O: Outputs, L: Ledger> Evaluator<'a, T, O, L> {
-    ghost use Rattle.interp.specs.Evaluates.{Answers, Evaluates, Fails, HasRoom, Same};
+    ghost use Rattle.interp.specs.Evaluates.{Answers, Evaluates, Fails, FailsInside, HasRoom, Same};
 
     // The number of a copy of configuration data.
     fn copy_made(&mut self, number: usize) -> Result<usize, Stop>
@@ -174,18 +175,18 @@ impl<'a, T: Tree, O: Outputs, L: Ledger> Evaluator<'a, T, O, L> {
         number: usize,
         line: usize,
         value: usize,
-    ) -> Result<(), Stop>
+    ) -> Result<(), Halt>
         requires here { value < length code.now.nodes.items }
         requires room { HasRoom T.seen O.seen self.old }
         ensures same { Same self.old self.new }
-        ensures device { Fails T.seen O.seen self.old result self.new }
-        ensures gives { number < length self.old.store.now.names → Evaluates T.seen O.seen (λ u. u) (λ ts. appended line
-            (name_at self.old.store.now.names number) (ruled (value_of (tree_at ts value)))) code.now self.old result self.new }
+        ensures device { FailsInside T.seen O.seen self.old result self.new }
+        ensures gives { number < length self.old.store.now.names → Evaluates T.seen O.seen (λ u. u) (λ into ts. appended line
+            (name_at self.old.store.now.names number) (ruled (value_of into (tree_at ts value)))) code.now self.old result self.new }
     {
         let name = String::from_str(self.alloc, self.store.name(number))?;
         let _ = self.variable(number, line)?;
         let right = self.eval(code, value)?;
-        self.add(line, &name, right)
+        Ok(self.add(line, &name, right)?)
     }
 
     // The variable of a name takes the sum of what it has and a value. Its value is taken out of it first: what nobody else holds grows

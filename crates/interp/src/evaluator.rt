@@ -8,7 +8,8 @@ ghost use Rattle.faults.specs.View.{fault_view};
 ghost use Rattle.world.specs.Answering.{Refuses};
 ghost use Rattle.world.specs.Gives.{failures_after};
 ghost use Rattle.world.specs.Plan.{answered};
-ghost use Rattle.interp.specs.Expressions.{fitted, needed, unchosen};
+ghost use Rattle.interp.specs.Entering.{fitted};
+ghost use Rattle.interp.specs.Expressions.{needed, unchosen};
 
 use data::Value;
 use faults::{Fault, Refusal};

@@ -9,6 +9,7 @@ ghost use Rattle.interp.specs.Expressions.{value_of, arguments_of, link_of, link
 ghost use Rattle.interp.specs.Parts.{above, above_number, above_entry, above_argument, above_operand, above_link};
 
 use crate::evaluator::Evaluator;
+use crate::halt::{Halt, ended_inside};
 use crate::operation::Begun;
 use arguments::{Arguments, add_argument, no_arguments};
 use code::Code;
@@ -16,40 +17,40 @@ use code::node::{ArgumentNode, EntryNode, LinkNode, Node, OperandNode};
 use data::Value;
 use ports::{Outputs, Tree};
 use std::sync::ledger::Ledger;
-use world::{Stop, ended};
 
 impl<'a, T: Tree, O: Outputs, L: Ledger> Evaluator<'a, T, O, L> {
-    ghost use Rattle.interp.specs.Evaluates.{Evaluates, Fails, HasRoom, Same};
+    ghost use Rattle.interp.specs.Evaluates.{Evaluates, FailsInside, HasRoom, Same};
 
     /// The value of the expression with this number.
     #[cycle(eval)]
-    pub fn eval(&mut self, code: &Code, node: usize) -> Result<Value, Stop>
+    pub fn eval(&mut self, code: &Code, node: usize) -> Result<Value, Halt>
         requires here { node < length code.now.nodes.items }
         requires room { HasRoom T.seen O.seen self.old }
         ensures same { Same self.old self.new }
-        ensures device { Fails T.seen O.seen self.old result self.new }
-        ensures gives { Evaluates T.seen O.seen data_of (λ ts. ruled (value_of (tree_at ts node))) code.now self.old result self.new }
+        ensures device { FailsInside T.seen O.seen self.old result self.new }
+        ensures gives { Evaluates T.seen O.seen data_of (λ into ts. ruled (value_of into (tree_at ts node))) code.now
+            self.old result self.new }
     {
         let answer = self.form(code, node);
-        ended(answer, self.steps)
+        ended_inside(answer, self.steps)
     }
 
     /// The same, before its rule has ended.
     #[cycle(eval)]
-    pub fn form(&mut self, code: &Code, node: usize) -> Result<Value, Stop>
+    pub fn form(&mut self, code: &Code, node: usize) -> Result<Value, Halt>
         requires here { node < length code.now.nodes.items }
         requires room { HasRoom T.seen O.seen self.old }
         ensures same { Same self.old self.new }
-        ensures device { Fails T.seen O.seen self.old result self.new }
-        ensures gives { Evaluates T.seen O.seen data_of (λ ts. value_of (tree_at ts node)) code.now self.old result self.new }
+        ensures device { FailsInside T.seen O.seen self.old result self.new }
+        ensures gives { Evaluates T.seen O.seen data_of (λ into ts. value_of into (tree_at ts node)) code.now self.old result self.new }
     {
         match &code.nodes[node] {
-            Node::Name { number, line } => self.variable(*number, *line),
+            Node::Name { number, line } => Ok(self.variable(*number, *line)?),
             Node::Literal {
                 literal,
                 text,
                 line,
-            } => self.literal(*line, *literal, text),
+            } => Ok(self.literal(*line, *literal, text)?),
             Node::List { items, line } => self.list(code, items, *line),
             Node::Dictionary { entries, line } => self.dictionary(code, entries, *line),
             Node::Call {
@@ -59,7 +60,7 @@ impl<'a, T: Tree, O: Outputs, L: Ledger> Evaluator<'a, T, O, L> {
             } => self.call(code, name, arguments, *line),
             Node::Postfix { first, links, line } => {
                 let given = self.asked(code, *first, links, *line)?;
-                self.needed(*line, given)
+                Ok(self.needed(*line, given)?)
             }
             Node::Prefix {
                 prefix,
@@ -67,7 +68,7 @@ impl<'a, T: Tree, O: Outputs, L: Ledger> Evaluator<'a, T, O, L> {
                 line,
             } => {
                 let value = self.eval(code, *value)?;
-                self.prefixed(*line, *prefix, value)
+                Ok(self.prefixed(*line, *prefix, value)?)
             }
             Node::Chain {
                 first,
@@ -85,30 +86,30 @@ impl<'a, T: Tree, O: Outputs, L: Ledger> Evaluator<'a, T, O, L> {
 
     // `[first, second]`
     #[cycle(eval)]
-    fn list(&mut self, code: &Code, items: &[usize], line: usize) -> Result<Value, Stop>
+    fn list(&mut self, code: &Code, items: &[usize], line: usize) -> Result<Value, Halt>
         requires here { above above_number items.now ≤ length code.now.nodes.items }
         requires room { HasRoom T.seen O.seen self.old }
         ensures same { Same self.old self.new }
-        ensures device { Fails T.seen O.seen self.old result self.new }
-        ensures gives { Evaluates T.seen O.seen data_of (λ ts. value_of (ListTree (expressions (map (tree_at ts) items.now)) line))
-            code.now self.old result self.new }
+        ensures device { FailsInside T.seen O.seen self.old result self.new }
+        ensures gives { Evaluates T.seen O.seen data_of (λ into ts. value_of into
+            (ListTree (expressions (map (tree_at ts) items.now)) line)) code.now self.old result self.new }
     {
         let mut values = Vec::new(self.alloc);
         for item in items {
             let value = self.eval(code, *item)?;
             values.push(value)?;
         }
-        self.listed(line, values)
+        Ok(self.listed(line, values)?)
     }
 
     // `{key : value, key : value}`
     #[cycle(eval)]
-    fn dictionary(&mut self, code: &Code, entries: &[EntryNode], line: usize) -> Result<Value, Stop>
+    fn dictionary(&mut self, code: &Code, entries: &[EntryNode], line: usize) -> Result<Value, Halt>
         requires here { above above_entry entries.now ≤ length code.now.nodes.items }
         requires room { HasRoom T.seen O.seen self.old }
         ensures same { Same self.old self.new }
-        ensures device { Fails T.seen O.seen self.old result self.new }
-        ensures gives { Evaluates T.seen O.seen data_of (λ ts. value_of (DictionaryTree (entry_trees
+        ensures device { FailsInside T.seen O.seen self.old result self.new }
+        ensures gives { Evaluates T.seen O.seen data_of (λ into ts. value_of into (DictionaryTree (entry_trees
             (map (entry_at ts) entries.now)) line)) code.now self.old result self.new }
     {
         let mut pairs = Vec::new(self.alloc);
@@ -117,7 +118,7 @@ impl<'a, T: Tree, O: Outputs, L: Ledger> Evaluator<'a, T, O, L> {
             let value = self.eval(code, entry.value)?;
             pairs.push((key, value))?;
         }
-        self.paired(line, pairs)
+        Ok(self.paired(line, pairs)?)
     }
 
     // `name(argument, name: argument)`, which has to give a value.
@@ -128,28 +129,27 @@ impl<'a, T: Tree, O: Outputs, L: Ledger> Evaluator<'a, T, O, L> {
         name: &str,
         arguments: &[ArgumentNode],
         line: usize,
-    ) -> Result<Value, Stop>
+    ) -> Result<Value, Halt>
         requires here { above above_argument arguments.now ≤ length code.now.nodes.items }
         requires room { HasRoom T.seen O.seen self.old }
         ensures same { Same self.old self.new }
-        ensures device { Fails T.seen O.seen self.old result self.new }
-        ensures gives { Evaluates T.seen O.seen data_of (λ ts. value_of (FunctionTree name.now (argument_trees
+        ensures device { FailsInside T.seen O.seen self.old result self.new }
+        ensures gives { Evaluates T.seen O.seen data_of (λ into ts. value_of into (FunctionTree name.now (argument_trees
             (map (argument_at ts) arguments.now)) line)) code.now self.old result self.new }
     {
         let function = self.function_inside(line, name)?;
         let arguments = self.arguments(code, arguments)?;
-        let answer = self.called(line, function, &arguments)?;
-        self.needed(line, answer)
+        self.called_inside(line, function, &arguments)
     }
 
     /// The values of these arguments, in order.
     #[cycle(eval)]
-    pub fn arguments(&mut self, code: &Code, arguments: &[ArgumentNode]) -> Result<Arguments, Stop>
+    pub fn arguments(&mut self, code: &Code, arguments: &[ArgumentNode]) -> Result<Arguments, Halt>
         requires here { above above_argument arguments.now ≤ length code.now.nodes.items }
         requires room { HasRoom T.seen O.seen self.old }
         ensures same { Same self.old self.new }
-        ensures device { Fails T.seen O.seen self.old result self.new }
-        ensures gives { Evaluates T.seen O.seen arguments_data (λ ts. arguments_of no_arguments (argument_trees
+        ensures device { FailsInside T.seen O.seen self.old result self.new }
+        ensures gives { Evaluates T.seen O.seen arguments_data (λ into ts. arguments_of into no_arguments (argument_trees
             (map (argument_at ts) arguments.now))) code.now self.old result self.new }
     {
         let mut evaluated = no_arguments(self.alloc);
@@ -168,13 +168,13 @@ impl<'a, T: Tree, O: Outputs, L: Ledger> Evaluator<'a, T, O, L> {
         first: usize,
         links: &[LinkNode],
         line: usize,
-    ) -> Result<Option<Value>, Stop>
+    ) -> Result<Option<Value>, Halt>
         requires here { max (suc first) (above above_link links.now) ≤ length code.now.nodes.items }
         requires room { HasRoom T.seen O.seen self.old }
         ensures same { Same self.old self.new }
-        ensures device { Fails T.seen O.seen self.old result self.new }
-        ensures gives { Evaluates T.seen O.seen (option_map data_of) (λ ts. next (ruled (value_of (tree_at ts first)))
-            (λ d. links_of line (Some d) (link_trees (map (link_at ts) links.now)))) code.now self.old result self.new }
+        ensures device { FailsInside T.seen O.seen self.old result self.new }
+        ensures gives { Evaluates T.seen O.seen (option_map data_of) (λ into ts. next (ruled (value_of into (tree_at ts first)))
+            (λ d. links_of into line (Some d) (link_trees (map (link_at ts) links.now)))) code.now self.old result self.new }
     {
         let value = self.eval(code, first)?;
         let mut given = Some(value);
@@ -193,23 +193,23 @@ impl<'a, T: Tree, O: Outputs, L: Ledger> Evaluator<'a, T, O, L> {
         line: usize,
         link: &LinkNode,
         whole: Value,
-    ) -> Result<Option<Value>, Stop>
+    ) -> Result<Option<Value>, Halt>
         requires here { above_link link.now ≤ length code.now.nodes.items }
         requires room { HasRoom T.seen O.seen self.old }
         ensures same { Same self.old self.new }
-        ensures device { Fails T.seen O.seen self.old result self.new }
-        ensures gives { Evaluates T.seen O.seen (option_map data_of) (λ ts. link_of line (data_of whole) (link_at ts link.now)) code.now
-            self.old result self.new }
+        ensures device { FailsInside T.seen O.seen self.old result self.new }
+        ensures gives { Evaluates T.seen O.seen (option_map data_of) (λ into ts. link_of into line (data_of whole)
+            (link_at ts link.now)) code.now self.old result self.new }
     {
         match link {
             LinkNode::Method { name, arguments } => {
                 self.method_at(line, &whole, name)?;
                 let arguments = self.arguments(code, arguments)?;
-                self.method_called(line, &whole, name, &arguments)
+                Ok(self.method_called(line, &whole, name, &arguments)?)
             }
             LinkNode::Index { index } => {
                 let at = self.eval(code, *index)?;
-                self.part_at(line, &whole, &at)
+                Ok(self.part_at(line, &whole, &at)?)
             }
         }
     }
@@ -222,12 +222,12 @@ impl<'a, T: Tree, O: Outputs, L: Ledger> Evaluator<'a, T, O, L> {
         first: usize,
         others: &[OperandNode],
         line: usize,
-    ) -> Result<Value, Stop>
+    ) -> Result<Value, Halt>
         requires here { max (suc first) (above above_operand others.now) ≤ length code.now.nodes.items }
         requires room { HasRoom T.seen O.seen self.old }
         ensures same { Same self.old self.new }
-        ensures device { Fails T.seen O.seen self.old result self.new }
-        ensures gives { Evaluates T.seen O.seen data_of (λ ts. value_of (ChainTree (tree_at ts first) (operand_trees
+        ensures device { FailsInside T.seen O.seen self.old result self.new }
+        ensures gives { Evaluates T.seen O.seen data_of (λ into ts. value_of into (ChainTree (tree_at ts first) (operand_trees
             (map (operand_at ts) others.now)) line)) code.now self.old result self.new }
     {
         let mut value = self.eval(code, first)?;
@@ -255,19 +255,20 @@ impl<'a, T: Tree, O: Outputs, L: Ledger> Evaluator<'a, T, O, L> {
         yes: usize,
         no: usize,
         line: usize,
-    ) -> Result<Value, Stop>
+    ) -> Result<Value, Halt>
         requires here { max (suc test) (max (suc yes) (suc no)) ≤ length code.now.nodes.items }
         requires room { HasRoom T.seen O.seen self.old }
         ensures same { Same self.old self.new }
-        ensures device { Fails T.seen O.seen self.old result self.new }
+        ensures device { FailsInside T.seen O.seen self.old result self.new }
         ensures gives { Evaluates T.seen O.seen data_of
-            (λ ts. value_of (TernaryTree (tree_at ts test) (tree_at ts yes) (tree_at ts no) line)) code.now self.old result self.new }
+            (λ into ts. value_of into (TernaryTree (tree_at ts test) (tree_at ts yes) (tree_at ts no) line)) code.now
+            self.old result self.new }
     {
         let value = self.eval(code, test)?;
         match value.as_boolean() {
             Some(true) => self.eval(code, yes),
             Some(false) => self.eval(code, no),
-            None => self.unchosen(line, value),
+            None => Ok(self.unchosen(line, value)?),
         }
     }
 }

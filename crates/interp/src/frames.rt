@@ -54,4 +54,6 @@ pub enum Frame {
     End,
     /// A file is left for the place before.
     Left(Place),
+    /// A call at this line is refused, since it gives nothing.
+    Refuses(usize),
 }

@@ -14,6 +14,8 @@ mod flow;
 mod format_strings;
 mod forms;
 mod frames;
+mod halt;
+mod inside;
 mod law;
 mod literals;
 mod loops;

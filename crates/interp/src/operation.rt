@@ -7,6 +7,7 @@ ghost use Rattle.world.specs.Gives.{Holds, failures_after};
 ghost use Rattle.operators.specs.Operations.{binary_answer};
 ghost use Rattle.world.specs.Plan.{answered, ruled};
 ghost use Rattle.interp.specs.Expressions.{combined, meaning_of, value_of};
+ghost use Rattle.interp.specs.Folders.{folder};
 ghost use Rattle.interp.specs.Operations.{Goes, completed};
 ghost use Rattle.interp.specs.Evaluates.{stand_of};
 
@@ -42,9 +43,9 @@ impl<'a, T: Tree, O: Outputs, L: Ledger> Evaluator<'a, T, O, L> {
 
     /// An operator on the value of its left side.
     pub fn begun(&self, line: usize, operator: Operator, left: Value) -> Result<Begun, Stop>
-        ensures gives { (files : Files) (right : ExpressionTree) → Holds (T.seen self.now.tree.now) files
-            → Goes files line (combined line (meaning_of operator) (data_of left) (ruled (value_of right))) (ruled (value_of right))
-            (stand_of T.seen O.seen self.now) result }
+        ensures gives { (files : Files) (more : ℕ) (right : ExpressionTree) → Holds (T.seen self.now.tree.now) files
+            → Goes files line (combined line (meaning_of operator) (data_of left) (ruled (value_of (folder more) right)))
+            (ruled (value_of (folder more) right)) (stand_of T.seen O.seen self.now) result }
         ensures quiet { (n : ℕ) → failures_after n result ≡ n }
     {
         match meaning_of(operator) {
@@ -55,9 +56,9 @@ impl<'a, T: Tree, O: Outputs, L: Ledger> Evaluator<'a, T, O, L> {
 
     // The left side may decide alone.
     fn connected(&self, line: usize, connective: Connective, left: Value) -> Result<Begun, Stop>
-        ensures gives { (files : Files) (right : ExpressionTree) → Holds (T.seen self.now.tree.now) files
-            → Goes files line (combined line (Meaning.Connects connective) (data_of left) (ruled (value_of right))) (ruled (value_of right))
-            (stand_of T.seen O.seen self.now) result }
+        ensures gives { (files : Files) (more : ℕ) (right : ExpressionTree) → Holds (T.seen self.now.tree.now) files
+            → Goes files line (combined line (Meaning.Connects connective) (data_of left) (ruled (value_of (folder more) right)))
+            (ruled (value_of (folder more) right)) (stand_of T.seen O.seen self.now) result }
         ensures quiet { (n : ℕ) → failures_after n result ≡ n }
     {
         match left_side(connective, left) {

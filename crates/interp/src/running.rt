@@ -12,6 +12,7 @@ use crate::frames::{BlockRest, Frame, LoopRest};
 use crate::loops::round_at;
 use crate::unwinding::unwind;
 use code::Code;
+use faults::Refusal;
 use ports::{Outputs, Tree};
 use std::rc::Rc;
 use std::sync::ledger::Ledger;
@@ -92,6 +93,7 @@ impl<'a, T: Tree, O: Outputs, L: Ledger> Evaluator<'a, T, O, L> {
                 let _inner = self.store.go(place);
                 Ok(Flow::Next)
             }
+            Frame::Refuses(line) => self.refuse(line, Refusal::Type, ""),
         }
     }
 

@@ -5,7 +5,8 @@ ghost use Rattle.code.specs.Statements.{branch_at, name_at, second_within, state
 ghost use Rattle.data.specs.View.{data_of};
 ghost use Rattle.grammar.specs.Tree.{branches};
 ghost use Rattle.world.specs.Plan.{give, next, ruled};
-ghost use Rattle.interp.specs.Acting.{by_way, way_view};
+ghost use Rattle.interp.specs.Acting.{way_view};
+ghost use Rattle.interp.specs.Entering.{by_way};
 ghost use Rattle.interp.specs.Blocks.{block_by, branch_or, expressions_by, statements_by, statements_of};
 ghost use Rattle.interp.specs.Expressions.{given_by, value_of};
 ghost use Rattle.interp.specs.Folders.{folder};
@@ -21,6 +22,7 @@ use crate::conditions::Choice;
 use crate::evaluator::Evaluator;
 use crate::flow::Flow;
 use crate::frames::{BlockRest, Frame, LoopHead, LoopRest};
+use crate::halt::{Halt, ended_inside};
 use crate::loops::check_loop;
 use code::Code;
 use code::node::{BranchNode, Node, StatementNode};
@@ -28,10 +30,25 @@ use data::Value;
 use ports::{Outputs, Tree};
 use std::rc::Rc;
 use std::sync::ledger::Ledger;
-use world::{Stop, ended};
+use world::Stop;
+
+// The head of the loop that this statement is.
+fn loop_head(number: usize, line: usize, first: usize, second: Option<usize>) -> LoopHead
+    ensures { result ≡ record { line = line; first = first; second = second; body = Part number 0 } }
+{
+    LoopHead {
+        line,
+        first,
+        second,
+        body: Block::Part {
+            statement: number,
+            part: 0,
+        },
+    }
+}
 
 impl<'a, T: Tree, O: Outputs, L: Ledger> Evaluator<'a, T, O, L> {
-    ghost use Rattle.interp.specs.Evaluates.{Answers, Evaluates, Fails, HasRoom, Same};
+    ghost use Rattle.interp.specs.Evaluates.{Answers, Evaluates, Fails, FailsInside, HasRoom, Same};
 
     /// Begins the statement with this number, whose end is on the stack; so many more folders may stand inside one another.
     pub fn begin(
@@ -50,10 +67,18 @@ impl<'a, T: Tree, O: Outputs, L: Ledger> Evaluator<'a, T, O, L> {
     {
         match &code.statements[number] {
             StatementNode::Assign { name, line, value } => {
-                self.assign_value(code, *name, *line, *value)
+                match self.assign_value(code, *name, *line, *value) {
+                    Ok(flow) => Ok(flow),
+                    Err(Halt::Stops(stop)) => Err(stop),
+                    Err(Halt::Enters(entry)) => self.enter_inside(entry, left, stack),
+                }
             }
             StatementNode::Append { name, line, value } => {
-                self.append_value(code, *name, *line, *value)
+                match self.append_value(code, *name, *line, *value) {
+                    Ok(flow) => Ok(flow),
+                    Err(Halt::Stops(stop)) => Err(stop),
+                    Err(Halt::Enters(entry)) => self.enter_inside(entry, left, stack),
+                }
             }
             StatementNode::Expression { value, .. } => self.state(code, *value, left, stack),
             StatementNode::Break { .. } => Ok(Flow::Broken),
@@ -68,15 +93,7 @@ impl<'a, T: Tree, O: Outputs, L: Ledger> Evaluator<'a, T, O, L> {
                 list,
                 ..
             } => {
-                let head = LoopHead {
-                    line: *line,
-                    first: *first,
-                    second: *second,
-                    body: Block::Part {
-                        statement: number,
-                        part: 0,
-                    },
-                };
+                let head = loop_head(number, *line, *first, *second);
                 self.begin_loop(code, *list, head, left, stack)
             }
         }
@@ -89,13 +106,13 @@ impl<'a, T: Tree, O: Outputs, L: Ledger> Evaluator<'a, T, O, L> {
         name: usize,
         line: usize,
         value: usize,
-    ) -> Result<Flow, Stop>
+    ) -> Result<Flow, Halt>
         requires here { value < length code.now.nodes.items }
         requires room { HasRoom T.seen O.seen self.old }
         ensures same { Same self.old self.new }
-        ensures device { Fails T.seen O.seen self.old result self.new }
-        ensures gives { name < length self.old.store.now.names → Evaluates T.seen O.seen (λ f. f) (λ ts.
-            next (ruled (value_of (tree_at ts value))) (λ d. next (own d) (λ e. next (assigned line
+        ensures device { FailsInside T.seen O.seen self.old result self.new }
+        ensures gives { name < length self.old.store.now.names → Evaluates T.seen O.seen (λ f. f) (λ into ts.
+            next (ruled (value_of into (tree_at ts value))) (λ d. next (own d) (λ e. next (assigned line
             (name_at self.old.store.now.names name) e) (λ _. give Next)))) code.now self.old result self.new }
     {
         let value = self.eval(code, value)?;
@@ -111,13 +128,13 @@ impl<'a, T: Tree, O: Outputs, L: Ledger> Evaluator<'a, T, O, L> {
         name: usize,
         line: usize,
         value: usize,
-    ) -> Result<Flow, Stop>
+    ) -> Result<Flow, Halt>
         requires here { value < length code.now.nodes.items }
         requires room { HasRoom T.seen O.seen self.old }
         ensures same { Same self.old self.new }
-        ensures device { Fails T.seen O.seen self.old result self.new }
-        ensures gives { name < length self.old.store.now.names → Evaluates T.seen O.seen (λ f. f) (λ ts.
-            next (appended line (name_at self.old.store.now.names name) (ruled (value_of (tree_at ts value)))) (λ _. give Next))
+        ensures device { FailsInside T.seen O.seen self.old result self.new }
+        ensures gives { name < length self.old.store.now.names → Evaluates T.seen O.seen (λ f. f) (λ into ts.
+            next (appended line (name_at self.old.store.now.names name) (ruled (value_of into (tree_at ts value)))) (λ _. give Next))
             code.now self.old result self.new }
     {
         self.append(code, name, line, value)?;
@@ -146,34 +163,40 @@ impl<'a, T: Tree, O: Outputs, L: Ledger> Evaluator<'a, T, O, L> {
         } = &code.nodes[value]
         {
             stack.push(Frame::End)?;
-            let way = self.perform(code, *line, name, arguments)?;
-            self.take_way(way, left, stack)
+            match self.perform(code, *line, name, arguments) {
+                Ok(way) => self.take_way(way, left, stack),
+                Err(Halt::Stops(stop)) => Err(stop),
+                Err(Halt::Enters(entry)) => self.enter_inside(entry, left, stack),
+            }
         } else {
-            let _given = self.alone(code, value)?;
-            Ok(Flow::Next)
+            match self.alone(code, value) {
+                Ok(_given) => Ok(Flow::Next),
+                Err(Halt::Stops(stop)) => Err(stop),
+                Err(Halt::Enters(entry)) => self.enter_inside(entry, left, stack),
+            }
         }
     }
 
     // What an expression gives that is a statement and no call of a function: its last method may give nothing.
-    fn alone(&mut self, code: &Code, value: usize) -> Result<Option<Value>, Stop>
+    fn alone(&mut self, code: &Code, value: usize) -> Result<Option<Value>, Halt>
         requires here { value < length code.now.nodes.items }
         requires room { HasRoom T.seen O.seen self.old }
         ensures same { Same self.old self.new }
-        ensures device { Fails T.seen O.seen self.old result self.new }
-        ensures gives { Evaluates T.seen O.seen (option_map data_of) (λ ts. ruled (given_by (tree_at ts value))) code.now
+        ensures device { FailsInside T.seen O.seen self.old result self.new }
+        ensures gives { Evaluates T.seen O.seen (option_map data_of) (λ into ts. ruled (given_by into (tree_at ts value))) code.now
             self.old result self.new }
     {
         let answer = self.given(code, value);
-        ended(answer, self.steps)
+        ended_inside(answer, self.steps)
     }
 
     // The same, before its rule has ended.
-    fn given(&mut self, code: &Code, value: usize) -> Result<Option<Value>, Stop>
+    fn given(&mut self, code: &Code, value: usize) -> Result<Option<Value>, Halt>
         requires here { value < length code.now.nodes.items }
         requires room { HasRoom T.seen O.seen self.old }
         ensures same { Same self.old self.new }
-        ensures device { Fails T.seen O.seen self.old result self.new }
-        ensures gives { Evaluates T.seen O.seen (option_map data_of) (λ ts. given_by (tree_at ts value)) code.now
+        ensures device { FailsInside T.seen O.seen self.old result self.new }
+        ensures gives { Evaluates T.seen O.seen (option_map data_of) (λ into ts. given_by into (tree_at ts value)) code.now
             self.old result self.new }
     {
         if let Node::Postfix { first, links, line } = &code.nodes[value] {
@@ -211,11 +234,16 @@ impl<'a, T: Tree, O: Outputs, L: Ledger> Evaluator<'a, T, O, L> {
         requires room { HasRoom T.seen O.seen self.old }
         ensures same { Same self.old self.new }
         ensures device { Fails T.seen O.seen self.old result self.new }
-        ensures gives { Does T.seen O.seen (λ table. next (ruled (value_of (tree_at (expressions_by table code.now.value) list)))
+        ensures gives { Does T.seen O.seen (λ table. next
+            (ruled (value_of (folder left) (tree_at (expressions_by table code.now.value) list)))
             (λ d. walked head.line (round_by table code.now.value left head) (looped (option_map (name_at table) head.second) d)))
             code.now.value self.old stack.old.items result self.new stack.new.items }
     {
-        let whole = self.eval(code, list)?;
+        let whole = match self.eval(code, list) {
+            Ok(whole) => whole,
+            Err(Halt::Stops(stop)) => return Err(stop),
+            Err(Halt::Enters(entry)) => return self.enter_inside(entry, left, stack),
+        };
         match check_loop(head.second.is_some(), &whole) {
             Ok(()) => {
                 stack.push(Frame::Loop(LoopRest {
@@ -250,8 +278,8 @@ impl<'a, T: Tree, O: Outputs, L: Ledger> Evaluator<'a, T, O, L> {
             (statements_by table code.now.value)) parts.now)) (do_all (folder left) (block_by table code.now.value otherwise)))
             code.now.value self.old stack.old.items result self.new stack.new.items }
     {
-        match self.choose_part(code, parts)? {
-            Some(part) => {
+        match self.choose_part(code, parts) {
+            Ok(Some(part)) => {
                 stack.push(Frame::Block(BlockRest {
                     code: code.clone()?,
                     block: Block::Part {
@@ -263,16 +291,18 @@ impl<'a, T: Tree, O: Outputs, L: Ledger> Evaluator<'a, T, O, L> {
                 }))?;
                 Ok(Flow::Next)
             }
-            None => Ok(Flow::Next),
+            Ok(None) => Ok(Flow::Next),
+            Err(Halt::Stops(stop)) => Err(stop),
+            Err(Halt::Enters(entry)) => self.enter_inside(entry, left, stack),
         }
     }
 
     // The place of the branch whose condition is the first that holds, or the place behind them; none where a disabler skips all.
-    fn choose_part(&mut self, code: &Code, parts: &[BranchNode]) -> Result<Option<usize>, Stop>
+    fn choose_part(&mut self, code: &Code, parts: &[BranchNode]) -> Result<Option<usize>, Halt>
         requires here { above above_branch parts.now ≤ length code.now.nodes.items }
         requires room { HasRoom T.seen O.seen self.old }
         ensures same { Same self.old self.new }
-        ensures device { Fails T.seen O.seen self.old result self.new }
+        ensures device { FailsInside T.seen O.seen self.old result self.new }
         ensures gives { ChoosesOf T.seen O.seen parts.now code.now self.old result self.new }
     {
         for part in 0..parts.len() {

@@ -16,6 +16,7 @@ fn end_all<L: Ledger>(stack: &[Frame], steps: &mut Steps<L>)
             Frame::Block(_) => {}
             Frame::Loop(_) => {}
             Frame::Left(_) => {}
+            Frame::Refuses(_) => {}
         }
     }
 }

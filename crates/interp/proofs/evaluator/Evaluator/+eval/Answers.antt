@@ -15,71 +15,72 @@ use Rattle.arguments.specs.Arguments.{arguments_data, no_arguments}
 use Rattle.world.specs.Plan.{ruled, next}
 use Rattle.interp.specs.Expressions.{arguments_of, chain_of, chosen, entries_of, link_of, links_of, listed, literal_value, method_called, method_of, paired, value_of, values_of, variable}
 use Rattle.interp.specs.Parts.{above, above_number, above_entry, above_argument, above_operand, above_link}
-use Rattle.interp.proofs.Evaluating.{given_as, given_give, given_none, given_rule, given_stop, given_stop_inside, given_then, goes_on, leads_as, leads_end, leads_inside, leads_on, leads_start, next_item, next_is, no_item}
+use Rattle.interp.specs.Folders.{folder}
+use Rattle.interp.proofs.Coming.{comes_as, comes_end, comes_given, comes_halt, comes_halt_inside, comes_last, comes_none, comes_rule, comes_stop, comes_then}
+use Rattle.interp.proofs.Evaluating.{given_as, given_give, given_then, goes_on, leads_as, leads_end, leads_inside, leads_on, leads_start, leads_within, next_is, next_item, no_item}
 use Rattle.interp.proofs.Pairs.{pairs_of-push}
 use Rattle.interp.proofs.Reading.{reads_on, opened, parts_at, name_of, number_reach, first_reach, three_reach, numbers_reach, entries_reach, arguments_reach, operands_reach, links_reach}
 use Rattle.interp.proofs.evaluator.Evaluator.+eval.Goals as goal
 
 pub eval-returns-clause-gives : goal.eval-returns-clause-gives
-eval-returns-clause-gives g t c = λ files ts hold reads. rw c.ended.ensures.same (given_rule c.ended.ensures.ticks (c.form-answer.ensures.gives files ts hold reads))
+eval-returns-clause-gives g t c = λ files left ts hold reads. comes_rule c.form-answer.result c.ended_inside.result c.ended_inside.ensures.ends (c.form-answer.ensures.gives files left ts hold reads)
 
 pub call-returns-in_err-function-clause-gives : goal.call-returns-in_err-function-clause-gives
-call-returns-in_err-function-clause-gives g t c = λ files ts hold reads. given_stop (c.in_err-function.ensures.gives files hold) c.from_residual.ensures.1
+call-returns-in_err-function-clause-gives g t c = λ files left ts hold reads. comes_stop (c.in_err-function.ensures.gives files hold) c.from_residual.ensures.1
 
 pub call-returns-in_err-arguments-clause-gives : goal.call-returns-in_err-arguments-clause-gives
-call-returns-in_err-arguments-clause-gives g t c = λ files ts hold reads. given_then (c.in_ok-function.ensures.gives files hold) (given_stop (c.in_err-arguments.ensures.gives files ts hold reads) c.from_residual-in_err-arguments.ensures.1)
-
-pub call-returns-in_err-answer-clause-gives : goal.call-returns-in_err-answer-clause-gives
-call-returns-in_err-answer-clause-gives g t c = λ files ts hold reads. given_then (c.in_ok-function.ensures.gives files hold) (given_then (c.in_ok-arguments.ensures.gives files ts hold reads) (given_stop (c.in_err-answer.ensures.gives files (c.in_ok-arguments.ensures.gives files ts hold reads).holds) c.from_residual-in_err-answer.ensures.1))
+call-returns-in_err-arguments-clause-gives g t c = λ files left ts hold reads. comes_then (c.in_ok-function.ensures.gives files hold) (comes_halt (c.in_err-arguments.ensures.gives files left ts hold reads) c.from_residual-in_err-arguments.ensures.1)
 
 pub call-returns-clause-gives : goal.call-returns-clause-gives
-call-returns-clause-gives g t c = λ files ts hold reads. given_then (c.in_ok-function.ensures.gives files hold) (given_then (c.in_ok-arguments.ensures.gives files ts hold reads) (given_then (c.in_ok-answer.ensures.gives files (c.in_ok-arguments.ensures.gives files ts hold reads).holds) (c.needed.ensures.gives files (c.in_ok-answer.ensures.gives files (c.in_ok-arguments.ensures.gives files ts hold reads).holds).holds)))
+call-returns-clause-gives g t c = λ files left ts hold reads.
+    let a = (c.in_ok-arguments.ensures.gives files left ts hold reads).comes in
+    comes_then (c.in_ok-function.ensures.gives files hold) (comes_then a (c.called_inside.ensures.gives files left a.holds))
 
 pub arguments-loop-argument-init : goal.arguments-loop-argument-init
-arguments-loop-argument-init g t c = record { same = (refl, (refl, (refl, refl))); tree = refl; out = refl; done = λ files ts hold reads. rw c.no_arguments-evaluated.ensures (leads_start hold) }
+arguments-loop-argument-init g t c = record { same = (refl, (refl, (refl, refl))); tree = refl; out = refl; done = λ files left ts hold reads. rw c.no_arguments-evaluated.ensures (leads_start hold) }
 
 pub arguments-returns-in_err-value-clause-gives : goal.arguments-returns-in_err-value-clause-gives
-arguments-returns-in_err-value-clause-gives g t c = λ files ts hold reads. leads_end (leads_as (ap (λ ys. arguments_of (arguments_data c.loop-argument.evaluated) (arguments ys)) (next_is (argument_at ts) c.args.arguments.now c.loop-argument.argument-index c.argument-item.result c.loop-argument-test.true c.argument-item.is)) (c.loop-argument.invariant.done files ts hold reads)) (given_stop (c.in_err-value.ensures.gives files ts (c.loop-argument.invariant.done files ts hold reads).holds (reads_on reads (c.loop-argument.invariant.done files ts hold reads).continues.written.names)) c.from_residual.ensures.1)
+arguments-returns-in_err-value-clause-gives g t c = λ files left ts hold reads. comes_end (leads_as (ap (λ ys. arguments_of (folder left) (arguments_data c.loop-argument.evaluated) (arguments ys)) (next_is (argument_at ts) c.args.arguments.now c.loop-argument.argument-index c.argument-item.result c.loop-argument-test.true c.argument-item.is)) (c.loop-argument.invariant.done files left ts hold reads)) (comes_halt (c.in_err-value.ensures.gives files left ts (c.loop-argument.invariant.done files left ts hold reads).holds (reads_on reads (c.loop-argument.invariant.done files left ts hold reads).continues.written.names)) c.from_residual.ensures.1)
 
 pub arguments-returns-in_err-add_argument-clause-gives : goal.arguments-returns-in_err-add_argument-clause-gives
-arguments-returns-in_err-add_argument-clause-gives g t c = λ files ts hold reads. leads_end (leads_on (leads_as (ap (λ ys. arguments_of (arguments_data c.loop-argument.evaluated) (arguments ys)) (next_is (argument_at ts) c.args.arguments.now c.loop-argument.argument-index c.argument-item.result c.loop-argument-test.true c.argument-item.is)) (c.loop-argument.invariant.done files ts hold reads)) (c.in_ok-value.ensures.gives files ts (c.loop-argument.invariant.done files ts hold reads).holds (reads_on reads (c.loop-argument.invariant.done files ts hold reads).continues.written.names))) (given_none (leads_on (leads_as (ap (λ ys. arguments_of (arguments_data c.loop-argument.evaluated) (arguments ys)) (next_is (argument_at ts) c.args.arguments.now c.loop-argument.argument-index c.argument-item.result c.loop-argument-test.true c.argument-item.is)) (c.loop-argument.invariant.done files ts hold reads)) (c.in_ok-value.ensures.gives files ts (c.loop-argument.invariant.done files ts hold reads).holds (reads_on reads (c.loop-argument.invariant.done files ts hold reads).continues.written.names))).holds c.from_residual-in_err-add_argument.ensures.1)
+arguments-returns-in_err-add_argument-clause-gives g t c = λ files left ts hold reads. comes_end (leads_on (leads_as (ap (λ ys. arguments_of (folder left) (arguments_data c.loop-argument.evaluated) (arguments ys)) (next_is (argument_at ts) c.args.arguments.now c.loop-argument.argument-index c.argument-item.result c.loop-argument-test.true c.argument-item.is)) (c.loop-argument.invariant.done files left ts hold reads)) (c.in_ok-value.ensures.gives files left ts (c.loop-argument.invariant.done files left ts hold reads).holds (reads_on reads (c.loop-argument.invariant.done files left ts hold reads).continues.written.names)).comes) (comes_none (leads_on (leads_as (ap (λ ys. arguments_of (folder left) (arguments_data c.loop-argument.evaluated) (arguments ys)) (next_is (argument_at ts) c.args.arguments.now c.loop-argument.argument-index c.argument-item.result c.loop-argument-test.true c.argument-item.is)) (c.loop-argument.invariant.done files left ts hold reads)) (c.in_ok-value.ensures.gives files left ts (c.loop-argument.invariant.done files left ts hold reads).holds (reads_on reads (c.loop-argument.invariant.done files left ts hold reads).continues.written.names)).comes).holds c.from_residual-in_err-add_argument.ensures.1)
 
 pub arguments-loop-argument-preserved : goal.arguments-loop-argument-preserved
-arguments-loop-argument-preserved g t c = record { same = search rules; tree = search rules; out = search rules; done = λ files ts hold reads. rw c.in_ok-add_argument.ensures (leads_on (leads_as (ap (λ ys. arguments_of (arguments_data c.loop-argument.evaluated) (arguments ys)) (next_is (argument_at ts) c.args.arguments.now c.loop-argument.argument-index c.argument-item.result c.loop-argument-test.true c.argument-item.is)) (c.loop-argument.invariant.done files ts hold reads)) (c.in_ok-value.ensures.gives files ts (c.loop-argument.invariant.done files ts hold reads).holds (reads_on reads (c.loop-argument.invariant.done files ts hold reads).continues.written.names))) }
+arguments-loop-argument-preserved g t c = record { same = search rules; tree = search rules; out = search rules; done = λ files left ts hold reads. rw c.in_ok-add_argument.ensures (leads_on (leads_as (ap (λ ys. arguments_of (folder left) (arguments_data c.loop-argument.evaluated) (arguments ys)) (next_is (argument_at ts) c.args.arguments.now c.loop-argument.argument-index c.argument-item.result c.loop-argument-test.true c.argument-item.is)) (c.loop-argument.invariant.done files left ts hold reads)) (c.in_ok-value.ensures.gives files left ts (c.loop-argument.invariant.done files left ts hold reads).holds (reads_on reads (c.loop-argument.invariant.done files left ts hold reads).continues.written.names)).comes) }
 
 pub arguments-returns-clause-gives : goal.arguments-returns-clause-gives
-arguments-returns-clause-gives g t c = λ files ts hold reads. leads_end (leads_as (ap (λ ys. arguments_of (arguments_data c.loop-argument.evaluated) (arguments ys)) (no_item (argument_at ts) c.args.arguments.now c.loop-argument.argument-index c.loop-argument-test.false)) (c.loop-argument.invariant.done files ts hold reads)) (given_give (c.loop-argument.invariant.done files ts hold reads).holds refl)
+arguments-returns-clause-gives g t c = λ files left ts hold reads. comes_given (leads_end (leads_as (ap (λ ys. arguments_of (folder left) (arguments_data c.loop-argument.evaluated) (arguments ys)) (no_item (argument_at ts) c.args.arguments.now c.loop-argument.argument-index c.loop-argument-test.false)) (c.loop-argument.invariant.done files left ts hold reads)) (given_give (c.loop-argument.invariant.done files left ts hold reads).holds refl))
 
 pub asked-returns-in_err-value-clause-gives : goal.asked-returns-in_err-value-clause-gives
-asked-returns-in_err-value-clause-gives g t c = λ files ts hold reads. given_stop (c.in_err-value.ensures.gives files ts hold reads) c.from_residual.ensures.1
+asked-returns-in_err-value-clause-gives g t c = λ files left ts hold reads. comes_halt (c.in_err-value.ensures.gives files left ts hold reads) c.from_residual.ensures.1
 
 pub asked-loop-link-init : goal.asked-loop-link-init
-asked-loop-link-init g t c = record { same = search rules; tree = search rules; out = search rules; done = λ files ts hold reads. leads_on (leads_start hold) (c.in_ok-value.ensures.gives files ts hold reads) }
+asked-loop-link-init g t c = record { same = search rules; tree = search rules; out = search rules; done = λ files left ts hold reads. leads_on (leads_start hold) (c.in_ok-value.ensures.gives files left ts hold reads).comes }
 
 pub asked-returns-in_err-whole-clause-gives : goal.asked-returns-in_err-whole-clause-gives
-asked-returns-in_err-whole-clause-gives g t c = λ files ts hold reads.
-    let led = (leads_as (ap (λ ys. links_of c.args.line (option_map data_of c.loop-link.given) (links ys)) (next_is (link_at ts) c.args.links.now c.loop-link.link-index c.link-item.result c.loop-link-test.true c.link-item.is)) (c.loop-link.invariant.done files ts hold reads)) in
-    leads_end led (given_stop (c.in_err-whole.ensures.gives files led.holds) c.from_residual-in_err-whole.ensures.1)
+asked-returns-in_err-whole-clause-gives g t c = λ files left ts hold reads.
+    let led = (leads_as (ap (λ ys. links_of (folder left) c.args.line (option_map data_of c.loop-link.given) (links ys)) (next_is (link_at ts) c.args.links.now c.loop-link.link-index c.link-item.result c.loop-link-test.true c.link-item.is)) (c.loop-link.invariant.done files left ts hold reads)) in
+    comes_end led (comes_stop (c.in_err-whole.ensures.gives files led.holds) c.from_residual-in_err-whole.ensures.1)
 
 pub asked-returns-in_err-given-clause-gives : goal.asked-returns-in_err-given-clause-gives
-asked-returns-in_err-given-clause-gives g t c = λ files ts hold reads.
-    let led = (leads_as (ap (λ ys. links_of c.args.line (option_map data_of c.loop-link.given) (links ys)) (next_is (link_at ts) c.args.links.now c.loop-link.link-index c.link-item.result c.loop-link-test.true c.link-item.is)) (c.loop-link.invariant.done files ts hold reads)) in
+asked-returns-in_err-given-clause-gives g t c = λ files left ts hold reads.
+    let led = (leads_as (ap (λ ys. links_of (folder left) c.args.line (option_map data_of c.loop-link.given) (links ys)) (next_is (link_at ts) c.args.links.now c.loop-link.link-index c.link-item.result c.loop-link-test.true c.link-item.is)) (c.loop-link.invariant.done files left ts hold reads)) in
     let asked = leads_on led (c.in_ok-whole.ensures.gives files led.holds) in
-    leads_end asked (given_stop (c.in_err-given.ensures.gives files ts asked.holds (reads_on reads asked.continues.written.names)) c.from_residual-in_err-given.ensures.1)
+    comes_end asked (comes_halt (c.in_err-given.ensures.gives files left ts asked.holds (reads_on reads asked.continues.written.names)) c.from_residual-in_err-given.ensures.1)
 
 pub asked-loop-link-preserved : goal.asked-loop-link-preserved
 asked-loop-link-preserved g t c = record {
   same = search rules;
   tree = search rules;
   out = search rules;
-  done = λ files ts hold reads.
-      let led = (leads_as (ap (λ ys. links_of c.args.line (option_map data_of c.loop-link.given) (links ys)) (next_is (link_at ts) c.args.links.now c.loop-link.link-index c.link-item.result c.loop-link-test.true c.link-item.is)) (c.loop-link.invariant.done files ts hold reads)) in
+  done = λ files left ts hold reads.
+      let led = (leads_as (ap (λ ys. links_of (folder left) c.args.line (option_map data_of c.loop-link.given) (links ys)) (next_is (link_at ts) c.args.links.now c.loop-link.link-index c.link-item.result c.loop-link-test.true c.link-item.is)) (c.loop-link.invariant.done files left ts hold reads)) in
       let asked = leads_on led (c.in_ok-whole.ensures.gives files led.holds) in
-      leads_on asked (c.in_ok-given.ensures.gives files ts asked.holds (reads_on reads asked.continues.written.names));
+      leads_on asked (c.in_ok-given.ensures.gives files left ts asked.holds (reads_on reads asked.continues.written.names)).comes;
 }
 
 pub asked-returns-clause-gives : goal.asked-returns-clause-gives
-asked-returns-clause-gives g t c = λ files ts hold reads. leads_end (leads_as (ap (λ ys. links_of c.args.line (option_map data_of c.loop-link.given) (links ys)) (no_item (link_at ts) c.args.links.now c.loop-link.link-index c.loop-link-test.false)) (c.loop-link.invariant.done files ts hold reads)) (given_give (c.loop-link.invariant.done files ts hold reads).holds refl)
+asked-returns-clause-gives g t c = λ files left ts hold reads. comes_given (leads_end (leads_as (ap (λ ys. links_of (folder left) c.args.line (option_map data_of c.loop-link.given) (links ys)) (no_item (link_at ts) c.args.links.now c.loop-link.link-index c.loop-link-test.false)) (c.loop-link.invariant.done files left ts hold reads)) (given_give (c.loop-link.invariant.done files left ts hold reads).holds refl))
 
 pub form-list-requires : goal.form-list-requires
 form-list-requires g t c κs lives = let reach : above above_number c.deref-in-List.result.now ≤ c.args.node = rw c.deref-in-List.ensures.value (numbers_reach c.args.node c.in-List.items.items (parts_at c.args.code.now c.args.node c.index.result.now (flat.List c.in-List.items c.in-List.line) c.requires.here c.index.ensures c.in-List.is)) in (omega arith, (lives.0, (lives.1.0, (lives.1.1, (omega arith, c.requires.room)))))
@@ -97,172 +98,207 @@ pub form-ternary-requires : goal.form-ternary-requires
 form-ternary-requires g t c κs lives = let reach : max (suc c.in-Ternary.test) (max (suc c.in-Ternary.yes) (suc c.in-Ternary.no)) ≤ c.args.node = three_reach c.args.node c.in-Ternary.test c.in-Ternary.yes c.in-Ternary.no (parts_at c.args.code.now c.args.node c.index.result.now (flat.Ternary c.in-Ternary.test c.in-Ternary.yes c.in-Ternary.no c.in-Ternary.line) c.requires.here c.index.ensures c.in-Ternary.is) in (omega arith, (lives.0, (lives.1.0, (lives.1.1, (omega arith, c.requires.room)))))
 
 pub form-returns-in-List-clause-gives : goal.form-returns-in-List-clause-gives
-form-returns-in-List-clause-gives g t c = λ files ts hold reads. given_as (ap value_of (sym (opened reads c.args.node c.index.result.now (flat.List c.in-List.items c.in-List.line) c.requires.here c.index.ensures c.in-List.is))) (given_as (ap (λ (xs : List ℕ). value_of (ListTree (expressions (map (tree_at ts) xs)) c.in-List.line)) c.deref-in-List.ensures.value) (c.list.ensures.gives files ts hold reads))
+form-returns-in-List-clause-gives g t c = λ files left ts hold reads. comes_as (ap (value_of (folder left)) (sym (opened reads c.args.node c.index.result.now (flat.List c.in-List.items c.in-List.line) c.requires.here c.index.ensures c.in-List.is))) (comes_as (ap (λ (xs : List ℕ). value_of (folder left) (ListTree (expressions (map (tree_at ts) xs)) c.in-List.line)) c.deref-in-List.ensures.value) (c.list.ensures.gives files left ts hold reads))
 
 pub form-returns-in-Dictionary-clause-gives : goal.form-returns-in-Dictionary-clause-gives
-form-returns-in-Dictionary-clause-gives g t c = λ files ts hold reads. given_as (ap value_of (sym (opened reads c.args.node c.index.result.now (flat.Dictionary c.in-Dictionary.entries c.in-Dictionary.line) c.requires.here c.index.ensures c.in-Dictionary.is))) (given_as (ap (λ (xs : List EntryNode). value_of (DictionaryTree (entries (map (entry_at ts) xs)) c.in-Dictionary.line)) c.deref-in-Dictionary.ensures.value) (c.dictionary.ensures.gives files ts hold reads))
+form-returns-in-Dictionary-clause-gives g t c = λ files left ts hold reads. comes_as (ap (value_of (folder left)) (sym (opened reads c.args.node c.index.result.now (flat.Dictionary c.in-Dictionary.entries c.in-Dictionary.line) c.requires.here c.index.ensures c.in-Dictionary.is))) (comes_as (ap (λ (xs : List EntryNode). value_of (folder left) (DictionaryTree (entries (map (entry_at ts) xs)) c.in-Dictionary.line)) c.deref-in-Dictionary.ensures.value) (c.dictionary.ensures.gives files left ts hold reads))
 
 pub form-returns-in-Call-clause-gives : goal.form-returns-in-Call-clause-gives
-form-returns-in-Call-clause-gives g t c = λ files ts hold reads. given_as (ap value_of (sym (opened reads c.args.node c.index.result.now (flat.Call c.in-Call.name c.in-Call.arguments c.in-Call.line) c.requires.here c.index.ensures c.in-Call.is))) (given_as (ap (λ (name : List ℕ). value_of (FunctionTree name (arguments (map (argument_at ts) c.in-Call.arguments.items)) c.in-Call.line)) c.deref-in-Call.ensures) (given_as (ap (λ (xs : List ArgumentNode). value_of (FunctionTree c.deref-in-Call.result.now (arguments (map (argument_at ts) xs)) c.in-Call.line)) c.deref-in-Call-2.ensures.value) (c.call.ensures.gives files ts hold reads)))
+form-returns-in-Call-clause-gives g t c = λ files left ts hold reads. comes_as (ap (value_of (folder left)) (sym (opened reads c.args.node c.index.result.now (flat.Call c.in-Call.name c.in-Call.arguments c.in-Call.line) c.requires.here c.index.ensures c.in-Call.is))) (comes_as (ap (λ (name : List ℕ). value_of (folder left) (FunctionTree name (arguments (map (argument_at ts) c.in-Call.arguments.items)) c.in-Call.line)) c.deref-in-Call.ensures) (comes_as (ap (λ (xs : List ArgumentNode). value_of (folder left) (FunctionTree c.deref-in-Call.result.now (arguments (map (argument_at ts) xs)) c.in-Call.line)) c.deref-in-Call-2.ensures.value) (c.call.ensures.gives files left ts hold reads)))
 
 pub form-returns-in-Chain-clause-gives : goal.form-returns-in-Chain-clause-gives
-form-returns-in-Chain-clause-gives g t c = λ files ts hold reads. given_as (ap value_of (sym (opened reads c.args.node c.index.result.now (flat.Chain c.in-Chain.first c.in-Chain.others c.in-Chain.line) c.requires.here c.index.ensures c.in-Chain.is))) (given_as (ap (λ (xs : List OperandNode). value_of (ChainTree (tree_at ts c.in-Chain.first) (operands (map (operand_at ts) xs)) c.in-Chain.line)) c.deref-in-Chain.ensures.value) (c.chain.ensures.gives files ts hold reads))
+form-returns-in-Chain-clause-gives g t c = λ files left ts hold reads. comes_as (ap (value_of (folder left)) (sym (opened reads c.args.node c.index.result.now (flat.Chain c.in-Chain.first c.in-Chain.others c.in-Chain.line) c.requires.here c.index.ensures c.in-Chain.is))) (comes_as (ap (λ (xs : List OperandNode). value_of (folder left) (ChainTree (tree_at ts c.in-Chain.first) (operands (map (operand_at ts) xs)) c.in-Chain.line)) c.deref-in-Chain.ensures.value) (c.chain.ensures.gives files left ts hold reads))
 
 pub form-returns-in-Ternary-clause-gives : goal.form-returns-in-Ternary-clause-gives
-form-returns-in-Ternary-clause-gives g t c = λ files ts hold reads. given_as (ap value_of (sym (opened reads c.args.node c.index.result.now (flat.Ternary c.in-Ternary.test c.in-Ternary.yes c.in-Ternary.no c.in-Ternary.line) c.requires.here c.index.ensures c.in-Ternary.is))) (c.ternary.ensures.gives files ts hold reads)
+form-returns-in-Ternary-clause-gives g t c = λ files left ts hold reads. comes_as (ap (value_of (folder left)) (sym (opened reads c.args.node c.index.result.now (flat.Ternary c.in-Ternary.test c.in-Ternary.yes c.in-Ternary.no c.in-Ternary.line) c.requires.here c.index.ensures c.in-Ternary.is))) (c.ternary.ensures.gives files left ts hold reads)
 
-pub form-returns-in-Name-clause-gives : goal.form-returns-in-Name-clause-gives
-form-returns-in-Name-clause-gives g t c = λ files ts hold reads. let number = (name_of reads c.in-Name.number (parts_at c.args.code.now c.args.node c.index.result.now (flat.Name c.in-Name.number c.in-Name.line) c.requires.here c.index.ensures c.in-Name.is)) in given_as (ap value_of (sym (opened reads c.args.node c.index.result.now (flat.Name c.in-Name.number c.in-Name.line) c.requires.here c.index.ensures c.in-Name.is))) (given_as (ap (variable c.in-Name.line) number.1) (c.variable.ensures.gives number.0 files hold))
+pub form-returns-in_err-variable-in-Name-clause-gives : goal.form-returns-in_err-variable-in-Name-clause-gives
+form-returns-in_err-variable-in-Name-clause-gives g t c = λ files left ts hold reads. let number = (name_of reads c.in-Name.number (parts_at c.args.code.now c.args.node c.index.result.now (flat.Name c.in-Name.number c.in-Name.line) c.requires.here c.index.ensures c.in-Name.is)) in comes_as (ap (value_of (folder left)) (sym (opened reads c.args.node c.index.result.now (flat.Name c.in-Name.number c.in-Name.line) c.requires.here c.index.ensures c.in-Name.is))) (comes_as (ap (variable c.in-Name.line) number.1) (comes_last (c.in_err-variable-in-Name.ensures.gives number.0 files hold) c.from_residual.ensures.1))
 
-pub form-returns-in-Literal-clause-gives : goal.form-returns-in-Literal-clause-gives
-form-returns-in-Literal-clause-gives g t c = λ files ts hold reads. given_as (ap value_of (sym (opened reads c.args.node c.index.result.now (flat.Literal c.in-Literal.literal c.in-Literal.text c.in-Literal.line) c.requires.here c.index.ensures c.in-Literal.is))) (given_as (ap (λ (text : List ℕ). literal_value c.in-Literal.line c.in-Literal.literal text) c.deref.ensures) (c.literal.ensures.gives files hold))
+pub form-returns-in_ok-variable-in-Name-clause-gives : goal.form-returns-in_ok-variable-in-Name-clause-gives
+form-returns-in_ok-variable-in-Name-clause-gives g t c = λ files left ts hold reads. comes_given (let number = (name_of reads c.in-Name.number (parts_at c.args.code.now c.args.node c.index.result.now (flat.Name c.in-Name.number c.in-Name.line) c.requires.here c.index.ensures c.in-Name.is)) in given_as (ap (value_of (folder left)) (sym (opened reads c.args.node c.index.result.now (flat.Name c.in-Name.number c.in-Name.line) c.requires.here c.index.ensures c.in-Name.is))) (given_as (ap (variable c.in-Name.line) number.1) (c.in_ok-variable-in-Name.ensures.gives number.0 files hold)))
+
+pub form-returns-in_err-literal-in-Literal-clause-gives : goal.form-returns-in_err-literal-in-Literal-clause-gives
+form-returns-in_err-literal-in-Literal-clause-gives g t c = λ files left ts hold reads. comes_as (ap (value_of (folder left)) (sym (opened reads c.args.node c.index.result.now (flat.Literal c.in-Literal.literal c.in-Literal.text c.in-Literal.line) c.requires.here c.index.ensures c.in-Literal.is))) (comes_as (ap (λ (text : List ℕ). literal_value c.in-Literal.line c.in-Literal.literal text) c.deref.ensures) (comes_last (c.in_err-literal-in-Literal.ensures.gives files hold) c.from_residual-in_err-literal-in-Literal.ensures.1))
+
+pub form-returns-in_ok-literal-in-Literal-clause-gives : goal.form-returns-in_ok-literal-in-Literal-clause-gives
+form-returns-in_ok-literal-in-Literal-clause-gives g t c = λ files left ts hold reads. comes_given (given_as (ap (value_of (folder left)) (sym (opened reads c.args.node c.index.result.now (flat.Literal c.in-Literal.literal c.in-Literal.text c.in-Literal.line) c.requires.here c.index.ensures c.in-Literal.is))) (given_as (ap (λ (text : List ℕ). literal_value c.in-Literal.line c.in-Literal.literal text) c.deref.ensures) (c.in_ok-literal-in-Literal.ensures.gives files hold)))
 
 pub ternary-returns-in_err-value-clause-gives : goal.ternary-returns-in_err-value-clause-gives
-ternary-returns-in_err-value-clause-gives g t c = λ files ts hold reads. given_stop (c.in_err-value.ensures.gives files ts hold reads) c.from_residual.ensures.1
+ternary-returns-in_err-value-clause-gives g t c = λ files left ts hold reads. comes_halt (c.in_err-value.ensures.gives files left ts hold reads) c.from_residual.ensures.1
 
 pub ternary-returns-in-Some-true-clause-gives : goal.ternary-returns-in-Some-true-clause-gives
-ternary-returns-in-Some-true-clause-gives g t c = λ files ts hold reads. given_then (c.in_ok-value.ensures.gives files ts hold reads) (given_as (ap (λ (o : Option Bool). chosen c.args.line o (is_disabler (data_of c.in_ok-value.value)) (ruled (value_of (tree_at ts c.args.yes))) (ruled (value_of (tree_at ts c.args.no)))) (sym (sym c.in-Some-true.ensures ∙ ap Some c.in-Some-true.field-0-test))) (c.eval-in-Some-true.ensures.gives files ts (c.in_ok-value.ensures.gives files ts hold reads).holds (reads_on reads (c.in_ok-value.ensures.gives files ts hold reads).gives.written.names)))
+ternary-returns-in-Some-true-clause-gives g t c = λ files left ts hold reads. comes_then (c.in_ok-value.ensures.gives files left ts hold reads).comes (comes_as (ap (λ (o : Option Bool). chosen c.args.line o (is_disabler (data_of c.in_ok-value.value)) (ruled (value_of (folder left) (tree_at ts c.args.yes))) (ruled (value_of (folder left) (tree_at ts c.args.no)))) (sym (sym c.in-Some-true.ensures ∙ ap Some c.in-Some-true.field-0-test))) (c.eval-in-Some-true.ensures.gives files left ts (c.in_ok-value.ensures.gives files left ts hold reads).comes.holds (reads_on reads (c.in_ok-value.ensures.gives files left ts hold reads).comes.gives.written.names)))
 
 pub ternary-returns-in-Some-false-clause-gives : goal.ternary-returns-in-Some-false-clause-gives
-ternary-returns-in-Some-false-clause-gives g t c = λ files ts hold reads. given_then (c.in_ok-value.ensures.gives files ts hold reads) (given_as (ap (λ (o : Option Bool). chosen c.args.line o (is_disabler (data_of c.in_ok-value.value)) (ruled (value_of (tree_at ts c.args.yes))) (ruled (value_of (tree_at ts c.args.no)))) (sym (sym c.in-Some-false.ensures ∙ ap Some c.in-Some-false.field-0-test))) (c.eval-in-Some-false.ensures.gives files ts (c.in_ok-value.ensures.gives files ts hold reads).holds (reads_on reads (c.in_ok-value.ensures.gives files ts hold reads).gives.written.names)))
+ternary-returns-in-Some-false-clause-gives g t c = λ files left ts hold reads. comes_then (c.in_ok-value.ensures.gives files left ts hold reads).comes (comes_as (ap (λ (o : Option Bool). chosen c.args.line o (is_disabler (data_of c.in_ok-value.value)) (ruled (value_of (folder left) (tree_at ts c.args.yes))) (ruled (value_of (folder left) (tree_at ts c.args.no)))) (sym (sym c.in-Some-false.ensures ∙ ap Some c.in-Some-false.field-0-test))) (c.eval-in-Some-false.ensures.gives files left ts (c.in_ok-value.ensures.gives files left ts hold reads).comes.holds (reads_on reads (c.in_ok-value.ensures.gives files left ts hold reads).comes.gives.written.names)))
+
+pub ternary-returns-in_err-unchosen-in-None-clause-gives : goal.ternary-returns-in_err-unchosen-in-None-clause-gives
+ternary-returns-in_err-unchosen-in-None-clause-gives g t c = λ files left ts hold reads. comes_then (c.in_ok-value.ensures.gives files left ts hold reads).comes (comes_as (ap (λ (o : Option Bool). chosen c.args.line o (is_disabler (data_of c.in_ok-value.value)) (ruled (value_of (folder left) (tree_at ts c.args.yes))) (ruled (value_of (folder left) (tree_at ts c.args.no)))) c.in-None.ensures) (comes_last (c.in_err-unchosen-in-None.ensures.gives files (c.in_ok-value.ensures.gives files left ts hold reads).comes.holds) c.from_residual-in_err-unchosen-in-None.ensures.1))
 
 pub ternary-returns-clause-gives : goal.ternary-returns-clause-gives
-ternary-returns-clause-gives g t c = λ files ts hold reads. given_then (c.in_ok-value.ensures.gives files ts hold reads) (given_as (ap (λ (o : Option Bool). chosen c.args.line o (is_disabler (data_of c.in_ok-value.value)) (ruled (value_of (tree_at ts c.args.yes))) (ruled (value_of (tree_at ts c.args.no)))) c.in-None.ensures) (c.unchosen.ensures.gives files (c.in_ok-value.ensures.gives files ts hold reads).holds))
+ternary-returns-clause-gives g t c = λ files left ts hold reads. comes_given (given_then (c.in_ok-value.ensures.gives files left ts hold reads).comes (given_as (ap (λ (o : Option Bool). chosen c.args.line o (is_disabler (data_of c.in_ok-value.value)) (ruled (value_of (folder left) (tree_at ts c.args.yes))) (ruled (value_of (folder left) (tree_at ts c.args.no)))) c.in-None.ensures) (c.in_ok-unchosen-in-None.ensures.gives files (c.in_ok-value.ensures.gives files left ts hold reads).comes.holds)))
 
 pub list-loop-item-init : goal.list-loop-item-init
-list-loop-item-init g t c = record { same = (refl, (refl, (refl, refl))); tree = refl; out = refl; done = λ files ts hold reads. rw c.new-values.ensures.items (leads_start hold) }
+list-loop-item-init g t c = record { same = (refl, (refl, (refl, refl))); tree = refl; out = refl; done = λ files left ts hold reads. rw c.new-values.ensures.items (leads_start hold) }
 
 pub list-returns-in_err-value-clause-gives : goal.list-returns-in_err-value-clause-gives
-list-returns-in_err-value-clause-gives g t c = λ files ts hold reads.
-    let led = leads_as (ap (λ ys. next (values_of (items_of c.loop-item.values.items) (expressions ys)) (listed c.args.line)) (next_item (tree_at ts) c.args.items.now c.loop-item.item-index 0 c.loop-item-test.true)) (c.loop-item.invariant.done files ts hold reads) in
-    leads_end led (given_stop_inside (c.in_err-value.ensures.gives files ts led.holds (reads_on reads led.continues.written.names)) c.from_residual.ensures.1)
+list-returns-in_err-value-clause-gives g t c = λ files left ts hold reads.
+    let led = leads_as (ap (λ ys. next (values_of (folder left) (items_of c.loop-item.values.items) (expressions ys)) (listed c.args.line)) (next_item (tree_at ts) c.args.items.now c.loop-item.item-index 0 c.loop-item-test.true)) (c.loop-item.invariant.done files left ts hold reads) in
+    comes_end led (comes_halt_inside (c.in_err-value.ensures.gives files left ts led.holds (reads_on reads led.continues.written.names)) c.from_residual.ensures.1)
 
 pub list-returns-in_err-push-clause-gives : goal.list-returns-in_err-push-clause-gives
-list-returns-in_err-push-clause-gives g t c = λ files ts hold reads.
-    let led = leads_as (ap (λ ys. next (values_of (items_of c.loop-item.values.items) (expressions ys)) (listed c.args.line)) (next_item (tree_at ts) c.args.items.now c.loop-item.item-index 0 c.loop-item-test.true)) (c.loop-item.invariant.done files ts hold reads) in
-    let more = leads_inside led (c.in_ok-value.ensures.gives files ts led.holds (reads_on reads led.continues.written.names)) in
-    leads_end more (given_none more.holds c.from_residual-in_err-push.ensures.1)
+list-returns-in_err-push-clause-gives g t c = λ files left ts hold reads.
+    let led = leads_as (ap (λ ys. next (values_of (folder left) (items_of c.loop-item.values.items) (expressions ys)) (listed c.args.line)) (next_item (tree_at ts) c.args.items.now c.loop-item.item-index 0 c.loop-item-test.true)) (c.loop-item.invariant.done files left ts hold reads) in
+    let more = leads_inside led (c.in_ok-value.ensures.gives files left ts led.holds (reads_on reads led.continues.written.names)).comes in
+    comes_end more (comes_none more.holds c.from_residual-in_err-push.ensures.1)
 
 pub list-loop-item-preserved : goal.list-loop-item-preserved
 list-loop-item-preserved g t c = record {
   same = search rules;
   tree = search rules;
   out = search rules;
-  done = λ files ts hold reads.
-      let led = leads_as (ap (λ ys. next (values_of (items_of c.loop-item.values.items) (expressions ys)) (listed c.args.line)) (next_item (tree_at ts) c.args.items.now c.loop-item.item-index 0 c.loop-item-test.true)) (c.loop-item.invariant.done files ts hold reads) in
+  done = λ files left ts hold reads.
+      let led = leads_as (ap (λ ys. next (values_of (folder left) (items_of c.loop-item.values.items) (expressions ys)) (listed c.args.line)) (next_item (tree_at ts) c.args.items.now c.loop-item.item-index 0 c.loop-item-test.true)) (c.loop-item.invariant.done files left ts hold reads) in
       let more = ap items_of c.in_ok-push.ensures.items ∙ items_of-append c.loop-item.values.items (c.in_ok-value.value ∷ []) in
-      rw more (leads_inside led (c.in_ok-value.ensures.gives files ts led.holds (reads_on reads led.continues.written.names)));
+      rw more (leads_inside led (c.in_ok-value.ensures.gives files left ts led.holds (reads_on reads led.continues.written.names)).comes);
 }
 
+pub list-returns-in_err-listed-clause-gives : goal.list-returns-in_err-listed-clause-gives
+list-returns-in_err-listed-clause-gives g t c = λ files left ts hold reads.
+    let led = leads_as (ap (λ ys. next (values_of (folder left) (items_of c.loop-item.values.items) (expressions ys)) (listed c.args.line)) (no_item (tree_at ts) c.args.items.now c.loop-item.item-index c.loop-item-test.false)) (c.loop-item.invariant.done files left ts hold reads) in
+    comes_end led (comes_then {view = λ (ds : Items). ds} {x = items_of c.loop-item.values.items} (given_give led.holds refl) (comes_last (c.in_err-listed.ensures.gives files led.holds) c.from_residual-in_err-listed.ensures.1))
+
 pub list-returns-clause-gives : goal.list-returns-clause-gives
-list-returns-clause-gives g t c = λ files ts hold reads.
-    let led = leads_as (ap (λ ys. next (values_of (items_of c.loop-item.values.items) (expressions ys)) (listed c.args.line)) (no_item (tree_at ts) c.args.items.now c.loop-item.item-index c.loop-item-test.false)) (c.loop-item.invariant.done files ts hold reads) in
-    leads_end led (given_then {view = λ (ds : Items). ds} {x = items_of c.loop-item.values.items} (given_give led.holds refl) (c.listed.ensures.gives files led.holds))
+list-returns-clause-gives g t c = λ files left ts hold reads.
+    let led = leads_as (ap (λ ys. next (values_of (folder left) (items_of c.loop-item.values.items) (expressions ys)) (listed c.args.line)) (no_item (tree_at ts) c.args.items.now c.loop-item.item-index c.loop-item-test.false)) (c.loop-item.invariant.done files left ts hold reads) in
+    comes_given (leads_end led (given_then {view = λ (ds : Items). ds} {x = items_of c.loop-item.values.items} (given_give led.holds refl) (c.in_ok-listed.ensures.gives files led.holds)))
 
 pub dictionary-loop-entry-init : goal.dictionary-loop-entry-init
-dictionary-loop-entry-init g t c = record { same = (refl, (refl, (refl, refl))); tree = refl; out = refl; done = λ files ts hold reads. rw c.new-pairs.ensures.items (leads_start hold) }
+dictionary-loop-entry-init g t c = record { same = (refl, (refl, (refl, refl))); tree = refl; out = refl; done = λ files left ts hold reads. rw c.new-pairs.ensures.items (leads_start hold) }
 
 pub dictionary-returns-in_err-key-clause-gives : goal.dictionary-returns-in_err-key-clause-gives
-dictionary-returns-in_err-key-clause-gives g t c = λ files ts hold reads.
-    let led = leads_as (ap (λ ys. next (entries_of (pairs_of c.loop-entry.pairs.items) (entries ys)) (paired c.args.line)) (next_item (entry_at ts) c.args.entries.now c.loop-entry.entry-index (record { key = 0; value = 0 }) c.loop-entry-test.true)) (c.loop-entry.invariant.done files ts hold reads) in
-    leads_end led (given_stop_inside (c.in_err-key.ensures.gives files ts led.holds (reads_on reads led.continues.written.names)) c.from_residual.ensures.1)
+dictionary-returns-in_err-key-clause-gives g t c = λ files left ts hold reads.
+    let led = leads_as (ap (λ ys. next (entries_of (folder left) (pairs_of c.loop-entry.pairs.items) (entries ys)) (paired c.args.line)) (next_item (entry_at ts) c.args.entries.now c.loop-entry.entry-index (record { key = 0; value = 0 }) c.loop-entry-test.true)) (c.loop-entry.invariant.done files left ts hold reads) in
+    comes_end led (comes_halt_inside (c.in_err-key.ensures.gives files left ts led.holds (reads_on reads led.continues.written.names)) c.from_residual.ensures.1)
 
 pub dictionary-returns-in_err-value-clause-gives : goal.dictionary-returns-in_err-value-clause-gives
-dictionary-returns-in_err-value-clause-gives g t c = λ files ts hold reads.
-    let led = leads_as (ap (λ ys. next (entries_of (pairs_of c.loop-entry.pairs.items) (entries ys)) (paired c.args.line)) (next_item (entry_at ts) c.args.entries.now c.loop-entry.entry-index (record { key = 0; value = 0 }) c.loop-entry-test.true)) (c.loop-entry.invariant.done files ts hold reads) in
-    let keyed = leads_inside led (c.in_ok-key.ensures.gives files ts led.holds (reads_on reads led.continues.written.names)) in
-    leads_end keyed (given_stop_inside (c.in_err-value.ensures.gives files ts keyed.holds (reads_on reads keyed.continues.written.names)) c.from_residual-in_err-value.ensures.1)
+dictionary-returns-in_err-value-clause-gives g t c = λ files left ts hold reads.
+    let led = leads_as (ap (λ ys. next (entries_of (folder left) (pairs_of c.loop-entry.pairs.items) (entries ys)) (paired c.args.line)) (next_item (entry_at ts) c.args.entries.now c.loop-entry.entry-index (record { key = 0; value = 0 }) c.loop-entry-test.true)) (c.loop-entry.invariant.done files left ts hold reads) in
+    let keyed = leads_inside led (c.in_ok-key.ensures.gives files left ts led.holds (reads_on reads led.continues.written.names)).comes in
+    comes_end keyed (comes_halt_inside (c.in_err-value.ensures.gives files left ts keyed.holds (reads_on reads keyed.continues.written.names)) c.from_residual-in_err-value.ensures.1)
 
 pub dictionary-returns-in_err-push-clause-gives : goal.dictionary-returns-in_err-push-clause-gives
-dictionary-returns-in_err-push-clause-gives g t c = λ files ts hold reads.
-    let led = leads_as (ap (λ ys. next (entries_of (pairs_of c.loop-entry.pairs.items) (entries ys)) (paired c.args.line)) (next_item (entry_at ts) c.args.entries.now c.loop-entry.entry-index (record { key = 0; value = 0 }) c.loop-entry-test.true)) (c.loop-entry.invariant.done files ts hold reads) in
-    let keyed = leads_inside led (c.in_ok-key.ensures.gives files ts led.holds (reads_on reads led.continues.written.names)) in
-    let more = leads_inside keyed (c.in_ok-value.ensures.gives files ts keyed.holds (reads_on reads keyed.continues.written.names)) in
-    leads_end more (given_none more.holds c.from_residual-in_err-push.ensures.1)
+dictionary-returns-in_err-push-clause-gives g t c = λ files left ts hold reads.
+    let led = leads_as (ap (λ ys. next (entries_of (folder left) (pairs_of c.loop-entry.pairs.items) (entries ys)) (paired c.args.line)) (next_item (entry_at ts) c.args.entries.now c.loop-entry.entry-index (record { key = 0; value = 0 }) c.loop-entry-test.true)) (c.loop-entry.invariant.done files left ts hold reads) in
+    let keyed = leads_inside led (c.in_ok-key.ensures.gives files left ts led.holds (reads_on reads led.continues.written.names)).comes in
+    let more = leads_inside keyed (c.in_ok-value.ensures.gives files left ts keyed.holds (reads_on reads keyed.continues.written.names)).comes in
+    comes_end more (comes_none more.holds c.from_residual-in_err-push.ensures.1)
 
 pub dictionary-loop-entry-preserved : goal.dictionary-loop-entry-preserved
 dictionary-loop-entry-preserved g t c = record {
   same = search rules;
   tree = search rules;
   out = search rules;
-  done = λ files ts hold reads.
-      let led = leads_as (ap (λ ys. next (entries_of (pairs_of c.loop-entry.pairs.items) (entries ys)) (paired c.args.line)) (next_item (entry_at ts) c.args.entries.now c.loop-entry.entry-index (record { key = 0; value = 0 }) c.loop-entry-test.true)) (c.loop-entry.invariant.done files ts hold reads) in
-      let keyed = leads_inside led (c.in_ok-key.ensures.gives files ts led.holds (reads_on reads led.continues.written.names)) in
+  done = λ files left ts hold reads.
+      let led = leads_as (ap (λ ys. next (entries_of (folder left) (pairs_of c.loop-entry.pairs.items) (entries ys)) (paired c.args.line)) (next_item (entry_at ts) c.args.entries.now c.loop-entry.entry-index (record { key = 0; value = 0 }) c.loop-entry-test.true)) (c.loop-entry.invariant.done files left ts hold reads) in
+      let keyed = leads_inside led (c.in_ok-key.ensures.gives files left ts led.holds (reads_on reads led.continues.written.names)).comes in
       let more = ap pairs_of c.in_ok-push.ensures.items ∙ pairs_of-push c.loop-entry.pairs.items c.in_ok-key.key c.in_ok-value.value in
-      rw more (leads_inside keyed (c.in_ok-value.ensures.gives files ts keyed.holds (reads_on reads keyed.continues.written.names)));
+      rw more (leads_inside keyed (c.in_ok-value.ensures.gives files left ts keyed.holds (reads_on reads keyed.continues.written.names)).comes);
 }
 
+pub dictionary-returns-in_err-paired-clause-gives : goal.dictionary-returns-in_err-paired-clause-gives
+dictionary-returns-in_err-paired-clause-gives g t c = λ files left ts hold reads.
+    let led = leads_as (ap (λ ys. next (entries_of (folder left) (pairs_of c.loop-entry.pairs.items) (entries ys)) (paired c.args.line)) (no_item (entry_at ts) c.args.entries.now c.loop-entry.entry-index c.loop-entry-test.false)) (c.loop-entry.invariant.done files left ts hold reads) in
+    comes_end led (comes_then {view = λ (ps : List (Data × Data)). ps} {x = pairs_of c.loop-entry.pairs.items} (given_give led.holds refl) (comes_last (c.in_err-paired.ensures.gives files led.holds) c.from_residual-in_err-paired.ensures.1))
+
 pub dictionary-returns-clause-gives : goal.dictionary-returns-clause-gives
-dictionary-returns-clause-gives g t c = λ files ts hold reads.
-    let led = leads_as (ap (λ ys. next (entries_of (pairs_of c.loop-entry.pairs.items) (entries ys)) (paired c.args.line)) (no_item (entry_at ts) c.args.entries.now c.loop-entry.entry-index c.loop-entry-test.false)) (c.loop-entry.invariant.done files ts hold reads) in
-    leads_end led (given_then {view = λ (ps : List (Data × Data)). ps} {x = pairs_of c.loop-entry.pairs.items} (given_give led.holds refl) (c.paired.ensures.gives files led.holds))
+dictionary-returns-clause-gives g t c = λ files left ts hold reads.
+    let led = leads_as (ap (λ ys. next (entries_of (folder left) (pairs_of c.loop-entry.pairs.items) (entries ys)) (paired c.args.line)) (no_item (entry_at ts) c.args.entries.now c.loop-entry.entry-index c.loop-entry-test.false)) (c.loop-entry.invariant.done files left ts hold reads) in
+    comes_given (leads_end led (given_then {view = λ (ps : List (Data × Data)). ps} {x = pairs_of c.loop-entry.pairs.items} (given_give led.holds refl) (c.in_ok-paired.ensures.gives files led.holds)))
 
 pub link-returns-in_err-method_at-in-Method-clause-gives : goal.link-returns-in_err-method_at-in-Method-clause-gives
-link-returns-in_err-method_at-in-Method-clause-gives g t c = λ files ts hold reads.
-    given_as (ap (λ (x : LinkNode). link_of c.args.line (data_of c.args.whole) (link_at ts x)) (sym c.in-Method.is))
-    (given_as (ap (λ (name : List ℕ). method_of c.args.line (data_of c.args.whole) name (arguments_of no_arguments (arguments (map (argument_at ts) c.in-Method.arguments.items)))) c.deref.ensures)
-    (given_stop (c.in_err-method_at-in-Method.ensures.gives files hold) c.from_residual.ensures.1))
+link-returns-in_err-method_at-in-Method-clause-gives g t c = λ files left ts hold reads.
+    comes_as (ap (λ (x : LinkNode). link_of (folder left) c.args.line (data_of c.args.whole) (link_at ts x)) (sym c.in-Method.is))
+    (comes_as (ap (λ (name : List ℕ). method_of c.args.line (data_of c.args.whole) name (arguments_of (folder left) no_arguments (arguments (map (argument_at ts) c.in-Method.arguments.items)))) c.deref.ensures)
+    (comes_stop (c.in_err-method_at-in-Method.ensures.gives files hold) c.from_residual.ensures.1))
 
 pub link-returns-in_err-arguments-in-Method-clause-gives : goal.link-returns-in_err-arguments-in-Method-clause-gives
-link-returns-in_err-arguments-in-Method-clause-gives g t c = λ files ts hold reads.
-    given_as (ap (λ (x : LinkNode). link_of c.args.line (data_of c.args.whole) (link_at ts x)) (sym c.in-Method.is))
-    (given_as (ap (λ (name : List ℕ). method_of c.args.line (data_of c.args.whole) name (arguments_of no_arguments (arguments (map (argument_at ts) c.in-Method.arguments.items)))) c.deref.ensures)
-    (given_as (ap (λ (xs : List ArgumentNode). method_of c.args.line (data_of c.args.whole) c.deref.result.now (arguments_of no_arguments (arguments (map (argument_at ts) xs)))) c.deref-in-Method.ensures.value)
-    (given_then (c.in_ok-method_at-in-Method.ensures.gives files hold) (given_stop (c.in_err-arguments-in-Method.ensures.gives files ts hold reads) c.from_residual-in_err-arguments-in-Method.ensures.1))))
+link-returns-in_err-arguments-in-Method-clause-gives g t c = λ files left ts hold reads.
+    comes_as (ap (λ (x : LinkNode). link_of (folder left) c.args.line (data_of c.args.whole) (link_at ts x)) (sym c.in-Method.is))
+    (comes_as (ap (λ (name : List ℕ). method_of c.args.line (data_of c.args.whole) name (arguments_of (folder left) no_arguments (arguments (map (argument_at ts) c.in-Method.arguments.items)))) c.deref.ensures)
+    (comes_as (ap (λ (xs : List ArgumentNode). method_of c.args.line (data_of c.args.whole) c.deref.result.now (arguments_of (folder left) no_arguments (arguments (map (argument_at ts) xs)))) c.deref-in-Method.ensures.value)
+    (comes_then (c.in_ok-method_at-in-Method.ensures.gives files hold) (comes_halt (c.in_err-arguments-in-Method.ensures.gives files left ts hold reads) c.from_residual-in_err-arguments-in-Method.ensures.1))))
+
+pub link-returns-in_err-method_called-in-Method-clause-gives : goal.link-returns-in_err-method_called-in-Method-clause-gives
+link-returns-in_err-method_called-in-Method-clause-gives g t c = λ files left ts hold reads.
+    let asked = (c.in_ok-arguments-in-Method.ensures.gives files left ts hold reads).comes in
+    comes_as (ap (λ (x : LinkNode). link_of (folder left) c.args.line (data_of c.args.whole) (link_at ts x)) (sym c.in-Method.is))
+    (comes_as (ap (λ (name : List ℕ). method_of c.args.line (data_of c.args.whole) name (arguments_of (folder left) no_arguments (arguments (map (argument_at ts) c.in-Method.arguments.items)))) c.deref.ensures)
+    (comes_as (ap (λ (xs : List ArgumentNode). method_of c.args.line (data_of c.args.whole) c.deref.result.now (arguments_of (folder left) no_arguments (arguments (map (argument_at ts) xs)))) c.deref-in-Method.ensures.value)
+    (comes_then (c.in_ok-method_at-in-Method.ensures.gives files hold) (comes_then asked
+    (comes_as (ap (λ (name : List ℕ). method_called c.args.line (data_of c.args.whole) name (arguments_data c.in_ok-arguments-in-Method.arguments)) (c.deref-in-Method-2.ensures ∙ sym c.deref.ensures))
+    (comes_last (c.in_err-method_called-in-Method.ensures.gives files asked.holds) c.from_residual-in_err-method_called-in-Method.ensures.1))))))
 
 pub link-returns-in-Method-clause-gives : goal.link-returns-in-Method-clause-gives
-link-returns-in-Method-clause-gives g t c = λ files ts hold reads.
-    let asked = c.in_ok-arguments-in-Method.ensures.gives files ts hold reads in
-    given_as (ap (λ (x : LinkNode). link_of c.args.line (data_of c.args.whole) (link_at ts x)) (sym c.in-Method.is))
-    (given_as (ap (λ (name : List ℕ). method_of c.args.line (data_of c.args.whole) name (arguments_of no_arguments (arguments (map (argument_at ts) c.in-Method.arguments.items)))) c.deref.ensures)
-    (given_as (ap (λ (xs : List ArgumentNode). method_of c.args.line (data_of c.args.whole) c.deref.result.now (arguments_of no_arguments (arguments (map (argument_at ts) xs)))) c.deref-in-Method.ensures.value)
+link-returns-in-Method-clause-gives g t c = λ files left ts hold reads.
+    let asked = (c.in_ok-arguments-in-Method.ensures.gives files left ts hold reads).comes in
+    comes_given (given_as (ap (λ (x : LinkNode). link_of (folder left) c.args.line (data_of c.args.whole) (link_at ts x)) (sym c.in-Method.is))
+    (given_as (ap (λ (name : List ℕ). method_of c.args.line (data_of c.args.whole) name (arguments_of (folder left) no_arguments (arguments (map (argument_at ts) c.in-Method.arguments.items)))) c.deref.ensures)
+    (given_as (ap (λ (xs : List ArgumentNode). method_of c.args.line (data_of c.args.whole) c.deref.result.now (arguments_of (folder left) no_arguments (arguments (map (argument_at ts) xs)))) c.deref-in-Method.ensures.value)
     (given_then (c.in_ok-method_at-in-Method.ensures.gives files hold) (given_then asked
     (given_as (ap (λ (name : List ℕ). method_called c.args.line (data_of c.args.whole) name (arguments_data c.in_ok-arguments-in-Method.arguments)) (c.deref-in-Method-2.ensures ∙ sym c.deref.ensures))
-    (c.method_called.ensures.gives files asked.holds))))))
+    (c.in_ok-method_called-in-Method.ensures.gives files asked.holds)))))))
 
 pub link-returns-in_err-at-in-Index-clause-gives : goal.link-returns-in_err-at-in-Index-clause-gives
-link-returns-in_err-at-in-Index-clause-gives g t c = λ files ts hold reads.
-    given_as (ap (λ (x : LinkNode). link_of c.args.line (data_of c.args.whole) (link_at ts x)) (sym c.in-Index.is))
-    (given_stop (c.in_err-at-in-Index.ensures.gives files ts hold reads) c.from_residual-in_err-at-in-Index.ensures.1)
+link-returns-in_err-at-in-Index-clause-gives g t c = λ files left ts hold reads.
+    comes_as (ap (λ (x : LinkNode). link_of (folder left) c.args.line (data_of c.args.whole) (link_at ts x)) (sym c.in-Index.is))
+    (comes_halt (c.in_err-at-in-Index.ensures.gives files left ts hold reads) c.from_residual-in_err-at-in-Index.ensures.1)
+
+pub link-returns-in_err-part_at-in-Index-clause-gives : goal.link-returns-in_err-part_at-in-Index-clause-gives
+link-returns-in_err-part_at-in-Index-clause-gives g t c = λ files left ts hold reads.
+    let at = (c.in_ok-at-in-Index.ensures.gives files left ts hold reads).comes in
+    comes_as (ap (λ (x : LinkNode). link_of (folder left) c.args.line (data_of c.args.whole) (link_at ts x)) (sym c.in-Index.is))
+    (comes_then at (comes_last (c.in_err-part_at-in-Index.ensures.gives files at.holds) c.from_residual-in_err-part_at-in-Index.ensures.1))
 
 pub link-returns-clause-gives : goal.link-returns-clause-gives
-link-returns-clause-gives g t c = λ files ts hold reads.
-    let at = c.in_ok-at-in-Index.ensures.gives files ts hold reads in
-    given_as (ap (λ (x : LinkNode). link_of c.args.line (data_of c.args.whole) (link_at ts x)) (sym c.in-Index.is))
-    (given_then at (c.part_at.ensures.gives files at.holds))
+link-returns-clause-gives g t c = λ files left ts hold reads.
+    let at = (c.in_ok-at-in-Index.ensures.gives files left ts hold reads).comes in
+    comes_given (given_as (ap (λ (x : LinkNode). link_of (folder left) c.args.line (data_of c.args.whole) (link_at ts x)) (sym c.in-Index.is))
+    (given_then at (c.in_ok-part_at-in-Index.ensures.gives files at.holds)))
 
 pub chain-returns-in_err-value-clause-gives : goal.chain-returns-in_err-value-clause-gives
-chain-returns-in_err-value-clause-gives g t c = λ files ts hold reads. given_stop (c.in_err-value.ensures.gives files ts hold reads) c.from_residual.ensures.1
+chain-returns-in_err-value-clause-gives g t c = λ files left ts hold reads. comes_halt (c.in_err-value.ensures.gives files left ts hold reads) c.from_residual.ensures.1
 
 pub chain-loop-operand-init : goal.chain-loop-operand-init
-chain-loop-operand-init g t c = record { same = search rules; tree = search rules; out = search rules; done = λ files ts hold reads. leads_on (leads_start hold) (c.in_ok-value.ensures.gives files ts hold reads) }
+chain-loop-operand-init g t c = record { same = search rules; tree = search rules; out = search rules; done = λ files left ts hold reads. leads_on (leads_start hold) (c.in_ok-value.ensures.gives files left ts hold reads).comes }
 
 pub chain-returns-in_err-begun-clause-gives : goal.chain-returns-in_err-begun-clause-gives
-chain-returns-in_err-begun-clause-gives g t c = λ files ts hold reads.
-    let led = leads_as (ap (λ ys. chain_of c.args.line (data_of c.loop-operand.value) (operands ys)) (next_item (operand_at ts) c.args.others.now c.loop-operand.operand-index (record { operator = flatop.Or; value = 0 }) c.loop-operand-test.true)) (c.loop-operand.invariant.done files ts hold reads) in
-    leads_end led (given_stop (c.in_err-begun.ensures.gives files (tree_at ts (get_or c.args.others.now c.loop-operand.operand-index (record { operator = flatop.Or; value = 0 })).value) led.holds) c.from_residual-in_err-begun.ensures.1)
+chain-returns-in_err-begun-clause-gives g t c = λ files left ts hold reads.
+    let led = leads_as (ap (λ ys. chain_of (folder left) c.args.line (data_of c.loop-operand.value) (operands ys)) (next_item (operand_at ts) c.args.others.now c.loop-operand.operand-index (record { operator = flatop.Or; value = 0 }) c.loop-operand-test.true)) (c.loop-operand.invariant.done files left ts hold reads) in
+    comes_end led (comes_stop {view = data_of} (c.in_err-begun.ensures.gives files left (tree_at ts (get_or c.args.others.now c.loop-operand.operand-index (record { operator = flatop.Or; value = 0 })).value) led.holds) c.from_residual-in_err-begun.ensures.1)
 
 pub chain-returns-in_err-right-clause-gives : goal.chain-returns-in_err-right-clause-gives
-chain-returns-in_err-right-clause-gives g t c = λ files ts hold reads.
-    let led = leads_as (ap (λ ys. chain_of c.args.line (data_of c.loop-operand.value) (operands ys)) (next_item (operand_at ts) c.args.others.now c.loop-operand.operand-index (record { operator = flatop.Or; value = 0 }) c.loop-operand-test.true)) (c.loop-operand.invariant.done files ts hold reads) in
-    let right = c.in_err-right.ensures.gives files ts led.holds (reads_on reads led.continues.written.names) in
-    leads_end led (given_stop (goes_on files c.args.line _ _ _ c.in-Waits.is (c.in_ok-begun.ensures.gives files (tree_at ts (get_or c.args.others.now c.loop-operand.operand-index (record { operator = flatop.Or; value = 0 })).value) led.holds) _ _ (given_stop right refl)) c.from_residual-in_err-right.ensures.1)
+chain-returns-in_err-right-clause-gives g t c = λ files left ts hold reads.
+    let led = leads_as (ap (λ ys. chain_of (folder left) c.args.line (data_of c.loop-operand.value) (operands ys)) (next_item (operand_at ts) c.args.others.now c.loop-operand.operand-index (record { operator = flatop.Or; value = 0 }) c.loop-operand-test.true)) (c.loop-operand.invariant.done files left ts hold reads) in
+    let half = leads_within led (goes_on files c.args.line _ _ _ c.in-Waits.is (c.in_ok-begun.ensures.gives files left (tree_at ts (get_or c.args.others.now c.loop-operand.operand-index (record { operator = flatop.Or; value = 0 })).value) led.holds)) in
+    comes_end half (comes_halt_inside (c.in_err-right.ensures.gives files left ts half.holds (reads_on reads half.continues.written.names)) c.from_residual-in_err-right.ensures.1)
 
 pub chain-returns-in_err-value-2-clause-gives : goal.chain-returns-in_err-value-2-clause-gives
-chain-returns-in_err-value-2-clause-gives g t c = λ files ts hold reads.
-    let led = leads_as (ap (λ ys. chain_of c.args.line (data_of c.loop-operand.value) (operands ys)) (next_item (operand_at ts) c.args.others.now c.loop-operand.operand-index (record { operator = flatop.Or; value = 0 }) c.loop-operand-test.true)) (c.loop-operand.invariant.done files ts hold reads) in
-    let right = c.in_ok-right.ensures.gives files ts led.holds (reads_on reads led.continues.written.names) in
-    let done = given_then right (c.in_err-value-2.ensures.gives files right.holds) in
-    leads_end led (given_stop (goes_on files c.args.line _ _ _ c.in-Waits.is (c.in_ok-begun.ensures.gives files (tree_at ts (get_or c.args.others.now c.loop-operand.operand-index (record { operator = flatop.Or; value = 0 })).value) led.holds) _ _ done) c.from_residual-in_err-value-2.ensures.1)
+chain-returns-in_err-value-2-clause-gives g t c = λ files left ts hold reads.
+    let led = leads_as (ap (λ ys. chain_of (folder left) c.args.line (data_of c.loop-operand.value) (operands ys)) (next_item (operand_at ts) c.args.others.now c.loop-operand.operand-index (record { operator = flatop.Or; value = 0 }) c.loop-operand-test.true)) (c.loop-operand.invariant.done files left ts hold reads) in
+    let half = leads_within led (goes_on files c.args.line _ _ _ c.in-Waits.is (c.in_ok-begun.ensures.gives files left (tree_at ts (get_or c.args.others.now c.loop-operand.operand-index (record { operator = flatop.Or; value = 0 })).value) led.holds)) in
+    let whole = leads_inside half (c.in_ok-right.ensures.gives files left ts half.holds (reads_on reads half.continues.written.names)).comes in
+    comes_end whole (comes_stop (c.in_err-value-2.ensures.gives files whole.holds) c.from_residual-in_err-value-2.ensures.1)
 
 pub chain-loop-operand-preserved-in-Decided : goal.chain-loop-operand-preserved-in-Decided
 chain-loop-operand-preserved-in-Decided g t c = record {
   same = search rules;
   tree = search rules;
   out = search rules;
-  done = λ files ts hold reads.
-      let led = leads_as (ap (λ ys. chain_of c.args.line (data_of c.loop-operand.value) (operands ys)) (next_item (operand_at ts) c.args.others.now c.loop-operand.operand-index (record { operator = flatop.Or; value = 0 }) c.loop-operand-test.true)) (c.loop-operand.invariant.done files ts hold reads) in
-      leads_on led (goes_on files c.args.line _ _ _ c.in-Decided.is (c.in_ok-begun.ensures.gives files (tree_at ts (get_or c.args.others.now c.loop-operand.operand-index (record { operator = flatop.Or; value = 0 })).value) led.holds));
+  done = λ files left ts hold reads.
+      let led = leads_as (ap (λ ys. chain_of (folder left) c.args.line (data_of c.loop-operand.value) (operands ys)) (next_item (operand_at ts) c.args.others.now c.loop-operand.operand-index (record { operator = flatop.Or; value = 0 }) c.loop-operand-test.true)) (c.loop-operand.invariant.done files left ts hold reads) in
+      leads_on led (goes_on files c.args.line _ _ _ c.in-Decided.is (c.in_ok-begun.ensures.gives files left (tree_at ts (get_or c.args.others.now c.loop-operand.operand-index (record { operator = flatop.Or; value = 0 })).value) led.holds));
 }
 
 pub chain-loop-operand-preserved : goal.chain-loop-operand-preserved
@@ -270,15 +306,15 @@ chain-loop-operand-preserved g t c = record {
   same = search rules;
   tree = search rules;
   out = search rules;
-  done = λ files ts hold reads.
-      let led = leads_as (ap (λ ys. chain_of c.args.line (data_of c.loop-operand.value) (operands ys)) (next_item (operand_at ts) c.args.others.now c.loop-operand.operand-index (record { operator = flatop.Or; value = 0 }) c.loop-operand-test.true)) (c.loop-operand.invariant.done files ts hold reads) in
-      let right = c.in_ok-right.ensures.gives files ts led.holds (reads_on reads led.continues.written.names) in
-      let done = given_then right (c.in_ok-value-2.ensures.gives files right.holds) in
-      leads_on led (goes_on files c.args.line _ _ _ c.in-Waits.is (c.in_ok-begun.ensures.gives files (tree_at ts (get_or c.args.others.now c.loop-operand.operand-index (record { operator = flatop.Or; value = 0 })).value) led.holds) _ _ done);
+  done = λ files left ts hold reads.
+      let led = leads_as (ap (λ ys. chain_of (folder left) c.args.line (data_of c.loop-operand.value) (operands ys)) (next_item (operand_at ts) c.args.others.now c.loop-operand.operand-index (record { operator = flatop.Or; value = 0 }) c.loop-operand-test.true)) (c.loop-operand.invariant.done files left ts hold reads) in
+      let half = leads_within led (goes_on files c.args.line _ _ _ c.in-Waits.is (c.in_ok-begun.ensures.gives files left (tree_at ts (get_or c.args.others.now c.loop-operand.operand-index (record { operator = flatop.Or; value = 0 })).value) led.holds)) in
+      let whole = leads_inside half (c.in_ok-right.ensures.gives files left ts half.holds (reads_on reads half.continues.written.names)).comes in
+      leads_on whole (c.in_ok-value-2.ensures.gives files whole.holds);
 }
 
 pub chain-returns-clause-gives : goal.chain-returns-clause-gives
-chain-returns-clause-gives g t c = λ files ts hold reads. leads_end (leads_as (ap (λ ys. chain_of c.args.line (data_of c.loop-operand.value) (operands ys)) (no_item (operand_at ts) c.args.others.now c.loop-operand.operand-index c.loop-operand-test.false)) (c.loop-operand.invariant.done files ts hold reads)) (given_give (c.loop-operand.invariant.done files ts hold reads).holds refl)
+chain-returns-clause-gives g t c = λ files left ts hold reads. comes_given (leads_end (leads_as (ap (λ ys. chain_of (folder left) c.args.line (data_of c.loop-operand.value) (operands ys)) (no_item (operand_at ts) c.args.others.now c.loop-operand.operand-index c.loop-operand-test.false)) (c.loop-operand.invariant.done files left ts hold reads)) (given_give (c.loop-operand.invariant.done files left ts hold reads).holds refl))
 
 pub form-asked-requires : goal.form-asked-requires
 form-asked-requires g t c κs lives = let reach : max (suc c.in-Postfix.first) (above above_link c.deref-in-Postfix.result.now) ≤ c.args.node = rw c.deref-in-Postfix.ensures.value (first_reach c.args.node c.in-Postfix.first above_link c.in-Postfix.links.items (link_within c.args.node) (links_reach c.args.node c.in-Postfix.links.items) (parts_at c.args.code.now c.args.node c.index.result.now (flat.Postfix c.in-Postfix.first c.in-Postfix.links c.in-Postfix.line) c.requires.here c.index.ensures c.in-Postfix.is)) in (omega arith, (lives.0, (lives.1.0, (lives.1.1, (omega arith, c.requires.room)))))
@@ -287,25 +323,38 @@ pub form-eval-requires : goal.form-eval-requires
 form-eval-requires g t c κs lives = let reach : suc c.in-Prefix.value ≤ c.args.node = number_reach c.args.node c.in-Prefix.value (parts_at c.args.code.now c.args.node c.index.result.now (flat.Prefix c.in-Prefix.prefix c.in-Prefix.value c.in-Prefix.line) c.requires.here c.index.ensures c.in-Prefix.is) in (omega arith, (lives.0, (lives.1.0, (lives.1.1, (omega arith, c.requires.room)))))
 
 pub form-returns-in_err-given-in-Postfix-clause-gives : goal.form-returns-in_err-given-in-Postfix-clause-gives
-form-returns-in_err-given-in-Postfix-clause-gives g t c = λ files ts hold reads.
-    given_as (ap value_of (sym (opened reads c.args.node c.index.result.now (flat.Postfix c.in-Postfix.first c.in-Postfix.links c.in-Postfix.line) c.requires.here c.index.ensures c.in-Postfix.is)))
-    (given_as (ap (λ (xs : List LinkNode). value_of (PostfixTree (tree_at ts c.in-Postfix.first) (links (map (link_at ts) xs)) c.in-Postfix.line)) c.deref-in-Postfix.ensures.value)
-    (given_stop (c.in_err-given-in-Postfix.ensures.gives files ts hold reads) c.from_residual.ensures.1))
+form-returns-in_err-given-in-Postfix-clause-gives g t c = λ files left ts hold reads.
+    comes_as (ap (value_of (folder left)) (sym (opened reads c.args.node c.index.result.now (flat.Postfix c.in-Postfix.first c.in-Postfix.links c.in-Postfix.line) c.requires.here c.index.ensures c.in-Postfix.is)))
+    (comes_as (ap (λ (xs : List LinkNode). value_of (folder left) (PostfixTree (tree_at ts c.in-Postfix.first) (links (map (link_at ts) xs)) c.in-Postfix.line)) c.deref-in-Postfix.ensures.value)
+    (comes_halt (c.in_err-given-in-Postfix.ensures.gives files left ts hold reads) c.from_residual-in_err-given-in-Postfix.ensures.1))
 
-pub form-returns-in_ok-given-in-Postfix-clause-gives : goal.form-returns-in_ok-given-in-Postfix-clause-gives
-form-returns-in_ok-given-in-Postfix-clause-gives g t c = λ files ts hold reads.
-    let given = c.in_ok-given-in-Postfix.ensures.gives files ts hold reads in
-    given_as (ap value_of (sym (opened reads c.args.node c.index.result.now (flat.Postfix c.in-Postfix.first c.in-Postfix.links c.in-Postfix.line) c.requires.here c.index.ensures c.in-Postfix.is)))
-    (given_as (ap (λ (xs : List LinkNode). value_of (PostfixTree (tree_at ts c.in-Postfix.first) (links (map (link_at ts) xs)) c.in-Postfix.line)) c.deref-in-Postfix.ensures.value)
-    (given_then given (c.needed.ensures.gives files given.holds)))
+pub form-returns-in_err-needed-in-Postfix-clause-gives : goal.form-returns-in_err-needed-in-Postfix-clause-gives
+form-returns-in_err-needed-in-Postfix-clause-gives g t c = λ files left ts hold reads.
+    let given = (c.in_ok-given-in-Postfix.ensures.gives files left ts hold reads).comes in
+    comes_as (ap (value_of (folder left)) (sym (opened reads c.args.node c.index.result.now (flat.Postfix c.in-Postfix.first c.in-Postfix.links c.in-Postfix.line) c.requires.here c.index.ensures c.in-Postfix.is)))
+    (comes_as (ap (λ (xs : List LinkNode). value_of (folder left) (PostfixTree (tree_at ts c.in-Postfix.first) (links (map (link_at ts) xs)) c.in-Postfix.line)) c.deref-in-Postfix.ensures.value)
+    (comes_then given (comes_last (c.in_err-needed-in-Postfix.ensures.gives files given.holds) c.from_residual-in_err-needed-in-Postfix.ensures.1)))
+
+pub form-returns-in_ok-needed-in-Postfix-clause-gives : goal.form-returns-in_ok-needed-in-Postfix-clause-gives
+form-returns-in_ok-needed-in-Postfix-clause-gives g t c = λ files left ts hold reads.
+    let given = (c.in_ok-given-in-Postfix.ensures.gives files left ts hold reads).comes in
+    comes_given (given_as (ap (value_of (folder left)) (sym (opened reads c.args.node c.index.result.now (flat.Postfix c.in-Postfix.first c.in-Postfix.links c.in-Postfix.line) c.requires.here c.index.ensures c.in-Postfix.is)))
+    (given_as (ap (λ (xs : List LinkNode). value_of (folder left) (PostfixTree (tree_at ts c.in-Postfix.first) (links (map (link_at ts) xs)) c.in-Postfix.line)) c.deref-in-Postfix.ensures.value)
+    (given_then given (c.in_ok-needed-in-Postfix.ensures.gives files given.holds))))
 
 pub form-returns-in_err-value-in-Prefix-clause-gives : goal.form-returns-in_err-value-in-Prefix-clause-gives
-form-returns-in_err-value-in-Prefix-clause-gives g t c = λ files ts hold reads.
-    given_as (ap value_of (sym (opened reads c.args.node c.index.result.now (flat.Prefix c.in-Prefix.prefix c.in-Prefix.value c.in-Prefix.line) c.requires.here c.index.ensures c.in-Prefix.is)))
-    (given_stop (c.in_err-value-in-Prefix.ensures.gives files ts hold reads) c.from_residual-in_err-value-in-Prefix.ensures.1)
+form-returns-in_err-value-in-Prefix-clause-gives g t c = λ files left ts hold reads.
+    comes_as (ap (value_of (folder left)) (sym (opened reads c.args.node c.index.result.now (flat.Prefix c.in-Prefix.prefix c.in-Prefix.value c.in-Prefix.line) c.requires.here c.index.ensures c.in-Prefix.is)))
+    (comes_halt (c.in_err-value-in-Prefix.ensures.gives files left ts hold reads) c.from_residual-in_err-value-in-Prefix.ensures.1)
 
-pub form-returns-in_ok-value-in-Prefix-clause-gives : goal.form-returns-in_ok-value-in-Prefix-clause-gives
-form-returns-in_ok-value-in-Prefix-clause-gives g t c = λ files ts hold reads.
-    let value = c.in_ok-value-in-Prefix.ensures.gives files ts hold reads in
-    given_as (ap value_of (sym (opened reads c.args.node c.index.result.now (flat.Prefix c.in-Prefix.prefix c.in-Prefix.value c.in-Prefix.line) c.requires.here c.index.ensures c.in-Prefix.is)))
-    (given_then value (c.prefixed.ensures.gives files value.holds))
+pub form-returns-in_err-prefixed-in-Prefix-clause-gives : goal.form-returns-in_err-prefixed-in-Prefix-clause-gives
+form-returns-in_err-prefixed-in-Prefix-clause-gives g t c = λ files left ts hold reads.
+    let value = (c.in_ok-value-in-Prefix.ensures.gives files left ts hold reads).comes in
+    comes_as (ap (value_of (folder left)) (sym (opened reads c.args.node c.index.result.now (flat.Prefix c.in-Prefix.prefix c.in-Prefix.value c.in-Prefix.line) c.requires.here c.index.ensures c.in-Prefix.is)))
+    (comes_then value (comes_last (c.in_err-prefixed-in-Prefix.ensures.gives files value.holds) c.from_residual-in_err-prefixed-in-Prefix.ensures.1))
+
+pub form-returns-in_ok-prefixed-in-Prefix-clause-gives : goal.form-returns-in_ok-prefixed-in-Prefix-clause-gives
+form-returns-in_ok-prefixed-in-Prefix-clause-gives g t c = λ files left ts hold reads.
+    let value = (c.in_ok-value-in-Prefix.ensures.gives files left ts hold reads).comes in
+    comes_given (given_as (ap (value_of (folder left)) (sym (opened reads c.args.node c.index.result.now (flat.Prefix c.in-Prefix.prefix c.in-Prefix.value c.in-Prefix.line) c.requires.here c.index.ensures c.in-Prefix.is)))
+    (given_then value (c.in_ok-prefixed-in-Prefix.ensures.gives files value.holds)))

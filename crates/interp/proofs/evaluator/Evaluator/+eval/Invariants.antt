@@ -9,6 +9,7 @@ use Rattle.world.specs.Gives.{Holds}
 use Rattle.world.specs.Plan.{next, ruled}
 use Rattle.interp.specs.Evaluates.{Leads, Reads, Same, stand_of}
 use Rattle.interp.specs.Expressions.{value_of, values_of, entries_of, arguments_of, links_of, chain_of, listed, paired}
+use Rattle.interp.specs.Folders.{folder}
 use Rattle.interp.specs.Parts.{above, above_number, above_entry, above_argument, above_operand, above_link}
 use Rattle.interp.proofs.evaluator.Evaluator.+eval.Given as goal
 
@@ -54,9 +55,9 @@ invariant-list-loop-item g l =
       same : Same l.fn.self l.self;
       tree : (see l.self.tree.now).failures ≡ (see l.fn.self.tree.now).failures;
       out : (heard l.self.out.now).failures ≡ (heard l.fn.self.out.now).failures;
-      done : (files : Files) (ts : List ExpressionTree) → Holds (see l.fn.self.tree.now) files → Reads ts l.code l.fn.self.store.now.names
-          → Leads files (value_of (ListTree (expressions (map (tree_at ts) l.fn.items)) l.fn.line)) (stand_of see heard l.fn.self)
-          (next (values_of (items_of l.values.items) (expressions (map (tree_at ts) (drop l.item-index l.items)))) (listed l.line)) (stand_of see heard l.self);
+      done : (files : Files) (left : ℕ) (ts : List ExpressionTree) → Holds (see l.fn.self.tree.now) files → Reads ts l.code l.fn.self.store.now.names
+          → Leads files (value_of (folder left) (ListTree (expressions (map (tree_at ts) l.fn.items)) l.fn.line)) (stand_of see heard l.fn.self)
+          (next (values_of (folder left) (items_of l.values.items) (expressions (map (tree_at ts) (drop l.item-index l.items)))) (listed l.line)) (stand_of see heard l.self);
     }
 
 abbrev pub invariant-dictionary-loop-entry : goal.invariant-dictionary-loop-entry
@@ -67,9 +68,9 @@ invariant-dictionary-loop-entry g l =
       same : Same l.fn.self l.self;
       tree : (see l.self.tree.now).failures ≡ (see l.fn.self.tree.now).failures;
       out : (heard l.self.out.now).failures ≡ (heard l.fn.self.out.now).failures;
-      done : (files : Files) (ts : List ExpressionTree) → Holds (see l.fn.self.tree.now) files → Reads ts l.code l.fn.self.store.now.names
-          → Leads files (value_of (DictionaryTree (entries (map (entry_at ts) l.fn.entries)) l.fn.line)) (stand_of see heard l.fn.self)
-          (next (entries_of (pairs_of l.pairs.items) (entries (map (entry_at ts) (drop l.entry-index l.entries)))) (paired l.line)) (stand_of see heard l.self);
+      done : (files : Files) (left : ℕ) (ts : List ExpressionTree) → Holds (see l.fn.self.tree.now) files → Reads ts l.code l.fn.self.store.now.names
+          → Leads files (value_of (folder left) (DictionaryTree (entries (map (entry_at ts) l.fn.entries)) l.fn.line)) (stand_of see heard l.fn.self)
+          (next (entries_of (folder left) (pairs_of l.pairs.items) (entries (map (entry_at ts) (drop l.entry-index l.entries)))) (paired l.line)) (stand_of see heard l.self);
     }
 
 abbrev pub invariant-arguments-loop-argument : goal.invariant-arguments-loop-argument
@@ -80,8 +81,8 @@ invariant-arguments-loop-argument g l =
       same : Same l.fn.self l.self;
       tree : (see l.self.tree.now).failures ≡ (see l.fn.self.tree.now).failures;
       out : (heard l.self.out.now).failures ≡ (heard l.fn.self.out.now).failures;
-      done : (files : Files) (ts : List ExpressionTree) → Holds (see l.fn.self.tree.now) files → Reads ts l.code l.fn.self.store.now.names
-          → Leads files (arguments_of no_arguments (arguments (map (argument_at ts) l.fn.arguments))) (stand_of see heard l.fn.self) (arguments_of (arguments_data l.evaluated) (arguments (map (argument_at ts) (drop l.argument-index l.arguments)))) (stand_of see heard l.self);
+      done : (files : Files) (left : ℕ) (ts : List ExpressionTree) → Holds (see l.fn.self.tree.now) files → Reads ts l.code l.fn.self.store.now.names
+          → Leads files (arguments_of (folder left) no_arguments (arguments (map (argument_at ts) l.fn.arguments))) (stand_of see heard l.fn.self) (arguments_of (folder left) (arguments_data l.evaluated) (arguments (map (argument_at ts) (drop l.argument-index l.arguments)))) (stand_of see heard l.self);
     }
 
 abbrev pub invariant-asked-loop-link : goal.invariant-asked-loop-link
@@ -92,8 +93,8 @@ invariant-asked-loop-link g l =
       same : Same l.fn.self l.self;
       tree : (see l.self.tree.now).failures ≡ (see l.fn.self.tree.now).failures;
       out : (heard l.self.out.now).failures ≡ (heard l.fn.self.out.now).failures;
-      done : (files : Files) (ts : List ExpressionTree) → Holds (see l.fn.self.tree.now) files → Reads ts l.code l.fn.self.store.now.names
-          → Leads files (next (ruled (value_of (tree_at ts l.fn.first))) (λ d. links_of l.fn.line (Some d) (links (map (link_at ts) l.fn.links)))) (stand_of see heard l.fn.self) (links_of l.line (option_map data_of l.given) (links (map (link_at ts) (drop l.link-index l.links)))) (stand_of see heard l.self);
+      done : (files : Files) (left : ℕ) (ts : List ExpressionTree) → Holds (see l.fn.self.tree.now) files → Reads ts l.code l.fn.self.store.now.names
+          → Leads files (next (ruled (value_of (folder left) (tree_at ts l.fn.first))) (λ d. links_of (folder left) l.fn.line (Some d) (links (map (link_at ts) l.fn.links)))) (stand_of see heard l.fn.self) (links_of (folder left) l.line (option_map data_of l.given) (links (map (link_at ts) (drop l.link-index l.links)))) (stand_of see heard l.self);
     }
 
 abbrev pub invariant-chain-loop-operand : goal.invariant-chain-loop-operand
@@ -104,6 +105,6 @@ invariant-chain-loop-operand g l =
       same : Same l.fn.self l.self;
       tree : (see l.self.tree.now).failures ≡ (see l.fn.self.tree.now).failures;
       out : (heard l.self.out.now).failures ≡ (heard l.fn.self.out.now).failures;
-      done : (files : Files) (ts : List ExpressionTree) → Holds (see l.fn.self.tree.now) files → Reads ts l.code l.fn.self.store.now.names
-          → Leads files (value_of (ChainTree (tree_at ts l.fn.first) (operands (map (operand_at ts) l.fn.others)) l.fn.line)) (stand_of see heard l.fn.self) (chain_of l.line (data_of l.value) (operands (map (operand_at ts) (drop l.operand-index l.others)))) (stand_of see heard l.self);
+      done : (files : Files) (left : ℕ) (ts : List ExpressionTree) → Holds (see l.fn.self.tree.now) files → Reads ts l.code l.fn.self.store.now.names
+          → Leads files (value_of (folder left) (ChainTree (tree_at ts l.fn.first) (operands (map (operand_at ts) l.fn.others)) l.fn.line)) (stand_of see heard l.fn.self) (chain_of (folder left) l.line (data_of l.value) (operands (map (operand_at ts) (drop l.operand-index l.others)))) (stand_of see heard l.self);
     }

@@ -1,4 +1,4 @@
-use Rattle.std.proofs.Common.{◌<◌, ◌≤◌, ℕ, List, Ok, length, get_or, map, option_map, sym, ap, subst, refl, ◌∙◌}
+use Rattle.std.proofs.Common.{◌<◌, ◌≤◌, ℕ, IsTrue, List, Ok, Err, length, get_or, map, option_map, sym, ap, subst, refl, ◌∙◌}
 use Rattle.std.specs.Prelude.{nat_lt, ◌&&◌}
 use Rattle.std.specs.List.{list_all}
 use Rattle.code.specs.Nodes.{tree_at}
@@ -14,13 +14,15 @@ use Rattle.world.specs.Plan.{give, next, ruled}
 use Rattle.interp.specs.Blocks.{block_by, branch_or, expressions_by, part_of, statements_by}
 use Rattle.interp.specs.Expressions.{value_of}
 use Rattle.interp.specs.Folders.{folder}
-use Rattle.interp.specs.Frames.{above_branch, behind_all, one_round}
+use Rattle.interp.specs.Frames.{above_branch, behind_all, one_round, round_by}
 use Rattle.interp.specs.Parts.{above}
 use Rattle.interp.specs.Statements.{appended, assigned, branches_of, do_all, does, looped, own, stated, walked}
 use Rattle.interp.specs.declared.flow.Flow.TheVariants as flows
-use Rattle.interp.proofs.Evaluating.{given_as, given_give}
+use Rattle.interp.specs.declared.frames.LoopHead.{LoopHead}
+use Rattle.interp.proofs.Coming.{halted_enters, halted_stops}
+use Rattle.interp.proofs.Evaluating.{given_as, given_give, leads_other}
 use Rattle.interp.proofs.Spelling.{branches_reach, named, node_is, parts_of, reads_at, spelled}
-use Rattle.interp.proofs.Stack.{made_as, moves_as, moves_given}
+use Rattle.interp.proofs.Stack.{leads_under, made_as, moves_as, moves_given, moves_then, stacked_on}
 use Rattle.interp.proofs.evaluator.Evaluator.begin.Goals as goal
 
 pub assign_value-requires-clause-here : goal.assign_value-requires-clause-here
@@ -86,7 +88,7 @@ begin_loop-requires-clause-first g c =
     let p = both_true (nat_lt l.first k) (second_within k l.second && (nat_lt l.list m && list_all (λ i. nat_lt i c.args.number) l.body.items)) parts in
     let q = both_true (second_within k l.second) (nat_lt l.list m && list_all (λ i. nat_lt i c.args.number) l.body.items) p.1 in
     let r = both_true (nat_lt l.list m) (list_all (λ i. nat_lt i c.args.number) l.body.items) q.1 in
-    p.0
+    subst (λ (h : LoopHead). IsTrue (nat_lt h.first k)) (sym c.loop_head-head.ensures) p.0
 
 pub begin_loop-requires-clause-second : goal.begin_loop-requires-clause-second
 begin_loop-requires-clause-second g c =
@@ -100,10 +102,10 @@ begin_loop-requires-clause-second g c =
     let p = both_true (nat_lt l.first k) (second_within k l.second && (nat_lt l.list m && list_all (λ i. nat_lt i c.args.number) l.body.items)) parts in
     let q = both_true (second_within k l.second) (nat_lt l.list m && list_all (λ i. nat_lt i c.args.number) l.body.items) p.1 in
     let r = both_true (nat_lt l.list m) (list_all (λ i. nat_lt i c.args.number) l.body.items) q.1 in
-    q.0
+    subst (λ (h : LoopHead). IsTrue (second_within k h.second)) (sym c.loop_head-head.ensures) q.0
 
-pub returns-in-Assign-clause-gives : goal.returns-in-Assign-clause-gives
-returns-in-Assign-clause-gives g c = λ files rests table hold stacked made.
+pub returns-in-Ok-clause-gives : goal.returns-in-Ok-clause-gives
+returns-in-Ok-clause-gives g c = λ files rests table hold stacked made.
     let code = c.args.code.now.value in
     let at = c.index.ensures ∙ ap (λ (d : Code). get_or d.statements.items c.args.number c.index.result.now) c.deref.ensures in
     let node = flat.Assign c.in-Assign.name c.in-Assign.line c.in-Assign.value in
@@ -112,12 +114,39 @@ returns-in-Assign-clause-gives g c = λ files rests table hold stacked made.
     let parts = parts_of code c.args.number c.index.result.now node c.requires.there at c.in-Assign.is in
     let m = length code.nodes.items in
     let name = named made c.in-Assign.name (both_true (nat_lt c.in-Assign.name code.names) (nat_lt c.in-Assign.value m) parts).0 in
-    moves_as whole (moves_given c.args.stack.now.items rests c.assign_value.result stacked
-    (given_as (ap (λ (n : List ℕ). next (ruled (value_of (tree_at (expressions_by table code) c.in-Assign.value))) (λ (d : Data). next (own d) (λ (e : Data). next (assigned c.in-Assign.line n e) (λ _. give flows.Next)))) name.1)
-    (c.assign_value.ensures.gives name.0 files (expressions_by table code) hold (reads_at c.deref-in-Assign.ensures made))))
+    let same = ap (λ (n : List ℕ). next (ruled (value_of (folder c.args.left) (tree_at (expressions_by table code) c.in-Assign.value))) (λ (d : Data). next (own d) (λ (e : Data). next (assigned c.in-Assign.line n e) (λ _. give flows.Next)))) name.1 in
+    moves_as whole (moves_given c.args.stack.now.items rests (Ok c.in-Ok.flow) stacked (given_as same (c.in-Ok.ensures.gives name.0 files c.args.left (expressions_by table code) hold (reads_at c.deref-in-Assign.ensures made)).comes))
 
-pub returns-in-Append-clause-gives : goal.returns-in-Append-clause-gives
-returns-in-Append-clause-gives g c = λ files rests table hold stacked made.
+pub returns-in-Err-Stops-clause-gives : goal.returns-in-Err-Stops-clause-gives
+returns-in-Err-Stops-clause-gives g c = λ files rests table hold stacked made.
+    let code = c.args.code.now.value in
+    let at = c.index.ensures ∙ ap (λ (d : Code). get_or d.statements.items c.args.number c.index.result.now) c.deref.ensures in
+    let node = flat.Assign c.in-Assign.name c.in-Assign.line c.in-Assign.value in
+    let tree = spelled table code c.args.number c.index.result.now node c.requires.there at c.in-Assign.is in
+    let whole = ap (λ (t : StatementTree). behind_all rests (does (folder c.args.left) t)) tree in
+    let parts = parts_of code c.args.number c.index.result.now node c.requires.there at c.in-Assign.is in
+    let m = length code.nodes.items in
+    let name = named made c.in-Assign.name (both_true (nat_lt c.in-Assign.name code.names) (nat_lt c.in-Assign.value m) parts).0 in
+    let same = ap (λ (n : List ℕ). next (ruled (value_of (folder c.args.left) (tree_at (expressions_by table code) c.in-Assign.value))) (λ (d : Data). next (own d) (λ (e : Data). next (assigned c.in-Assign.line n e) (λ _. give flows.Next)))) name.1 in
+    moves_as whole (moves_given c.args.stack.now.items rests (Err c.in-Err-Stops.stop) stacked (given_as same (halted_stops c.in-Err-Stops.field-0-is (c.in-Err-Stops.ensures.gives name.0 files c.args.left (expressions_by table code) hold (reads_at c.deref-in-Assign.ensures made)))))
+
+pub returns-in-Err-Enters-clause-gives : goal.returns-in-Err-Enters-clause-gives
+returns-in-Err-Enters-clause-gives g c = λ files rests table hold stacked made.
+    let code = c.args.code.now.value in
+    let at = c.index.ensures ∙ ap (λ (d : Code). get_or d.statements.items c.args.number c.index.result.now) c.deref.ensures in
+    let node = flat.Assign c.in-Assign.name c.in-Assign.line c.in-Assign.value in
+    let tree = spelled table code c.args.number c.index.result.now node c.requires.there at c.in-Assign.is in
+    let whole = ap (λ (t : StatementTree). behind_all rests (does (folder c.args.left) t)) tree in
+    let parts = parts_of code c.args.number c.index.result.now node c.requires.there at c.in-Assign.is in
+    let m = length code.nodes.items in
+    let name = named made c.in-Assign.name (both_true (nat_lt c.in-Assign.name code.names) (nat_lt c.in-Assign.value m) parts).0 in
+    let same = ap (λ (n : List ℕ). next (ruled (value_of (folder c.args.left) (tree_at (expressions_by table code) c.in-Assign.value))) (λ (d : Data). next (own d) (λ (e : Data). next (assigned c.in-Assign.line n e) (λ _. give flows.Next)))) name.1 in
+    let l = leads_other same (halted_enters c.in-Err-Enters.field-0-is (c.in-Err-Enters.ensures.gives name.0 files c.args.left (expressions_by table code) hold (reads_at c.deref-in-Assign.ensures made))) in
+    moves_as whole (moves_then c.enter_inside.result (leads_under rests l)
+    (c.enter_inside.ensures.gives files rests l.holds (stacked_on c.args.stack.now.items rests l.continues.written.names stacked)))
+
+pub returns-in-Ok-append_value-clause-gives : goal.returns-in-Ok-append_value-clause-gives
+returns-in-Ok-append_value-clause-gives g c = λ files rests table hold stacked made.
     let code = c.args.code.now.value in
     let at = c.index.ensures ∙ ap (λ (d : Code). get_or d.statements.items c.args.number c.index.result.now) c.deref.ensures in
     let node = flat.Append c.in-Append.name c.in-Append.line c.in-Append.value in
@@ -126,9 +155,36 @@ returns-in-Append-clause-gives g c = λ files rests table hold stacked made.
     let parts = parts_of code c.args.number c.index.result.now node c.requires.there at c.in-Append.is in
     let m = length code.nodes.items in
     let name = named made c.in-Append.name (both_true (nat_lt c.in-Append.name code.names) (nat_lt c.in-Append.value m) parts).0 in
-    moves_as whole (moves_given c.args.stack.now.items rests c.append_value.result stacked
-    (given_as (ap (λ (n : List ℕ). next (appended c.in-Append.line n (ruled (value_of (tree_at (expressions_by table code) c.in-Append.value)))) (λ _. give flows.Next)) name.1)
-    (c.append_value.ensures.gives name.0 files (expressions_by table code) hold (reads_at c.deref-in-Append.ensures made))))
+    let same = ap (λ (n : List ℕ). next (appended c.in-Append.line n (ruled (value_of (folder c.args.left) (tree_at (expressions_by table code) c.in-Append.value)))) (λ _. give flows.Next)) name.1 in
+    moves_as whole (moves_given c.args.stack.now.items rests (Ok c.in-Ok-append_value.flow) stacked (given_as same (c.in-Ok-append_value.ensures.gives name.0 files c.args.left (expressions_by table code) hold (reads_at c.deref-in-Append.ensures made)).comes))
+
+pub returns-in-Err-Stops-append_value-clause-gives : goal.returns-in-Err-Stops-append_value-clause-gives
+returns-in-Err-Stops-append_value-clause-gives g c = λ files rests table hold stacked made.
+    let code = c.args.code.now.value in
+    let at = c.index.ensures ∙ ap (λ (d : Code). get_or d.statements.items c.args.number c.index.result.now) c.deref.ensures in
+    let node = flat.Append c.in-Append.name c.in-Append.line c.in-Append.value in
+    let tree = spelled table code c.args.number c.index.result.now node c.requires.there at c.in-Append.is in
+    let whole = ap (λ (t : StatementTree). behind_all rests (does (folder c.args.left) t)) tree in
+    let parts = parts_of code c.args.number c.index.result.now node c.requires.there at c.in-Append.is in
+    let m = length code.nodes.items in
+    let name = named made c.in-Append.name (both_true (nat_lt c.in-Append.name code.names) (nat_lt c.in-Append.value m) parts).0 in
+    let same = ap (λ (n : List ℕ). next (appended c.in-Append.line n (ruled (value_of (folder c.args.left) (tree_at (expressions_by table code) c.in-Append.value)))) (λ _. give flows.Next)) name.1 in
+    moves_as whole (moves_given c.args.stack.now.items rests (Err c.in-Err-Stops-append_value.stop) stacked (given_as same (halted_stops c.in-Err-Stops-append_value.field-0-is (c.in-Err-Stops-append_value.ensures.gives name.0 files c.args.left (expressions_by table code) hold (reads_at c.deref-in-Append.ensures made)))))
+
+pub returns-in-Err-Enters-append_value-clause-gives : goal.returns-in-Err-Enters-append_value-clause-gives
+returns-in-Err-Enters-append_value-clause-gives g c = λ files rests table hold stacked made.
+    let code = c.args.code.now.value in
+    let at = c.index.ensures ∙ ap (λ (d : Code). get_or d.statements.items c.args.number c.index.result.now) c.deref.ensures in
+    let node = flat.Append c.in-Append.name c.in-Append.line c.in-Append.value in
+    let tree = spelled table code c.args.number c.index.result.now node c.requires.there at c.in-Append.is in
+    let whole = ap (λ (t : StatementTree). behind_all rests (does (folder c.args.left) t)) tree in
+    let parts = parts_of code c.args.number c.index.result.now node c.requires.there at c.in-Append.is in
+    let m = length code.nodes.items in
+    let name = named made c.in-Append.name (both_true (nat_lt c.in-Append.name code.names) (nat_lt c.in-Append.value m) parts).0 in
+    let same = ap (λ (n : List ℕ). next (appended c.in-Append.line n (ruled (value_of (folder c.args.left) (tree_at (expressions_by table code) c.in-Append.value)))) (λ _. give flows.Next)) name.1 in
+    let l = leads_other same (halted_enters c.in-Err-Enters-append_value.field-0-is (c.in-Err-Enters-append_value.ensures.gives name.0 files c.args.left (expressions_by table code) hold (reads_at c.deref-in-Append.ensures made))) in
+    moves_as whole (moves_then c.enter_inside-in-Err-Enters-append_value.result (leads_under rests l)
+    (c.enter_inside-in-Err-Enters-append_value.ensures.gives files rests l.holds (stacked_on c.args.stack.now.items rests l.continues.written.names stacked)))
 
 pub returns-in-Expression-clause-gives : goal.returns-in-Expression-clause-gives
 returns-in-Expression-clause-gives g c = λ files rests table hold stacked made.
@@ -180,6 +236,8 @@ returns-in-Foreach-clause-gives g c = λ files rests table hold stacked made.
     let whole = ap (λ (t : StatementTree). behind_all rests (does (folder c.args.left) t)) tree in
     let is = node_is code c.args.number c.index.result.now node c.requires.there at c.in-Foreach.is in
     let l = c.in-Foreach in
-    moves_as (ap (λ (ns : List ℕ). behind_all rests (next (ruled (value_of (tree_at (expressions_by table code) l.list)))
+    moves_as (ap (λ (h : LoopHead). behind_all rests (next (ruled (value_of (folder c.args.left) (tree_at (expressions_by table code) l.list)))
+    (λ d. walked h.line (round_by table code c.args.left h) (looped (option_map (name_at table) h.second) d)))) c.loop_head-head.ensures
+    ∙ ap (λ (ns : List ℕ). behind_all rests (next (ruled (value_of (folder c.args.left) (tree_at (expressions_by table code) l.list)))
     (λ d. walked l.line (one_round c.args.left l.line (name_at table l.first) (option_map (name_at table) l.second) (block_by table code ns)) (looped (option_map (name_at table) l.second) d)))) (ap (λ (x : StatementNode). part_of x 0) is) ∙ whole)
     (c.begin_loop.ensures.gives files rests table hold stacked made)

@@ -9,7 +9,7 @@ use Rattle.interp.specs.Statements.{branches_of, do_all}
 use Rattle.interp.specs.declared.conditions.Choice.{Choice}
 use Rattle.interp.proofs.Evaluating.{leads_as, leads_further, leads_next, leads_start}
 use Rattle.interp.proofs.Reading.{reads_on}
-use Rattle.interp.proofs.Spelling.{branch_next, chooses_stop, drop_all, part_behind, part_there}
+use Rattle.interp.proofs.Spelling.{branch_next, chooses_halt, chooses_refused, drop_all, part_behind, part_there}
 use Rattle.interp.proofs.evaluator.Evaluator.choose_part.Goals as goal
 
 pub loop-part-init : goal.loop-part-init
@@ -19,23 +19,23 @@ pub returns-in_err-value-clause-gives : goal.returns-in_err-value-clause-gives
 returns-in_err-value-clause-gives g c = λ files ts ss left otherwise hold reads.
     let l = leads_as (ap (λ (x : Branches). branches_of (folder left) x (do_all (folder left) otherwise))
     (branch_next ts ss c.args.parts.now c.loop-part.part c.index-parts-part.result c.loop-part-test.true c.index-parts-part.is)) (c.loop-part.invariant.done files ts ss left otherwise hold reads) in
-    chooses_stop (part_done (folder left) (branches (map (branch_at ts ss) c.args.parts.now)) otherwise) c.from_residual.result c.from_residual.ensures.1 l
-    (c.in_err-value.ensures.gives files ts l.holds (reads_on reads l.continues.written.names))
+    chooses_halt (part_done (folder left) (branches (map (branch_at ts ss) c.args.parts.now)) otherwise) c.from_residual.result c.from_residual.ensures.1 l
+    (c.in_err-value.ensures.gives files left ts l.holds (reads_on reads l.continues.written.names))
 
 pub returns-in_err-choose-clause-gives : goal.returns-in_err-choose-clause-gives
 returns-in_err-choose-clause-gives g c = λ files ts ss left otherwise hold reads.
     let l = leads_as (ap (λ (x : Branches). branches_of (folder left) x (do_all (folder left) otherwise))
     (branch_next ts ss c.args.parts.now c.loop-part.part c.index-parts-part.result c.loop-part-test.true c.index-parts-part.is)) (c.loop-part.invariant.done files ts ss left otherwise hold reads) in
-    let e = c.in_ok-value.ensures.gives files ts l.holds (reads_on reads l.continues.written.names) in
+    let e = (c.in_ok-value.ensures.gives files left ts l.holds (reads_on reads l.continues.written.names)).comes in
     let m = leads_further l (leads_next e) in
-    chooses_stop (part_done (folder left) (branches (map (branch_at ts ss) c.args.parts.now)) otherwise) c.from_residual-in_err-choose.result c.from_residual-in_err-choose.ensures.1 m
+    chooses_refused left (part_done (folder left) (branches (map (branch_at ts ss) c.args.parts.now)) otherwise) c.from_residual-in_err-choose.result c.from_residual-in_err-choose.ensures.1 m
     (c.in_err-choose.ensures.gives files e.holds)
 
 pub returns-in-Body-clause-gives : goal.returns-in-Body-clause-gives
 returns-in-Body-clause-gives g c = λ files ts ss left otherwise hold reads.
     let l = leads_as (ap (λ (x : Branches). branches_of (folder left) x (do_all (folder left) otherwise))
     (branch_next ts ss c.args.parts.now c.loop-part.part c.index-parts-part.result c.loop-part-test.true c.index-parts-part.is)) (c.loop-part.invariant.done files ts ss left otherwise hold reads) in
-    let e = c.in_ok-value.ensures.gives files ts l.holds (reads_on reads l.continues.written.names) in
+    let e = (c.in_ok-value.ensures.gives files left ts l.holds (reads_on reads l.continues.written.names)).comes in
     let m = leads_further l (leads_next e) in
     let n = leads_further m (leads_next (c.in_ok-choose.ensures.gives files e.holds)) in
     let k = leads_as (ap (λ (x : Choice). by_choice x (do_all (folder left) (statements (map (statement_at ss) c.index-parts-part.result.body.items))) (branches_of (folder left) (branches (map (branch_at ts ss) (drop (c.loop-part.part + 1) c.args.parts.now))) (do_all (folder left) otherwise))) c.in-Body.is) n in
@@ -45,7 +45,7 @@ pub returns-in-Skip-clause-gives : goal.returns-in-Skip-clause-gives
 returns-in-Skip-clause-gives g c = λ files ts ss left otherwise hold reads.
     let l = leads_as (ap (λ (x : Branches). branches_of (folder left) x (do_all (folder left) otherwise))
     (branch_next ts ss c.args.parts.now c.loop-part.part c.index-parts-part.result c.loop-part-test.true c.index-parts-part.is)) (c.loop-part.invariant.done files ts ss left otherwise hold reads) in
-    let e = c.in_ok-value.ensures.gives files ts l.holds (reads_on reads l.continues.written.names) in
+    let e = (c.in_ok-value.ensures.gives files left ts l.holds (reads_on reads l.continues.written.names)).comes in
     let m = leads_further l (leads_next e) in
     let n = leads_further m (leads_next (c.in_ok-choose.ensures.gives files e.holds)) in
     let k = leads_as (ap (λ (x : Choice). by_choice x (do_all (folder left) (statements (map (statement_at ss) c.index-parts-part.result.body.items))) (branches_of (folder left) (branches (map (branch_at ts ss) (drop (c.loop-part.part + 1) c.args.parts.now))) (do_all (folder left) otherwise))) c.in-Skip.is) n in
@@ -59,7 +59,7 @@ loop-part-preserved g c = record {
   done = λ files ts ss left otherwise hold reads.
       let l = leads_as (ap (λ (x : Branches). branches_of (folder left) x (do_all (folder left) otherwise))
       (branch_next ts ss c.args.parts.now c.loop-part.part c.index-parts-part.result c.loop-part-test.true c.index-parts-part.is)) (c.loop-part.invariant.done files ts ss left otherwise hold reads) in
-      let e = c.in_ok-value.ensures.gives files ts l.holds (reads_on reads l.continues.written.names) in
+      let e = (c.in_ok-value.ensures.gives files left ts l.holds (reads_on reads l.continues.written.names)).comes in
       let m = leads_further l (leads_next e) in
       let n = leads_further m (leads_next (c.in_ok-choose.ensures.gives files e.holds)) in
       let k = leads_as (ap (λ (x : Choice). by_choice x (do_all (folder left) (statements (map (statement_at ss) c.index-parts-part.result.body.items))) (branches_of (folder left) (branches (map (branch_at ts ss) (drop (c.loop-part.part + 1) c.args.parts.now))) (do_all (folder left) otherwise))) c.in-Others.is) n in

@@ -1,5 +1,5 @@
 use Rattle.std.proofs.Common.{ap, refl, sym}
-use Rattle.interp.specs.Expressions.{fitted}
+use Rattle.interp.specs.Entering.{fitted}
 use Rattle.interp.proofs.Evaluating.{given_as, given_give, given_refuse}
 use Rattle.interp.proofs.evaluator.Evaluator.fitted.Goals as goal
 

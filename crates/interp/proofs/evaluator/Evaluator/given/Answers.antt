@@ -1,13 +1,15 @@
-use Rattle.std.proofs.Common.{◌≤◌, ℕ, suc, max, List, length, map, Some, sym, ap, subst, refl, ◌∙◌, arith}
+use Rattle.std.proofs.Common.{◌≤◌, suc, max, List, length, map, Some, sym, ap, subst, refl, arith}
 use Rattle.code.specs.Nodes.{link_at, link_within}
 use Rattle.code.specs.declared.node.LinkNode.{LinkNode}
 use Rattle.code.specs.declared.node.Node.TheVariants as nodes
-use Rattle.grammar.specs.ExpressionTree.{PostfixTree, links}
+use Rattle.grammar.specs.ExpressionTree.{links}
 use Rattle.interp.specs.Expressions.{given_by, links_of, value_of}
 use Rattle.world.specs.Plan.{next, ruled}
 use Rattle.code.specs.Nodes.{tree_at}
 use Rattle.interp.specs.Parts.{above, above_link}
-use Rattle.interp.proofs.Evaluating.{given_as, given_give, given_stop, given_then}
+use Rattle.interp.specs.Folders.{folder}
+use Rattle.interp.proofs.Coming.{comes_as, comes_given, comes_halt}
+use Rattle.interp.proofs.Evaluating.{given_as, given_give, given_then}
 use Rattle.interp.proofs.Reading.{first_reach, links_reach, opened, parts_at}
 use Rattle.interp.proofs.Spelling.{given_at}
 use Rattle.interp.proofs.evaluator.Evaluator.given.Goals as goal
@@ -21,18 +23,18 @@ asked-requires-clause-here g c =
     subst (λ (xs : List LinkNode). max (suc c.in-Postfix.first) (above above_link xs) ≤ length c.args.code.now.nodes.items) (sym c.deref.ensures.value) near
 
 pub returns-in-Postfix-clause-gives : goal.returns-in-Postfix-clause-gives
-returns-in-Postfix-clause-gives g c = λ files ts hold reads.
-    given_as (ap given_by (sym (opened reads c.args.value c.index.result.now (nodes.Postfix c.in-Postfix.first c.in-Postfix.links c.in-Postfix.line) c.requires.here c.index.ensures c.in-Postfix.is)))
-    (given_as (ap (λ (xs : List LinkNode). next (ruled (value_of (tree_at ts c.in-Postfix.first))) (λ d. links_of c.in-Postfix.line (Some d) (links (map (link_at ts) xs)))) c.deref.ensures.value)
-    (c.asked.ensures.gives files ts hold reads))
+returns-in-Postfix-clause-gives g c = λ files left ts hold reads.
+    comes_as (ap (given_by (folder left)) (sym (opened reads c.args.value c.index.result.now (nodes.Postfix c.in-Postfix.first c.in-Postfix.links c.in-Postfix.line) c.requires.here c.index.ensures c.in-Postfix.is)))
+    (comes_as (ap (λ (xs : List LinkNode). next (ruled (value_of (folder left) (tree_at ts c.in-Postfix.first))) (λ d. links_of (folder left) c.in-Postfix.line (Some d) (links (map (link_at ts) xs)))) c.deref.ensures.value)
+    (c.asked.ensures.gives files left ts hold reads))
 
 pub returns-in_err-form-clause-gives : goal.returns-in_err-form-clause-gives
-returns-in_err-form-clause-gives g c = λ files ts hold reads.
-    given_as (given_at reads c.args.value c.index.result.now c.requires.here c.index.ensures c.in_default.not-Postfix)
-    (given_stop (c.in_err-form.ensures.gives files ts hold reads) c.from_residual.ensures.1)
+returns-in_err-form-clause-gives g c = λ files left ts hold reads.
+    comes_as (given_at (folder left) reads c.args.value c.index.result.now c.requires.here c.index.ensures c.in_default.not-Postfix)
+    (comes_halt (c.in_err-form.ensures.gives files left ts hold reads) c.from_residual.ensures.1)
 
 pub returns-in_ok-form-clause-gives : goal.returns-in_ok-form-clause-gives
-returns-in_ok-form-clause-gives g c = λ files ts hold reads.
-    let form = c.in_ok-form.ensures.gives files ts hold reads in
-    given_as (given_at reads c.args.value c.index.result.now c.requires.here c.index.ensures c.in_default.not-Postfix)
-    (given_then form (given_give form.holds refl))
+returns-in_ok-form-clause-gives g c = λ files left ts hold reads.
+    let form = (c.in_ok-form.ensures.gives files left ts hold reads).comes in
+    comes_given (given_as (given_at (folder left) reads c.args.value c.index.result.now c.requires.here c.index.ensures c.in_default.not-Postfix)
+    (given_then form (given_give form.holds refl)))

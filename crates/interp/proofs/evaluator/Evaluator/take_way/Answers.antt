@@ -1,5 +1,6 @@
 use Rattle.std.proofs.Common.{Ok, sym, ap, refl}
-use Rattle.interp.specs.Acting.{by_way, way_view}
+use Rattle.interp.specs.Acting.{way_view}
+use Rattle.interp.specs.Entering.{by_way}
 use Rattle.interp.specs.Folders.{folder}
 use Rattle.interp.specs.Frames.{behind_all}
 use Rattle.interp.specs.declared.acting.Way.{Way}

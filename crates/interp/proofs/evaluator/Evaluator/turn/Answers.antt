@@ -1,10 +1,10 @@
 use Rattle.std.proofs.Common.{Ok, sym, ap, refl, ◌≡◌, string_bytes}
 use Rattle.world.specs.Plan.{give}
 use Rattle.interp.specs.Folders.{folder}
-use Rattle.interp.specs.Frames.{Rest, End, Left, behind, behind_all, MeansBlock, MeansLoop, others_by, rounds_left, round_by}
+use Rattle.interp.specs.Frames.{Rest, End, Left, Refuses, behind, behind_all, MeansBlock, MeansLoop, others_by, rounds_left, round_by}
 use Rattle.interp.specs.Statements.{after_round, do_all, on_next, rounds_of}
 use Rattle.interp.specs.declared.flow.Flow.TheVariants as flows
-use Rattle.interp.proofs.Evaluating.{given_change, given_give, given_rule, given_then}
+use Rattle.interp.proofs.Evaluating.{given_change, given_give, given_refuse, given_rule, given_then}
 use Rattle.interp.proofs.Stack.{means_as, moves_as, moves_given, moves_next}
 use Rattle.interp.proofs.evaluator.Evaluator.turn.Goals as goal
 
@@ -36,3 +36,9 @@ returns-in-Left-clause-gives g c = λ files rests rest hold stacked means.
     (moves_given c.args.stack.now.items rests (Ok flows.Next) stacked
     (given_then {view = λ f. f} {x = c.args.flow} (given_give hold refl)
     (given_then (given_change hold c.go-inner.ensures.moved c.go-inner.ensures.names) (given_give hold refl))))
+
+pub returns-in-Refuses-clause-gives : goal.returns-in-Refuses-clause-gives
+returns-in-Refuses-clause-gives g c = λ files rests rest hold stacked means.
+    let m : rest ≡ Refuses c.in-Refuses.line = means_as c.args.self.now.store.now.names rest c.in-Refuses.is means in
+    moves_as (ap (λ (r : Rest). behind_all rests (behind r (give c.args.flow))) (sym m))
+    (moves_given c.args.stack.now.items rests c.refuse.result stacked (given_then {view = λ f. f} {x = c.args.flow} (given_give hold refl) (given_refuse hold c.refuse.ensures)))

@@ -5,7 +5,7 @@ use Rattle.data.specs.View.{data_of}
 use Rattle.data.specs.declared.value.Value.{Value}
 use Rattle.methods.specs.Methods.{answer}
 use Rattle.world.specs.Plan.{answered, give, next}
-use Rattle.interp.specs.Expressions.{fitted}
+use Rattle.interp.specs.Entering.{fitted}
 use Rattle.interp.proofs.Evaluating.{given_as, given_give, given_none, given_stop, given_then}
 use Rattle.interp.proofs.evaluator.Evaluator.value_method.Goals as goal
 

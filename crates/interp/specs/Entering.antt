@@ -1,0 +1,61 @@
+-- What a call of `subdir` does, up to the folder that it enters.
+use Rattle.std.specs.Prelude.{ℕ, Bool, true, false, List, [], Option, Some, None, Result, Ok, Err, codes}
+use Rattle.data.specs.Data.{Data}
+use Rattle.faults.specs.declared.refusal.Refusal.{Refusal}
+use Rattle.arguments.specs.Arguments.{ArgumentsData}
+use Rattle.arguments.specs.Dependencies.{are_found}
+use Rattle.arguments.specs.Disablers.{gives_disabler}
+use Rattle.arguments.specs.Given.{keyword, text_at}
+use Rattle.arguments.specs.Row.{checked}
+use Rattle.calls.specs.Rows.{row_of}
+use Rattle.calls.specs.declared.function.Function.{Function}
+use Rattle.calls.specs.declared.function.Function.TheVariants as functions
+use Rattle.world.specs.Plan.{Plan, ◌>>=◌, give, at, refuse}
+use Rattle.interp.specs.declared.acting.Action.{Action}
+use Rattle.interp.specs.declared.acting.Action.TheVariants.{Call, Enter, Leave}
+use Rattle.interp.specs.declared.flow.Flow.{Flow}
+use Rattle.interp.specs.declared.flow.Flow.TheVariants.{Next}
+
+-- what a test of arguments answers, or its refusal at a line
+abbrev pub fitted : ℕ → Result (Unit {0}) Refusal → Plan (Unit {0})
+fitted line (Ok u) = give tt
+fitted line (Err refusal) = refuse line refusal []
+
+-- the statement has ended, or the folder that a text names is entered
+pub data WayData : Type 0 where
+  Ends : Flow → WayData
+  Enters : List ℕ → WayData
+
+-- `subdir` enters a folder, `subdir_done` leaves the file, and others are called
+abbrev pub action_of : Function → Action
+action_of functions.Subdir = Enter
+action_of functions.SubdirDone = Leave
+action_of f = Call
+
+-- all dependencies of `if_found` are found
+abbrev pub found_or : Option Data → Bool
+found_or None = true
+found_or (Some d) = are_found d
+
+abbrev pub is_wanted : ArgumentsData → Bool
+is_wanted a = found_or (keyword (codes "if_found") a)
+
+abbrev pub entered_by : Bool → ArgumentsData → WayData
+entered_by true a = Enters (text_at 0 a)
+entered_by false a = Ends Next
+
+abbrev pub subdir_by : Bool → ℕ → ArgumentsData → Plan WayData
+subdir_by true line a = give (Ends Next)
+subdir_by false line a = do
+  _ ← fitted line (checked (row_of functions.Subdir) a)
+  _ ← at line
+  give (entered_by (is_wanted a) a)
+
+-- `subdir`; a disabler among the arguments turns it off
+abbrev pub entering : ℕ → ArgumentsData → Plan WayData
+entering line a = subdir_by (gives_disabler a) line a
+
+-- here `into` is what it does to enter the folder that a text names
+abbrev pub by_way : (List ℕ → Plan Flow) → WayData → Plan Flow
+by_way into (Ends flow) = give flow
+by_way into (Enters text) = into text

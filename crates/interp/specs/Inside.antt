@@ -1,0 +1,52 @@
+-- Folders that are entered inside of an expression.
+use Rattle.std.specs.Prelude.{◌≡◌, ℕ, zero, suc, ◌+◌, [], Result, Ok, Err, string_bytes}
+use Rattle.faults.specs.declared.refusal.Refusal.TheVariants as refusals
+use Rattle.world.specs.Gives.{failures_after, is_ended}
+use Rattle.world.specs.Plan.{Plan, ruled, ◌>>=◌, refuse}
+use Rattle.world.specs.declared.stop.Stop.TheVariants as stops
+use Rattle.interp.specs.declared.halt.Halt.{Halt}
+use Rattle.interp.specs.declared.halt.Halt.TheVariants as halts
+use Rattle.interp.specs.declared.halt.Inside.{Inside}
+use Rattle.interp.specs.Folders.{folder}
+
+-- after this so many rules end
+abbrev pub ended_all : {A : Type 0} → ℕ → Plan A → Plan A
+ended_all zero p = p
+ended_all (suc n) p = ruled (ended_all n p)
+
+-- The folder is entered, where so many more may stand inside one another, and its definition file does what it does. The call gives
+-- nothing, so it is refused then.
+abbrev pub enters : {A : Type 0} → ℕ → Inside → Plan A
+enters left entry = folder left (string_bytes entry.text) >>= λ _. refuse entry.line refusals.Type []
+
+-- and the rules of the expression end
+abbrev pub inside : {A : Type 0} → ℕ → Inside → Plan A
+inside left entry = ended_all entry.rules (enters left entry)
+
+-- ---- rules that end
+
+-- one rule more ends behind it, unless no number counts them
+abbrev pub IsDeeper : Inside → Halt → Type 0
+IsDeeper entry (halts.Stops stop) = stop ≡ stops.Memory
+IsDeeper entry (halts.Enters now) = now ≡ record { text = entry.text; line = entry.line; rules = entry.rules + 1 }
+
+abbrev pub Deepens : {B : Type 0} → Inside → Result B Halt → Type 0
+Deepens entry (Ok x) = ⊥
+Deepens entry (Err halt) = IsDeeper entry halt
+
+-- the rule of a node: the counter is raised where it has ended, and where the expression was left it is still to end
+abbrev pub RuleEnds : {B : Type 0} → Result B Halt → ℕ → Result B Halt → ℕ → Type 0
+RuleEnds (Ok x) old result new = (result ≡ Ok x) × (new ≡ old + 1)
+RuleEnds (Err (halts.Stops stop)) old result new = (result ≡ Err (halts.Stops stop)) × (new ≡ old + is_ended {B = Unit {0}} (Err stop))
+RuleEnds (Err (halts.Enters entry)) old result new = Deepens entry result × (new ≡ old)
+
+-- ---- devices
+
+-- the count of the devices' failures after a call that may have met one more
+abbrev pub failures_halted : ℕ → Halt → ℕ
+failures_halted n (halts.Stops stop) = failures_after {B = Unit {0}} n (Err stop)
+failures_halted n (halts.Enters entry) = n
+
+abbrev pub failures_inside : {B : Type 0} → ℕ → Result B Halt → ℕ
+failures_inside n (Ok x) = n
+failures_inside n (Err halt) = failures_halted n halt

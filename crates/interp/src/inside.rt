@@ -1,0 +1,102 @@
+//! Calls inside of expressions, which have to give a value.
+ghost use Rattle.arguments.specs.Arguments.{arguments_data};
+ghost use Rattle.arguments.specs.Disablers.{gives_disabler};
+ghost use Rattle.data.specs.View.{data_of};
+ghost use Rattle.world.specs.Plan.{next};
+ghost use Rattle.interp.specs.Expressions.{called, called_inside, entered_inside, needed};
+ghost use Rattle.interp.specs.Frames.{Acts};
+ghost use Rattle.interp.specs.Inside.{inside};
+
+use crate::acting::{Action, Way, action_of};
+use crate::evaluator::Evaluator;
+use crate::flow::Flow;
+use crate::frames::Frame;
+use crate::halt::{Halt, Inside};
+use arguments::{Arguments, gives_disabler};
+use calls::Function;
+use data::{Object, Value};
+use faults::Refusal;
+use ports::{Outputs, Tree};
+use std::sync::ledger::Ledger;
+use world::Stop;
+
+impl<'a, T: Tree, O: Outputs, L: Ledger> Evaluator<'a, T, O, L> {
+    ghost use Rattle.interp.specs.Evaluates.{Fails, FailsInside, HasRoom, Same, Tries};
+
+    /// A function inside of an expression, on its evaluated arguments.
+    pub fn called_inside(
+        &mut self,
+        line: usize,
+        function: Function,
+        arguments: &Arguments,
+    ) -> Result<Value, Halt>
+        requires room { HasRoom T.seen O.seen self.old }
+        ensures same { Same self.old self.new }
+        ensures device { FailsInside T.seen O.seen self.old result self.new }
+        ensures gives { Tries T.seen O.seen data_of (λ into. called_inside into line function (arguments_data arguments.now))
+            self.old result self.new }
+    {
+        match action_of(function) {
+            Action::Enter => self.entered_inside(line, arguments),
+            Action::Leave => self.valued(line, function, arguments),
+            Action::Call => self.valued(line, function, arguments),
+        }
+    }
+
+    // A function that enters no folder.
+    fn valued(
+        &mut self,
+        line: usize,
+        function: Function,
+        arguments: &Arguments,
+    ) -> Result<Value, Halt>
+        requires room { HasRoom T.seen O.seen self.old }
+        ensures same { Same self.old self.new }
+        ensures device { FailsInside T.seen O.seen self.old result self.new }
+        ensures gives { Tries T.seen O.seen data_of (λ _. next (called line function (arguments_data arguments.now)) (needed line))
+            self.old result self.new }
+    {
+        let answer = self.called(line, function, arguments)?;
+        Ok(self.needed(line, answer)?)
+    }
+
+    // `subdir`: its folder is entered, and then it is refused, since it gives nothing.
+    fn entered_inside(&mut self, line: usize, arguments: &Arguments) -> Result<Value, Halt>
+        ensures same { Same self.old self.new }
+        ensures device { FailsInside T.seen O.seen self.old result self.new }
+        ensures gives { Tries T.seen O.seen data_of (λ into. entered_inside into (gives_disabler (arguments_data arguments.now)) line
+            (arguments_data arguments.now)) self.old result self.new }
+    {
+        if gives_disabler(arguments) {
+            return Ok(Value::of_object(self.alloc, Object::Disabler)?);
+        }
+        match self.subdir(line, arguments)? {
+            Way::Ends(_) => Ok(self.refuse(line, Refusal::Type, "")?),
+            Way::Enters(text) => Err(Halt::Enters(Inside {
+                text,
+                line,
+                rules: 0,
+            })),
+        }
+    }
+
+    /// Enters a folder inside of an expression, where so many more may stand inside one another: its file is to be done, then the call
+    /// is refused, and the rules of the expression end.
+    pub fn enter_inside(
+        &mut self,
+        entry: Inside,
+        left: usize,
+        stack: &mut Vec<Frame>,
+    ) -> Result<Flow, Stop>
+        requires room { HasRoom T.seen O.seen self.old }
+        ensures same { Same self.old self.new }
+        ensures device { Fails T.seen O.seen self.old result self.new }
+        ensures gives { Acts T.seen O.seen (inside left entry) self.old stack.old.items result self.new stack.new.items }
+    {
+        for _rule in 0..entry.rules {
+            stack.push(Frame::End)?;
+        }
+        stack.push(Frame::Refuses(entry.line))?;
+        self.enter(&entry.text, left, stack)
+    }
+}
