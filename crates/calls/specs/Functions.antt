@@ -1,13 +1,12 @@
 -- The functions of the page "Reference manual", on evaluated arguments.
 use Rattle.std.specs.Prelude.{Bool, true, false, not, ◌&&◌, [], Option, None, if◌then◌else◌}
 use Rattle.data.specs.Data.{Data}
-use Rattle.faults.specs.declared.refusal.Refusal.TheVariants as refusals
 use Rattle.arguments.specs.Arguments.{ArgumentsData}
 use Rattle.arguments.specs.Disablers.{gives_disabler}
 use Rattle.arguments.specs.Row.{RowData, checked}
 use Rattle.configuration_calls.specs.ConfigureFile.{has_meson_format}
 use Rattle.configuration_calls.specs.Rows.{other_format_row}
-use Rattle.world.specs.Deed.{Deed, give, refuse, ◌>>=◌, fitting}
+use Rattle.world.specs.Deed.{Deed, give, ◌>>=◌, fitting}
 use Rattle.calls.specs.Disablers.{give_disabler, tell_disabler}
 use Rattle.calls.specs.JoinPaths.{join_paths}
 use Rattle.calls.specs.Messages.{message, warning, error, assert}
@@ -34,8 +33,8 @@ does (functions.OfProject f) a = project_function f a
 does functions.Project a = project a
 does functions.Range a = range a
 does functions.SetVariable a = set_variable a
--- as a part of an expression; a statement enters the folder
-does functions.Subdir a = refuse refusals.LeftOut []
+-- beside the folder that it enters
+does functions.Subdir a = give None
 -- as a part of an expression; a statement ends the file
 does functions.SubdirDone a = give None
 does functions.UnsetVariable a = unset_variable a

@@ -20,7 +20,6 @@ use crate::variables::{get_variable, is_variable, set_variable, unset_variable};
 use arguments::{Arguments, Row, check, gives_disabler};
 use configuration_calls::{has_meson_format, other_format_row};
 use data::Value;
-use faults::Refusal;
 use ports::{Outputs, Tree};
 use project_calls::project;
 use world::{Caller, Stop};
@@ -109,10 +108,10 @@ fn act<T: Tree, O: Outputs>(
         Function::Project => project(caller, arguments),
         Function::Range => range(caller, arguments),
         Function::SetVariable => set_variable(caller, arguments),
+        Function::Subdir => Ok(None),
         Function::SubdirDone => Ok(None),
         Function::UnsetVariable => unset_variable(caller, arguments),
         Function::Warning => warning(caller, arguments),
-        Function::Subdir => caller.refuse(Refusal::LeftOut, ""),
     }
 }
 

@@ -1,7 +1,7 @@
 use Rattle.std.proofs.Common.{ap, refl, sym}
 use Rattle.arguments.specs.Arguments.{arguments_data}
 use Rattle.calls.specs.Functions.{does}
-use Rattle.world.proofs.Answering.{carries_as, carries_give, carries_refuse}
+use Rattle.world.proofs.Answering.{carries_as, carries_give}
 use Rattle.calls.proofs.calling.act.Goals as goal
 
 pub returns-in-Assert : goal.returns-in-Assert
@@ -50,4 +50,4 @@ pub returns-in-Range : goal.returns-in-Range
 returns-in-Range g c = carries_as (ap (λ f. does f (arguments_data c.args.arguments.now)) (sym c.in-Range.is)) c.range.ensures
 
 pub returns-in-Subdir : goal.returns-in-Subdir
-returns-in-Subdir g c = carries_as (ap (λ f. does f (arguments_data c.args.arguments.now)) (sym c.in-Subdir.is)) (carries_refuse c.refuse.ensures)
+returns-in-Subdir g c = carries_as (ap (λ f. does f (arguments_data c.args.arguments.now)) (sym c.in-Subdir.is)) (carries_give refl)
