@@ -2,19 +2,15 @@
 use Rattle.std.specs.Prelude.{ℕ, ℤ, negsuc, Bool, false, List, unwrap_or, codes}
 use Rattle.std.specs.Option.{option_and_then}
 use Rattle.machine_file.specs.Files.{Section}
-use Rattle.machine_file.specs.Lookups.{check_at, value_at}
-use Rattle.machine_file.specs.Readers.{boolean_said, integer_said, text_said}
-
--- the text that `[compiler]` has at a key, or this one
-abbrev pub text_or : (key default : List ℕ) → List Section → List ℕ
-text_or key default machine = unwrap_or (option_and_then text_said (value_at machine (codes "compiler") key)) default
+use Rattle.machine_file.specs.Lookups.{check_at, text_or}
+use Rattle.machine_file.specs.Readers.{boolean_said, integer_said}
 
 -- which compiler it is: `id` and `version` of `[compiler]`
 abbrev pub id_of : List Section → List ℕ
-id_of machine = text_or (codes "id") (codes "gcc") machine
+id_of machine = text_or machine (codes "compiler") (codes "id") (codes "gcc")
 
 abbrev pub version_of : List Section → List ℕ
-version_of machine = text_or (codes "version") (codes "unknown") machine
+version_of machine = text_or machine (codes "compiler") (codes "version") (codes "unknown")
 
 -- whether a check is true: `[checks]` has the method and what it is asked with; false where nothing is said
 abbrev pub is_true : List Section → List ℕ → List (List ℕ) → Bool

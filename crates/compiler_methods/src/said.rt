@@ -1,33 +1,23 @@
 //! What the machine file says in place of a compiler that is asked.
 ghost use Rattle.std.specs.Prelude.{◌≡◌, IfOk, map};
 ghost use Rattle.machine_file.specs.View.{machine_in};
-ghost use Rattle.compiler_methods.specs.Said.{id_of, is_true, number_of, text_or, version_of};
+ghost use Rattle.compiler_methods.specs.Said.{id_of, is_true, number_of, version_of};
 
 use machine_file::Machine;
 use std::alloc::{AllocError, Global};
-
-// The text that `[compiler]` has at a key, or this one.
-fn text_or<'m>(key: &str, default: &'m str, machine: &'m Machine) -> &'m str
-    ensures { result.now ≡ text_or key.now default.now (machine_in machine.now) }
-{
-    match machine.get("compiler", key) {
-        Some(value) => value.text().unwrap_or(default),
-        None => default,
-    }
-}
 
 /// Which compiler it is, as `gcc`.
 pub fn id_of(machine: &Machine) -> &str
     ensures { result.now ≡ id_of (machine_in machine.now) }
 {
-    text_or("id", "gcc", machine)
+    machine.text_or("compiler", "id", "gcc")
 }
 
 /// The compiler's version.
 pub fn version_of(machine: &Machine) -> &str
     ensures { result.now ≡ version_of (machine_in machine.now) }
 {
-    text_or("version", "unknown", machine)
+    machine.text_or("compiler", "version", "unknown")
 }
 
 /// Whether a check is true.

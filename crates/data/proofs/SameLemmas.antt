@@ -14,9 +14,8 @@ use Rattle.data.specs.declared.object.Program.TheVariants as TheProgram
 use Rattle.data.specs.declared.object.Source.{Source}
 use Rattle.data.specs.declared.object.Source.TheVariants as TheSource
 use Rattle.data.specs.declared.object.Dependency.{Dependency}
-use Rattle.data.specs.declared.object.Machine.{Machine}
 use Rattle.data.specs.Data.{Data, boolean, integer, text, list, dictionary, object, Items, no_items, item, Entries, no_entries, entry}
-use Rattle.data.specs.Same.{same_boolean, same_texts, same_feature, same_program, same_source, same_sources, same_dependency, same_machine, same_object, same, same_items, same_entries}
+use Rattle.data.specs.Same.{same_boolean, same_texts, same_feature, same_program, same_source, same_sources, same_dependency, same_object, same, same_items, same_entries}
 
 first_of : (a b : Bool) → (a && b) ≡ true → a ≡ true
 first_of true b h = refl
@@ -120,30 +119,6 @@ same_sources-self : (xs : List Source) → same_sources xs xs ≡ true
 same_sources-self [] = refl
 same_sources-self (x ∷ xs) = both (same_source x x) (same_sources xs xs) (same_source-self x) (same_sources-self xs)
 
-abbrev made_machine : List ℕ → List ℕ → List ℕ → List ℕ → Machine
-made_machine a b c d = record { system = a; cpu_family = b; cpu = c; endian = d }
-
-same_machine_from : (m n : Machine) → m.system ≡ n.system → m.cpu_family ≡ n.cpu_family → m.cpu ≡ n.cpu → m.endian ≡ n.endian → m ≡ n
-same_machine_from m n a b c d =
-    (let f0 = λ (x : List ℕ). made_machine x m.cpu_family m.cpu m.endian in ap f0 a)
-    ∙ (let f1 = λ (x : List ℕ). made_machine n.system x m.cpu m.endian in ap f1 b)
-    ∙ (let f2 = λ (x : List ℕ). made_machine n.system n.cpu_family x m.endian in ap f2 c)
-    ∙ (let f3 = λ (x : List ℕ). made_machine n.system n.cpu_family n.cpu x in ap f3 d)
-
-same_machine-is : (m n : Machine) → same_machine m n ≡ true → m ≡ n
-same_machine-is m n h =
-    let h1 = second_of (bytes_eq m.system n.system) (bytes_eq m.cpu_family n.cpu_family && (bytes_eq m.cpu n.cpu && bytes_eq m.endian n.endian)) h in
-    let h2 = second_of (bytes_eq m.cpu_family n.cpu_family) (bytes_eq m.cpu n.cpu && bytes_eq m.endian n.endian) h1 in
-    let e1 = bytes_eq-is m.system n.system (first_of (bytes_eq m.system n.system) (bytes_eq m.cpu_family n.cpu_family && (bytes_eq m.cpu n.cpu && bytes_eq m.endian n.endian)) h) in
-    let e2 = bytes_eq-is m.cpu_family n.cpu_family (first_of (bytes_eq m.cpu_family n.cpu_family) (bytes_eq m.cpu n.cpu && bytes_eq m.endian n.endian) h1) in
-    let e3 = bytes_eq-is m.cpu n.cpu (first_of (bytes_eq m.cpu n.cpu) (bytes_eq m.endian n.endian) h2) in
-    let e4 = bytes_eq-is m.endian n.endian (second_of (bytes_eq m.cpu n.cpu) (bytes_eq m.endian n.endian) h2) in
-    same_machine_from m n e1 e2 e3 e4
-
-same_machine-self : (m : Machine) → same_machine m m ≡ true
-same_machine-self m =
-    both (bytes_eq m.system m.system) _ (bytes_eq-self m.system) (both (bytes_eq m.cpu_family m.cpu_family) _ (bytes_eq-self m.cpu_family) (both (bytes_eq m.cpu m.cpu) _ (bytes_eq-self m.cpu) (bytes_eq-self m.endian)))
-
 abbrev made_dependency : Bool → List ℕ → List ℕ → List (List ℕ) → List (List ℕ) → List (List ℕ) → List ℕ → List Source → Dependency
 made_dependency a b c d e f g h = record { is_found = a; name = b; version = c; include_directories = d; compile_args = e; link_args = f; link_with = g; sources = h }
 
@@ -192,7 +167,7 @@ same_object-is (TheObject.CustomTarget m i) (TheObject.CustomTarget n j) h = let
 same_object-is (TheObject.CustomOutput m i) (TheObject.CustomOutput n j) h = let e = same_numbers-is m i n j h in cc
 same_object-is (TheObject.File p b) (TheObject.File q c) h = let e = same_file-is p q b c h in cc
 same_object-is (TheObject.IncludeDirectories v) (TheObject.IncludeDirectories w) h = ap TheObject.IncludeDirectories (same_texts-is v w h)
-same_object-is (TheObject.Machine m) (TheObject.Machine n) h = ap TheObject.Machine (same_machine-is m n h)
+same_object-is TheObject.Machine TheObject.Machine h = refl
 same_object-is TheObject.Meson TheObject.Meson h = refl
 same_object-is TheObject.Compiler TheObject.Compiler h = refl
 same_object-is (TheObject.ConfigurationData m) (TheObject.ConfigurationData n) h = ap TheObject.ConfigurationData (eqb-true m n h)
@@ -208,7 +183,7 @@ same_object-self (TheObject.CustomTarget m i) = both (m == m) (i == i) (eq-self 
 same_object-self (TheObject.CustomOutput m i) = both (m == m) (i == i) (eq-self m) (eq-self i)
 same_object-self (TheObject.File p b) = both (bytes_eq p p) (same_boolean b b) (bytes_eq-self p) (same_boolean-self b)
 same_object-self (TheObject.IncludeDirectories v) = same_texts-self v
-same_object-self (TheObject.Machine m) = same_machine-self m
+same_object-self TheObject.Machine = refl
 same_object-self TheObject.Meson = refl
 same_object-self TheObject.Compiler = refl
 same_object-self (TheObject.ConfigurationData m) = eq-self m

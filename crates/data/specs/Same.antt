@@ -10,7 +10,6 @@ use Rattle.data.specs.declared.object.Program.TheVariants as TheProgram
 use Rattle.data.specs.declared.object.Source.{Source}
 use Rattle.data.specs.declared.object.Source.TheVariants as TheSource
 use Rattle.data.specs.declared.object.Dependency.{Dependency}
-use Rattle.data.specs.declared.object.Machine.{Machine}
 use Rattle.data.specs.Data.{Data, boolean, integer, text, list, dictionary, object, Items, no_items, item, Entries, no_entries, entry}
 
 abbrev pub same_boolean : Bool → Bool → Bool
@@ -51,10 +50,6 @@ same_dependency d e =
     && (same_texts d.include_directories e.include_directories && (same_texts d.compile_args e.compile_args
     && (same_texts d.link_args e.link_args && (bytes_eq d.link_with e.link_with && same_sources d.sources e.sources))))))
 
-abbrev pub same_machine : Machine → Machine → Bool
-same_machine m n = bytes_eq m.system n.system
-    && (bytes_eq m.cpu_family n.cpu_family && (bytes_eq m.cpu n.cpu && bytes_eq m.endian n.endian))
-
 abbrev pub same_object : Object → Object → Bool
 same_object (TheObject.Feature f) (TheObject.Feature g) = same_feature f g
 same_object (TheObject.Dependency d) (TheObject.Dependency e) = same_dependency d e
@@ -64,7 +59,7 @@ same_object (TheObject.CustomTarget m i) (TheObject.CustomTarget n j) = (m == n)
 same_object (TheObject.CustomOutput m i) (TheObject.CustomOutput n j) = (m == n) && (i == j)
 same_object (TheObject.File p b) (TheObject.File q c) = bytes_eq p q && same_boolean b c
 same_object (TheObject.IncludeDirectories v) (TheObject.IncludeDirectories w) = same_texts v w
-same_object (TheObject.Machine m) (TheObject.Machine n) = same_machine m n
+same_object TheObject.Machine TheObject.Machine = true
 same_object TheObject.Meson TheObject.Meson = true
 same_object TheObject.Compiler TheObject.Compiler = true
 same_object (TheObject.ConfigurationData m) (TheObject.ConfigurationData n) = m == n

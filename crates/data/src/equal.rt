@@ -6,7 +6,7 @@ ghost use Rattle.data.specs.Same.{same};
 ghost use Rattle.data.specs.View.{data_of, items_of};
 ghost use Rattle.data.specs.declared.object.Object.TheVariants.{CustomTarget, CustomOutput, File};
 
-use crate::object::{Dependency, Machine, Object, Program, Source};
+use crate::object::{Dependency, Object, Program, Source};
 use crate::text::Text;
 use crate::value::{Dictionary, Value};
 
@@ -103,9 +103,7 @@ pub fn equal_objects(object: &Object, other: &Object) -> bool
             matches!(other, Object::IncludeDirectories(other)
                 if equal_texts(paths.as_slice(), other.as_slice()))
         }
-        Object::Machine(machine) => {
-            matches!(other, Object::Machine(other) if equal_machines(machine, other))
-        }
+        Object::Machine => matches!(other, Object::Machine),
         Object::Meson => matches!(other, Object::Meson),
         Object::Compiler => matches!(other, Object::Compiler),
         Object::ConfigurationData(number) => {
@@ -184,15 +182,6 @@ fn equal_programs(program: &Program, other: &Program) -> bool
             _ => false,
         },
     }
-}
-
-fn equal_machines(machine: &Machine, other: &Machine) -> bool
-    ensures { IsTrue result ↔ (machine.now ≡ other.now) }
-{
-    machine.system.as_str() == other.system.as_str()
-        && machine.cpu_family.as_str() == other.cpu_family.as_str()
-        && machine.cpu.as_str() == other.cpu.as_str()
-        && machine.endian.as_str() == other.endian.as_str()
 }
 
 fn equal_texts(texts: &[Text], others: &[Text]) -> bool

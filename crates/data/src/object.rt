@@ -23,8 +23,8 @@ pub enum Object {
     File { path: Text, is_built: bool },
     /// Paths of folders.
     IncludeDirectories(Texts),
-    /// The build, host or target machine.
-    Machine(Machine),
+    /// The build, host or target machine: the three are one.
+    Machine,
     /// The object `meson`.
     Meson,
     /// The C compiler.
@@ -95,15 +95,6 @@ impl Clone for Source {
             }),
         }
     }
-}
-
-/// What the machine file says of a machine.
-#[derive(Drop)]
-pub struct Machine {
-    pub system: Text,
-    pub cpu_family: Text,
-    pub cpu: Text,
-    pub endian: Text,
 }
 
 /// A list of numbers of targets.

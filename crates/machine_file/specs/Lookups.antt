@@ -1,9 +1,10 @@
 -- What the sections of a machine file have at a section and a key.
-use Rattle.std.specs.Prelude.{ℕ, List, [], ◌∷◌, ◌++◌, Option, Some, None, codes, if◌then◌else◌, bytes_eq}
+use Rattle.std.specs.Prelude.{ℕ, List, [], ◌∷◌, ◌++◌, Option, Some, None, codes, if◌then◌else◌, bytes_eq, unwrap_or}
 use Rattle.std.specs.List.{flat_map}
 use Rattle.lexer.specs.Bytes.{space}
 use Rattle.std.specs.Option.{option_map, option_and_then}
 use Rattle.machine_file.specs.Files.{Entry, Section}
+use Rattle.machine_file.specs.Readers.{text_said}
 use Rattle.machine_file.specs.Values.{Value}
 
 -- the entries of the section with this name
@@ -20,6 +21,10 @@ entry_at (e ∷ es) key = if bytes_eq key e.key then Some e else entry_at es key
 abbrev pub value_at : List Section → List ℕ → List ℕ → Option Value
 value_at sections section key =
     option_map (λ e. e.value) (option_and_then (λ entries. entry_at entries key) (entries_at sections section))
+
+-- the text at a section and a key, or else this one
+abbrev pub text_or : List Section → (section key default : List ℕ) → List ℕ
+text_or sections section key default = unwrap_or (option_and_then text_said (value_at sections section key)) default
 
 -- what the section of a dependency says
 abbrev pub dependency_at : List Section → List ℕ → Option (List Entry)

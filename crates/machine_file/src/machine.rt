@@ -75,7 +75,7 @@ impl Machine {
     ghost use Rattle.machine_file.specs.Files.{Section as SectionSaid};
     ghost use Rattle.machine_file.specs.Lines.{file_lines};
     ghost use Rattle.machine_file.specs.Reads.{AreSections};
-    ghost use Rattle.machine_file.specs.Lookups.{entries_at, value_at, dependency_at, check_at};
+    ghost use Rattle.machine_file.specs.Lookups.{entries_at, value_at, text_or, dependency_at, check_at};
     ghost use Rattle.machine_file.specs.View.{value_in, entries_of, machine_in, shown_section_in};
 
     /// What no file says: nothing.
@@ -149,6 +149,16 @@ impl Machine {
     {
         let section = self.section(section)?;
         section.get(key)
+    }
+
+    /// The text that a section has at a key, or else this one.
+    pub fn text_or<'m>(&'m self, section: &str, key: &str, default: &'m str) -> &'m str
+        ensures { result.now ≡ text_or (machine_in self.now) section.now key.now default.now }
+    {
+        match self.get(section, key) {
+            Some(value) => value.text().unwrap_or(default),
+            None => default,
+        }
     }
 
     /// What `[dependency NAME]` says of the dependency of this name, where the section is there.

@@ -1,9 +1,11 @@
 -- The methods of a machine: the type `build_machine` of the page "Reference manual".
-use Rattle.std.specs.Prelude.{ℕ, List, Option, Some, None, Result, Ok, Err, codes, bytes_eq, if◌then◌else◌}
+use Rattle.std.specs.Prelude.{ℕ, List, Option, Some, None, Result, Err, codes, bytes_eq, if◌then◌else◌}
 use Rattle.data.specs.Data.{Data, text}
-use Rattle.data.specs.declared.object.Machine.{Machine}
+use Rattle.data.specs.Limits.{within}
 use Rattle.data.specs.declared.refusal.Refusal.{Refusal}
 use Rattle.data.specs.declared.refusal.Refusal.TheVariants as refusal
+use Rattle.machine_file.specs.Files.{Section}
+use Rattle.machine_file.specs.Lookups.{text_or}
 use Rattle.objects.specs.declared.machines.MachineMethod.{MachineMethod}
 use Rattle.objects.specs.declared.machines.MachineMethod.TheVariants.{Cpu, CpuFamily, Endian, System}
 
@@ -16,15 +18,17 @@ named name =
     else if bytes_eq name (codes "system") then Some System
     else None
 
-abbrev pub text_of : MachineMethod → Machine → List ℕ
-text_of Cpu m = m.cpu
-text_of CpuFamily m = m.cpu_family
-text_of Endian m = m.endian
-text_of System m = m.system
+-- what the section `host_machine` of the machine file has at the method's key, or what stands in its place
+abbrev pub text_of : MachineMethod → List Section → List ℕ
+text_of Cpu machine = text_or machine (codes "host_machine") (codes "cpu") (codes "x86_64")
+text_of CpuFamily machine = text_or machine (codes "host_machine") (codes "cpu_family") (codes "x86_64")
+text_of Endian machine = text_or machine (codes "host_machine") (codes "endian") (codes "little")
+text_of System machine = text_or machine (codes "host_machine") (codes "system") (codes "linux")
 
-abbrev pub answer_by : Option MachineMethod → Machine → Result Data Refusal
-answer_by None m = Err refusal.UnknownMethod
-answer_by (Some method) m = Ok (text (text_of method m))
+-- what a method gives; it is refused where that is too long for a text
+abbrev pub answer_by : Option MachineMethod → List Section → Result Data Refusal
+answer_by None machine = Err refusal.UnknownMethod
+answer_by (Some method) machine = within (text (text_of method machine))
 
-abbrev pub answer : Machine → List ℕ → Result Data Refusal
-answer m name = answer_by (named name) m
+abbrev pub answer : List Section → List ℕ → Result Data Refusal
+answer machine name = answer_by (named name) machine

@@ -27,7 +27,7 @@ has_method (objects.Program p) name = is_some (programs.named name)
 has_method (objects.BuildTarget number) name = is_some (targets.build_named name)
 has_method (objects.CustomTarget number outputs) name = is_some (targets.custom_named name)
 has_method (objects.CustomOutput target output) name = is_some (targets.output_named name)
-has_method (objects.Machine m) name = is_some (machines.named name)
+has_method objects.Machine name = is_some (machines.named name)
 has_method objects.Meson name = is_some (meson.named name)
 has_method objects.Compiler name = compilers.has_method name
 has_method (objects.ConfigurationData number) name = configurations.has_method name
@@ -41,7 +41,7 @@ told_of facts (objects.Program p) name a = programs.answer facts.settings.source
 told_of facts (objects.BuildTarget number) name a = targets.build_answer facts number name
 told_of facts (objects.CustomTarget number outputs) name a = targets.custom_answer facts number outputs name
 told_of facts (objects.CustomOutput target output) name a = targets.output_answer facts target output name
-told_of facts (objects.Machine m) name a = machines.answer m name
+told_of facts objects.Machine name a = machines.answer facts.machine name
 told_of facts objects.Meson name a = meson.answer facts name a
 told_of facts _ name a = Err refusal.UnknownMethod
 

@@ -37,7 +37,7 @@ pub fn has_object_method(object: &Object, name: &str) -> bool
         Object::BuildTarget(_) => TargetMethod::build_named(name).is_some(),
         Object::CustomTarget { .. } => TargetMethod::custom_named(name).is_some(),
         Object::CustomOutput { .. } => TargetMethod::output_named(name).is_some(),
-        Object::Machine(_) => MachineMethod::named(name).is_some(),
+        Object::Machine => MachineMethod::named(name).is_some(),
         Object::Meson => MesonMethod::named(name).is_some(),
         Object::Compiler => has_compiler_method(name),
         Object::ConfigurationData(_) => has_configuration_method(name),
@@ -66,7 +66,7 @@ fn told_of(
         Object::CustomOutput { target, output } => {
             output_answer(alloc, store, *target, *output, name)
         }
-        Object::Machine(machine) => machine_answer(machine, name),
+        Object::Machine => machine_answer(alloc, store, name),
         Object::Meson => meson_answer(alloc, store, name, arguments),
         _ => Ok(Err(Refusal::UnknownMethod)),
     }

@@ -1,10 +1,17 @@
 //! The methods of a machine: the type `build_machine` of the page "Reference manual".
 ghost use Rattle.std.specs.Prelude.{◌≡◌, IfOk};
+ghost use Rattle.data.specs.Data.{text};
+ghost use Rattle.data.specs.Limits.{within};
 ghost use Rattle.data.specs.Tables.{Answers};
+ghost use Rattle.machine_file.specs.View.{machine_in};
 ghost use Rattle.objects.specs.Machines.{answer, named, text_of};
+ghost use Rattle.world.specs.Store.{world_of};
 
-use data::{Machine, Refusal, Text, Value};
-use std::alloc::AllocError;
+use crate::meson_object::text_value;
+use data::{Refusal, Value};
+use machine_file::Machine;
+use std::alloc::{AllocError, Global};
+use world::Store;
 
 /// A method of machines.
 #[derive(Clone, Copy)]
@@ -30,23 +37,39 @@ impl MachineMethod {
     }
 }
 
-fn text_of(method: MachineMethod, machine: &Machine) -> &Text
-    ensures { result.now ≡ text_of method machine.now }
+// What the machine file says by the method's key, or what stands in its place.
+fn text_of(method: MachineMethod, machine: &Machine) -> &str
+    ensures { result.now ≡ text_of method (machine_in machine.now) }
 {
     match method {
-        MachineMethod::Cpu => &machine.cpu,
-        MachineMethod::CpuFamily => &machine.cpu_family,
-        MachineMethod::Endian => &machine.endian,
-        MachineMethod::System => &machine.system,
+        MachineMethod::Cpu => machine.text_or("host_machine", "cpu", "x86_64"),
+        MachineMethod::CpuFamily => machine.text_or("host_machine", "cpu_family", "x86_64"),
+        MachineMethod::Endian => machine.text_or("host_machine", "endian", "little"),
+        MachineMethod::System => machine.text_or("host_machine", "system", "linux"),
     }
 }
 
-/// What the method with a name gives for a machine: `system`, `cpu_family`, `cpu` and `endian`, as the machine file has them.
-pub fn machine_answer(machine: &Machine, name: &str) -> Result<Result<Value, Refusal>, AllocError>
-    ensures { IfOk result (λ r. Answers (answer machine.now name.now) r) }
+fn told_of(
+    alloc: Global,
+    store: &Store,
+    method: MachineMethod,
+) -> Result<Result<Value, Refusal>, AllocError>
+    ensures { IfOk result (λ r. Answers (within (text (text_of method (world_of store.now).facts.machine))) r) }
+{
+    text_value(alloc, text_of(method, store.machine()))
+}
+
+/// What the method with a name gives for the build, host or target machine: `system`, `cpu_family`, `cpu` and `endian`, as the machine
+/// file has them; E22 where that one is too long.
+pub fn machine_answer(
+    alloc: Global,
+    store: &Store,
+    name: &str,
+) -> Result<Result<Value, Refusal>, AllocError>
+    ensures { IfOk result (λ r. Answers (answer (world_of store.now).facts.machine name.now) r) }
 {
     match MachineMethod::named(name) {
-        Some(method) => Ok(Ok(Value::Text(text_of(method, machine).clone()?))),
+        Some(method) => told_of(alloc, store, method),
         None => Ok(Err(Refusal::UnknownMethod)),
     }
 }

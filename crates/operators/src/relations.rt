@@ -93,7 +93,7 @@ fn is_one_kind(object: &Object, other: &Object) -> bool
         Object::CustomOutput { .. } => matches!(other, Object::CustomOutput { .. }),
         Object::File { .. } => matches!(other, Object::File { .. }),
         Object::IncludeDirectories(_) => matches!(other, Object::IncludeDirectories(_)),
-        Object::Machine(_) => matches!(other, Object::Machine(_)),
+        Object::Machine => matches!(other, Object::Machine),
         Object::Meson => matches!(other, Object::Meson),
         Object::Compiler => matches!(other, Object::Compiler),
         Object::ConfigurationData(_) => matches!(other, Object::ConfigurationData(_)),

@@ -2,8 +2,8 @@
 #![tactic(auto)]
 
 pub use data::{
-    Dependency, Dictionary, DictionaryBuilder, Feature, List, Machine, Numbers, Object, Program,
-    Refusal, Source, Sources, Text, Texts, Value, append, equal_objects, have_disabler, is_equal,
+    Dependency, Dictionary, DictionaryBuilder, Feature, List, Numbers, Object, Program, Refusal,
+    Source, Sources, Text, Texts, Value, append, equal_objects, have_disabler, is_equal,
 };
 pub use methods::{flat_texts, flat_values, format_text, has_method, method, readers};
 pub use operators::{
