@@ -2,6 +2,7 @@
 use Rattle.std.specs.Prelude.{ℕ, ◌+◌, nat_le, Bool, true, false, ◌&&◌, ◌||◌, not, List, [], ◌∷◌, ◌++◌, length, slice_get}
 use Rattle.std.specs.Prelude.{Option, Some, None, is_some, Result, Ok, Err, bytes_eq, if◌then◌else◌}
 use Rattle.std.specs.List.{list_any}
+use Rattle.among.specs.Among.{is_among}
 use Rattle.data.specs.Data.{Data, boolean_in, integer_in, text_in, entries_in, object}
 use Rattle.data.specs.declared.object.Object.{Object}
 use Rattle.faults.specs.declared.refusal.Refusal.{Refusal}
@@ -76,11 +77,6 @@ abbrev pub each_fits : RowData → ℕ → List Data → Bool
 each_fits row i [] = true
 each_fits row i (d ∷ ds) = is_of_some (kind_at row i) d && each_fits row (i + 1) ds
 
--- whether a name is one of these
-abbrev pub is_among : List ℕ → List (List ℕ) → Bool
-is_among name [] = false
-is_among name (n ∷ ns) = bytes_eq n name || is_among name ns
-
 -- what a keyword has to be, if there is such
 abbrev pub keyword_kind : List ℕ → List KeywordData → Option Kind
 keyword_kind name [] = None
@@ -110,7 +106,7 @@ has_twice ns = comes_again [] ns
 
 abbrev pub has_left_out : List (List ℕ) → List (List ℕ × Data) → Bool
 has_left_out names [] = false
-has_left_out names (n ∷ ns) = is_among n.0 names || has_left_out names ns
+has_left_out names (n ∷ ns) = is_among names n.0 || has_left_out names ns
 
 abbrev pub fits : RowData → ArgumentsData → Bool
 fits row a = nat_le row.needed (length a.positional) && (each_fits row 0 a.positional

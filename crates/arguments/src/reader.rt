@@ -5,7 +5,7 @@ ghost use Rattle.std.specs.List.{list_any};
 ghost use Rattle.data.specs.View.{data_of};
 ghost use Rattle.arguments.specs.Arguments.{arguments_data, named_data};
 ghost use Rattle.arguments.specs.Row.{checked, each_fits, each_is_given, each_named_fits, fits, has_left_out, has_twice};
-ghost use Rattle.arguments.specs.Row.{is_among, is_object, is_of, is_of_some, keyword_kind, kind_at};
+ghost use Rattle.arguments.specs.Row.{is_object, is_of, is_of_some, keyword_kind, kind_at};
 ghost use Rattle.arguments.specs.Pieces.{is_command, is_configuration, is_feature, is_file};
 ghost use Rattle.arguments.specs.RowView.{keyword_data, row_data};
 
@@ -15,6 +15,7 @@ use crate::flat::is_texts;
 use crate::given::value_named;
 use crate::pieces::{are_pieces, is_command, is_configuration, is_feature, is_file};
 use crate::row::{Keyword, Kind, Row};
+use among::is_among;
 use data::Value;
 use faults::Refusal;
 use std::alloc::{AllocError, Global};
@@ -119,17 +120,6 @@ fn each_fits(row: &Row, values: &[Value]) -> bool
     true
 }
 
-fn is_among(name: &str, names: &[&str]) -> bool
-    ensures { result ≡ is_among name.now (map (λ n. n.now) names.now) }
-{
-    for one in names {
-        if *one == name {
-            return true;
-        }
-    }
-    false
-}
-
 fn keyword_kind(name: &str, keywords: &[Keyword]) -> Option<Kind>
     ensures { result ≡ keyword_kind name.now (map keyword_data keywords.now) }
 {
@@ -200,7 +190,7 @@ fn has_left_out(names: &[&str], named: &[Named]) -> bool
     ensures { result ≡ has_left_out (map (λ n. n.now) names.now) (map named_data named.now) }
 {
     for one in named {
-        if is_among(one.name.as_str(), names) {
+        if is_among(names, one.name.as_str()) {
             return true;
         }
     }

@@ -1,8 +1,9 @@
 -- The names that the language gives a meaning to.
 use Rattle.std.specs.Prelude.{ℕ, List, [], ◌∷◌, Bool, false, not, ◌||◌, ◌&&◌, ◌==◌, codes, if◌then◌else◌, Option, Some, None, option_map}
 use Rattle.std.specs.Char.{is_ascii_alphabetic, is_ascii_alphanumeric}
-use Rattle.std.specs.List.{list_any, list_all}
+use Rattle.std.specs.List.{list_all}
 use Rattle.std.specs.Str.{bytes_eq}
+use Rattle.among.specs.Among.{is_among}
 use Rattle.calls.specs.declared.function.Function.{Function}
 use Rattle.calls.specs.declared.function.Function.TheVariants as functions
 use Rattle.calls.specs.declared.function.ProjectFunction.{ProjectFunction}
@@ -13,7 +14,7 @@ abbrev pub predefined_names : List (List ℕ)
 predefined_names = codes "meson" ∷ codes "host_machine" ∷ codes "build_machine" ∷ codes "target_machine" ∷ []
 
 abbrev pub is_predefined : List ℕ → Bool
-is_predefined name = list_any (bytes_eq name) predefined_names
+is_predefined name = is_among predefined_names name
 
 -- the words that are no names
 abbrev pub keywords : List (List ℕ)
@@ -29,7 +30,7 @@ begins_name (b ∷ bs) = is_ascii_alphabetic b || b == 95
 
 -- letters, digits and underscores of which a digit is not the first, and no keyword
 abbrev pub is_name : List ℕ → Bool
-is_name text = begins_name text && (list_all is_name_byte text && not (list_any (bytes_eq text) keywords))
+is_name text = begins_name text && (list_all is_name_byte text && not (is_among keywords text))
 
 -- the functions of Meson that are left out for good
 abbrev pub left_out_names : List (List ℕ)
@@ -40,7 +41,7 @@ left_out_names =
     ∷ codes "run_command" ∷ codes "run_target" ∷ codes "shared_module" ∷ codes "subproject" ∷ codes "summary" ∷ codes "vcs_tag" ∷ []
 
 abbrev pub is_left_out : List ℕ → Bool
-is_left_out name = list_any (bytes_eq name) left_out_names
+is_left_out name = is_among left_out_names name
 
 -- the function of a name that says what targets are made with, and what is installed and tested
 abbrev pub resource_function_named : List ℕ → Option ProjectFunction

@@ -1,12 +1,12 @@
 //! The names that the language gives a meaning to.
 ghost use Rattle.std.specs.Prelude.{◌≡◌, option_map};
-ghost use Rattle.std.specs.List.{list_all, list_any};
-ghost use Rattle.std.specs.Str.{bytes_eq};
+ghost use Rattle.std.specs.List.{list_all};
 ghost use Rattle.calls.specs.Names.{begins_name, function_named, is_left_out, is_name, is_name_byte, is_predefined, project_function_named};
 ghost use Rattle.calls.specs.Names.{resource_function_named};
 ghost use Rattle.calls.specs.declared.function.Function.TheVariants as functions;
 
 use crate::function::{Function, ProjectFunction};
+use among::is_among;
 
 /// The words that are no names.
 const KEYWORDS: [&str; 14] = [
@@ -54,24 +54,18 @@ const LEFT_OUT: [&str; 21] = [
     "vcs_tag",
 ];
 
-fn is_among(name: &str, names: &[&str]) -> bool
-    ensures { result ≡ list_any (λ other. bytes_eq name.now other.now) names.now }
-{
-    names.iter().any(|other| *other == name)
-}
-
 /// Whether a name is a variable that stands for a thing of the run, as `meson`.
 pub fn is_predefined(name: &str) -> bool
     ensures { result ≡ is_predefined name.now }
 {
-    is_among(name, &PREDEFINED)
+    is_among(&PREDEFINED, name)
 }
 
 /// Whether a function of this name is left out, so far or for good.
 pub fn is_left_out(name: &str) -> bool
     ensures { result ≡ is_left_out name.now }
 {
-    is_among(name, &LEFT_OUT)
+    is_among(&LEFT_OUT, name)
 }
 
 fn begins_name(text: &[u8]) -> bool
@@ -99,7 +93,7 @@ fn are_name_bytes(text: &[u8]) -> bool
 pub fn is_name(text: &str) -> bool
     ensures { result ≡ is_name text.now }
 {
-    begins_name(text.as_bytes()) && are_name_bytes(text.as_bytes()) && !is_among(text, &KEYWORDS)
+    begins_name(text.as_bytes()) && are_name_bytes(text.as_bytes()) && !is_among(&KEYWORDS, text)
 }
 
 /// The function of a name.

@@ -1,6 +1,6 @@
 -- The names of the methods of the C compiler: the type `compiler` of the page "Reference manual".
 use Rattle.std.specs.Prelude.{ℕ, Bool, List, [], ◌∷◌, Option, Some, None, codes, bytes_eq, if◌then◌else◌}
-use Rattle.std.specs.List.{list_any}
+use Rattle.among.specs.Among.{is_among}
 use Rattle.compiler_methods.specs.declared.names.CompilerMethod.{CompilerMethod}
 use Rattle.compiler_methods.specs.declared.names.CompilerMethod.TheVariants as methods
 
@@ -28,4 +28,4 @@ abbrev pub left_out_names : List (List ℕ)
 left_out_names = codes "compiles" ∷ codes "compute_int" ∷ codes "get_define" ∷ codes "links" ∷ codes "preprocess" ∷ codes "run" ∷ []
 
 abbrev pub is_left_out : List ℕ → Bool
-is_left_out name = list_any (bytes_eq name) left_out_names
+is_left_out name = is_among left_out_names name

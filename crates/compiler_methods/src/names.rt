@@ -1,9 +1,9 @@
 //! The names of the methods.
-ghost use Rattle.std.specs.Prelude.{◌≡◌, map};
-ghost use Rattle.std.specs.List.{list_any};
-ghost use Rattle.std.specs.Str.{bytes_eq};
+ghost use Rattle.std.specs.Prelude.{◌≡◌};
 ghost use Rattle.compiler_methods.specs.Methods.{has_method};
 ghost use Rattle.compiler_methods.specs.Names.{is_left_out, named};
+
+use among::is_among;
 
 /// A method of the compiler, by what it gives.
 #[derive(Clone, Copy)]
@@ -66,15 +66,9 @@ pub fn has_compiler_method(name: &str) -> bool
     CompilerMethod::named(name).is_some()
 }
 
-fn is_among(name: &str, names: &[&str]) -> bool
-    ensures { result ≡ list_any (λ other. bytes_eq name.now other.now) names.now }
-{
-    names.iter().any(|other| *other == name)
-}
-
 /// Whether a method of this name, which the manual gives to the compiler, is left out for good: E23.
 pub fn is_left_out_compiler_method(name: &str) -> bool
     ensures { result ≡ is_left_out name.now }
 {
-    is_among(name, &LEFT_OUT)
+    is_among(&LEFT_OUT, name)
 }

@@ -1,6 +1,5 @@
 -- Texts without blanks at their ends, without a last byte, and cut in two.
-use Rattle.std.specs.Prelude.{ℕ, Bool, ◌||◌, ◌==◌, bytes_eq, List, [], ◌∷◌, Option, Some, None, if◌then◌else◌}
-use Rattle.std.specs.List.{list_any}
+use Rattle.std.specs.Prelude.{ℕ, Bool, ◌||◌, ◌==◌, List, [], ◌∷◌, Option, Some, None, if◌then◌else◌}
 use Rattle.std.specs.Option.{option_map}
 use Rattle.lexer.specs.Bytes.{space, tab, carriage_return}
 use Rattle.machine_file.specs.declared.text.Blanks.{Blanks}
@@ -29,10 +28,6 @@ to_word w (b ∷ bs) = kept w b (to_word w bs)
 -- a text without blanks at its ends
 abbrev pub trimmed : Blanks → List ℕ → List ℕ
 trimmed w text = to_word w (from_word w text)
-
--- the text is one of these names
-abbrev pub is_among : List (List ℕ) → List ℕ → Bool
-is_among names text = list_any (λ name. bytes_eq text name) names
 
 -- what stands before a last byte c; nothing where the text does not end so
 abbrev pub before_last_byte : ℕ → List ℕ → Option (List ℕ)

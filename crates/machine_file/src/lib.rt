@@ -13,5 +13,5 @@ mod value;
 
 pub use machine::{Entry, Machine, Section};
 pub use number::integer_of;
-pub use text::{Blanks, cut_first, is_among, trimmed};
+pub use text::{Blanks, cut_first, trimmed};
 pub use value::{MachineValue, read_value};

@@ -5,8 +5,9 @@ ghost use Rattle.machine_file.specs.Sections.{kind_of, is_dependency, of_host_ma
 ghost use Rattle.machine_file.specs.Sections.{expected, fits, knows, cuts_last};
 ghost use Rattle.machine_file.specs.View.{value_in};
 
-use crate::text::{cut_first, is_among};
+use crate::text::cut_first;
 use crate::value::MachineValue;
+use among::is_among;
 
 /// A kind of section.
 #[derive(Clone, Copy, PartialEq, Eq)]

@@ -1,7 +1,6 @@
 //! Texts without blanks at their ends, without a last character, and cut in two.
 
-ghost use Rattle.std.specs.Prelude.{◌≡◌, ◌<◌, bytes_eq};
-ghost use Rattle.std.specs.List.{list_any};
+ghost use Rattle.std.specs.Prelude.{◌≡◌, ◌<◌};
 ghost use Rattle.std.specs.Option.{option_map};
 ghost use Rattle.machine_file.specs.Texts.{is_blank, from_word, to_word, trimmed, before_last_byte, cut_first, cut_last};
 
@@ -53,13 +52,6 @@ pub fn trimmed(blanks: Blanks, text: &str) -> &str
     ensures { result.now ≡ trimmed blanks text.now }
 {
     to_word(blanks, from_word(blanks, text))
-}
-
-/// Whether the text is one of these names.
-pub fn is_among(names: &[&str], text: &str) -> bool
-    ensures { result ≡ list_any (λ name. bytes_eq text.now name.now) names.now }
-{
-    names.iter().any(|name| text == *name)
 }
 
 /// What stands in front of the last character, if it is this one of ASCII.

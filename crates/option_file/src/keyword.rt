@@ -9,7 +9,7 @@ ghost use Rattle.option_file.specs.View.{given_in};
 ghost use Rattle.option_values.specs.View.{kind_in, texts_of};
 
 use crate::declaration::Given;
-use machine_file::is_among;
+use among::is_among;
 use option_values::{Choices, OptionKind, OptionType};
 use std::alloc::{AllocError, Global};
 
