@@ -49,6 +49,10 @@ path_at i a = unwrap_or (option_and_then path_in (argument i a)) []
 abbrev pub text_of : List ℕ → ArgumentsData → List ℕ
 text_of name a = text_or_none (keyword name a)
 
+-- the same, or none where it is not given
+abbrev pub text_given : List ℕ → ArgumentsData → Option (List ℕ)
+text_given name a = option_and_then text_in (keyword name a)
+
 -- the boolean of a keyword, or this one
 abbrev pub flag : List ℕ → Bool → ArgumentsData → Bool
 flag name default a = unwrap_or (option_and_then boolean_in (keyword name a)) default

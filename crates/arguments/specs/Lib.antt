@@ -4,6 +4,7 @@ pub mod Disablers
 pub mod Flat
 pub mod Given
 pub mod Leaves
+pub mod Maybe
 pub mod Pieces
 pub mod Row
 pub mod RowView

@@ -1,6 +1,6 @@
 -- What a call takes, and whether arguments are that.
 use Rattle.std.specs.Prelude.{ℕ, ◌+◌, nat_le, Bool, true, false, ◌&&◌, ◌||◌, not, List, [], ◌∷◌, ◌++◌, length, slice_get}
-use Rattle.std.specs.Prelude.{Option, Some, None, is_some, Result, Ok, Err, bytes_eq, if◌then◌else◌}
+use Rattle.std.specs.Prelude.{Option, Some, None, is_some, Result, Ok, Err, bytes_eq, codes, if◌then◌else◌}
 use Rattle.std.specs.List.{list_any}
 use Rattle.among.specs.Among.{is_among}
 use Rattle.data.specs.Data.{Data, boolean_in, integer_in, text_in, entries_in, object}
@@ -28,6 +28,10 @@ pub record RowData : Type 0 where
   pub left_out : List (List ℕ)
 
 -- ---- words for rows
+
+-- the keywords that no call takes
+abbrev pub common_left_out : List (List ℕ)
+common_left_out = codes "kwargs" ∷ codes "fallback" ∷ codes "deprecated" ∷ []
 
 abbrev pub optional : List ℕ → Kind → KeywordData
 optional name kind = record { name = name; kind = kind; is_needed = false }

@@ -5,13 +5,14 @@ ghost use Rattle.data.specs.Data.{text_in};
 ghost use Rattle.data.specs.View.{data_of};
 ghost use Rattle.arguments.specs.Arguments.{arguments_data, named_data};
 ghost use Rattle.arguments.specs.Given.{argument, flag, flag_at, integer_of, keyword, of_boolean};
-ghost use Rattle.arguments.specs.Given.{of_feature, path_at, requirement, requirement_in, text_at, text_of, text_or, texts, texts_from};
+ghost use Rattle.arguments.specs.Given.{of_feature, path_at, requirement, requirement_in, text_at, text_given, text_of, text_or, texts};
+ghost use Rattle.arguments.specs.Given.{texts_from};
 ghost use Rattle.arguments.specs.Flat.{flat_all};
 ghost use Rattle.arguments.specs.Row.{value_named};
 
 use crate::arguments::{Arguments, Named};
 use crate::flat::{collect, collect_items};
-use data::{Feature, Object, Value};
+use data::{Feature, Object, Text, Value};
 use std::alloc::{AllocError, Global};
 
 /// What the keyword `required` says of a thing that is looked up.
@@ -176,6 +177,16 @@ impl Arguments {
         match self.keyword(name) {
             Some(value) => bytes_of(value).unwrap_or(""),
             None => "",
+        }
+    }
+
+    /// The text of a keyword, if it is given.
+    pub fn text_given(&self, name: &str) -> Option<&Text>
+        ensures { option_map (λ t. t.now) result ≡ text_given name.now (arguments_data self.now) }
+    {
+        match self.keyword(name) {
+            Some(value) => value.as_text(),
+            None => None,
         }
     }
 

@@ -1,11 +1,11 @@
 -- Values and texts that calls answer.
-use Rattle.std.proofs.Common.{◌≡◌, ℕ, Bool, false, List, Option, Some, None, option_map, is_some, Result, Ok, Err, String, Global, string_bytes, refl, sym, ap, ◌∙◌}
+use Rattle.std.proofs.Common.{◌≡◌, ℕ, Bool, false, List, Option, Some, None, option_map, is_some, Result, Ok, Err, String, Global, string_bytes, refl, sym}
 use Rattle.data.specs.View.{data_of}
 use Rattle.data.specs.declared.refusal.Refusal.{Refusal as OperationRefusal}
 use Rattle.data.specs.declared.value.Value.{Value}
 use Rattle.data.specs.Tables.{string_in}
 use Rattle.faults.specs.declared.refusal.Refusal.{Refusal}
-use Rattle.world.specs.Answering.{State, Carries, IsAnswered, Refuses, Views}
+use Rattle.world.specs.Answering.{State, Carries, IsAnswered, Refuses}
 use Rattle.world.specs.Deed.{Deed, answered, need, then}
 use Rattle.world.specs.World.{fault_here}
 use Rattle.world.specs.declared.stop.Stop.{Stop}
@@ -20,13 +20,6 @@ pub carries_text : (given : Result (List ℕ) OperationRefusal) (answer : Result
     → string_in answer ≡ given → IsAnswered s.world answer result → Carries string_bytes (answered given) s result s
 carries_text given (Ok x) v is = carries_answered given (Ok x) (sym v) is
 carries_text given (Err e) v is = carries_answered given (Err e) (sym v) is
-
-pub two {ℓ} : {A B : Type 0} {C : Type ℓ} (f : A → B → C) {a c : A} {b d : B} → a ≡ c → b ≡ d → f a b ≡ f c d
-two f {a = a} {c = c} {b = b} p q = ap (λ x. f x b) p ∙ ap (f c) q
-
-pub views_same : {A R : Type 0} (given answer : Result A R) → answer ≡ given → Views (λ a. a) given answer
-views_same given (Ok x) e = sym e
-views_same given (Err r) e = sym e
 
 -- what is not so is refused, whatever was to be done next
 pub carries_denied : {B D : Type 0} {view : D → B} (b : Bool) (refusal : Refusal) (detail : List ℕ) {next : Unit {0} → Deed B} {s : State}

@@ -2,15 +2,11 @@
 use Rattle.std.specs.Prelude.{ℕ, List, [], ◌∷◌, Some, None, codes}
 use Rattle.arguments.specs.declared.row.Kind.{Kind}
 use Rattle.arguments.specs.declared.row.Kind.TheVariants.{Any, Boolean, Integer, Text, Dependencies}
-use Rattle.arguments.specs.Row.{RowData, optional}
+use Rattle.arguments.specs.Row.{RowData, common_left_out, optional}
 use Rattle.calls.specs.ProjectFunctions.{project_function_row}
 use Rattle.project_calls.specs.Rows.{project_row}
 use Rattle.calls.specs.declared.function.Function.{Function}
 use Rattle.calls.specs.declared.function.Function.TheVariants as functions
-
--- the keywords that no call takes
-abbrev pub common_left_out : List (List ℕ)
-common_left_out = codes "kwargs" ∷ codes "fallback" ∷ codes "deprecated" ∷ []
 
 -- values of any type, and no keyword
 abbrev pub any_values : RowData

@@ -1,15 +1,10 @@
 -- What tests and operations answer.
-use Rattle.std.proofs.Common.{◌≡◌, Result, Ok, Err, IfOk, sym, subst}
+use Rattle.std.proofs.Common.{◌≡◌, Result, IfOk, subst}
 use Rattle.std.specs.declared.alloc.AllocError.{AllocError}
 use Rattle.data.specs.Data.{Data}
 use Rattle.data.specs.Tables.{Answers}
 use Rattle.data.specs.declared.refusal.Refusal.{Refusal}
 use Rattle.data.specs.declared.value.Value.{Value}
-use Rattle.world.specs.Answering.{Views}
-
-pub views_same : {A R : Type 0} (given answer : Result A R) → answer ≡ given → Views (λ a. a) given answer
-views_same given (Ok x) e = sym e
-views_same given (Err r) e = sym e
 
 -- the same answer, written otherwise
 pub answers_as : {given other : Result Data Refusal} (r : Result (Result Value Refusal) AllocError)

@@ -2,13 +2,9 @@
 use Rattle.std.specs.Prelude.{ℕ, List, [], ◌∷◌, ◌++◌, None, Some, codes}
 use Rattle.arguments.specs.declared.row.Kind.{Kind}
 use Rattle.arguments.specs.declared.row.Kind.TheVariants.{Any, Requirement, Text, Texts}
-use Rattle.arguments.specs.Row.{KeywordData, RowData, optional}
+use Rattle.arguments.specs.Row.{KeywordData, RowData, common_left_out, optional}
 use Rattle.compiler_methods.specs.declared.names.CompilerMethod.{CompilerMethod}
 use Rattle.compiler_methods.specs.declared.names.CompilerMethod.TheVariants as methods
-
--- the keywords that no call takes
-abbrev pub common_left_out : List (List ℕ)
-common_left_out = codes "kwargs" ∷ codes "fallback" ∷ codes "deprecated" ∷ []
 
 -- the keywords of all that asks the compiler: a value of any type is read and dropped, since the machine file answers
 abbrev pub asking_keywords : List KeywordData

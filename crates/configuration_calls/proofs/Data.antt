@@ -1,10 +1,9 @@
 -- Configuration data by their numbers, and what tests answer.
-use Rattle.std.proofs.Common.{◌≡◌, ℕ, List, [], Option, Some, None, option_map, is_some, unwrap_or, Result, Ok, Err, IfOk, refl, sym, ap, subst, ◌∙◌}
+use Rattle.std.proofs.Common.{◌≡◌, ℕ, List, [], Option, Some, None, option_map, is_some, unwrap_or, Result, IfOk, refl, sym, ap, subst, ◌∙◌}
 use Rattle.std.specs.Prelude.{slice_get}
 use Rattle.std.specs.declared.alloc.AllocError.{AllocError}
 use Rattle.std.proofs.lemmas.Option.{get_or_from_slice_get, unwrap_or-slice_get}
 use Rattle.template.specs.Config.{Configuration}
-use Rattle.world.specs.Answering.{Views}
 use Rattle.world.specs.Configuring.{configuration_at, merge_configured, no_values}
 use Rattle.configuration_calls.specs.Contents.{unfrozen}
 
@@ -18,17 +17,10 @@ pub is_some-map : {A B : Type 0} (f : A → B) (o : Option A) → is_some o ≡ 
 is_some-map f None = refl
 is_some-map f (Some x) = refl
 
-pub views_same : {A R : Type 0} (given answer : Result A R) → answer ≡ given → Views (λ a. a) given answer
-views_same given (Ok x) e = sym e
-views_same given (Err r) e = sym e
-
 -- a copy is merged as the data themselves are
 pub merged_same : (number : ℕ) (c : Configuration) → merge_configured number (unfrozen c.entries) ≡ merge_configured number c
 unfolding merge_configured
 merged_same number c = refl
-
-pub two {ℓ} : {A B : Type 0} {C : Type ℓ} (f : A → B → C) {a c : A} {b d : B} → a ≡ c → b ≡ d → f a b ≡ f c d
-two f {a = a} {c = c} {b = b} p q = ap (λ x. f x b) p ∙ ap (f c) q
 
 -- the same list, written otherwise
 pub list_as : {X A : Type 0} (view : X → A) {xs ys : A} (r : Result X AllocError) → xs ≡ ys → IfOk r (λ v. view v ≡ xs) → IfOk r (λ v. view v ≡ ys)

@@ -2,18 +2,15 @@
 use Rattle.std.specs.Prelude.{ℕ, Bool, true, false, List, [], ◌∷◌, Option, Some, None, codes, bytes_eq, is_some, ok_or, option_and_then, option_map}
 use Rattle.std.specs.Prelude.{if◌then◌else◌}
 use Rattle.arguments.specs.Arguments.{ArgumentsData}
-use Rattle.arguments.specs.Given.{keyword, text_of}
+use Rattle.arguments.specs.Given.{keyword, text_given, text_of}
 use Rattle.arguments.specs.Leaves.{leaves_named}
-use Rattle.data.specs.Data.{Data, object, text, text_in}
+use Rattle.data.specs.Data.{Data, object, text}
 use Rattle.data.specs.Limits.{within_bytes}
 use Rattle.data.specs.declared.object.Object.{Object}
 use Rattle.data.specs.declared.object.Object.TheVariants as objects
 use Rattle.edge.specs.Texts.{Path, Text}
 use Rattle.faults.specs.declared.refusal.Refusal.TheVariants as refusals
 use Rattle.operators.specs.Texts.{path_below}
-use Rattle.option_values.specs.Values as option
-use Rattle.options.specs.Resolves.{value_named}
-use Rattle.options.specs.Settings.{Setting}
 use Rattle.paths.specs.Paths.{tree_path}
 use Rattle.project.specs.Adding.{is_file_name}
 use Rattle.project.specs.World.{InstallData}
@@ -22,6 +19,7 @@ use Rattle.targets.specs.Files.{path_in}
 use Rattle.world.specs.Configuring.{freeze_configured}
 use Rattle.world.specs.Declaring.{add_install, add_output}
 use Rattle.world.specs.Deed.{Deed, give, read, ◌>>=◌, answered, fitting, need}
+use Rattle.world.specs.Options.{option_text}
 use Rattle.world.specs.World.{Facts}
 use Rattle.configuration_calls.specs.Given.{GivenData, given_by}
 use Rattle.configuration_calls.specs.Written.{header_written, output_written, template_at, template_written}
@@ -76,32 +74,22 @@ values_given a = do
 
 -- ---- where the output is installed
 
-abbrev pub text_or_empty : Option option.Value → Text
-text_or_empty (Some (option.Text t)) = t
-text_or_empty _ = []
-
-abbrev pub prefix_of : List Setting → Path
-prefix_of settings = text_or_empty (value_named settings (codes "prefix"))
-
 -- the output, by its path in the build folder, goes to a folder below `prefix`, or to one that is absolute
 abbrev pub install_at : Facts → (path : Path) (name : Text) (folder : Path) → InstallData
 install_at facts path name folder = record {
   source = path_below facts.settings.build_root path;
-  destination = destination (prefix_of facts.options) folder name;
+  destination = destination (option_text facts.options (codes "prefix")) folder name;
 }
 
 unfoldable pub noted : Option InstallData → Deed (Unit {0})
 noted None = give tt
 noted (Some install) = add_install install
 
-abbrev pub install_dir : ArgumentsData → Option Path
-install_dir a = option_and_then text_in (keyword (codes "install_dir") a)
-
 -- the output is installed where `install_dir` says so
 unfoldable pub installed : (path : Path) → ArgumentsData → Deed (Unit {0})
 installed path a = do
   facts ← read
-  noted (option_map (install_at facts path (text_of (codes "output") a)) (install_dir a))
+  noted (option_map (install_at facts path (text_of (codes "output") a)) (text_given (codes "install_dir") a))
 
 -- ---- the call
 

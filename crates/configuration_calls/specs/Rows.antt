@@ -3,13 +3,9 @@ use Rattle.std.specs.Prelude.{ℕ, List, [], ◌∷◌, ◌++◌, None, codes}
 use Rattle.arguments.specs.declared.row.Kind.{Kind}
 use Rattle.arguments.specs.declared.row.Kind.TheVariants as kinds
 use Rattle.arguments.specs.declared.row.Piece.TheVariants as pieces
-use Rattle.arguments.specs.Row.{KeywordData, RowData, needed, optional}
+use Rattle.arguments.specs.Row.{KeywordData, RowData, common_left_out, needed, optional}
 use Rattle.configuration_calls.specs.declared.methods.Method.{Method}
 use Rattle.configuration_calls.specs.declared.methods.Method.TheVariants as methods
-
--- the keywords that no call takes
-abbrev pub common_left_out : List (List ℕ)
-common_left_out = codes "kwargs" ∷ codes "fallback" ∷ codes "deprecated" ∷ []
 
 -- `configuration_data(dictionary)`, which may be left out
 abbrev pub configuration_data_row : RowData

@@ -6,8 +6,7 @@ ghost use Rattle.project.specs.View.{install_view};
 ghost use Rattle.world.specs.Answering.{Carries, HasRoom};
 ghost use Rattle.world.specs.Caller.{state_of};
 ghost use Rattle.world.specs.Store.{world_of};
-ghost use Rattle.configuration_calls.specs.ConfigureFile.{configure_file, configured, frozen_by, install_at, install_dir, installed, made};
-ghost use Rattle.configuration_calls.specs.ConfigureFile.{output_given, prefix_of};
+ghost use Rattle.configuration_calls.specs.ConfigureFile.{configure_file, configured, frozen_by, install_at, installed, made, output_given};
 ghost use Rattle.configuration_calls.specs.GivenView.{given_view};
 ghost use Rattle.configuration_calls.specs.Written.{CarriesOf, filling_in};
 
@@ -17,32 +16,12 @@ use arguments::Arguments;
 use data::{Object, Text, Value};
 use faults::Refusal;
 use operators::path_below;
-use options::OptionValue;
 use ports::{Outputs, Tree};
 use project::Install;
 use resources::destination;
 use std::alloc::{AllocError, Global};
 use targets::path_in;
 use world::{Caller, Stop, Store};
-
-fn prefix_of(store: &Store) -> &str
-    ensures { result.now ≡ prefix_of (world_of store.now).facts.options }
-{
-    match store.option("prefix") {
-        Some(OptionValue::Text(text)) => text.as_str(),
-        _ => "",
-    }
-}
-
-// The folder that the output is installed in.
-fn install_dir(arguments: &Arguments) -> Option<&Text>
-    ensures { option_map (λ t. t.now) result ≡ install_dir (arguments_data arguments.now) }
-{
-    match arguments.keyword("install_dir") {
-        Some(value) => value.as_text(),
-        None => None,
-    }
-}
 
 // Where an output goes that is installed.
 fn install_at(
@@ -57,7 +36,7 @@ fn install_at(
     let build_root = store.settings().build_root.as_str();
     Ok(Install {
         source: path_below(alloc, build_root, path)?,
-        destination: destination(alloc, prefix_of(store), folder, name)?,
+        destination: destination(alloc, store.option_text("prefix"), folder, name)?,
     })
 }
 
@@ -70,7 +49,7 @@ fn install<T: Tree, O: Outputs>(
     ensures { Carries (λ u. u) (installed path.now (arguments_data arguments.now))
         (state_of T.seen O.seen caller.old) result (state_of T.seen O.seen caller.new) }
 {
-    match install_dir(arguments) {
+    match arguments.text_given("install_dir") {
         Some(folder) => {
             let name = arguments.text("output");
             let install = install_at(caller.alloc, caller.store, path, name, folder.as_str())?;

@@ -1,5 +1,5 @@
 -- Refusals at other places than that of the call.
-use Rattle.std.proofs.Common.{◌≡◌, ℕ, List, [], Err, refl, ap, ◌∙◌}
+use Rattle.std.proofs.Common.{◌≡◌, ℕ, List, [], Err, refl}
 use Rattle.faults.specs.Faults.{plain_fault}
 use Rattle.faults.specs.View.{fault_view}
 use Rattle.faults.specs.declared.fault.Fault.{Fault}
@@ -22,6 +22,3 @@ carries_refused_at {view = view} file line refusal {s = s} fault is = record {
   device = no_failure (λ n. refl);
   same = refl;
 }
-
-pub two {ℓ} : {A B : Type 0} {C : Type ℓ} (f : A → B → C) {a c : A} {b d : B} → a ≡ c → b ≡ d → f a b ≡ f c d
-two f {a = a} {c = c} {b = b} p q = ap (λ x. f x b) p ∙ ap (f c) q

@@ -1,13 +1,9 @@
 -- What the methods take.
 use Rattle.std.specs.Prelude.{ℕ, List, [], ◌∷◌, None, bytes_eq, codes, if◌then◌else◌}
 use Rattle.arguments.specs.declared.row.Kind.TheVariants.{Text}
-use Rattle.arguments.specs.Row.{RowData}
+use Rattle.arguments.specs.Row.{RowData, common_left_out}
 use Rattle.data.specs.declared.object.Object.{Object}
 use Rattle.data.specs.declared.object.Object.TheVariants as objects
-
--- the keywords that no call takes
-abbrev pub common_left_out : List (List ℕ)
-common_left_out = codes "kwargs" ∷ codes "fallback" ∷ codes "deprecated" ∷ []
 
 abbrev pub no_values : RowData
 no_values = record { positional = []; needed = 0; others = None; keywords = []; left_out = common_left_out }

@@ -8,4 +8,5 @@ mod words;
 
 pub use filling::filled;
 pub use holes::{Meaning, Place, Scope, meaning_of};
+pub use names::plain_name;
 pub use words::words_of;

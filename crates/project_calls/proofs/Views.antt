@@ -5,10 +5,6 @@ use Rattle.data.specs.declared.refusal.Refusal.{Refusal}
 use Rattle.world.specs.Answering.{Views}
 use Rattle.project_calls.specs.DefaultsView.{answer_in, strings_of}
 
-pub views_same : {A R : Type 0} (given answer : Result A R) → answer ≡ given → Views (λ a. a) given answer
-views_same given (Ok x) e = sym e
-views_same given (Err r) e = sym e
-
 pub views_strings : (given : Result (List (List ℕ)) Refusal) (answer : Result (Vec (String Global) Global) Refusal) → answer_in answer ≡ given → Views strings_of given answer
 views_strings given (Ok x) e = sym e
 views_strings given (Err r) e = sym e

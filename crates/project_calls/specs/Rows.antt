@@ -1,11 +1,7 @@
 -- The rows of the functions: what each takes.
-use Rattle.std.specs.Prelude.{ℕ, List, [], ◌∷◌, Some, None, codes}
+use Rattle.std.specs.Prelude.{[], ◌∷◌, Some, None, codes}
 use Rattle.arguments.specs.declared.row.Kind.TheVariants.{Text, Texts, TextsOrDictionary}
-use Rattle.arguments.specs.Row.{RowData, optional}
-
--- the keywords that no call takes
-abbrev pub common_left_out : List (List ℕ)
-common_left_out = codes "kwargs" ∷ codes "fallback" ∷ codes "deprecated" ∷ []
+use Rattle.arguments.specs.Row.{RowData, common_left_out, optional}
 
 -- a name and languages
 abbrev pub project_row : RowData

@@ -1,16 +1,16 @@
 -- Where files go when they are installed.
 use Rattle.std.specs.Prelude.{List, [], ◌∷◌, ◌++◌, Option, Some, None, option_map, codes}
 use Rattle.arguments.specs.Arguments.{ArgumentsData}
-use Rattle.arguments.specs.Given.{text_of}
+use Rattle.arguments.specs.Given.{text_given, text_of}
 use Rattle.arguments.specs.Leaves.{leaves_from}
+use Rattle.arguments.specs.Maybe.{◌>>=◌}
 use Rattle.edge.specs.Texts.{Path, Text}
 use Rattle.operators.specs.Texts.{path_below}
 use Rattle.project.specs.World.{InstallData}
 use Rattle.placeholders.specs.Names.{plain_name}
 use Rattle.resources.specs.Installs.{destination, headers_folder, man_folder}
 use Rattle.target_arguments.specs.Sources.{NamedData, tree, built, sources_of}
-use Rattle.target_calls.specs.Installs.{folder_given, option_text}
-use Rattle.target_calls.specs.Maybe.{◌>>=◌}
+use Rattle.world.specs.Options.{option_text}
 use Rattle.world.specs.World.{Facts}
 use Rattle.resource_calls.specs.declared.destinations.Sort.{Sort}
 use Rattle.resource_calls.specs.declared.destinations.Sort.TheVariants as sorts
@@ -54,7 +54,7 @@ given_or None usual = usual
 
 -- the folder that the keyword `install_dir` says, else the usual one
 abbrev pub install_folder : FoldersData → Sort → ArgumentsData → Text → Option Path
-install_folder folders sort a name = option_map (given_or (folder_given a)) (usual_folder folders sort a name)
+install_folder folders sort a name = option_map (given_or (text_given (codes "install_dir") a)) (usual_folder folders sort a name)
 
 -- ---- files
 

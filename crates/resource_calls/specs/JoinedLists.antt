@@ -1,9 +1,9 @@
 -- The dependency that `declare_dependency` gives: its own lists, then those of its dependencies, all within the limits (E22).
-use Rattle.std.specs.Prelude.{ℕ, true, false, List, [], ◌∷◌, ◌++◌, length, codes, Option, Some, None, option_map, option_and_then, unwrap_or}
+use Rattle.std.specs.Prelude.{ℕ, true, false, List, [], ◌∷◌, ◌++◌, length, codes, Option, Some, None, option_map, unwrap_or}
 use Rattle.std.specs.Prelude.{Result, Ok}
 use Rattle.arguments.specs.Arguments.{ArgumentsData}
-use Rattle.arguments.specs.Given.{keyword, texts}
-use Rattle.data.specs.Data.{Data, text_in}
+use Rattle.arguments.specs.Given.{keyword, text_given, texts}
+use Rattle.data.specs.Data.{Data}
 use Rattle.data.specs.Limits.{within_bytes}
 use Rattle.data.specs.declared.object.Dependency.{Dependency}
 use Rattle.data.specs.declared.object.Source.{Source}
@@ -12,8 +12,8 @@ use Rattle.data.specs.declared.refusal.Refusal.{Refusal}
 use Rattle.edge.specs.Texts.{Path, Text}
 use Rattle.resources.specs.Found.{◌>>=◌, found, within_texts}
 use Rattle.resources.specs.Joined.{dependencies_in, joined}
+use Rattle.target_arguments.specs.Outputs.{outputs_at}
 use Rattle.target_arguments.specs.Sources.{NamedData, tree, built, outputs, output}
-use Rattle.target_calls.specs.Sources.{outputs_at}
 use Rattle.targets.specs.Libraries.{LinkedData}
 use Rattle.resource_calls.specs.OwnLists.{OwnData}
 
@@ -47,7 +47,7 @@ sources_within earlier ns = sources_behind earlier [] ns
 
 -- the keyword `version`, else the version of the project
 abbrev pub version_or : Text → ArgumentsData → Text
-version_or project a = unwrap_or (option_and_then text_in (keyword (codes "version") a)) project
+version_or project a = unwrap_or (text_given (codes "version") a) project
 
 abbrev pub with_own : Dependency → (folders : List Path) → (libraries : List ℕ) → List Source → Dependency
 with_own d folders libraries sources =

@@ -3,13 +3,13 @@ use Rattle.std.specs.Prelude.{ℕ, List, codes, Option, Some, None, if◌then◌
 use Rattle.std.specs.List.{list_all}
 use Rattle.arguments.specs.Arguments.{ArgumentsData}
 use Rattle.arguments.specs.Leaves.{leaves_named}
+use Rattle.arguments.specs.Maybe.{◌>>=◌}
 use Rattle.data.specs.Data.{Data}
 use Rattle.edge.specs.Texts.{Path}
 use Rattle.target_arguments.specs.Folders.{folders_of}
 use Rattle.target_arguments.specs.Libraries.{numbers_of}
 use Rattle.target_arguments.specs.Sources.{NamedData, sources_of}
 use Rattle.targets.specs.Libraries.{LinkedData, is_library_at}
-use Rattle.target_calls.specs.Maybe.{◌>>=◌}
 use Rattle.resource_calls.specs.Place.{PlaceData}
 
 -- the numbers where each is that of a library

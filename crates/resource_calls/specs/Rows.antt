@@ -2,8 +2,7 @@
 use Rattle.std.specs.Prelude.{List, [], ◌∷◌, None, Some, codes}
 use Rattle.arguments.specs.declared.row.Kind.TheVariants.{Any, Boolean, Command, Dependencies, Flat, Integer, Requirement, Text, Texts, TextsOrDictionary}
 use Rattle.arguments.specs.declared.row.Piece.TheVariants as pieces
-use Rattle.arguments.specs.Row.{KeywordData, RowData, optional}
-use Rattle.target_calls.specs.Rows.{common_left_out}
+use Rattle.arguments.specs.Row.{KeywordData, RowData, common_left_out, optional}
 
 -- `dependency(names..)`: values of any type for `method`, `static`, `native` and `include_type` are read and dropped
 abbrev pub dependency_row : RowData

@@ -4,6 +4,7 @@ use Rattle.std.specs.Prelude.{if◌then◌else◌}
 use Rattle.arguments.specs.Arguments.{ArgumentsData}
 use Rattle.arguments.specs.Given.{argument}
 use Rattle.arguments.specs.Leaves.{leaves_named}
+use Rattle.arguments.specs.Maybe.{◌>>=◌}
 use Rattle.data.specs.Data.{Data, text, object}
 use Rattle.data.specs.declared.object.Object.{Object}
 use Rattle.data.specs.declared.object.Object.TheVariants as objects
@@ -15,8 +16,7 @@ use Rattle.resources.specs.Testing.{environment}
 use Rattle.targets.specs.Data.{BuildData}
 use Rattle.targets.specs.Files.{file_path, is_library}
 use Rattle.targets.specs.Libraries.{build_at}
-use Rattle.target_calls.specs.Maybe.{◌>>=◌}
-use Rattle.target_calls.specs.Sources.{output_at, outputs_at}
+use Rattle.target_arguments.specs.Outputs.{output_at, outputs_at}
 use Rattle.resource_calls.specs.Place.{PlaceData}
 
 -- ---- things of the project, by the words that they are

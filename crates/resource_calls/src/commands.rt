@@ -4,8 +4,7 @@ ghost use Rattle.arguments.specs.Arguments.{arguments_data};
 ghost use Rattle.data.specs.View.{data_of};
 ghost use Rattle.edge.specs.Texts.{texts};
 ghost use Rattle.operators.specs.Texts.{path_below};
-ghost use Rattle.target_calls.specs.Sources.{outputs_at, output_at};
-ghost use Rattle.targets.specs.View.{build_view, linked_view};
+ghost use Rattle.targets.specs.View.{build_view};
 ghost use Rattle.resource_calls.specs.PlaceView.{place_view};
 ghost use Rattle.resource_calls.specs.TestCommands.{argument_words, command_given, command_of, command_of_object, file_word, one_word};
 ghost use Rattle.resource_calls.specs.TestCommands.{output_words, outputs_words, run_of, target_word, target_words, executable_words};
@@ -14,11 +13,12 @@ ghost use Rattle.resource_calls.specs.TestCommandsView.{run_view};
 
 use crate::place::Place;
 use arguments::Arguments;
-use data::{Object, Program, Text, Value};
+use data::{Object, Program, Value};
 use operators::path_below;
 use resources::environment;
 use std::alloc::{AllocError, Global};
-use targets::{BuildTarget, Linked, build_target_at, file_path};
+use target_arguments::{output_at, outputs_at, strings};
+use targets::{BuildTarget, build_target_at, file_path};
 
 /// What a test runs.
 #[derive(Drop)]
@@ -76,24 +76,6 @@ fn built_words(place: &Place<'_>, paths: &[String]) -> Result<Vec<String>, Alloc
     Ok(words)
 }
 
-fn outputs_at(earlier: &[Linked], number: usize) -> Option<&[String]>
-    ensures { option_map (λ ps. texts ps.now) result ≡ outputs_at (map linked_view earlier.now) number }
-{
-    match earlier.get(number) {
-        Some(linked) => Some(linked.paths.as_slice()),
-        None => None,
-    }
-}
-
-fn output_at(earlier: &[Linked], number: usize, place: usize) -> Option<&str>
-    ensures { option_map (λ p. p.now) result ≡ output_at (map linked_view earlier.now) number place }
-{
-    match outputs_at(earlier, number)?.get(place) {
-        Some(path) => Some(path.as_str()),
-        None => None,
-    }
-}
-
 fn outputs_words(place: &Place<'_>, number: usize) -> Result<Option<Vec<String>>, AllocError>
     ensures { IfOk result (λ ws. option_map (λ v. texts v.items) ws ≡ outputs_words (place_view place.now) number) }
 {
@@ -136,16 +118,6 @@ fn words_of_object(place: &Place<'_>, object: &Object) -> Result<Option<Vec<Stri
 }
 
 // ---- the program
-
-fn strings(alloc: Global, texts: &[Text]) -> Result<Vec<String>, AllocError>
-    ensures { IfOk result (λ v. map string_bytes v.items ≡ texts.now) }
-{
-    let mut strings = Vec::new(alloc);
-    for text in texts {
-        strings.push(String::from_str(alloc, text.as_str())?)?;
-    }
-    Ok(strings)
-}
 
 // A program that was not found can't run.
 fn words_of_program(place: &Place<'_>, program: &Program) -> Result<Option<Vec<String>>, AllocError>

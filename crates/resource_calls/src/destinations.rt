@@ -1,24 +1,23 @@
 //! Where files go when they are installed.
-ghost use Rattle.std.specs.Prelude.{◌≡◌, [], IfOk, map, option_map, string_bytes};
+ghost use Rattle.std.specs.Prelude.{◌≡◌, [], IfOk, codes, map, option_map, string_bytes};
 ghost use Rattle.arguments.specs.Arguments.{arguments_data};
+ghost use Rattle.arguments.specs.Given.{text_given};
 ghost use Rattle.project.specs.View.{install_view};
 ghost use Rattle.target_arguments.specs.SourcesView.{named_view};
-ghost use Rattle.target_calls.specs.Installs.{folder_given, option_text};
 ghost use Rattle.world.specs.Caller.{state_of};
 ghost use Rattle.resource_calls.specs.Destinations.{folders_in, given_or, install_at, install_folder, install_of, installs_behind, said_of};
 ghost use Rattle.resource_calls.specs.Destinations.{usual_folder};
 ghost use Rattle.resource_calls.specs.DestinationsView.{folders_view, said_view};
 
-use crate::names::plain_name;
 use arguments::Arguments;
 use operators::path_below;
-use options::OptionValue;
+use placeholders::plain_name;
 use ports::{Outputs, Tree};
 use project::Install;
 use resources::{destination, headers_folder, man_folder};
 use std::alloc::{AllocError, Global};
 use target_arguments::{NamedSource, sources_of};
-use world::{Caller, Store};
+use world::Caller;
 
 /// What sort of file is installed.
 #[derive(Clone, Copy)]
@@ -54,16 +53,6 @@ pub struct Said {
     pub installs: Vec<Install>,
 }
 
-// The text that an option has.
-fn option_text<'s>(store: &'s Store, name: &str) -> &'s str
-    ensures { result.now ≡ option_text store.now.options name.now }
-{
-    match store.option(name) {
-        Some(OptionValue::Text(text)) => text.as_str(),
-        _ => "",
-    }
-}
-
 /// The folders of the present project.
 pub fn folders_in<'c, T: Tree, O: Outputs>(caller: &'c Caller<'_, T, O>) -> Folders<'c>
     ensures { folders_view result ≡ folders_in (state_of T.seen O.seen caller.now).world.facts }
@@ -73,10 +62,10 @@ pub fn folders_in<'c, T: Tree, O: Outputs>(caller: &'c Caller<'_, T, O>) -> Fold
         source_root: caller.store.settings().source_root.as_str(),
         build_root: caller.store.settings().build_root.as_str(),
         folder: caller.store.folder(),
-        prefix: option_text(caller.store, "prefix"),
-        includedir: option_text(caller.store, "includedir"),
-        datadir: option_text(caller.store, "datadir"),
-        mandir: option_text(caller.store, "mandir"),
+        prefix: caller.store.option_text("prefix"),
+        includedir: caller.store.option_text("includedir"),
+        datadir: caller.store.option_text("datadir"),
+        mandir: caller.store.option_text("mandir"),
         project: caller.store.project().facts().name.as_str(),
     }
 }
@@ -110,13 +99,11 @@ fn usual_folder(
 
 // The folder that the keyword `install_dir` says, else this one.
 fn given_or(alloc: Global, arguments: &Arguments, usual: String) -> Result<String, AllocError>
-    ensures { IfOk result (λ f. string_bytes f ≡ given_or (folder_given (arguments_data arguments.now)) (string_bytes usual)) }
+    ensures { IfOk result (λ f. string_bytes f
+        ≡ given_or (text_given (codes "install_dir") (arguments_data arguments.now)) (string_bytes usual)) }
 {
-    match arguments.keyword("install_dir") {
-        Some(value) => match value.as_text() {
-            Some(folder) => String::from_str(alloc, folder.as_str()),
-            None => Ok(usual),
-        },
+    match arguments.text_given("install_dir") {
+        Some(folder) => String::from_str(alloc, folder.as_str()),
         None => Ok(usual),
     }
 }

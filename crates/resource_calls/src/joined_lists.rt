@@ -91,11 +91,8 @@ fn sources_within(
 fn version_or<'a>(project: &'a str, arguments: &'a Arguments) -> &'a str
     ensures { result.now ≡ version_or project.now (arguments_data arguments.now) }
 {
-    match arguments.keyword("version") {
-        Some(value) => match value.as_text() {
-            Some(version) => version.as_str(),
-            None => project,
-        },
+    match arguments.text_given("version") {
+        Some(version) => version.as_str(),
         None => project,
     }
 }

@@ -11,7 +11,6 @@ mod destinations;
 mod installs;
 mod joined_lists;
 mod named_files;
-mod names;
 mod own_lists;
 mod place;
 mod programs;

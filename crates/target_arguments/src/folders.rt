@@ -9,7 +9,8 @@ use data::{Object, Text, Value};
 use paths::folder_path;
 use std::alloc::{AllocError, Global};
 
-fn copies(alloc: Global, texts: &[Text]) -> Result<Vec<String>, AllocError>
+/// Texts as strings of their own.
+pub fn strings(alloc: Global, texts: &[Text]) -> Result<Vec<String>, AllocError>
     ensures { IfOk result (λ v. map string_bytes v.items ≡ texts.now) }
 {
     let mut strings = Vec::new(alloc);
@@ -23,7 +24,7 @@ fn of_object(alloc: Global, object: &Object) -> Result<Option<Vec<String>>, Allo
     ensures { IfOk result (λ ps. option_map strings_of ps ≡ of_object object.now) }
 {
     match object {
-        Object::IncludeDirectories(paths) => Ok(Some(copies(alloc, paths.as_slice())?)),
+        Object::IncludeDirectories(paths) => Ok(Some(strings(alloc, paths.as_slice())?)),
         _ => Ok(None),
     }
 }

@@ -1,16 +1,19 @@
-//! What the arguments of a call that declares a target name: sources, folders, libraries, a version. Nothing is asked of the tree here.
+//! What the arguments of a call that declares a target name: sources, folders, libraries, a version, and outputs of the targets so far.
+//! Nothing is asked of the tree here.
 #![tactic(auto)]
 
 mod folders;
 mod libraries;
 mod opening;
+mod outputs;
 mod sources;
 mod values;
 mod versions;
 
-pub use folders::folders_of;
+pub use folders::{folders_of, strings};
 pub use libraries::numbers_of;
 pub use opening::{opened, opened_values};
+pub use outputs::{output_at, outputs_at};
 pub use sources::{NamedSource, sources_of};
 pub use values::{directories_at, files_at};
 pub use versions::is_library_version;

@@ -12,6 +12,3 @@ all_required-drop ps i p h is =
     ap (λ us. all_required (map string_bytes us)) (drop-cons ps i p h)
     ∙ ap (λ x. then (required (string_bytes x)) (λ (u : Unit {0}). all_required (map string_bytes (drop (suc i) ps)))) (sym is)
     ∙ rw add-one refl
-
-pub two : {A B C : Type 0} (f : A → B → C) {a c : A} {b d : B} → a ≡ c → b ≡ d → f a b ≡ f c d
-two f {a = a} {c = c} {b = b} p q = ap (λ x. f x b) p ∙ ap (f c) q

@@ -2,9 +2,10 @@
 use Rattle.std.specs.Prelude.{Bool, true, false, List, ◌++◌, codes, flat_map, Option, Some, None, option_and_then, if◌then◌else◌}
 use Rattle.std.specs.Fmt.{signed_decimal}
 use Rattle.arguments.specs.Arguments.{ArgumentsData}
-use Rattle.arguments.specs.Given.{flag, keyword, text_at, texts}
+use Rattle.arguments.specs.Given.{flag, keyword, text_at, text_given, texts}
 use Rattle.arguments.specs.Leaves.{leaves_from, leaves_named}
-use Rattle.data.specs.Data.{Data, integer, text, text_in}
+use Rattle.arguments.specs.Maybe.{◌>>=◌}
+use Rattle.data.specs.Data.{Data, integer, text}
 use Rattle.edge.specs.Texts.{Path, Text}
 use Rattle.targets.specs.Data.{Build, BuildData, ListsData, SourceData, TargetData}
 use Rattle.targets.specs.declared.target.Kind.{Kind}
@@ -14,13 +15,9 @@ use Rattle.target_arguments.specs.Sources.{NamedData, sources_of}
 use Rattle.target_arguments.specs.Versions.{is_library_version}
 use Rattle.target_calls.specs.Dependencies.{dependencies_of}
 use Rattle.target_calls.specs.Here.{HereData}
-use Rattle.target_calls.specs.Maybe.{◌>>=◌}
 use Rattle.target_calls.specs.Sources.{file_in, sources_in}
 
 -- ---- the keywords of a shared library
-
-abbrev pub version_given : ArgumentsData → Option Text
-version_given a = option_and_then text_in (keyword (codes "version") a)
 
 -- one to three numbers with dots, where it is given
 abbrev pub version_fits : Option Text → Bool
@@ -69,7 +66,7 @@ build_target here kind a own dependencies = record {
   name = text_at 0 a;
   own = own;
   dependencies = dependencies;
-  version = version_given a;
+  version = text_given (codes "version") a;
   soversion = soversion_given a;
   is_default = flag (codes "build_by_default") true a;
   is_installed = flag (codes "install") false a;
@@ -90,5 +87,5 @@ declared_from here kind a named = do
 -- what the call declares, or none where the arguments say no target
 unfoldable pub declared : HereData → Kind → ArgumentsData → Option NamedTargetData
 declared here kind a =
-    if version_fits (version_given a) then named_sources here a >>= declared_from here kind a
+    if version_fits (text_given (codes "version") a) then named_sources here a >>= declared_from here kind a
     else None

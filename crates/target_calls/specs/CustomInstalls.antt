@@ -1,6 +1,7 @@
 -- Where the outputs of a custom target go when it is installed.
-use Rattle.std.specs.Prelude.{ℕ, List, [], ◌∷◌, unwrap_or, if◌then◌else◌}
+use Rattle.std.specs.Prelude.{ℕ, List, [], ◌∷◌, codes, if◌then◌else◌}
 use Rattle.arguments.specs.Arguments.{ArgumentsData}
+use Rattle.arguments.specs.Given.{text_of}
 use Rattle.edge.specs.Texts.{Path, Text}
 use Rattle.operators.specs.Texts.{path_below}
 use Rattle.project.specs.World.{InstallData}
@@ -8,7 +9,7 @@ use Rattle.targets.specs.Data.{Build, Custom, CustomData, TargetData}
 use Rattle.targets.specs.Files.{path_in}
 use Rattle.world.specs.Declaring.{add_install, add_target}
 use Rattle.world.specs.Deed.{Deed, give, read, ◌>>=◌}
-use Rattle.target_calls.specs.Installs.{FoldersData, folder_given, folders_in}
+use Rattle.target_calls.specs.Installs.{FoldersData, folders_in}
 
 -- the build folder, the folder of the definition file, and the folder that files go to
 pub record WayData : Type 0 where
@@ -21,7 +22,7 @@ abbrev pub way_of : FoldersData → ArgumentsData → WayData
 way_of folders a = record {
   build_root = folders.build_root;
   folder = folders.folder;
-  destination = path_below folders.prefix (unwrap_or (folder_given a) []);
+  destination = path_below folders.prefix (text_of (codes "install_dir") a);
 }
 
 abbrev pub output_install : WayData → Text → InstallData

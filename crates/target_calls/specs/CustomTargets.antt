@@ -2,8 +2,9 @@
 use Rattle.std.specs.Prelude.{ℕ, nat_lt, max, Bool, true, false, not, ◌&&◌, ◌||◌, ◌==◌, List, [], ◌∷◌, ◌++◌, length, map, flat_map, codes}
 use Rattle.std.specs.Prelude.{bytes_eq, Option, Some, None, is_some, option_map, if◌then◌else◌}
 use Rattle.arguments.specs.Arguments.{ArgumentsData}
-use Rattle.arguments.specs.Given.{flag, text_at, texts}
+use Rattle.arguments.specs.Given.{flag, text_at, text_given, texts}
 use Rattle.arguments.specs.Leaves.{leaves_named}
+use Rattle.arguments.specs.Maybe.{◌>>=◌}
 use Rattle.data.specs.Data.{Data}
 use Rattle.edge.specs.Paths.{source_path, source_root}
 use Rattle.edge.specs.Texts.{Path, Text}
@@ -17,8 +18,6 @@ use Rattle.target_arguments.specs.Sources.{sources_of}
 use Rattle.target_calls.specs.BuildTargets.{NamedTargetData}
 use Rattle.target_calls.specs.Commands.{PartData, command_of}
 use Rattle.target_calls.specs.Here.{HereData}
-use Rattle.target_calls.specs.Installs.{folder_given}
-use Rattle.target_calls.specs.Maybe.{◌>>=◌}
 use Rattle.target_calls.specs.Sources.{file_in, sources_in}
 
 -- ---- what may be given
@@ -39,7 +38,7 @@ captures_one a = not (flag (codes "capture") false a) || count_named (codes "out
 
 -- what is installed goes to a folder
 abbrev pub has_place : ArgumentsData → Bool
-has_place a = not (flag (codes "install") false a) || is_some (folder_given a)
+has_place a = not (flag (codes "install") false a) || is_some (text_given (codes "install_dir") a)
 
 -- at least one output and one word of a command
 abbrev pub is_made : ArgumentsData → Bool

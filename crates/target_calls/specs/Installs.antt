@@ -1,13 +1,9 @@
 -- Where targets go when they are installed.
-use Rattle.std.specs.Prelude.{List, [], Option, Some, None, codes, option_and_then, unwrap_or, if◌then◌else◌}
+use Rattle.std.specs.Prelude.{Option, Some, None, codes, unwrap_or, if◌then◌else◌}
 use Rattle.arguments.specs.Arguments.{ArgumentsData}
-use Rattle.arguments.specs.Given.{keyword}
-use Rattle.data.specs.Data.{text_in}
-use Rattle.edge.specs.Texts.{Path, Text}
+use Rattle.arguments.specs.Given.{text_given}
+use Rattle.edge.specs.Texts.{Path}
 use Rattle.operators.specs.Texts.{path_below}
-use Rattle.option_values.specs.Values as option
-use Rattle.options.specs.Resolves.{value_named}
-use Rattle.options.specs.Settings.{Setting}
 use Rattle.project.specs.World.{InstallData}
 use Rattle.targets.specs.Data.{Build, BuildData, Custom, TargetData}
 use Rattle.targets.specs.Files.{file_name, file_path}
@@ -15,6 +11,7 @@ use Rattle.targets.specs.declared.target.Kind.{Kind}
 use Rattle.targets.specs.declared.target.Kind.TheVariants as kinds
 use Rattle.world.specs.Declaring.{add_install}
 use Rattle.world.specs.Deed.{Deed, give}
+use Rattle.world.specs.Options.{option_text}
 use Rattle.world.specs.World.{Facts}
 
 -- the build folder, the folder of the definition file, and the folders of the options `prefix`, `bindir` and `libdir`
@@ -24,13 +21,6 @@ pub record FoldersData : Type 0 where
   pub prefix : Path
   pub bindir : Path
   pub libdir : Path
-
-abbrev pub text_of : Option option.Value → Text
-text_of (Some (option.Text text)) = text
-text_of _ = []
-
-abbrev pub option_text : List Setting → Text → Text
-option_text options name = text_of (value_named options name)
 
 abbrev pub folders_in : Facts → FoldersData
 folders_in facts = record {
@@ -46,12 +36,9 @@ abbrev pub usual_folder : FoldersData → Kind → Path
 usual_folder folders kinds.Executable = folders.bindir
 usual_folder folders _ = folders.libdir
 
-abbrev pub folder_given : ArgumentsData → Option Path
-folder_given a = option_and_then text_in (keyword (codes "install_dir") a)
-
 -- the folder that the keyword `install_dir` says, else the usual one
 abbrev pub install_folder : FoldersData → ArgumentsData → Kind → Path
-install_folder folders a kind = unwrap_or (folder_given a) (usual_folder folders kind)
+install_folder folders a kind = unwrap_or (text_given (codes "install_dir") a) (usual_folder folders kind)
 
 -- the target's file goes to the folder below `prefix`, or to the folder alone where that is absolute; symbolic links are not listed
 abbrev pub build_install : FoldersData → ArgumentsData → BuildData → InstallData

@@ -13,7 +13,6 @@ pub mod Here
 pub mod HereView
 pub mod Installs
 pub mod InstallsView
-pub mod Maybe
 pub mod ProjectWords
 pub mod Rows
 pub mod Sources

@@ -1,12 +1,8 @@
 -- The rows of the functions: what each takes.
-use Rattle.std.specs.Prelude.{ℕ, List, [], ◌∷◌, ◌++◌, None, Some, codes}
+use Rattle.std.specs.Prelude.{List, [], ◌∷◌, ◌++◌, None, Some, codes}
 use Rattle.arguments.specs.declared.row.Kind.TheVariants.{Any, Boolean, Dependencies, Flat, IntegerOrText, Text, Texts}
 use Rattle.arguments.specs.declared.row.Piece.TheVariants as pieces
-use Rattle.arguments.specs.Row.{KeywordData, RowData, needed, optional}
-
--- the keywords that no call takes
-abbrev pub common_left_out : List (List ℕ)
-common_left_out = codes "kwargs" ∷ codes "fallback" ∷ codes "deprecated" ∷ []
+use Rattle.arguments.specs.Row.{KeywordData, RowData, common_left_out, needed, optional}
 
 -- `files(flat texts..)`
 abbrev pub files_row : RowData

@@ -1,17 +1,10 @@
 -- The sources of a target: files, and the outputs of earlier targets.
-use Rattle.std.specs.Prelude.{ℕ, List, [], ◌∷◌, ◌++◌, Option, Some, None, option_map, option_and_then, slice_get}
+use Rattle.std.specs.Prelude.{List, [], ◌∷◌, ◌++◌, Option, Some, None, option_map}
 use Rattle.edge.specs.Texts.{Path}
 use Rattle.targets.specs.Data.{SourceData, Tree, Built, Made}
 use Rattle.targets.specs.Libraries.{LinkedData}
+use Rattle.target_arguments.specs.Outputs.{output_at, outputs_at}
 use Rattle.target_arguments.specs.Sources.{NamedData, tree, built, outputs, output}
-
--- the outputs of the target with a number
-abbrev pub outputs_at : List LinkedData → ℕ → Option (List Path)
-outputs_at earlier number = option_map (λ l. l.paths) (slice_get earlier number)
-
--- one of them
-abbrev pub output_at : List LinkedData → ℕ → ℕ → Option Path
-output_at earlier number place = option_and_then (λ paths. slice_get paths place) (outputs_at earlier number)
 
 abbrev pub one_made : Path → SourceData
 one_made path = Made (path ∷ [])

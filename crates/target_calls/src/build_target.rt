@@ -1,11 +1,12 @@
 //! An executable or a library as the arguments of a call say it.
-ghost use Rattle.std.specs.Prelude.{◌≡◌, IfOk, map, option_map, string_bytes};
+ghost use Rattle.std.specs.Prelude.{◌≡◌, IfOk, codes, map, option_map, string_bytes};
 ghost use Rattle.arguments.specs.Arguments.{arguments_data};
+ghost use Rattle.arguments.specs.Given.{text_given};
 ghost use Rattle.data.specs.View.{data_of};
 ghost use Rattle.targets.specs.View.{build_view, lists_view, source_view};
 ghost use Rattle.target_arguments.specs.SourcesView.{named_view, named_views};
 ghost use Rattle.target_calls.specs.BuildTargets.{build_target, declared, declared_from, named_sources, number_in, own_lists};
-ghost use Rattle.target_calls.specs.BuildTargets.{source_values, soversion_given, version_fits, version_given};
+ghost use Rattle.target_calls.specs.BuildTargets.{source_values, soversion_given, version_fits};
 ghost use Rattle.target_calls.specs.BuildTargetsView.{named_target_view};
 ghost use Rattle.target_calls.specs.HereView.{here_view};
 
@@ -13,7 +14,7 @@ use crate::dependencies::dependencies_of;
 use crate::here::Here;
 use crate::sources::{files_among, sources_in};
 use arguments::Arguments;
-use data::{Text, Value};
+use data::Value;
 use std::alloc::{AllocError, Global};
 use std::rc::Rc;
 use target_arguments::{NamedSource, folders_of, is_library_version, numbers_of, sources_of};
@@ -29,19 +30,10 @@ pub struct NamedTarget {
 
 // ---- the keywords of a shared library
 
-fn version_given(arguments: &Arguments) -> Option<&Text>
-    ensures { option_map (λ t. t.now) result ≡ version_given (arguments_data arguments.now) }
-{
-    match arguments.keyword("version") {
-        Some(value) => value.as_text(),
-        None => None,
-    }
-}
-
 fn version_of(alloc: Global, arguments: &Arguments) -> Result<Option<String>, AllocError>
-    ensures { IfOk result (λ v. option_map string_bytes v ≡ version_given (arguments_data arguments.now)) }
+    ensures { IfOk result (λ v. option_map string_bytes v ≡ text_given (codes "version") (arguments_data arguments.now)) }
 {
-    match version_given(arguments) {
+    match arguments.text_given("version") {
         Some(version) => Ok(Some(String::from_str(alloc, version.as_str())?)),
         None => Ok(None),
     }
@@ -49,9 +41,9 @@ fn version_of(alloc: Global, arguments: &Arguments) -> Result<Option<String>, Al
 
 // One to three numbers with dots, where it is given.
 fn version_fits(alloc: Global, arguments: &Arguments) -> Result<bool, AllocError>
-    ensures { IfOk result (λ fits. fits ≡ version_fits (version_given (arguments_data arguments.now))) }
+    ensures { IfOk result (λ fits. fits ≡ version_fits (text_given (codes "version") (arguments_data arguments.now))) }
 {
-    match version_given(arguments) {
+    match arguments.text_given("version") {
         Some(version) => is_library_version(alloc, version.as_str()),
         None => Ok(true),
     }

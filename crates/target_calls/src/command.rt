@@ -11,13 +11,13 @@ ghost use Rattle.target_calls.specs.Commands.{of_text, part_of, words_alone};
 ghost use Rattle.target_calls.specs.CommandsView.{part_view};
 ghost use Rattle.target_calls.specs.HereView.{here_view};
 
-use crate::dependencies::strings;
 use crate::here::Here;
-use crate::sources::{made_of, one_made_of, output_at, outputs_at};
+use crate::sources::{made_of, one_made_of};
 use data::{Object, Program, Value};
 use edge::{copies, source_path};
 use placeholders::{Place, words_of};
 use std::alloc::{AllocError, Global};
+use target_arguments::{output_at, outputs_at, strings};
 use targets::{BuildTarget, Kind, Source, build_target_at, file_path};
 
 /// The words of a part of the command, and what has to be there for it.

@@ -20,7 +20,6 @@ ghost use Rattle.target_calls.specs.HereView.{here_view};
 use crate::build_target::NamedTarget;
 use crate::command::{Part, command_of};
 use crate::here::Here;
-use crate::installs::folder_given;
 use crate::sources::{files_among, sources_in};
 use arguments::{Arguments, Named};
 use data::Value;
@@ -71,7 +70,7 @@ fn captures_one(alloc: Global, arguments: &Arguments) -> Result<bool, AllocError
 fn has_place(arguments: &Arguments) -> bool
     ensures { result ≡ has_place (arguments_data arguments.now) }
 {
-    !arguments.flag("install", false) || folder_given(arguments).is_some()
+    !arguments.flag("install", false) || arguments.text_given("install_dir").is_some()
 }
 
 // At least one output and one word of a command.

@@ -1,5 +1,5 @@
 //! Where the outputs of a custom target go when it is installed.
-ghost use Rattle.std.specs.Prelude.{◌≡◌, IfOk, [], string_bytes, unwrap_or};
+ghost use Rattle.std.specs.Prelude.{◌≡◌, IfOk};
 ghost use Rattle.arguments.specs.Arguments.{arguments_data};
 ghost use Rattle.edge.specs.Texts.{texts};
 ghost use Rattle.project.specs.View.{install_view};
@@ -8,10 +8,9 @@ ghost use Rattle.world.specs.Answering.{Carries};
 ghost use Rattle.world.specs.Caller.{state_of};
 ghost use Rattle.target_calls.specs.CustomInstalls.{add_custom, all_noted, custom_names, installed_names, output_install, way_of};
 ghost use Rattle.target_calls.specs.CustomInstallsView.{way_view};
-ghost use Rattle.target_calls.specs.Installs.{folder_given as folder_named};
 ghost use Rattle.target_calls.specs.InstallsView.{folders_view};
 
-use crate::installs::{Folders, folder_given, folders_in};
+use crate::installs::{Folders, folders_in};
 use arguments::Arguments;
 use edge::copies;
 use operators::path_below;
@@ -32,15 +31,6 @@ pub struct Way {
     pub destination: String,
 }
 
-fn folder_or_none(arguments: &Arguments) -> &str
-    ensures { result.now ≡ unwrap_or (folder_named (arguments_data arguments.now)) [] }
-{
-    match folder_given(arguments) {
-        Some(folder) => folder.as_str(),
-        None => "",
-    }
-}
-
 fn way_of(folders: &Folders<'_>, arguments: &Arguments) -> Result<Way, AllocError>
     ensures { IfOk result (λ w. way_view w ≡ way_of (folders_view folders.now) (arguments_data arguments.now)) }
 {
@@ -48,7 +38,7 @@ fn way_of(folders: &Folders<'_>, arguments: &Arguments) -> Result<Way, AllocErro
     Ok(Way {
         build_root: String::from_str(alloc, folders.build_root)?,
         folder: String::from_str(alloc, folders.folder)?,
-        destination: path_below(alloc, folders.prefix, folder_or_none(arguments))?,
+        destination: path_below(alloc, folders.prefix, arguments.text("install_dir"))?,
     })
 }
 

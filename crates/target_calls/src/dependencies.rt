@@ -1,15 +1,15 @@
 //! What dependencies bring to a target.
-ghost use Rattle.std.specs.Prelude.{◌≡◌, IfOk, map, option_map, string_bytes};
+ghost use Rattle.std.specs.Prelude.{◌≡◌, IfOk, map, option_map};
 ghost use Rattle.data.specs.View.{data_of};
 ghost use Rattle.targets.specs.View.{linked_view, lists_view};
 ghost use Rattle.target_arguments.specs.SourcesView.{named_view};
 ghost use Rattle.target_calls.specs.Dependencies.{dependencies_of, found_in, lists_of, named_of};
 
 use crate::sources::sources_in;
-use data::{Dependency, Object, Text, Value};
+use data::{Dependency, Object, Value};
 use std::alloc::{AllocError, Global};
 use std::rc::Rc;
-use target_arguments::NamedSource;
+use target_arguments::{NamedSource, strings};
 use targets::{Linked, Lists};
 
 fn named_of(alloc: Global, source: &data::Source) -> Result<NamedSource, AllocError>
@@ -39,17 +39,6 @@ fn all_named(alloc: Global, sources: &[data::Source]) -> Result<Vec<NamedSource>
         named.push(named_of(alloc, source)?)?;
     }
     Ok(named)
-}
-
-/// Texts as strings of their own.
-pub fn strings(alloc: Global, texts: &[Text]) -> Result<Vec<String>, AllocError>
-    ensures { IfOk result (λ v. map string_bytes v.items ≡ texts.now) }
-{
-    let mut strings = Vec::new(alloc);
-    for text in texts {
-        strings.push(String::from_str(alloc, text.as_str())?)?;
-    }
-    Ok(strings)
 }
 
 // What one dependency brings.

@@ -5,19 +5,16 @@ ghost use Rattle.project.specs.View.{install_view};
 ghost use Rattle.targets.specs.View.{build_view, target_view};
 ghost use Rattle.world.specs.Answering.{Carries};
 ghost use Rattle.world.specs.Caller.{state_of};
-ghost use Rattle.target_calls.specs.Installs.{asked_install, build_install, folder_given, folders_in, install_folder, install_of, noted};
-ghost use Rattle.target_calls.specs.Installs.{option_text, usual_folder};
+ghost use Rattle.target_calls.specs.Installs.{asked_install, build_install, folders_in, install_folder, install_of, noted, usual_folder};
 ghost use Rattle.target_calls.specs.InstallsView.{folders_view};
 
 use arguments::Arguments;
-use data::Text;
 use operators::path_below;
-use options::OptionValue;
 use ports::{Outputs, Tree};
 use project::Install;
 use std::alloc::{AllocError, Global};
 use targets::{BuildTarget, Kind, Target, file_name, file_path};
-use world::{Caller, Stop, Store};
+use world::{Caller, Stop};
 
 /// The build folder, and the folders of options that installed files go to.
 #[derive(Clone, Copy)]
@@ -32,16 +29,6 @@ pub struct Folders<'a> {
     pub libdir: &'a str,
 }
 
-// The text that an option has.
-fn option_text<'s>(store: &'s Store, name: &str) -> &'s str
-    ensures { result.now ≡ option_text store.now.options name.now }
-{
-    match store.option(name) {
-        Some(OptionValue::Text(text)) => text.as_str(),
-        _ => "",
-    }
-}
-
 /// The folders of the present project.
 pub fn folders_in<'c, T: Tree, O: Outputs>(caller: &'c Caller<'_, T, O>) -> Folders<'c>
     ensures { folders_view result ≡ folders_in (state_of T.seen O.seen caller.now).world.facts }
@@ -50,9 +37,9 @@ pub fn folders_in<'c, T: Tree, O: Outputs>(caller: &'c Caller<'_, T, O>) -> Fold
         alloc: caller.alloc,
         build_root: caller.store.settings().build_root.as_str(),
         folder: caller.store.folder(),
-        prefix: option_text(caller.store, "prefix"),
-        bindir: option_text(caller.store, "bindir"),
-        libdir: option_text(caller.store, "libdir"),
+        prefix: caller.store.option_text("prefix"),
+        bindir: caller.store.option_text("bindir"),
+        libdir: caller.store.option_text("libdir"),
     }
 }
 
@@ -66,20 +53,11 @@ fn usual_folder<'f>(folders: &Folders<'f>, kind: Kind) -> &'f str
     }
 }
 
-/// What the keyword `install_dir` says.
-pub fn folder_given(arguments: &Arguments) -> Option<&Text>
-    ensures { option_map (λ t. t.now) result ≡ folder_given (arguments_data arguments.now) }
-{
-    match arguments.keyword("install_dir") {
-        Some(value) => value.as_text(),
-        None => None,
-    }
-}
-
+// The folder that the keyword `install_dir` says, else the usual one.
 fn install_folder<'f>(folders: &Folders<'f>, arguments: &'f Arguments, kind: Kind) -> &'f str
     ensures { result.now ≡ install_folder (folders_view folders.now) (arguments_data arguments.now) kind }
 {
-    match folder_given(arguments) {
+    match arguments.text_given("install_dir") {
         Some(folder) => folder.as_str(),
         None => usual_folder(folders, kind),
     }

@@ -1,5 +1,5 @@
 //! `add_project_arguments` and `add_project_link_arguments`.
-ghost use Rattle.std.specs.Prelude.{◌≡◌, IfOk, map, option_map, string_bytes};
+ghost use Rattle.std.specs.Prelude.{◌≡◌, IfOk, map, option_map};
 ghost use Rattle.std.specs.List.{list_all};
 ghost use Rattle.arguments.specs.Arguments.{arguments_data};
 ghost use Rattle.arguments.specs.Flat.{flat_all};
@@ -11,6 +11,7 @@ ghost use Rattle.target_calls.specs.ProjectWords.{add_project_arguments, add_pro
 
 use arguments::Arguments;
 use data::Value;
+use edge::strings;
 use faults::Refusal;
 use ports::{Outputs, Tree};
 use std::alloc::{AllocError, Global};
@@ -37,22 +38,12 @@ fn are_c(languages: &[String]) -> bool
     }
 }
 
-fn copies(alloc: Global, texts: &[&str]) -> Result<Vec<String>, AllocError>
-    ensures { IfOk result (λ v. map string_bytes v.items ≡ map (λ t. t.now) texts.now) }
-{
-    let mut own = Vec::new(alloc);
-    for text in texts {
-        own.push(String::from_str(alloc, text)?)?;
-    }
-    Ok(own)
-}
-
 // The words that the call gives.
 fn words(alloc: Global, arguments: &Arguments) -> Result<Vec<String>, AllocError>
     ensures { IfOk result (λ v. texts v.items ≡ flat_all (map data_of arguments.now.positional.items)) }
 {
     let found = arguments.all_texts(alloc)?;
-    copies(alloc, &found)
+    strings(alloc, &found)
 }
 
 // Refuses words that are not for C.

@@ -3,34 +3,15 @@ ghost use Rattle.std.specs.Prelude.{◌≡◌, ◌++◌, IfOk, flat_map, map, op
 ghost use Rattle.edge.specs.Texts.{texts};
 ghost use Rattle.targets.specs.Data.{Made};
 ghost use Rattle.targets.specs.View.{linked_view, source_view};
+ghost use Rattle.target_arguments.specs.Outputs.{output_at, outputs_at};
 ghost use Rattle.target_arguments.specs.SourcesView.{named_view};
-ghost use Rattle.target_calls.specs.Sources.{file_in, one_made, output_at, outputs_at, source_in, sources_in};
+ghost use Rattle.target_calls.specs.Sources.{file_in, one_made, source_in, sources_in};
 
 use edge::copies;
 use std::alloc::{AllocError, Global};
 use std::rc::Rc;
-use target_arguments::NamedSource;
+use target_arguments::{NamedSource, output_at, outputs_at};
 use targets::{Linked, Source};
-
-/// The outputs of the target with a number.
-pub fn outputs_at(earlier: &[Linked], number: usize) -> Option<&[String]>
-    ensures { option_map (λ ps. texts ps.now) result ≡ outputs_at (map linked_view earlier.now) number }
-{
-    match earlier.get(number) {
-        Some(linked) => Some(linked.paths.as_slice()),
-        None => None,
-    }
-}
-
-/// The output at a place of the target with a number.
-pub fn output_at(earlier: &[Linked], number: usize, place: usize) -> Option<&str>
-    ensures { option_map (λ p. p.now) result ≡ output_at (map linked_view earlier.now) number place }
-{
-    match outputs_at(earlier, number)?.get(place) {
-        Some(path) => Some(path.as_str()),
-        None => None,
-    }
-}
 
 /// Outputs of one target.
 pub fn made_of(alloc: Global, paths: &[String]) -> Result<Source, AllocError>

@@ -12,3 +12,4 @@ pub mod Numbers
 pub mod Running
 mod Setting
 pub mod Tells
+pub mod Values

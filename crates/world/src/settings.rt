@@ -1,7 +1,8 @@
 //! What a user sets for a run.
-ghost use Rattle.std.specs.Prelude.{◌≡◌, IfOk, map, string_bytes};
+ghost use Rattle.std.specs.Prelude.{◌≡◌, IfOk};
 ghost use Rattle.world.specs.SettingsView.{settings_view};
 
+use edge::copies;
 use std::alloc::{AllocError, Global};
 
 /// What a user sets for a run.
@@ -15,17 +16,6 @@ pub struct Settings {
     pub source_root: String,
     /// The build folder: an absolute path.
     pub build_root: String,
-}
-
-// Strings of the same bytes.
-fn copies(alloc: Global, strings: &[String]) -> Result<Vec<String>, AllocError>
-    ensures { IfOk result (λ c. map string_bytes c.items ≡ map string_bytes strings.now) }
-{
-    let mut copied = Vec::new(alloc);
-    for string in strings {
-        copied.push(String::from_str(alloc, string.as_str())?)?;
-    }
-    Ok(copied)
 }
 
 impl Settings {

@@ -12,6 +12,7 @@ ghost use Rattle.options.specs.Resolves.{value_named};
 ghost use Rattle.options.specs.View.{options_in};
 ghost use Rattle.targets.specs.View.{facts_view, flags_view};
 ghost use Rattle.world.specs.SettingsView.{settings_view};
+ghost use Rattle.world.specs.Options.{option_text};
 ghost use Rattle.world.specs.Start.{first_world, no_flags, unnamed};
 ghost use Rattle.world.specs.Store.{changing, slot_value, world_of};
 ghost use Rattle.world.specs.World.{entering, with_line, with_machine, with_options, with_place, with_variable};
@@ -344,6 +345,16 @@ impl Store {
         match &self.options {
             Some(options) => options.get(name),
             None => None,
+        }
+    }
+
+    /// The text that the option of a name has; empty where there is no such option, or it is of another type.
+    pub fn option_text(&self, name: &str) -> &str
+        ensures { result.now ≡ option_text self.now.options name.now }
+    {
+        match self.option(name) {
+            Some(OptionValue::Text(text)) => text.as_str(),
+            _ => "",
         }
     }
 

@@ -1,7 +1,7 @@
 use Rattle.std.proofs.Common.{ap, ◌∙◌}
 use Rattle.arguments.specs.Arguments.{arguments_data}
 use Rattle.arguments.specs.Row.{checked}
-use Rattle.calls.proofs.Values.{views_same}
+use Rattle.world.proofs.Values.{views_same}
 use Rattle.world.proofs.Answering.{carries_fitting, carries_none}
 use Rattle.calls.proofs.calling.fit.Goals as goal
 

@@ -4,7 +4,7 @@ use Rattle.faults.specs.declared.refusal.Refusal.TheVariants as refusals
 use Rattle.world.specs.Deed.{need}
 use Rattle.calls.specs.Names.{is_name, is_predefined}
 use Rattle.calls.specs.Variables.{get_variable, variable_or}
-use Rattle.calls.proofs.Values.{two}
+use Rattle.world.proofs.Values.{two}
 use Rattle.world.proofs.Answering.{carries_as, carries_then, carries_stop}
 use Rattle.calls.proofs.variables.get_variable.Goals as goal
 

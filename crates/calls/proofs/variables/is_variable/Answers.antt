@@ -6,7 +6,7 @@ use Rattle.world.specs.Deed.{need}
 use Rattle.world.specs.Store.{world_of}
 use Rattle.calls.specs.Names.{is_name, is_predefined}
 use Rattle.calls.specs.Variables.{is_variable}
-use Rattle.calls.proofs.Values.{two}
+use Rattle.world.proofs.Values.{two}
 use Rattle.world.proofs.Answering.{carries_as, carries_then, carries_stop, carries_none, carries_read, carries_give}
 use Rattle.calls.proofs.variables.is_variable.Goals as goal
 

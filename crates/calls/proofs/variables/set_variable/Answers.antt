@@ -2,7 +2,7 @@ use Rattle.std.proofs.Common.{[], ap, refl, ◌∙◌}
 use Rattle.faults.specs.declared.refusal.Refusal.TheVariants as refusals
 use Rattle.world.specs.Deed.{need}
 use Rattle.calls.specs.Variables.{set_variable, is_settable, set_to}
-use Rattle.calls.proofs.Values.{two}
+use Rattle.world.proofs.Values.{two}
 use Rattle.world.proofs.Answering.{carries_as, carries_then, carries_stop, carries_give}
 use Rattle.calls.proofs.variables.set_variable.Goals as goal
 

@@ -4,7 +4,7 @@ use Rattle.world.specs.Deed.{need, change}
 use Rattle.world.specs.Store.{world_of}
 use Rattle.world.specs.World.{with_variable}
 use Rattle.calls.specs.Variables.{unset_variable, is_settable}
-use Rattle.calls.proofs.Values.{two}
+use Rattle.world.proofs.Values.{two}
 use Rattle.world.proofs.Answering.{carries_as, carries_then, carries_stop, carries_none, carries_read, carries_change, carries_give}
 use Rattle.calls.proofs.variables.unset_variable.Goals as goal
 

@@ -4,7 +4,7 @@ use Rattle.targets.specs.Files.{path_in}
 use Rattle.world.specs.Declaring.{add_output}
 use Rattle.world.proofs.Answering.{carries_answered, carries_as, carries_none, carries_read, carries_stop, carries_then}
 use Rattle.configuration_calls.specs.ConfigureFile.{output_given}
-use Rattle.configuration_calls.proofs.Data.{two, views_same}
+use Rattle.world.proofs.Values.{two, views_same}
 use Rattle.configuration_calls.proofs.file_call.output_given.Goals as goal
 
 pub returns-in_err-folder : goal.returns-in_err-folder

@@ -2,7 +2,7 @@ use Rattle.std.proofs.Common.{ap, ◌∙◌}
 use Rattle.arguments.specs.Arguments.{arguments_data}
 use Rattle.arguments.specs.Row.{checked}
 use Rattle.world.proofs.Answering.{carries_fitting, carries_none}
-use Rattle.configuration_calls.proofs.Data.{views_same}
+use Rattle.world.proofs.Values.{views_same}
 use Rattle.configuration_calls.proofs.methods.fit.Goals as goal
 
 pub returns-in_err-answer : goal.returns-in_err-answer

@@ -3,7 +3,7 @@ use Rattle.world.specs.Deed.{answered}
 use Rattle.world.proofs.Answering.{carries_as, carries_give, carries_none, carries_read, carries_stop, carries_then, carries_value}
 use Rattle.configuration_calls.specs.Contents.{found_or}
 use Rattle.configuration_calls.specs.Methods.{get}
-use Rattle.configuration_calls.proofs.Data.{two}
+use Rattle.world.proofs.Values.{two}
 use Rattle.configuration_calls.proofs.methods.get.Goals as goal
 
 pub returns-in_err-name : goal.returns-in_err-name

@@ -5,7 +5,7 @@ use Rattle.faults.specs.declared.refusal.Refusal.TheVariants as refusals
 use Rattle.world.specs.Settings.{SettingsData}
 use Rattle.world.proofs.Answering.{carries_fitting, carries_none, carries_read}
 use Rattle.configuration_calls.specs.ConfigureFile.{input_given, input_named}
-use Rattle.configuration_calls.proofs.Data.{two}
+use Rattle.world.proofs.Values.{two}
 use Rattle.configuration_calls.proofs.said.input_given.Goals as goal
 
 pub returns-in_err-input : goal.returns-in_err-input

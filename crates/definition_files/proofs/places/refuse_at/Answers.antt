@@ -1,7 +1,7 @@
 use Rattle.world.specs.Deed.{change}
 use Rattle.world.specs.World.{with_place}
 use Rattle.definition_files.specs.Places.{refuse_at}
-use Rattle.definition_files.proofs.Refused.{two}
+use Rattle.world.proofs.Values.{two}
 use Rattle.world.proofs.Answering.{carries_as, carries_then, carries_none, carries_change, carries_refuse}
 use Rattle.definition_files.proofs.places.refuse_at.Goals as goal
 

@@ -1,4 +1,4 @@
-use Rattle.compiler_methods.proofs.Values.{views_same}
+use Rattle.world.proofs.Values.{views_same}
 use Rattle.world.proofs.Answering.{carries_fitting, carries_none}
 use Rattle.objects.proofs.calling.fit.Goals as goal
 

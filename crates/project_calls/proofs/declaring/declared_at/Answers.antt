@@ -1,5 +1,5 @@
 use Rattle.std.proofs.Common.{ap, refl, ◌∙◌}
-use Rattle.definition_files.proofs.Refused.{two}
+use Rattle.world.proofs.Values.{two}
 use Rattle.world.specs.Deed.{change}
 use Rattle.world.specs.World.{with_place}
 use Rattle.world.proofs.Answering.{carries_as, carries_change, carries_give, carries_none, carries_read, carries_stop, carries_then}

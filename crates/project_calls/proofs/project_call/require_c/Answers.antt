@@ -1,7 +1,7 @@
 use Rattle.std.proofs.Common.{map, ap, ◌∙◌}
 use Rattle.world.proofs.Answering.{carries_fitting, carries_none}
 use Rattle.project_calls.specs.Project.{languages_refusal}
-use Rattle.project_calls.proofs.Views.{views_same}
+use Rattle.world.proofs.Values.{views_same}
 use Rattle.project_calls.proofs.project_call.require_c.Goals as goal
 
 pub returns-in_err-languages : goal.returns-in_err-languages

@@ -4,7 +4,7 @@ use Rattle.faults.specs.declared.refusal.Refusal.TheVariants as refusals
 use Rattle.paths.specs.Paths.{tree_path}
 use Rattle.world.specs.Settings.{SettingsData}
 use Rattle.world.proofs.Answering.{carries_none, carries_read, carries_fitting}
-use Rattle.target_calls.proofs.Required.{two}
+use Rattle.world.proofs.Values.{two}
 use Rattle.resource_calls.specs.Programs.{named_path}
 use Rattle.resource_calls.proofs.programs.named_path.Goals as goal
 

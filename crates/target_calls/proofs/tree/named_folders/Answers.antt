@@ -6,7 +6,7 @@ use Rattle.paths.specs.Paths.{folder_paths}
 use Rattle.world.specs.Settings.{SettingsData}
 use Rattle.world.proofs.Answering.{carries_none, carries_read, carries_fitting}
 use Rattle.target_calls.specs.Files.{named_folders}
-use Rattle.target_calls.proofs.Required.{two}
+use Rattle.world.proofs.Values.{two}
 use Rattle.target_calls.proofs.tree.named_folders.Goals as goal
 
 pub returns-in_err-paths : goal.returns-in_err-paths

@@ -1,0 +1,13 @@
+-- What options say.
+use Rattle.std.specs.Prelude.{ℕ, List, [], Option, Some}
+use Rattle.option_values.specs.Values as option
+use Rattle.options.specs.Resolves.{value_named}
+use Rattle.options.specs.Settings.{Setting}
+
+abbrev pub text_of : Option option.Value → List ℕ
+text_of (Some (option.Text text)) = text
+text_of _ = []
+
+-- the text that the option of a name has; empty where there is no such option, or it is of another type
+abbrev pub option_text : List Setting → List ℕ → List ℕ
+option_text options name = text_of (value_named options name)
