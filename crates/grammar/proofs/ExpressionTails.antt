@@ -1,7 +1,5 @@
 -- What the functions that read expressions answer, case by case.
-use Rattle.std.proofs.Common.{◌⊎◌, ◌&&◌, ◌||◌, if◌then◌else◌, subst, inl, inr, take, drop, get_or, Bool, Option, Some, None, ◌≡◌, ℕ, zero, suc, ◌+◌, ◌-◌, ◌≤◌, ◌<◌, true, false, List, [], ◌∷◌, length, Result, Ok, Err, refl, sym, ap, ◌∙◌, arith, sub-one}
-use Rattle.std.proofs.Common.{rules}
-use Rattle.std.proofs.lemmas.Grind.{common_steps}
+use Rattle.std.proofs.Common.{◌⊎◌, ◌&&◌, ◌||◌, subst, inl, inr, take, drop, get_or, Bool, Option, Some, None, ◌≡◌, ℕ, zero, suc, ◌+◌, ◌-◌, ◌≤◌, ◌<◌, true, false, List, [], ◌∷◌, length, Result, Ok, Err, refl, sym, ap, ◌∙◌, arith, sub-one}
 use Rattle.lexer.specs.declared.token.Kind.{Kind}
 use Rattle.lexer.specs.declared.token.Token.{Token}
 use Rattle.lexer.specs.declared.token.Kind.TheVariants as Kinds
@@ -135,6 +133,12 @@ pub chain_alone : (f : Kind → Option Operator) (part : Reader ExpressionTree) 
 unfolding chain_at operands_at
 chain_alone f part ts a mid h b = rw (h, many_none (head_is (stands_for f)) (operand_at f part) (length mid) mid b) refl
 
+pub chain_others_fail : (f : Kind → Option Operator) (part : Reader ExpressionTree) (ts : List Lexeme) (a : ExpressionTree) (mid : List Lexeme) (d : ReadError)
+    → part ts ≡ Ok (a, mid) → Fails d (operands_at f part mid) → Fails d (chain_at f part ts)
+unfolding chain_at
+chain_others_fail f part ts a mid errors.Memory h e = tt
+chain_others_fail f part ts a mid (errors.Stop g) h e = rw (h, e) refl
+
 pub chain_more : (f : Kind → Option Operator) (part : Reader ExpressionTree) (ts : List Lexeme) (a : ExpressionTree) (mid : List Lexeme)
     (os : List OperandTree) (rest : List Lexeme) → part ts ≡ Ok (a, mid) → head_is (stands_for f) mid ≡ true
     → operands_at f part mid ≡ Ok (os, rest) → chain_at f part ts ≡ Ok (ChainTree a (operands os) (first_line ts), rest)
@@ -171,17 +175,34 @@ module _ (u : Bool → Reader ExpressionTree) (b : Bool) (ts : List Lexeme) wher
   unfolding optional_at or_at
   ternary_alone a mid h e = test_of ∙ rw (h, e) refl
 
-  pub ternary_branches_fail : (a : ExpressionTree) (mid : List Lexeme) (d : ReadError) → disjunction_at (u b) ts ≡ Ok (a, mid)
-      → (b && begins Kinds.Question mid) ≡ true → Fails d (branches_at (disjunction_at (u false)) mid) → Fails d (ternary_at u b ts)
-  unfolding optional_at or_at
-  ternary_branches_fail a mid errors.Memory h e g = tt
-  ternary_branches_fail a mid (errors.Stop f) h e g = test_of ∙ rw (h, e, g) refl
+  module _ (a : ExpressionTree) (mid : List Lexeme) (h : disjunction_at (u b) ts ≡ Ok (a, mid)) (e : (b && begins Kinds.Question mid) ≡ true) where
+    pub ternary_question_fails : (d : ReadError) → Fails d (token_at Kinds.Question mid) → Fails d (ternary_at u b ts)
+    unfolding optional_at or_at branches_at
+    ternary_question_fails errors.Memory g = tt
+    ternary_question_fails (errors.Stop f) g = test_of ∙ rw (h, e, g) refl
 
-  pub ternary_asks : (a : ExpressionTree) (mid : List Lexeme) (one other : ExpressionTree) (rest : List Lexeme) → disjunction_at (u b) ts ≡ Ok (a, mid)
-      → (b && begins Kinds.Question mid) ≡ true → branches_at (disjunction_at (u false)) mid ≡ Ok ((one, other), rest)
-      → ternary_at u b ts ≡ Ok (TernaryTree a one other (first_line ts), rest)
-  unfolding optional_at or_at
-  ternary_asks a mid one other rest h e g = test_of ∙ rw (h, e, g) refl
+    module _ (q : Lexeme) (one_from : List Lexeme) (g : token_at Kinds.Question mid ≡ Ok (q, one_from)) where
+      pub ternary_one_fails : (d : ReadError) → Fails d (disjunction_at (u false) one_from) → Fails d (ternary_at u b ts)
+      unfolding optional_at or_at branches_at
+      ternary_one_fails errors.Memory k = tt
+      ternary_one_fails (errors.Stop f) k = test_of ∙ rw (h, e, g, k) refl
+
+      module _ (one : ExpressionTree) (behind : List Lexeme) (k : disjunction_at (u false) one_from ≡ Ok (one, behind)) where
+        pub ternary_colon_fails : (d : ReadError) → Fails d (token_at Kinds.Colon behind) → Fails d (ternary_at u b ts)
+        unfolding optional_at or_at branches_at
+        ternary_colon_fails errors.Memory m = tt
+        ternary_colon_fails (errors.Stop f) m = test_of ∙ rw (h, e, g, k, m) refl
+
+        module _ (c : Lexeme) (other_from : List Lexeme) (m : token_at Kinds.Colon behind ≡ Ok (c, other_from)) where
+          pub ternary_other_fails : (d : ReadError) → Fails d (disjunction_at (u false) other_from) → Fails d (ternary_at u b ts)
+          unfolding optional_at or_at branches_at
+          ternary_other_fails errors.Memory o = tt
+          ternary_other_fails (errors.Stop f) o = test_of ∙ rw (h, e, g, k, m, o) refl
+
+          pub ternary_asks : (other : ExpressionTree) (rest : List Lexeme) → disjunction_at (u false) other_from ≡ Ok (other, rest)
+              → ternary_at u b ts ≡ Ok (TernaryTree a one other (first_line ts), rest)
+          unfolding optional_at or_at branches_at
+          ternary_asks other rest o = test_of ∙ rw (h, e, g, k, m, o) refl
 
 -- ---- what opens a level
 
@@ -322,7 +343,7 @@ module _ (n : ℕ) (b : Bool) (ts : List Lexeme) where
     unfolding entered_at prefixed_at
     prefixed_reads o m mid a rest e h = prefixed_is ∙ rw (e, h) refl
 
-  pub unary_postfix : prefix_of ts ≡ None → unary_at n b ts ≡ postfix_at (inner_at n) b ts
+  unary_postfix : prefix_of ts ≡ None → unary_at n b ts ≡ postfix_at (inner_at n) b ts
   unary_postfix e = elim (cases_bool (begins Kinds.Not ts)) [
     | inl y ↦ absurd (some_none prefixes.Not (sym (rw y refl) ∙ e))
     | inr m ↦ elim (cases_bool (begins Kinds.Minus ts)) [
@@ -331,18 +352,28 @@ module _ (n : ℕ) (b : Bool) (ts : List Lexeme) where
     ]
   ]
 
-  pub postfix_alone : (a : ExpressionTree) (mid : List Lexeme) → base_at (inner_at n) b ts ≡ Ok (a, mid) → head_is links_on mid ≡ false
-      → postfix_at (inner_at n) b ts ≡ Ok (a, mid)
-  unfolding postfix_at links_at
-  postfix_alone a mid h e = rw (h, many_none (head_is links_on) (link_at (inner_at n) b) (length mid) mid e) refl
+  module _ (bare : prefix_of ts ≡ None) where
+    pub postfix_base_fails : (d : ReadError) → Fails d (base_at (inner_at n) b ts) → Fails d (unary_at n b ts)
+    unfolding postfix_at
+    postfix_base_fails errors.Memory h = tt
+    postfix_base_fails (errors.Stop f) h = unary_postfix bare ∙ rw h refl
 
-  pub postfix_more : (a : ExpressionTree) (mid : List Lexeme) (ls : List LinkTree) (rest : List Lexeme) → base_at (inner_at n) b ts ≡ Ok (a, mid)
-      → head_is links_on mid ≡ true → links_at (inner_at n) b mid ≡ Ok (ls, rest)
-      → postfix_at (inner_at n) b ts ≡ Ok (PostfixTree a (links ls) (first_line ts), rest)
-  unfolding postfix_at links_at
-  postfix_more a mid ls rest h e g =
-      let w = many_some (head_is links_on) (link_at (inner_at n) b) mid ls rest e (head_long links_on mid e) g in
-      rw (h, g, w.2) refl
+    module _ (a : ExpressionTree) (mid : List Lexeme) (h : base_at (inner_at n) b ts ≡ Ok (a, mid)) where
+      pub postfix_alone : head_is links_on mid ≡ false → unary_at n b ts ≡ Ok (a, mid)
+      unfolding postfix_at links_at
+      postfix_alone e = unary_postfix bare ∙ rw (h, many_none (head_is links_on) (link_at (inner_at n) b) (length mid) mid e) refl
+
+      pub postfix_links_fail : (d : ReadError) → Fails d (links_at (inner_at n) b mid) → Fails d (unary_at n b ts)
+      unfolding postfix_at
+      postfix_links_fail errors.Memory e = tt
+      postfix_links_fail (errors.Stop f) e = unary_postfix bare ∙ rw (h, e) refl
+
+      pub postfix_more : (ls : List LinkTree) (rest : List Lexeme) → head_is links_on mid ≡ true → links_at (inner_at n) b mid ≡ Ok (ls, rest)
+          → unary_at n b ts ≡ Ok (PostfixTree a (links ls) (first_line ts), rest)
+      unfolding postfix_at links_at
+      postfix_more ls rest e g =
+          let w = many_some (head_is links_on) (link_at (inner_at n) b) mid ls rest e (head_long links_on mid e) g in
+          unary_postfix bare ∙ rw (h, g, w.2) refl
 
 -- ---- arguments
 
@@ -418,6 +449,28 @@ module _ (n : ℕ) (b : Bool) (ts : List Lexeme) (o : Lexeme) (m : ℕ) (inside 
       → token_at Kinds.CloseBracket after ≡ Ok (c, rest) → entered_at Kinds.OpenBracket n (λ e. list_at e b) ts ≡ Ok (ListTree (expressions es) o.line, rest)
   unfolding entered_at list_at
   list_reads es after c rest h t = rw (entered, h, t) refl
+
+module _ (r : Reader ExpressionTree) (ts : List Lexeme) where
+  pub entry_key_fails : (d : ReadError) → Fails d (r ts) → Fails d (entry_at r ts)
+  unfolding entry_at
+  entry_key_fails errors.Memory h = tt
+  entry_key_fails (errors.Stop f) h = rw h refl
+
+  module _ (key : ExpressionTree) (mid : List Lexeme) (h : r ts ≡ Ok (key, mid)) where
+    pub entry_colon_fails : (d : ReadError) → Fails d (token_at Kinds.Colon mid) → Fails d (entry_at r ts)
+    unfolding entry_at
+    entry_colon_fails errors.Memory g = tt
+    entry_colon_fails (errors.Stop f) g = rw (h, g) refl
+
+    module _ (c : Lexeme) (after : List Lexeme) (g : token_at Kinds.Colon mid ≡ Ok (c, after)) where
+      pub entry_value_fails : (d : ReadError) → Fails d (r after) → Fails d (entry_at r ts)
+      unfolding entry_at
+      entry_value_fails errors.Memory e = tt
+      entry_value_fails (errors.Stop f) e = rw (h, g, e) refl
+
+      pub entry_reads : (value : ExpressionTree) (rest : List Lexeme) → r after ≡ Ok (value, rest) → entry_at r ts ≡ Ok ((key, value), rest)
+      unfolding entry_at
+      entry_reads value rest e = rw (h, g, e) refl
 
 module _ (n : ℕ) (b : Bool) (ts : List Lexeme) (o : Lexeme) (m : ℕ) (inside : List Lexeme) (entered : enter_at Kinds.OpenBrace n ts ≡ Ok ((o, m), inside)) where
   pub dictionary_stops : (d : ReadError) → Fails d (listed_at Kinds.CloseBrace (λ (s : Unit {0}). entry_at (ternary_at (unary_at m) b)) same_state tt inside) → Fails d (entered_at Kinds.OpenBrace n (λ e. dictionary_at e b) ts)

@@ -6,7 +6,7 @@ use Rattle.grammar.specs.declared.tree.Expression.{Expression}
 use Rattle.grammar.specs.declared.tree.Expression.TheViews as Views
 use Rattle.grammar.specs.declared.tree.Expression.TheVariants as Variants
 use Rattle.grammar.specs.declared.tree.Expression.TheOpen as Open
-use Rattle.grammar.specs.declared.tree.Expression.TheFolds.{fold-roll-Argument, fold-roll-Expression, fold-roll-Link, fold-roll-Operand}
+use Rattle.grammar.specs.declared.tree.Expression.TheFolds.{fold-roll-Argument, fold-roll-Entry, fold-roll-Expression, fold-roll-Link, fold-roll-Operand}
 use Rattle.grammar.specs.declared.tree.Argument.{Argument}
 use Rattle.grammar.specs.declared.tree.Operand.{Operand}
 use Rattle.std.specs.Global.{Global}
@@ -23,6 +23,12 @@ operand_of-made o e = fold-roll-Operand ExpressionTree LinkTree ArgumentTree Ent
 
 pub operands_pushed : (os : List Operand) (o : Operator) (e : Expression) → map operand_of (os ++ Views.roll-Operand record { operator = o; value = e } ∷ []) ≡ map operand_of os ++ (o, expression_of e) ∷ []
 operands_pushed os o e = map_push operand_of os _ ∙ ap (λ (t : OperandTree). map operand_of os ++ t ∷ []) (operand_of-made o e)
+
+entry_of-made : (k v : Expression) → entry_of (Views.roll-Entry record { key = k; value = v }) ≡ (expression_of k, expression_of v)
+entry_of-made k v = fold-roll-Entry ExpressionTree LinkTree ArgumentTree EntryTree OperandTree expression_step link_step argument_step entry_step operand_step record { key = k; value = v }
+
+pub entries_pushed : (es : List Entry) (k v : Expression) (key : ExpressionTree) → key ≡ expression_of k → map entry_of (es ++ Views.roll-Entry record { key = k; value = v } ∷ []) ≡ map entry_of es ++ (key, expression_of v) ∷ []
+entries_pushed es k v key same = rw same (map_push entry_of es _ ∙ ap (λ (t : EntryTree). map entry_of es ++ t ∷ []) (entry_of-made k v))
 
 pub expression_of-Literal : (l : Literal) (text : Bor (List ℕ)) (line : ℕ) → expression_of (Variants.Literal l text line) ≡ LiteralTree l text.now line
 expression_of-Literal l text line = ap expression_of (sym (Variants.rolls-Literal l text line)) ∙ fold-roll-Expression ExpressionTree LinkTree ArgumentTree EntryTree OperandTree expression_step link_step argument_step entry_step operand_step (Open.Literal l text line)
@@ -54,9 +60,9 @@ pub prefix_seen : (p : Prefix) (value : Box Expression Global) (line : ℕ) (e :
 prefix_seen p value line e same = rw same (sym (ap expression_of (sym (Variants.rolls-Prefix p value line))
     ∙ fold-roll-Expression ExpressionTree LinkTree ArgumentTree EntryTree OperandTree expression_step link_step argument_step entry_step operand_step (Open.Prefix p value line)))
 
-pub ternary_seen : (test one other : Box Expression Global) (line : ℕ) (e : ExpressionTree) (l : ℕ) → e ≡ expression_of test.value → l ≡ line
-    → TernaryTree e (expression_of one.value) (expression_of other.value) l ≡ expression_of (Variants.Ternary test one other line)
-ternary_seen test one other line e l same same_line = rw (same, same_line) (sym (ap expression_of (sym (Variants.rolls-Ternary test one other line))
+pub ternary_seen : (test one other : Box Expression Global) (line : ℕ) (e f g : ExpressionTree) (l : ℕ) → e ≡ expression_of test.value → f ≡ expression_of one.value → g ≡ expression_of other.value → l ≡ line
+    → TernaryTree e f g l ≡ expression_of (Variants.Ternary test one other line)
+ternary_seen test one other line e f g l same same_one same_other same_line = rw (same, same_one, same_other, same_line) (sym (ap expression_of (sym (Variants.rolls-Ternary test one other line))
     ∙ fold-roll-Expression ExpressionTree LinkTree ArgumentTree EntryTree OperandTree expression_step link_step argument_step entry_step operand_step (Open.Ternary test one other line)))
 
 pub call_seen : (name : Bor (List ℕ)) (xs : Vec Argument Global) (line : ℕ) → FunctionTree name.now (arguments (map argument_of xs.items)) line ≡ expression_of (Variants.Call name xs line)

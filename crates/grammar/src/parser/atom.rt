@@ -2,10 +2,10 @@
 
 ghost use Rattle.std.specs.Prelude.{Some, ◌≡◌, ◌-◌, ◌<◌, ◌≤◌, length, OnOk};
 ghost use Rattle.lexer.specs.Lexeme.{lexemes};
-ghost use Rattle.grammar.specs.ExpressionTree.{entry_of, expression_of};
+ghost use Rattle.grammar.specs.ExpressionTree.{expression_of};
 ghost use Rattle.grammar.specs.Expressions.{literal_of};
 ghost use Rattle.grammar.specs.Reading.{Gives, more_at};
-ghost use Rattle.grammar.specs.ReadingExpressions.{base_at, dictionary_at, entered_at, entry_at, inner_at, list_at, literal_at, name_at, ternary_at, unary_at};
+ghost use Rattle.grammar.specs.ReadingExpressions.{base_at, dictionary_at, entered_at, inner_at, list_at, literal_at, name_at};
 
 use super::{Parser, fitted, put};
 use crate::stop::ReadError;
@@ -104,20 +104,6 @@ impl<'a> Parser<'_, 'a> {
         })
     }
 
-    // A key and its value.
-    #[cycle(expression)]
-    #[tactic(auto, unfolding(crate::specs::ReadingExpressions::entry_at))]
-    fn entry(&mut self, alloc: Global, levels: u32, ternaries: bool) -> Result<Entry<'a>, ReadError>
-        ensures read { Gives entry_of result (lexemes self.new.rest.now)
-            (entry_at (ternary_at (unary_at levels) ternaries) (lexemes self.old.rest.now)) }
-        ensures shorter { OnOk result (length self.new.rest.now < length self.old.rest.now) }
-    {
-        let key = self.ternary(alloc, levels, ternaries)?;
-        let key = self.closed(Kind::Colon, key)?;
-        let value = self.ternary(alloc, levels, ternaries)?;
-        Ok(Entry { key, value })
-    }
-
     // A dictionary.
     #[cycle(expression)]
     #[tactic(auto, unfolding(crate::specs::ReadingExpressions::entered_at))]
@@ -135,8 +121,10 @@ impl<'a> Parser<'_, 'a> {
         let mut entries = Vec::new(alloc);
         let mut more = !self.begins(Kind::CloseBrace);
         while more {
-            let entry = self.entry(alloc, inside, ternaries)?;
-            put(&mut entries, entry)?;
+            let key = self.ternary(alloc, inside, ternaries)?;
+            let key = self.closed(Kind::Colon, key)?;
+            let value = self.ternary(alloc, inside, ternaries)?;
+            put(&mut entries, Entry { key, value })?;
             more = self.more(Kind::CloseBrace);
         }
         let entries = self.closed(Kind::CloseBrace, entries)?;

@@ -1,13 +1,13 @@
 //! Reads expressions: ternaries, and chains of operators.
 
-ghost use Rattle.std.specs.Prelude.{true, false, Some, IfOk, ◌≡◌, ◌&&◌, ◌-◌, ◌<◌, ◌≤◌, length, map, OnOk};
+ghost use Rattle.std.specs.Prelude.{true, false, Some, IfOk, ◌≡◌, ◌&&◌, ◌-◌, ◌<◌, ◌≤◌, length, OnOk};
 ghost use Rattle.std.specs.Option.{OnSome};
 ghost use Rattle.lexer.specs.Lexeme.{lexeme_of, lexemes};
-ghost use Rattle.grammar.specs.ExpressionTree.{expression_of, operand_of};
+ghost use Rattle.grammar.specs.ExpressionTree.{expression_of};
 ghost use Rattle.grammar.specs.Expressions.{comparative};
 ghost use Rattle.grammar.specs.Parts.{first_line, stands_for, taken};
 ghost use Rattle.grammar.specs.Reading.{Gives, begins, head_is, two_begin};
-ghost use Rattle.grammar.specs.ReadingExpressions.{branches_at, chain_at, ternary_at, comparison_at, comparison_operator_at, compares, disjunction_at, enter_at, expr_at, not_in_at, operands_at, operator_of, part_at, unary_at};
+ghost use Rattle.grammar.specs.ReadingExpressions.{chain_at, ternary_at, comparison_at, comparison_operator_at, compares, enter_at, expr_at, not_in_at, operator_of, part_at, unary_at};
 
 use super::{Parser, fitted, put};
 use crate::stop::{ReadError, Stop};
@@ -220,30 +220,9 @@ impl<'a> Parser<'_, 'a> {
         }
     }
 
-    // The operators of this rank that come, each with the part behind it.
-    #[cycle(expression)]
-    fn operands(
-        &mut self,
-        alloc: Global,
-        levels: u32,
-        ternaries: bool,
-        rank: Rank,
-    ) -> Result<Vec<Operand<'a>>, ReadError>
-        ensures read { Gives (λ v. map operand_of v.items) result (lexemes self.new.rest.now)
-            (operands_at (operator_of rank) (part_at rank (unary_at levels ternaries)) (lexemes self.old.rest.now)) }
-        ensures shorter { OnOk result (length self.new.rest.now ≤ length self.old.rest.now) }
-    {
-        let mut operands = Vec::new(alloc);
-        while let Some(operator) = self.operator(rank) {
-            let value = self.part(alloc, levels, ternaries, rank)?;
-            put(&mut operands, Operand { operator, value })?;
-        }
-        Ok(fitted(operands))
-    }
-
     // Parts with operators of this rank between them.
     #[cycle(expression)]
-    #[tactic(auto, using(crate::proofs::ExpressionTails::chain_alone, crate::proofs::ExpressionTails::chain_more), unfolding(crate::specs::ReadingExpressions::chain_at))]
+    #[tactic(auto, using(crate::proofs::ExpressionTails::chain_alone), unfolding(crate::specs::ReadingExpressions::chain_at))]
     fn chain(
         &mut self,
         alloc: Global,
@@ -261,10 +240,14 @@ impl<'a> Parser<'_, 'a> {
             return Ok(first);
         }
         let first = boxed(alloc, first)?;
-        let others = self.operands(alloc, levels, ternaries, rank)?;
+        let mut others = Vec::new(alloc);
+        while let Some(operator) = self.operator(rank) {
+            let value = self.part(alloc, levels, ternaries, rank)?;
+            put(&mut others, Operand { operator, value })?;
+        }
         Ok(Expression::Chain {
             first,
-            others,
+            others: fitted(others),
             line,
         })
     }
@@ -299,29 +282,9 @@ impl<'a> Parser<'_, 'a> {
         })
     }
 
-    // Both values of a ternary, behind its test.
-    #[cycle(expression)]
-    #[tactic(auto, unfolding(crate::specs::ReadingExpressions::branches_at, crate::specs::ReadingExpressions::disjunction_at))]
-    fn branches(
-        &mut self,
-        alloc: Global,
-        levels: u32,
-    ) -> Result<(Box<Expression<'a>>, Box<Expression<'a>>), ReadError>
-        ensures read { Gives (λ p. (expression_of p.0.value, expression_of p.1.value)) result (lexemes self.new.rest.now)
-            (branches_at (disjunction_at (unary_at levels false)) (lexemes self.old.rest.now)) }
-        ensures shorter { OnOk result (length self.new.rest.now < length self.old.rest.now) }
-    {
-        self.take(Kind::Question)?;
-        let yes = self.chain(alloc, levels, false, Rank::Or)?;
-        let yes = self.closed(Kind::Colon, yes)?;
-        let yes = boxed(alloc, yes)?;
-        let no = self.chain(alloc, levels, false, Rank::Or)?;
-        Ok((yes, boxed(alloc, no)?))
-    }
-
     // An expression, in which a ternary may stand or not.
     #[cycle(expression)]
-    #[tactic(auto, using(crate::proofs::ExpressionTails::ternary_alone, crate::proofs::ExpressionTails::ternary_asks, crate::proofs::ExpressionTails::ternary_test_fails, crate::proofs::ExpressionTails::ternary_branches_fail), unfolding(crate::specs::ReadingExpressions::disjunction_at))]
+    #[tactic(auto, using(crate::proofs::ExpressionTails::ternary_alone), unfolding(crate::specs::ReadingExpressions::disjunction_at))]
     pub(super) fn ternary(
         &mut self,
         alloc: Global,
@@ -338,7 +301,12 @@ impl<'a> Parser<'_, 'a> {
             return Ok(test);
         }
         let test = boxed(alloc, test)?;
-        let (yes, no) = self.branches(alloc, levels)?;
+        self.take(Kind::Question)?;
+        let yes = self.chain(alloc, levels, false, Rank::Or)?;
+        let yes = self.closed(Kind::Colon, yes)?;
+        let yes = boxed(alloc, yes)?;
+        let no = self.chain(alloc, levels, false, Rank::Or)?;
+        let no = boxed(alloc, no)?;
         Ok(Expression::Ternary {
             test,
             yes,

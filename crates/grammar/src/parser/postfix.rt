@@ -6,7 +6,7 @@ ghost use Rattle.lexer.specs.Lexeme.{lexemes};
 ghost use Rattle.grammar.specs.ExpressionTree.{argument_of, expression_of, link_of};
 ghost use Rattle.grammar.specs.Parts.{first_line};
 ghost use Rattle.grammar.specs.Reading.{Gives, head_is, two_begin};
-ghost use Rattle.grammar.specs.ReadingExpressions.{entered_at, inner_at, items_at, label_at, link_at, links_at, links_on, name_colon_at, postfix_at, prefix_of, ternary_at, unary_at, word_of};
+ghost use Rattle.grammar.specs.ReadingExpressions.{entered_at, inner_at, items_at, label_at, link_at, links_on, name_colon_at, prefix_of, unary_at, word_of};
 
 use super::expression::boxed;
 use super::{Parser, fitted, put};
@@ -119,49 +119,6 @@ impl<'a> Parser<'_, 'a> {
         Ok(Link::Index { index })
     }
 
-    // All that is asked of a value in turn.
-    #[cycle(expression)]
-    fn links(
-        &mut self,
-        alloc: Global,
-        levels: u32,
-        ternaries: bool,
-    ) -> Result<Vec<Link<'a>>, ReadError>
-        ensures read { Gives (λ v. map link_of v.items) result (lexemes self.new.rest.now)
-            (links_at (inner_at levels) ternaries (lexemes self.old.rest.now)) }
-        ensures shorter { OnOk result (length self.new.rest.now ≤ length self.old.rest.now) }
-    {
-        let mut links = Vec::new(alloc);
-        while self.links_on() {
-            let link = self.link(alloc, levels, ternaries)?;
-            put(&mut links, link)?;
-        }
-        Ok(fitted(links))
-    }
-
-    // A value and what is asked of it.
-    #[cycle(expression)]
-    #[tactic(auto, using(crate::proofs::ExpressionTails::postfix_alone, crate::proofs::ExpressionTails::postfix_more), unfolding(crate::specs::ReadingExpressions::postfix_at))]
-    fn postfix(
-        &mut self,
-        alloc: Global,
-        levels: u32,
-        ternaries: bool,
-    ) -> Result<Expression<'a>, ReadError>
-        ensures read { Gives expression_of result (lexemes self.new.rest.now)
-            (postfix_at (inner_at levels) ternaries (lexemes self.old.rest.now)) }
-        ensures shorter { OnOk result (length self.new.rest.now < length self.old.rest.now) }
-    {
-        let line = self.first_line();
-        let first = self.base(alloc, levels, ternaries)?;
-        if !self.links_on() {
-            return Ok(first);
-        }
-        let first = boxed(alloc, first)?;
-        let links = self.links(alloc, levels, ternaries)?;
-        Ok(Expression::Postfix { first, links, line })
-    }
-
     // The prefix operator that comes, if one does.
     fn prefix(&self) -> Option<Prefix>
         ensures { result ≡ prefix_of (lexemes self.now.rest.now) }
@@ -173,9 +130,9 @@ impl<'a> Parser<'_, 'a> {
         }
     }
 
-    // What stands between operators, where so many levels may still be opened.
+    // What stands between operators, where so many levels may still be opened: a prefix operator and its value, or a value and
+    // what is asked of it.
     #[cycle(expression)]
-    #[tactic(auto, using(crate::proofs::ExpressionTails::unary_postfix))]
     pub(super) fn unary(
         &mut self,
         alloc: Global,
@@ -186,16 +143,29 @@ impl<'a> Parser<'_, 'a> {
             (unary_at levels ternaries (lexemes self.old.rest.now)) }
         ensures shorter { OnOk result (length self.new.rest.now < length self.old.rest.now) }
     {
-        let Some(prefix) = self.prefix() else {
-            return self.postfix(alloc, levels, ternaries);
-        };
-        let (word, levels) = self.enter(word_of(prefix), levels)?;
-        let value = self.unary(alloc, levels, ternaries)?;
-        let value = boxed(alloc, value)?;
-        Ok(Expression::Prefix {
-            prefix,
-            value,
-            line: word.line,
-        })
+        if let Some(prefix) = self.prefix() {
+            let (word, levels) = self.enter(word_of(prefix), levels)?;
+            let value = self.unary(alloc, levels, ternaries)?;
+            let value = boxed(alloc, value)?;
+            let line = word.line;
+            return Ok(Expression::Prefix {
+                prefix,
+                value,
+                line,
+            });
+        }
+        let line = self.first_line();
+        let first = self.base(alloc, levels, ternaries)?;
+        if !self.links_on() {
+            return Ok(first);
+        }
+        let first = boxed(alloc, first)?;
+        let mut links = Vec::new(alloc);
+        while self.links_on() {
+            let link = self.link(alloc, levels, ternaries)?;
+            put(&mut links, link)?;
+        }
+        let links = fitted(links);
+        Ok(Expression::Postfix { first, links, line })
     }
 }

@@ -4,58 +4,66 @@ use Rattle.std.specs.Option.{option_map}
 use Rattle.grammar.specs.declared.stop.Stop.{Stop}
 use Rattle.lexer.specs.Lexeme.{Lexeme, lexeme_of, lexemes}
 use Rattle.lexer.specs.declared.token.Kind.TheVariants as Kinds
-use Rattle.grammar.specs.ExpressionTree.{ArgumentTree, argument_of, entry_of, expression_of, link_of, operand_of}
+use Rattle.grammar.specs.ExpressionTree.{ArgumentTree, ChainTree, EntryTree, LinkTree, OperandTree, PostfixTree, argument_of, entry_of, expression_of, link_of, links, operand_of, operands}
 use Rattle.grammar.specs.Expressions.{is_named}
 use Rattle.grammar.specs.Form.{same_state}
 use Rattle.std.proofs.lemmas.List.{map_push}
-use Rattle.grammar.specs.Parts.{stands_for}
-use Rattle.grammar.specs.Reading.{begins, head_is}
+use Rattle.grammar.specs.Parts.{first_line, stands_for}
 use Rattle.grammar.specs.ReadingExpressions.{disjunction_at, argument_at, ternary_at, entry_at, inner_at, link_at, links_at, links_on, operand_at, operands_at, operator_of, part_at, unary_at}
-use Rattle.grammar.proofs.ExpressionTails.{list_stops, list_unclosed, list_reads, dictionary_stops, dictionary_unclosed, dictionary_reads, arguments_stops, arguments_unclosed, arguments_reads, call_reads, chain_more, index_reads, method_reads, postfix_more, prefixed_reads, prefixed_value_fails, prefixed_word_fails, ternary_asks, ternary_branches_fail, ternary_test_fails, argument_label_fails, argument_reads, argument_value_fails, operand_fails, operand_reads, taken_head, taken_other}
+use Rattle.grammar.proofs.ExpressionTails.{list_stops, list_unclosed, list_reads, dictionary_stops, dictionary_unclosed, dictionary_reads, arguments_stops, arguments_unclosed, arguments_reads, call_reads, chain_more, chain_others_fail, entry_colon_fails, entry_key_fails, entry_reads, entry_value_fails, index_reads, method_reads, postfix_alone, postfix_base_fails, postfix_links_fail, postfix_more, prefixed_reads, prefixed_value_fails, prefixed_word_fails, ternary_asks, ternary_colon_fails, ternary_one_fails, ternary_other_fails, ternary_question_fails, ternary_test_fails, argument_label_fails, argument_reads, argument_value_fails, operand_fails, operand_reads, taken_head, taken_other}
 use Rattle.grammar.proofs.Loops.{pending_done, pending_fails, pending_first, pending_more, still_ends, still_fails, still_first, still_more}
 use Rattle.grammar.proofs.Tails.{length_lexemes}
-use Rattle.grammar.proofs.Views.{dictionary_seen, list_seen, arguments_pushed, call_seen, chain_seen, index_seen, method_seen, operands_pushed, postfix_seen, prefix_seen, some_kept, ternary_seen}
+use Rattle.grammar.proofs.Views.{dictionary_seen, entries_pushed, list_seen, arguments_pushed, call_seen, chain_seen, index_seen, method_seen, operands_pushed, postfix_seen, prefix_seen, some_kept, ternary_seen}
 use Rattle.grammar.proofs.parser.Parser.+expression.Goals as goal
-
-pub operands-loop-operator-init : goal.operands-loop-operator-init
-unfolding operands_at
-operands-loop-operator-init t c = record { within = omega arith; read = rw c.new-operands.ensures.items (still_first _ _ (lexemes c.args.self.now.rest.now)) }
-
-pub operands-returns-in_err-value-clause-read : goal.operands-returns-in_err-value-clause-read
-operands-returns-in_err-value-clause-read t c =
-    let p = err_from_is_err_and c.from_residual.result c.from_residual.ensures.1 in
-    let f = operator_of c.args.rank in
-    let part = part_at c.args.rank (unary_at c.args.levels c.args.ternaries) in
-    let ts = lexemes c.loop-operator.self.rest.now in
-    let b = taken_head f c.operator.result c.in-Some.operator ts _ c.operator.ensures.read c.in-Some.is in
-    rw (p.1, p.2) (still_fails (stands_for f) (operand_at f part) (map operand_of c.loop-operator.operands.items) ts _ c.in_err-value.field-0.0 c.loop-operator.invariant.read b
-    (operand_fails f part c.operator.result c.in-Some.operator ts (lexemes c.operator.new.self.rest.now) c.in_err-value.field-0.0 c.operator.ensures.read c.in-Some.is c.in_err-value.ensures.read))
-
-pub operands-loop-operator-preserved : goal.operands-loop-operator-preserved
-operands-loop-operator-preserved t c =
-    let f = operator_of c.args.rank in
-    let part = part_at c.args.rank (unary_at c.args.levels c.args.ternaries) in
-    let ts = lexemes c.loop-operator.self.rest.now in
-    let b = taken_head f c.operator.result c.in-Some.operator ts _ c.operator.ensures.read c.in-Some.is in
-    let e : map operand_of c.put.new.items.items ≡ map operand_of c.loop-operator.operands.items ++ (c.in-Some.operator, expression_of c.in_ok-value.value) ∷ [] = rw c.in_ok-put.ensures (operands_pushed c.loop-operator.operands.items c.in-Some.operator c.in_ok-value.value) in
-    record {
-      within = omega (arith, c.in_ok-value.ensures.shorter, c.operator.ensures.within, c.loop-operator.invariant.within);
-      read = rw e (still_more (stands_for f) (operand_at f part) (map operand_of c.loop-operator.operands.items) ts _ (c.in-Some.operator, expression_of c.in_ok-value.value) (lexemes c.part.new.self.rest.now) c.loop-operator.invariant.read b
-          (operand_reads f part c.operator.result c.in-Some.operator ts (lexemes c.operator.new.self.rest.now) (expression_of c.in_ok-value.value) (lexemes c.part.new.self.rest.now) c.operator.ensures.read c.in-Some.is c.in_ok-value.ensures.read)
-          (omega (arith, c.in_ok-value.ensures.shorter, c.operator.ensures.within, length_lexemes c.part.new.self.rest.now, length_lexemes c.loop-operator.self.rest.now)));
-    }
-
-pub operands-returns-clause-read : goal.operands-returns-clause-read
-operands-returns-clause-read t c =
-    let f = operator_of c.args.rank in
-    let part = part_at c.args.rank (unary_at c.args.levels c.args.ternaries) in
-    let ts = lexemes c.loop-operator.self.rest.now in
-    let w = taken_other f c.operator.result ts (lexemes c.operator.new.self.rest.now) c.operator.ensures.read c.in_default.is in
-    rw (w.0, c.fitted.ensures) (still_ends (stands_for f) (operand_at f part) (map operand_of c.loop-operator.operands.items) ts _ c.loop-operator.invariant.read w.1)
 
 -- what was read, as the tree of what is returned
 returned : {A : Type 0} (read : Result (A × List Lexeme) Stop) (a b : A) (rest : List Lexeme) → read ≡ Ok (a, rest) → a ≡ b → read ≡ Ok (b, rest)
 returned {A} read a b rest e same = e ∙ ap (λ (x : A). Ok (x, rest)) same
+
+pub chain-loop-operator-init : goal.chain-loop-operator-init
+unfolding operands_at
+chain-loop-operator-init t c = record {
+  within = omega (arith, c.in_ok-first.ensures.shorter);
+  read = rw c.new-others.ensures.items (still_first _ _ (lexemes c.part.new.self.rest.now));
+}
+
+pub chain-returns-in_err-value-clause-read : goal.chain-returns-in_err-value-clause-read
+chain-returns-in_err-value-clause-read t c =
+    let p = err_from_is_err_and c.from_residual-in_err-value.result c.from_residual-in_err-value.ensures.1 in
+    let f = operator_of c.args.rank in
+    let part = part_at c.args.rank (unary_at c.args.levels c.args.ternaries) in
+    let ts = lexemes c.loop-operator.self.rest.now in
+    let b = taken_head f c.operator.result c.in-Some.operator ts _ c.operator.ensures.read c.in-Some.is in
+    rw (p.1, p.2) (chain_others_fail f part (lexemes c.args.self.now.rest.now) (expression_of c.in_ok-first.first) (lexemes c.part.new.self.rest.now) c.in_err-value.field-0.0 c.in_ok-first.ensures.read
+    (still_fails (stands_for f) (operand_at f part) (map operand_of c.loop-operator.others.items) ts _ c.in_err-value.field-0.0 c.loop-operator.invariant.read b
+    (operand_fails f part c.operator.result c.in-Some.operator ts (lexemes c.operator.new.self.rest.now) c.in_err-value.field-0.0 c.operator.ensures.read c.in-Some.is c.in_err-value.ensures.read)))
+
+pub chain-loop-operator-preserved : goal.chain-loop-operator-preserved
+chain-loop-operator-preserved t c =
+    let f = operator_of c.args.rank in
+    let part = part_at c.args.rank (unary_at c.args.levels c.args.ternaries) in
+    let ts = lexemes c.loop-operator.self.rest.now in
+    let b = taken_head f c.operator.result c.in-Some.operator ts _ c.operator.ensures.read c.in-Some.is in
+    let e : map operand_of c.put.new.items.items ≡ map operand_of c.loop-operator.others.items ++ (c.in-Some.operator, expression_of c.in_ok-value.value) ∷ [] = rw c.in_ok-put.ensures (operands_pushed c.loop-operator.others.items c.in-Some.operator c.in_ok-value.value) in
+    record {
+      within = omega (arith, c.in_ok-value.ensures.shorter, c.operator.ensures.within, c.loop-operator.invariant.within);
+      read = rw e (still_more (stands_for f) (operand_at f part) (map operand_of c.loop-operator.others.items) ts _ (c.in-Some.operator, expression_of c.in_ok-value.value) (lexemes c.part-in-Some.new.self.rest.now) c.loop-operator.invariant.read b
+          (operand_reads f part c.operator.result c.in-Some.operator ts (lexemes c.operator.new.self.rest.now) (expression_of c.in_ok-value.value) (lexemes c.part-in-Some.new.self.rest.now) c.operator.ensures.read c.in-Some.is c.in_ok-value.ensures.read)
+          (omega (arith, c.in_ok-value.ensures.shorter, c.operator.ensures.within, length_lexemes c.part-in-Some.new.self.rest.now, length_lexemes c.loop-operator.self.rest.now)));
+    }
+
+pub chain-returns-clause-read : goal.chain-returns-clause-read
+chain-returns-clause-read t c =
+    let f = operator_of c.args.rank in
+    let part = part_at c.args.rank (unary_at c.args.levels c.args.ternaries) in
+    let ts = lexemes c.loop-operator.self.rest.now in
+    let w = taken_other f c.operator.result ts (lexemes c.operator.new.self.rest.now) c.operator.ensures.read c.in_default.is in
+    rw w.0 (returned _ _ _ _
+    (chain_more f part (lexemes c.args.self.now.rest.now) (expression_of c.in_ok-first.first) (lexemes c.part.new.self.rest.now) (map operand_of c.loop-operator.others.items) ts
+    c.in_ok-first.ensures.read (sym c.operates.ensures ∙ c.if-not-operates.false)
+    (still_ends (stands_for f) (operand_at f part) (map operand_of c.loop-operator.others.items) ts _ c.loop-operator.invariant.read w.1))
+    (ap (λ (os : List OperandTree). ChainTree (expression_of c.in_ok-first.first) (operands os) (first_line (lexemes c.args.self.now.rest.now))) (ap (map operand_of) (sym c.fitted.ensures))
+    ∙ chain_seen c.in_ok-first-2.first c.fitted.result c.first_line-line.result _ _ (ap expression_of (sym c.in_ok-first-2.ensures)) (sym c.first_line-line.ensures)))
 
 pub list-loop-more-init : goal.list-loop-more-init
 list-loop-more-init t c = record {
@@ -95,20 +103,46 @@ dictionary-loop-more-init t c = record {
   read = rw c.new-entries.ensures.items (pending_first Kinds.CloseBrace (λ s. entry_at (ternary_at (unary_at c.in_ok-open.inside) c.args.ternaries)) same_state _ tt (lexemes c.enter.new.self.rest.now) (ap not c.begins-more.ensures));
 }
 
-pub dictionary-returns-in_err-entry-clause-read : goal.dictionary-returns-in_err-entry-clause-read
-dictionary-returns-in_err-entry-clause-read t c =
-    let p = err_from_is_err_and c.from_residual-in_err-entry.result c.from_residual-in_err-entry.ensures.1 in
-    rw (p.1, p.2) (dictionary_stops c.args.levels c.args.ternaries (lexemes c.args.self.now.rest.now) (lexeme_of c.in_ok-open.open) c.in_ok-open.inside (lexemes c.enter.new.self.rest.now) c.in_ok-open.ensures.read c.in_err-entry.field-0.0
-    (pending_fails Kinds.CloseBrace (λ s. entry_at (ternary_at (unary_at c.in_ok-open.inside) c.args.ternaries)) same_state c.loop-more.more tt (map entry_of c.loop-more.entries.items) (lexemes c.loop-more.self.rest.now) _ c.loop-more.invariant.read c.in_err-entry.field-0.0 c.loop-more-test.true c.in_err-entry.ensures.read))
+pub dictionary-returns-in_err-key-clause-read : goal.dictionary-returns-in_err-key-clause-read
+dictionary-returns-in_err-key-clause-read t c =
+    let p = err_from_is_err_and c.from_residual-in_err-key.result c.from_residual-in_err-key.ensures.1 in
+    let part = ternary_at (unary_at c.in_ok-open.inside) c.args.ternaries in
+    let d = c.in_err-key.field-0.0 in
+    rw (p.1, p.2) (dictionary_stops c.args.levels c.args.ternaries (lexemes c.args.self.now.rest.now) (lexeme_of c.in_ok-open.open) c.in_ok-open.inside (lexemes c.enter.new.self.rest.now) c.in_ok-open.ensures.read d
+    (pending_fails Kinds.CloseBrace (λ s. entry_at part) same_state c.loop-more.more tt (map entry_of c.loop-more.entries.items) (lexemes c.loop-more.self.rest.now) _ c.loop-more.invariant.read d c.loop-more-test.true
+    (entry_key_fails part (lexemes c.loop-more.self.rest.now) d c.in_err-key.ensures.read)))
+
+pub dictionary-returns-in_err-key-2-clause-read : goal.dictionary-returns-in_err-key-2-clause-read
+dictionary-returns-in_err-key-2-clause-read t c =
+    let p = err_from_is_err_and c.from_residual-in_err-key-2.result c.from_residual-in_err-key-2.ensures.1 in
+    let part = ternary_at (unary_at c.in_ok-open.inside) c.args.ternaries in
+    let d = c.in_err-key-2.field-0.0 in
+    rw (p.1, p.2) (dictionary_stops c.args.levels c.args.ternaries (lexemes c.args.self.now.rest.now) (lexeme_of c.in_ok-open.open) c.in_ok-open.inside (lexemes c.enter.new.self.rest.now) c.in_ok-open.ensures.read d
+    (pending_fails Kinds.CloseBrace (λ s. entry_at part) same_state c.loop-more.more tt (map entry_of c.loop-more.entries.items) (lexemes c.loop-more.self.rest.now) _ c.loop-more.invariant.read d c.loop-more-test.true
+    (entry_colon_fails part (lexemes c.loop-more.self.rest.now) _ (lexemes c.ternary.new.self.rest.now) c.in_ok-key.ensures.read d c.in_err-key-2.ensures.read)))
+
+pub dictionary-returns-in_err-value-clause-read : goal.dictionary-returns-in_err-value-clause-read
+dictionary-returns-in_err-value-clause-read t c =
+    let p = err_from_is_err_and c.from_residual-in_err-value.result c.from_residual-in_err-value.ensures.1 in
+    let part = ternary_at (unary_at c.in_ok-open.inside) c.args.ternaries in
+    let d = c.in_err-value.field-0.0 in
+    rw (p.1, p.2) (dictionary_stops c.args.levels c.args.ternaries (lexemes c.args.self.now.rest.now) (lexeme_of c.in_ok-open.open) c.in_ok-open.inside (lexemes c.enter.new.self.rest.now) c.in_ok-open.ensures.read d
+    (pending_fails Kinds.CloseBrace (λ s. entry_at part) same_state c.loop-more.more tt (map entry_of c.loop-more.entries.items) (lexemes c.loop-more.self.rest.now) _ c.loop-more.invariant.read d c.loop-more-test.true
+    (entry_value_fails part (lexemes c.loop-more.self.rest.now) _ (lexemes c.ternary.new.self.rest.now) c.in_ok-key.ensures.read _ (lexemes c.closed.new.self.rest.now) c.in_ok-key-2.ensures.read
+    d c.in_err-value.ensures.read)))
 
 pub dictionary-loop-more-preserved : goal.dictionary-loop-more-preserved
 dictionary-loop-more-preserved t c =
-    let e : map entry_of c.put.new.items.items ≡ map entry_of c.loop-more.entries.items ++ entry_of c.in_ok-entry.entry ∷ [] = rw c.in_ok-put.ensures (map_push _ c.loop-more.entries.items c.in_ok-entry.entry) in
+    let part = ternary_at (unary_at c.in_ok-open.inside) c.args.ternaries in
+    let a : EntryTree = (expression_of c.in_ok-key.key, expression_of c.in_ok-value.value) in
+    let e : map entry_of c.put.new.items.items ≡ map entry_of c.loop-more.entries.items ++ a ∷ [] = rw c.in_ok-put.ensures (entries_pushed c.loop-more.entries.items c.in_ok-key-2.key c.in_ok-value.value _ (ap expression_of (sym c.in_ok-key-2.ensures.same))) in
     record {
-      within = omega (arith, c.in_ok-entry.ensures.shorter, c.more-more.ensures.within, c.loop-more.invariant.within);
-      read = rw e (pending_more Kinds.CloseBrace (λ s. entry_at (ternary_at (unary_at c.in_ok-open.inside) c.args.ternaries)) same_state c.loop-more.more tt (map entry_of c.loop-more.entries.items) (lexemes c.loop-more.self.rest.now) _ c.loop-more.invariant.read
-          (entry_of c.in_ok-entry.entry) (lexemes c.entry.new.self.rest.now) c.more-more.result (lexemes c.more-more.new.self.rest.now) tt c.loop-more-test.true c.in_ok-entry.ensures.read
-          (omega (arith, c.in_ok-entry.ensures.shorter, length_lexemes c.entry.new.self.rest.now, length_lexemes c.loop-more.self.rest.now)) c.more-more.ensures.read refl);
+      within = omega (arith, c.in_ok-key.ensures.shorter, c.in_ok-key-2.ensures.shorter, c.in_ok-value.ensures.shorter, c.more-more.ensures.within, c.loop-more.invariant.within);
+      read = rw e (pending_more Kinds.CloseBrace (λ s. entry_at part) same_state c.loop-more.more tt (map entry_of c.loop-more.entries.items) (lexemes c.loop-more.self.rest.now) _ c.loop-more.invariant.read
+          a (lexemes c.ternary-in-loop-more.new.self.rest.now) c.more-more.result (lexemes c.more-more.new.self.rest.now) tt c.loop-more-test.true
+          (entry_reads part (lexemes c.loop-more.self.rest.now) _ (lexemes c.ternary.new.self.rest.now) c.in_ok-key.ensures.read _ (lexemes c.closed.new.self.rest.now) c.in_ok-key-2.ensures.read
+          _ (lexemes c.ternary-in-loop-more.new.self.rest.now) c.in_ok-value.ensures.read)
+          (omega (arith, c.in_ok-key.ensures.shorter, c.in_ok-key-2.ensures.shorter, c.in_ok-value.ensures.shorter, length_lexemes c.ternary-in-loop-more.new.self.rest.now, length_lexemes c.loop-more.self.rest.now)) c.more-more.ensures.read refl);
     }
 
 pub dictionary-returns-in_err-entries-clause-read : goal.dictionary-returns-in_err-entries-clause-read
@@ -118,7 +152,7 @@ dictionary-returns-in_err-entries-clause-read t c =
 
 pub dictionary-returns-clause-read : goal.dictionary-returns-clause-read
 dictionary-returns-clause-read t c = returned _ _ _ _
-    (dictionary_reads c.args.levels c.args.ternaries (lexemes c.args.self.now.rest.now) (lexeme_of c.in_ok-open.open) c.in_ok-open.inside (lexemes c.enter.new.self.rest.now) c.in_ok-open.ensures.read _ (lexemes c.loop-more.self.rest.now) _ (lexemes c.closed.new.self.rest.now) (pending_done Kinds.CloseBrace (λ s. entry_at (ternary_at (unary_at c.in_ok-open.inside) c.args.ternaries)) same_state c.loop-more.more tt (map entry_of c.loop-more.entries.items) (lexemes c.loop-more.self.rest.now) _ c.loop-more.invariant.read c.loop-more-test.false) c.in_ok-entries.ensures.read)
+    (dictionary_reads c.args.levels c.args.ternaries (lexemes c.args.self.now.rest.now) (lexeme_of c.in_ok-open.open) c.in_ok-open.inside (lexemes c.enter.new.self.rest.now) c.in_ok-open.ensures.read _ (lexemes c.loop-more.self.rest.now) _ (lexemes c.closed-2.new.self.rest.now) (pending_done Kinds.CloseBrace (λ s. entry_at (ternary_at (unary_at c.in_ok-open.inside) c.args.ternaries)) same_state c.loop-more.more tt (map entry_of c.loop-more.entries.items) (lexemes c.loop-more.self.rest.now) _ c.loop-more.invariant.read c.loop-more-test.false) c.in_ok-entries.ensures.read)
     (dictionary_seen c.fitted.result c.in_ok-open.open.line _ (ap (λ v. map entry_of v.items) (sym c.in_ok-entries.ensures.same) ∙ ap (map entry_of) (sym c.fitted.ensures)))
 
 pub arguments-loop-more-init : goal.arguments-loop-more-init
@@ -168,18 +202,48 @@ arguments-returns-clause-read t c = returned _ _ _ _
     (arguments_reads c.args.levels c.args.ternaries (lexemes c.args.self.now.rest.now) (lexeme_of c.in_ok-inside.field-0-0) c.in_ok-inside.inside (lexemes c.enter.new.self.rest.now) c.in_ok-inside.ensures.read _ (lexemes c.loop-more.self.rest.now) _ (lexemes c.closed.new.self.rest.now) (pending_done Kinds.CloseParenthesis (argument_at (ternary_at (unary_at c.in_ok-inside.inside) c.args.ternaries)) is_named c.loop-more.more c.loop-more.behind (map argument_of c.loop-more.items.items) (lexemes c.loop-more.self.rest.now) _ c.loop-more.invariant.read c.loop-more-test.false) c.in_ok-items.ensures.read)
     (ap (λ v. map argument_of v.items) (sym c.in_ok-items.ensures.same) ∙ ap (map argument_of) (sym c.fitted.ensures))
 
-pub links-loop-alloc-init : goal.links-loop-alloc-init
-unfolding links_at
-links-loop-alloc-init t c = record { within = omega arith; read = rw c.new-links.ensures.items (still_first _ _ (lexemes c.args.self.now.rest.now)) }
+pub unary-returns-in_err-first-clause-read : goal.unary-returns-in_err-first-clause-read
+unary-returns-in_err-first-clause-read t c =
+    let p = err_from_is_err_and c.from_residual-in_err-first.result c.from_residual-in_err-first.ensures.1 in
+    rw (p.1, p.2) (postfix_base_fails c.args.levels c.args.ternaries (lexemes c.args.self.now.rest.now) (sym c.prefix.ensures ∙ c.in_default.is) c.in_err-first.field-0.0 c.in_err-first.ensures.read)
 
-pub links-loop-alloc-preserved : goal.links-loop-alloc-preserved
-links-loop-alloc-preserved t c =
+pub unary-returns-then-not-links_on-clause-read : goal.unary-returns-then-not-links_on-clause-read
+unary-returns-then-not-links_on-clause-read t c =
+    postfix_alone c.args.levels c.args.ternaries (lexemes c.args.self.now.rest.now) (sym c.prefix.ensures ∙ c.in_default.is) (expression_of c.in_ok-first.first) (lexemes c.base.new.self.rest.now)
+    c.in_ok-first.ensures.read (sym c.links_on.ensures ∙ c.if-not-links_on.true)
+
+pub unary-loop-alloc-init : goal.unary-loop-alloc-init
+unfolding links_at
+unary-loop-alloc-init t c = record {
+  within = omega (arith, c.in_ok-first.ensures.shorter);
+  read = rw c.new-links.ensures.items (still_first _ _ (lexemes c.base.new.self.rest.now));
+}
+
+pub unary-loop-alloc-preserved : goal.unary-loop-alloc-preserved
+unary-loop-alloc-preserved t c =
     let e : map link_of c.put.new.items.items ≡ map link_of c.loop-alloc.links.items ++ link_of c.in_ok-link.link ∷ [] = rw c.in_ok-put.ensures (map_push _ c.loop-alloc.links.items c.in_ok-link.link) in
     record {
       within = omega (arith, c.in_ok-link.ensures.shorter, c.loop-alloc.invariant.within);
       read = rw e (still_more links_on (link_at (inner_at c.args.levels) c.args.ternaries) (map link_of c.loop-alloc.links.items) (lexemes c.loop-alloc.self.rest.now) _ (link_of c.in_ok-link.link) (lexemes c.link.new.self.rest.now) c.loop-alloc.invariant.read
-          (sym c.links_on.ensures ∙ c.loop-alloc-test.true) c.in_ok-link.ensures.read (omega (arith, c.in_ok-link.ensures.shorter, length_lexemes c.link.new.self.rest.now, length_lexemes c.loop-alloc.self.rest.now)));
+          (sym c.links_on-in-loop-alloc.ensures ∙ c.loop-alloc-test.true) c.in_ok-link.ensures.read (omega (arith, c.in_ok-link.ensures.shorter, length_lexemes c.link.new.self.rest.now, length_lexemes c.loop-alloc.self.rest.now)));
     }
+
+pub unary-returns-in_err-link-clause-read : goal.unary-returns-in_err-link-clause-read
+unary-returns-in_err-link-clause-read t c =
+    let p = err_from_is_err_and c.from_residual-in_err-link.result c.from_residual-in_err-link.ensures.1 in
+    rw (p.1, p.2) (postfix_links_fail c.args.levels c.args.ternaries (lexemes c.args.self.now.rest.now) (sym c.prefix.ensures ∙ c.in_default.is) (expression_of c.in_ok-first.first) (lexemes c.base.new.self.rest.now)
+    c.in_ok-first.ensures.read c.in_err-link.field-0.0
+    (still_fails links_on (link_at (inner_at c.args.levels) c.args.ternaries) (map link_of c.loop-alloc.links.items) (lexemes c.loop-alloc.self.rest.now) _ c.in_err-link.field-0.0 c.loop-alloc.invariant.read
+    (sym c.links_on-in-loop-alloc.ensures ∙ c.loop-alloc-test.true) c.in_err-link.ensures.read))
+
+pub unary-returns-clause-read : goal.unary-returns-clause-read
+unary-returns-clause-read t c = returned _ _ _ _
+    (postfix_more c.args.levels c.args.ternaries (lexemes c.args.self.now.rest.now) (sym c.prefix.ensures ∙ c.in_default.is) (expression_of c.in_ok-first.first) (lexemes c.base.new.self.rest.now)
+    c.in_ok-first.ensures.read (map link_of c.loop-alloc.links.items) (lexemes c.loop-alloc.self.rest.now) (sym c.links_on.ensures ∙ c.if-not-links_on.false)
+    (still_ends links_on (link_at (inner_at c.args.levels) c.args.ternaries) (map link_of c.loop-alloc.links.items) (lexemes c.loop-alloc.self.rest.now) _ c.loop-alloc.invariant.read
+    (sym c.links_on-in-loop-alloc.ensures ∙ c.loop-alloc-test.false)))
+    (ap (λ (ls : List LinkTree). PostfixTree (expression_of c.in_ok-first.first) (links ls) (first_line (lexemes c.args.self.now.rest.now))) (ap (map link_of) (sym c.fitted-links.ensures))
+    ∙ postfix_seen c.in_ok-first-2.first c.fitted-links.result c.first_line-line.result _ _ (ap expression_of (sym c.in_ok-first-2.ensures)) (sym c.first_line-line.ensures))
 
 pub base-returns-in_ok-arguments-clause-read : goal.base-returns-in_ok-arguments-clause-read
 base-returns-in_ok-arguments-clause-read t c = returned _ _ _ _
@@ -188,35 +252,61 @@ base-returns-in_ok-arguments-clause-read t c = returned _ _ _ _
     (sym c.two_begin.ensures ∙ c.if-two_begin.true) c.in_ok-name.ensures.read c.in_ok-arguments.ensures.read)
     (call_seen c.in_ok-name.name.text c.in_ok-arguments.arguments c.in_ok-name.name.line)
 
-pub chain-returns-clause-read : goal.chain-returns-clause-read
-chain-returns-clause-read t c = returned _ _ _ _
-    (chain_more (operator_of c.args.rank) (part_at c.args.rank (unary_at c.args.levels c.args.ternaries)) (lexemes c.args.self.now.rest.now)
-    (expression_of c.in_ok-first.first) (lexemes c.part.new.self.rest.now) (map operand_of c.in_ok-others.others.items) (lexemes c.operands.new.self.rest.now)
-    c.in_ok-first.ensures.read (sym c.operates.ensures ∙ c.if-not-operates.false) c.in_ok-others.ensures.read)
-    (chain_seen c.in_ok-first-2.first c.in_ok-others.others c.first_line-line.result _ _ (ap expression_of (sym c.in_ok-first-2.ensures)) (sym c.first_line-line.ensures))
-
 pub ternary-returns-in_err-test-clause-read : goal.ternary-returns-in_err-test-clause-read
 unfolding disjunction_at
 ternary-returns-in_err-test-clause-read t c =
     let p = err_from_is_err_and c.from_residual.result c.from_residual.ensures.1 in
     rw (p.1, p.2) (ternary_test_fails (unary_at c.args.levels) c.args.ternaries (lexemes c.args.self.now.rest.now) c.in_err-test.field-0.0 c.in_err-test.ensures.read)
 
+pub ternary-returns-in_err-take-clause-read : goal.ternary-returns-in_err-take-clause-read
+unfolding disjunction_at
+ternary-returns-in_err-take-clause-read t c =
+    let p = err_from_is_err_and c.from_residual-in_err-take.result c.from_residual-in_err-take.ensures.1 in
+    rw (p.1, p.2) (ternary_question_fails (unary_at c.args.levels) c.args.ternaries (lexemes c.args.self.now.rest.now) (expression_of c.in_ok-test.test) (lexemes c.chain.new.self.rest.now)
+    c.in_ok-test.ensures.read (sym c.asks.ensures ∙ c.if-not-asks.false)
+    c.in_err-take.field-0.0 c.in_err-take.ensures.read)
+
 pub ternary-returns-in_err-yes-clause-read : goal.ternary-returns-in_err-yes-clause-read
 unfolding disjunction_at
 ternary-returns-in_err-yes-clause-read t c =
     let p = err_from_is_err_and c.from_residual-in_err-yes.result c.from_residual-in_err-yes.ensures.1 in
-    rw (p.1, p.2) (ternary_branches_fail (unary_at c.args.levels) c.args.ternaries (lexemes c.args.self.now.rest.now)
-    (expression_of c.in_ok-test.test) (lexemes c.chain.new.self.rest.now) c.in_err-yes.field-0.0 c.in_ok-test.ensures.read
-    (sym c.asks.ensures ∙ c.if-not-asks.false) c.in_err-yes.ensures.read)
+    rw (p.1, p.2) (ternary_one_fails (unary_at c.args.levels) c.args.ternaries (lexemes c.args.self.now.rest.now) (expression_of c.in_ok-test.test) (lexemes c.chain.new.self.rest.now)
+    c.in_ok-test.ensures.read (sym c.asks.ensures ∙ c.if-not-asks.false)
+    _ (lexemes c.take.new.self.rest.now) c.in_ok-take.ensures.read
+    c.in_err-yes.field-0.0 c.in_err-yes.ensures.read)
+
+pub ternary-returns-in_err-yes-2-clause-read : goal.ternary-returns-in_err-yes-2-clause-read
+unfolding disjunction_at
+ternary-returns-in_err-yes-2-clause-read t c =
+    let p = err_from_is_err_and c.from_residual-in_err-yes-2.result c.from_residual-in_err-yes-2.ensures.1 in
+    rw (p.1, p.2) (ternary_colon_fails (unary_at c.args.levels) c.args.ternaries (lexemes c.args.self.now.rest.now) (expression_of c.in_ok-test.test) (lexemes c.chain.new.self.rest.now)
+    c.in_ok-test.ensures.read (sym c.asks.ensures ∙ c.if-not-asks.false)
+    _ (lexemes c.take.new.self.rest.now) c.in_ok-take.ensures.read
+    (expression_of c.in_ok-yes.yes) (lexemes c.chain-2.new.self.rest.now) c.in_ok-yes.ensures.read
+    c.in_err-yes-2.field-0.0 c.in_err-yes-2.ensures.read)
+
+pub ternary-returns-in_err-no-clause-read : goal.ternary-returns-in_err-no-clause-read
+unfolding disjunction_at
+ternary-returns-in_err-no-clause-read t c =
+    let p = err_from_is_err_and c.from_residual-in_err-no.result c.from_residual-in_err-no.ensures.1 in
+    rw (p.1, p.2) (ternary_other_fails (unary_at c.args.levels) c.args.ternaries (lexemes c.args.self.now.rest.now) (expression_of c.in_ok-test.test) (lexemes c.chain.new.self.rest.now)
+    c.in_ok-test.ensures.read (sym c.asks.ensures ∙ c.if-not-asks.false)
+    _ (lexemes c.take.new.self.rest.now) c.in_ok-take.ensures.read
+    (expression_of c.in_ok-yes.yes) (lexemes c.chain-2.new.self.rest.now) c.in_ok-yes.ensures.read
+    _ (lexemes c.closed.new.self.rest.now) c.in_ok-yes-2.ensures.read
+    c.in_err-no.field-0.0 c.in_err-no.ensures.read)
 
 pub ternary-returns-clause-read : goal.ternary-returns-clause-read
 unfolding disjunction_at
 ternary-returns-clause-read t c = returned _ _ _ _
-    (ternary_asks (unary_at c.args.levels) c.args.ternaries (lexemes c.args.self.now.rest.now)
-    (expression_of c.in_ok-test.test) (lexemes c.chain.new.self.rest.now) (expression_of c.in_ok-yes.yes.value) (expression_of c.in_ok-yes.no.value)
-    (lexemes c.branches.new.self.rest.now) c.in_ok-test.ensures.read
-    (sym c.asks.ensures ∙ c.if-not-asks.false) c.in_ok-yes.ensures.read)
-    (ternary_seen c.in_ok-test-2.test c.in_ok-yes.yes c.in_ok-yes.no c.first_line-line.result _ _ (ap expression_of (sym c.in_ok-test-2.ensures)) (sym c.first_line-line.ensures))
+    (ternary_asks (unary_at c.args.levels) c.args.ternaries (lexemes c.args.self.now.rest.now) (expression_of c.in_ok-test.test) (lexemes c.chain.new.self.rest.now)
+    c.in_ok-test.ensures.read (sym c.asks.ensures ∙ c.if-not-asks.false)
+    _ (lexemes c.take.new.self.rest.now) c.in_ok-take.ensures.read
+    (expression_of c.in_ok-yes.yes) (lexemes c.chain-2.new.self.rest.now) c.in_ok-yes.ensures.read
+    _ (lexemes c.closed.new.self.rest.now) c.in_ok-yes-2.ensures.read
+    (expression_of c.in_ok-no.no) (lexemes c.chain-3.new.self.rest.now) c.in_ok-no.ensures.read)
+    (ternary_seen c.in_ok-test-2.test c.in_ok-yes-3.yes c.in_ok-no-2.no c.first_line-line.result _ _ _ _ (ap expression_of (sym c.in_ok-test-2.ensures))
+    (ap expression_of (sym (c.in_ok-yes-3.ensures ∙ c.in_ok-yes-2.ensures.same))) (ap expression_of (sym c.in_ok-no-2.ensures)) (sym c.first_line-line.ensures))
 
 pub link-returns-then-begins-clause-read : goal.link-returns-then-begins-clause-read
 link-returns-then-begins-clause-read t c = returned _ _ _ _
@@ -232,13 +322,6 @@ link-returns-clause-read t c = returned _ _ _ _
     (sym c.begins.ensures ∙ c.if-begins.false) c.in_ok-levels.ensures.read c.in_ok-index.ensures.read c.in_ok-index-2.ensures.read)
     (index_seen c.in_ok-index-2.index _ (ap expression_of (sym c.in_ok-index-2.ensures.same)))
 
-pub postfix-returns-clause-read : goal.postfix-returns-clause-read
-postfix-returns-clause-read t c = returned _ _ _ _
-    (postfix_more c.args.levels c.args.ternaries (lexemes c.args.self.now.rest.now) (expression_of c.in_ok-first.first) (lexemes c.base.new.self.rest.now)
-    (map link_of c.in_ok-links.links.items) (lexemes c.links.new.self.rest.now)
-    c.in_ok-first.ensures.read (sym c.links_on.ensures ∙ c.if-not-links_on.false) c.in_ok-links.ensures.read)
-    (postfix_seen c.in_ok-first-2.first c.in_ok-links.links c.first_line-line.result _ _ (ap expression_of (sym c.in_ok-first-2.ensures)) (sym c.first_line-line.ensures))
-
 pub unary-returns-in_err-word-clause-read : goal.unary-returns-in_err-word-clause-read
 unary-returns-in_err-word-clause-read t c =
     let p = err_from_is_err_and c.from_residual.result c.from_residual.ensures.1 in
@@ -252,8 +335,8 @@ unary-returns-in_err-value-clause-read t c =
     (sym c.prefix.ensures ∙ c.in-Some.is) c.word_of.ensures (lexeme_of c.in_ok-word.word) c.in_ok-word.levels (lexemes c.enter.new.self.rest.now)
     c.in_err-value.field-0.0 c.in_ok-word.ensures.read c.in_err-value.ensures.read)
 
-pub unary-returns-clause-read : goal.unary-returns-clause-read
-unary-returns-clause-read t c = returned _ _ _ _
+pub unary-returns-in-Some-clause-read : goal.unary-returns-in-Some-clause-read
+unary-returns-in-Some-clause-read t c = returned _ _ _ _
     (prefixed_reads c.args.levels c.args.ternaries (lexemes c.args.self.now.rest.now) c.in-Some.prefix c.word_of.result
     (sym c.prefix.ensures ∙ c.in-Some.is) c.word_of.ensures (lexeme_of c.in_ok-word.word) c.in_ok-word.levels (lexemes c.enter.new.self.rest.now)
     (expression_of c.in_ok-value.value) (lexemes c.unary.new.self.rest.now) c.in_ok-word.ensures.read c.in_ok-value.ensures.read)

@@ -1,4 +1,4 @@
-use Rattle.std.proofs.Common.{false, ◌+◌, ◌*◌, ◌≤◌, ◌<◌, length, map}
+use Rattle.std.proofs.Common.{false, ◌+◌, ◌*◌, ◌<◌, length, map}
 use Rattle.lexer.specs.Lexeme.{lexemes}
 use Rattle.grammar.specs.ExpressionTree.{argument_of, entry_of, expression_of, link_of, operand_of}
 use Rattle.lexer.specs.declared.token.Kind.TheVariants as Kinds
@@ -26,56 +26,42 @@ decreases-base l = 64 * l.levels + 2
 abbrev pub decreases-link : goal.decreases-link
 decreases-link l = 64 * l.levels + 2
 
-abbrev pub decreases-links : goal.decreases-links
-decreases-links l = 64 * l.levels + 3
-
-abbrev pub decreases-postfix : goal.decreases-postfix
-decreases-postfix l = 64 * l.levels + 4
-
 abbrev pub decreases-unary : goal.decreases-unary
 decreases-unary l = 64 * l.levels + 5
 
 abbrev pub decreases-comparison : goal.decreases-comparison
 decreases-comparison l = 64 * l.levels + 20
 
-abbrev pub decreases-branches : goal.decreases-branches
-decreases-branches l = 64 * l.levels + 49
-
 abbrev pub decreases-ternary : goal.decreases-ternary
 decreases-ternary l = 64 * l.levels + 50
-
-abbrev pub decreases-entry : goal.decreases-entry
-decreases-entry l = 64 * l.levels + 51
 
 abbrev pub decreases-part : goal.decreases-part
 decreases-part l = 64 * l.levels + weight l.rank + 0
 
-abbrev pub decreases-operands : goal.decreases-operands
-decreases-operands l = 64 * l.levels + weight l.rank + 1
-
 abbrev pub decreases-chain : goal.decreases-chain
 decreases-chain l = 64 * l.levels + weight l.rank + 2
 
-abbrev pub invariant-operands-loop-operator : goal.invariant-operands-loop-operator
-invariant-operands-loop-operator l =
+abbrev pub invariant-chain-loop-operator : goal.invariant-chain-loop-operator
+invariant-chain-loop-operator l =
     record {
-      within : length l.self.rest.now ≤ length l.fn.self.rest.now;
-      read : StillReads (stands_for (operator_of l.rank)) (operand_at (operator_of l.rank) (part_at l.rank (unary_at l.levels l.ternaries))) (map operand_of l.operands.items) (lexemes l.self.rest.now)
-          (operands_at (operator_of l.rank) (part_at l.rank (unary_at l.levels l.ternaries)) (lexemes l.fn.self.rest.now));
+      within : length l.self.rest.now < length l.fn.self.rest.now;
+      read : StillReads (stands_for (operator_of l.rank)) (operand_at (operator_of l.rank) (part_at l.rank (unary_at l.levels l.ternaries))) (map operand_of l.others.items) (lexemes l.self.rest.now)
+          (operands_at (operator_of l.rank) (part_at l.rank (unary_at l.levels l.ternaries)) (lexemes l.initial.self.rest.now));
     }
 
-abbrev pub decreases-operands-loop-operator : goal.decreases-operands-loop-operator
-decreases-operands-loop-operator l = length l.self.rest.now
+abbrev pub decreases-chain-loop-operator : goal.decreases-chain-loop-operator
+decreases-chain-loop-operator l = length l.self.rest.now
 
-abbrev pub invariant-links-loop-alloc : goal.invariant-links-loop-alloc
-invariant-links-loop-alloc l =
+abbrev pub invariant-unary-loop-alloc : goal.invariant-unary-loop-alloc
+invariant-unary-loop-alloc l =
     record {
-      within : length l.self.rest.now ≤ length l.fn.self.rest.now;
-      read : StillReads links_on (link_at (inner_at l.levels) l.ternaries) (map link_of l.links.items) (lexemes l.self.rest.now) (links_at (inner_at l.levels) l.ternaries (lexemes l.fn.self.rest.now));
+      within : length l.self.rest.now < length l.fn.self.rest.now;
+      read : StillReads links_on (link_at (inner_at l.levels) l.ternaries) (map link_of l.links.items) (lexemes l.self.rest.now)
+          (links_at (inner_at l.levels) l.ternaries (lexemes l.initial.self.rest.now));
     }
 
-abbrev pub decreases-links-loop-alloc : goal.decreases-links-loop-alloc
-decreases-links-loop-alloc l = length l.self.rest.now
+abbrev pub decreases-unary-loop-alloc : goal.decreases-unary-loop-alloc
+decreases-unary-loop-alloc l = length l.self.rest.now
 
 abbrev pub invariant-list-loop-more : goal.invariant-list-loop-more
 invariant-list-loop-more l =
