@@ -1,9 +1,9 @@
 -- Options whose names are new.
-use Rattle.std.proofs.Common.{◌≡◌, ℕ, Bool, true, false, List, [], ◌∷◌, ◌++◌, Option, Some, None, Result, Ok, Err, String, string_bytes}
+use Rattle.std.proofs.Common.{◌≡◌, ℕ, zero, suc, Bool, true, false, List, [], ◌∷◌, ◌++◌, Option, Some, None, Ok, Err}
 use Rattle.std.proofs.Common.{refl, sym, ap, ◌∙◌, append_assoc}
-use Rattle.std.specs.Prelude.{◌||◌, ◌&&◌, not, bytes_eq, codes, if◌then◌else◌}
+use Rattle.std.specs.Prelude.{◌||◌, ◌&&◌, not, bytes_eq, codes, if◌then◌else◌, slice_get}
+use Rattle.std.proofs.lemmas.Slice.Eq.{bytes_eq-Decides}
 use Rattle.std.specs.Option.{option_map, option_and_then}
-use Rattle.faults.specs.declared.refusal.Refusal.{Refusal}
 use Rattle.faults.specs.declared.refusal.Refusal.TheVariants as refusals
 use Rattle.grammar.specs.ExpressionTree.{ExpressionTree, ArgumentTrees, NoArgument, MoreArguments, FunctionTree}
 use Rattle.grammar.specs.Tree.{StatementTree, ValueTree}
@@ -12,10 +12,10 @@ use Rattle.option_values.specs.Kinds.{Kind}
 use Rattle.option_file.specs.Calls.{gives_twice, gives_left_out, is_free_name, name_in, with_name, keywords_from, option_of, or_fault}
 use Rattle.option_file.specs.Calls.{call_declares}
 use Rattle.option_file.specs.Declarations.{Declaration}
-use Rattle.option_file.specs.Declares.{function_declares, expression_declares, statement_declares}
+use Rattle.option_file.specs.Declares.{expression_declares, statement_declares}
 use Rattle.option_file.specs.Given.{Given, Text, given}
 use Rattle.option_file.specs.Keywords.{Keywords, nothing_given, asked_by}
-use Rattle.option_file.specs.Lookups.{is_used, is_new, are_new_after}
+use Rattle.option_file.specs.Lookups.{is_used, is_new, are_new_after, option_named}
 use Rattle.option_file.specs.Names.{is_name}
 
 both : (a b : Bool) → a ≡ true → b ≡ true → (a && b) ≡ true
@@ -122,3 +122,55 @@ not_used name options e = unused (is_built_in name) (is_used name options) e
     unused true b h = absurd cc
     unused false true h = absurd cc
     unused false false h = refl
+
+-- ---- an option by its place
+
+or_first : (a b : Bool) → (a || b) ≡ false → a ≡ false
+or_first true b e = absurd cc
+or_first false b e = refl
+
+-- an option among these is none of those before them
+unused_before : (before ds : List Declaration) (i : ℕ) (d : Declaration) → are_new_after before ds ≡ true → slice_get ds i ≡ Some d
+    → is_used d.name before ≡ false
+unused_before before [] i d new at = absurd cc
+unused_before before (x ∷ ds) zero d new at =
+    let same : x ≡ d = cc in
+    ap (λ (y : Declaration). is_used y.name before) (sym same) ∙ not_used x.name before (first (is_new x.name before) _ new)
+unused_before before (x ∷ ds) (suc i) d new at =
+    front before (unused_before (before ++ x ∷ []) ds i d (second (is_new x.name before) _ new) at)
+  where
+    front : (xs : List Declaration) → is_used d.name (xs ++ x ∷ []) ≡ false → is_used d.name xs ≡ false
+    front [] e = refl
+    front (y ∷ ys) e = joined (bytes_eq d.name y.name) (is_used d.name (ys ++ x ∷ [])) (is_used d.name ys) (front ys) e
+      where
+        joined : (a b r : Bool) → (b ≡ false → r ≡ false) → (a || b) ≡ false → (a || r) ≡ false
+        joined true b r h f = absurd cc
+        joined false b r h f = h f
+
+-- the option at a place has its name, and no one before it has
+pub named_at : (before ds : List Declaration) (i : ℕ) (d : Declaration) → are_new_after before ds ≡ true → slice_get ds i ≡ Some d
+    → option_named ds d.name ≡ Some d
+named_at before [] i d new at = absurd cc
+named_at before (x ∷ ds) zero d new at =
+    let same : x ≡ d = cc in
+    here (bytes_eq d.name x.name) ((bytes_eq-Decides d.name x.name).1 (ap (λ (y : Declaration). y.name) (sym same))) same
+  where
+    here : (b : Bool) → b ≡ true → x ≡ d → (if b then Some x else option_named ds d.name) ≡ Some d
+    here true e same = ap (λ (y : Declaration). Some y) same
+    here false e same = absurd cc
+named_at before (x ∷ ds) (suc i) d new at =
+    let rest = second (is_new x.name before) (are_new_after (before ++ x ∷ []) ds) new in
+    behind (bytes_eq d.name x.name) (last before (unused_before (before ++ x ∷ []) ds i d rest at))
+    (named_at (before ++ x ∷ []) ds i d rest at)
+  where
+    last : (xs : List Declaration) → is_used d.name (xs ++ x ∷ []) ≡ false → bytes_eq d.name x.name ≡ false
+    last [] e = or_first (bytes_eq d.name x.name) false e
+    last (y ∷ ys) e = last ys (or_second (bytes_eq d.name y.name) (is_used d.name (ys ++ x ∷ [])) e)
+      where
+        or_second : (a b : Bool) → (a || b) ≡ false → b ≡ false
+        or_second true b f = absurd cc
+        or_second false b f = f
+
+    behind : (b : Bool) → b ≡ false → option_named ds d.name ≡ Some d → (if b then Some x else option_named ds d.name) ≡ Some d
+    behind true e h = absurd cc
+    behind false e h = h

@@ -94,6 +94,17 @@ impl Declared {
         Some((name.as_str(), declaration))
     }
 
+    /// The option of this name. The i-th is looked at first, which costs no hash: a caller knows that it often is the one. Whatever `i` is,
+    /// the answer is that of `get`.
+    pub fn get_near(&self, i: usize, name: &str) -> Option<&Declaration>
+        ensures { option_map (λ d. option_in name.now d.now) result ≡ option_named (options_in self.now) name.now }
+    {
+        match self.at(i) {
+            Some((own, declaration)) if own == name => Some(declaration),
+            _ => self.get(name),
+        }
+    }
+
     /// The option of this name. It takes no memory and never fails.
     pub fn get(&self, name: &str) -> Option<&Declaration>
         ensures { option_map (λ d. option_in name.now d.now) result ≡ option_named (options_in self.now) name.now }

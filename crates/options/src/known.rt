@@ -61,35 +61,37 @@ impl<'a> Known<'a> {
         self.built_ins.get(name)
     }
 
-    // What the option of this name takes, where it is declared.
+    // What the option of this name takes, where it is declared. The declared options stand among the settings in their order, behind the
+    // built-in ones: so `setting`, the number of the setting of this name, tells where to look first, and any other number is right too.
     #[tactic(auto, unfolding(crate::specs::Verdicts::declared_kind))]
-    fn declared_kind(&self, name: &str) -> Option<&OptionKind>
+    fn declared_kind(&self, setting: usize, name: &str) -> Option<&OptionKind>
         ensures { option_map (λ k. kind_in k.now) result ≡ declared_kind (declared_in self.now.declared.now) name.now }
     {
-        match self.declared.get(name) {
+        let near = setting.saturating_sub(self.built_ins.len());
+        match self.declared.get_near(near, name) {
             Some(declaration) => Some(&declaration.kind),
             None => None,
         }
     }
 
-    /// What the option of this name takes, built in or declared.
+    /// What the option of this name takes, built in or declared. It is found fastest with the number of its setting.
     #[tactic(auto, unfolding(crate::specs::Verdicts::kind_named))]
-    pub fn kind_named(&self, name: &str) -> Option<&OptionKind>
+    pub fn kind_named(&self, setting: usize, name: &str) -> Option<&OptionKind>
         ensures { option_map (λ k. kind_in k.now) result ≡ kind_named (declared_in self.now.declared.now) name.now }
     {
         match self.built_in_kind(name) {
             Some(kind) => Some(kind),
-            None => self.declared_kind(name),
+            None => self.declared_kind(setting, name),
         }
     }
 
-    /// What the option of this name takes, where a section with this scope knows it.
-    pub fn kind_in_scope(&self, scope: Scope, name: &str) -> Option<&OptionKind>
+    /// What the option of this name takes, where a section with this scope knows it. It is found fastest with the number of its setting.
+    pub fn kind_in_scope(&self, scope: Scope, setting: usize, name: &str) -> Option<&OptionKind>
         ensures { option_map (λ k. kind_in k.now) result ≡ kind_in_scope scope (declared_in self.now.declared.now) name.now }
     {
         match scope {
             Scope::BuiltIn => self.built_in_kind(name),
-            Scope::OfProject => self.declared_kind(name),
+            Scope::OfProject => self.declared_kind(setting, name),
         }
     }
 }

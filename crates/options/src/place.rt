@@ -2,12 +2,14 @@
 
 ghost use Rattle.std.specs.Prelude.{◌≡◌, IfOk, OnOk, fold, map, string_bytes};
 ghost use Rattle.std.specs.List.{flat_map};
-ghost use Rattle.machine_file.specs.View.{machine_in, entries_of};
+ghost use Rattle.std.specs.Option.{option_map};
+ghost use Rattle.machine_file.specs.View.{machine_in, entries_of, value_in};
 ghost use Rattle.option_file.specs.View.{options_in as declared_in, option_in};
-ghost use Rattle.option_values.specs.View.{strings_in};
+ghost use Rattle.option_values.specs.View.{kind_in, strings_in};
 ghost use Rattle.options.specs.Resolves.{next};
-ghost use Rattle.options.specs.Verdicts.{of_declaration, of_assignment, of_project_default, of_words, of_entry, of_section};
-ghost use Rattle.options.specs.View.{declared_of, default_in, defaults_in, verdict_in, state_in, key_in};
+ghost use Rattle.options.specs.Verdicts.{of_declaration, of_assignment, of_named, of_project_default, of_words, of_entry, of_section};
+ghost use Rattle.options.specs.View.{declared_of, default_in, defaults_in, verdict_in, state_in};
+ghost use Rattle.options.specs.declared.fault.Place.TheVariants.{MachineFile};
 
 use crate::default::default_of;
 use crate::fault::Place;
@@ -18,6 +20,7 @@ use crate::verdict::{Verdict, Written, of_named, refused};
 use faults::Refusal;
 use machine_file::{Entry, Machine, Section, cut_first};
 use option_file::{Declaration, Declared};
+use option_values::OptionKind;
 use std::alloc::{AllocError, Global};
 
 /// A value that the keyword `default_options` of `project` gives, with the name of its option.
@@ -76,6 +79,7 @@ pub fn take_declarations(
 fn of_assignment<'a>(
     alloc: Global,
     known: &Known<'_>,
+    state: &State,
     place: Place,
     text: &'a str,
 ) -> Result<Verdict<'a>, AllocError>
@@ -84,7 +88,7 @@ fn of_assignment<'a>(
     let Some((name, value)) = cut_first(text, '=') else {
         return Ok(refused(place, Refusal::OptionValue));
     };
-    let kind = known.kind_named(name);
+    let kind = known.kind_named(state.number_of(name), name);
     let verdict = of_named(alloc, place, name, kind, Written::Text(value))?;
     Ok(verdict)
 }
@@ -94,14 +98,21 @@ fn of_assignment<'a>(
 fn of_project_default<'a>(
     alloc: Global,
     known: &Known<'_>,
+    state: &State,
     default: &ProjectDefault<'a>,
 ) -> Result<Verdict<'a>, AllocError>
     ensures { IfOk result (λ v. verdict_in v ≡ of_project_default (declared_of known.now) (default_in default.now)) }
 {
     match default {
-        ProjectDefault::Assignment(text) => of_assignment(alloc, known, Place::Project, text),
+        ProjectDefault::Assignment(text) => of_assignment(
+            alloc,
+            known,
+            state,
+            Place::Project,
+            text,
+        ),
         ProjectDefault::Entry(name, value) => {
-            let kind = known.kind_named(name);
+            let kind = known.kind_named(state.number_of(name), name);
             of_named(alloc, Place::Project, name, kind, Written::Text(value))
         }
     }
@@ -121,27 +132,24 @@ pub fn take_defaults(
         if state.is_refused() {
             return Ok(());
         }
-        let verdict = of_project_default(alloc, known, default)?;
+        let verdict = of_project_default(alloc, known, state, default)?;
         state.next(alloc, verdict)?;
     }
     Ok(())
 }
 
-// A key of the machine file has the name of an option that its section knows.
-#[tactic(auto, unfolding(crate::specs::Verdicts::of_entry))]
+// A key of the machine file gives the option of this kind a value, where its section knows one of that name.
 fn of_entry<'a>(
     alloc: Global,
-    known: &Known<'_>,
-    scope: Scope,
+    kind: Option<&OptionKind>,
     key: &'a str,
     entry: &Entry,
 ) -> Result<Verdict<'a>, AllocError>
-    ensures { IfOk result (λ v. verdict_in v ≡ of_entry (declared_of known.now) scope (key_in key.now entry.now)) }
+    ensures { IfOk result (λ v. verdict_in v ≡ of_named (MachineFile entry.now.line) key.now (value_in entry.now.value)
+        (option_map (λ k. kind_in k.now) kind.entry)) }
 {
     let place = Place::MachineFile(entry.line);
-    let kind = known.kind_in_scope(scope, key);
-    let verdict = of_named(alloc, place, key, kind, Written::Value(&entry.value))?;
-    Ok(verdict)
+    of_named(alloc, place, key, kind, Written::Value(&entry.value))
 }
 
 // All keys of a section that knows these options.
@@ -162,7 +170,8 @@ fn take_entries(
         let Some((key, entry)) = section.at(i) else {
             return Ok(());
         };
-        let verdict = of_entry(alloc, known, scope, key, entry)?;
+        let kind = known.kind_in_scope(scope, state.number_of(key), key);
+        let verdict = of_entry(alloc, kind, key, entry)?;
         state.next(alloc, verdict)?;
     }
     Ok(())
@@ -224,7 +233,7 @@ pub fn take_words(
             return Ok(());
         }
         let place = Place::CommandLine(i + 1);
-        let verdict = of_assignment(alloc, known, place, word.as_str())?;
+        let verdict = of_assignment(alloc, known, state, place, word.as_str())?;
         state.next(alloc, verdict)?;
     }
     Ok(())

@@ -29,8 +29,13 @@ pub fn put(
 ) -> Result<(), AllocError>
     ensures { OnOk result (settings_in settings.new.entries ≡ put (setting_in name.now setting) (settings_in settings.old.entries)) }
 {
-    let name = String::from_str(alloc, name)?;
-    settings.insert(name, setting)?;
+    match settings.get_mut(name) {
+        Some(there) => *there = setting,
+        None => {
+            let name = String::from_str(alloc, name)?;
+            settings.insert(name, setting)?;
+        }
+    }
     Ok(())
 }
 
@@ -54,6 +59,11 @@ impl State {
             Verdict::Refuses(fault) => self.fault = Some(fault),
         }
         Ok(())
+    }
+
+    /// Where the setting of this name stands; any number where there is none.
+    pub fn number_of(&self, name: &str) -> usize {
+        self.settings.get_index_of(name).unwrap_or(0)
     }
 
     /// Whether there was a fault.
