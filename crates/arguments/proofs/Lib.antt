@@ -1,2 +1,1 @@
-pub mod FlatLemmas
 pub mod Names

@@ -1,7 +1,6 @@
 pub mod Arguments
 pub mod Dependencies
 pub mod Disablers
-pub mod Flat
 pub mod Given
 pub mod Leaves
 pub mod Maybe

@@ -7,13 +7,14 @@ ghost use Rattle.arguments.specs.Arguments.{arguments_data, named_data};
 ghost use Rattle.arguments.specs.Given.{argument, flag, flag_at, integer_of, keyword, of_boolean};
 ghost use Rattle.arguments.specs.Given.{of_feature, path_at, requirement, requirement_in, text_at, text_given, text_of, text_or, texts};
 ghost use Rattle.arguments.specs.Given.{texts_from};
-ghost use Rattle.arguments.specs.Flat.{flat_all};
+ghost use Rattle.flat.specs.Flat.{flat_all};
 ghost use Rattle.arguments.specs.Row.{value_named};
 
 use crate::arguments::{Arguments, Named};
-use crate::flat::{collect, collect_items};
 use data::{Feature, Object, Text, Value};
+use flat::{flat, flat_all};
 use std::alloc::{AllocError, Global};
+use text_lists::strings;
 
 /// What the keyword `required` says of a thing that is looked up.
 #[derive(Clone, Copy)]
@@ -102,17 +103,6 @@ pub fn behind(values: &[Value], place: usize) -> &[Value]
     } else {
         &[]
     }
-}
-
-// Texts of their own.
-fn copies(alloc: Global, texts: &[&str]) -> Result<Vec<String>, AllocError>
-    ensures { IfOk result (λ v. map string_bytes v.items ≡ map (λ t. t.now) texts.now) }
-{
-    let mut own = Vec::new(alloc);
-    for text in texts {
-        own.push(String::from_str(alloc, text)?)?;
-    }
-    Ok(own)
 }
 
 impl Arguments {
@@ -214,29 +204,24 @@ impl Arguments {
     pub fn texts(&self, alloc: Global, name: &str) -> Result<Vec<String>, AllocError>
         ensures { IfOk result (λ v. map string_bytes v.items ≡ texts name.now (arguments_data self.now)) }
     {
-        let mut found = Vec::new(alloc);
-        if let Some(value) = self.keyword(name) {
-            collect(&mut found, value)?;
+        match self.keyword(name) {
+            Some(value) => strings(alloc, &flat(alloc, value)?),
+            None => Ok(Vec::new(alloc)),
         }
-        copies(alloc, &found)
     }
 
     /// The texts that the positional arguments are.
     pub fn all_texts(&self, alloc: Global) -> Result<Vec<&str>, AllocError>
         ensures { IfOk result (λ v. map (λ t. t.now) v.items ≡ flat_all (map data_of self.now.positional.items)) }
     {
-        let mut found = Vec::new(alloc);
-        collect_items(&mut found, &self.positional)?;
-        Ok(found)
+        flat_all(alloc, &self.positional)
     }
 
     /// The texts that the positional arguments from a place on are.
     pub fn texts_behind(&self, alloc: Global, place: usize) -> Result<Vec<&str>, AllocError>
         ensures { IfOk result (λ v. map (λ t. t.now) v.items ≡ texts_from place (arguments_data self.now)) }
     {
-        let mut found = Vec::new(alloc);
-        collect_items(&mut found, behind(&self.positional, place))?;
-        Ok(found)
+        flat_all(alloc, behind(&self.positional, place))
     }
 
     /// What the keyword `required` says, or this where it is not given.

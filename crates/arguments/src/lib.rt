@@ -4,7 +4,6 @@
 mod arguments;
 mod dependencies;
 mod disablers;
-mod flat;
 mod given;
 mod leaves;
 mod pieces;

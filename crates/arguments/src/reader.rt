@@ -1,6 +1,6 @@
 //! Whether the arguments of a call are what its row says.
 ghost use Rattle.std.specs.Prelude.{◌≡◌, ◌&&◌, ◌||◌, ◌++◌, ◌∷◌, [], IfOk, IsTrue, bytes_eq, false, not};
-ghost use Rattle.std.specs.Prelude.{is_some, map, option_map, slice_get, string_bytes};
+ghost use Rattle.std.specs.Prelude.{is_some, map, string_bytes};
 ghost use Rattle.std.specs.List.{list_any};
 ghost use Rattle.data.specs.View.{data_of};
 ghost use Rattle.arguments.specs.Arguments.{arguments_data, named_data};
@@ -11,15 +11,15 @@ ghost use Rattle.arguments.specs.RowView.{keyword_data, row_data};
 
 use crate::arguments::{Arguments, Named};
 use crate::dependencies::are_dependencies;
-use crate::flat::is_texts;
 use crate::given::value_named;
 use crate::pieces::{are_pieces, is_command, is_configuration, is_feature, is_file};
 use crate::row::{Keyword, Kind, Row};
-use among::is_among;
 use data::Value;
 use faults::Refusal;
+use flat::is_texts;
 use std::alloc::{AllocError, Global};
 use tables::{SipSet, new_set};
+use text_lists::is_among;
 
 fn is_file_value(value: &Value) -> bool
     ensures { result ≡ is_object is_file (data_of value.now) }

@@ -3,7 +3,9 @@ use Rattle.std.specs.Prelude.{ℕ, List, [], ◌∷◌, Bool, false, not, ◌||�
 use Rattle.std.specs.Char.{is_ascii_alphabetic, is_ascii_alphanumeric}
 use Rattle.std.specs.List.{list_all}
 use Rattle.std.specs.Str.{bytes_eq}
-use Rattle.among.specs.Among.{is_among}
+use Rattle.text_lists.specs.Among.{is_among}
+use Rattle.data.specs.Data.{Data, object}
+use Rattle.data.specs.declared.object.Object.TheVariants as objects
 use Rattle.calls.specs.declared.function.Function.{Function}
 use Rattle.calls.specs.declared.function.Function.TheVariants as functions
 use Rattle.calls.specs.declared.function.ProjectFunction.{ProjectFunction}
@@ -15,6 +17,11 @@ predefined_names = codes "meson" ∷ codes "host_machine" ∷ codes "build_machi
 
 abbrev pub is_predefined : List ℕ → Bool
 is_predefined name = is_among predefined_names name
+
+-- What such a name stands for, whatever the machine file says. Nothing is built for another machine than the one that builds: the three
+-- are one.
+abbrev pub predefined : List ℕ → Data
+predefined name = if bytes_eq name (codes "meson") then object objects.Meson else object objects.Machine
 
 -- the words that are no names
 abbrev pub keywords : List (List ℕ)

@@ -4,10 +4,9 @@ use Rattle.data.specs.Data.{Data, boolean}
 use Rattle.faults.specs.declared.refusal.Refusal.TheVariants as refusals
 use Rattle.arguments.specs.Arguments.{ArgumentsData}
 use Rattle.arguments.specs.Given.{argument, text_at}
-use Rattle.predefined.specs.Predefined.{predefined}
 use Rattle.world.specs.World.{with_variable}
-use Rattle.world.specs.Deed.{Deed, give, refuse, read, change, ◌>>=◌, answered, need}
-use Rattle.calls.specs.Names.{is_name, is_predefined}
+use Rattle.world.specs.Deed.{Deed, give, refuse, read, change, ◌>>=◌, need}
+use Rattle.calls.specs.Names.{is_name, is_predefined, predefined}
 
 -- a name that definition files may set
 abbrev pub is_settable : List ℕ → Bool
@@ -38,10 +37,7 @@ set_or name fallback = do
 
 -- what a name stands for that every run has
 unfoldable pub thing : List ℕ → Deed (Option Data)
-thing name = do
-  facts ← read
-  d ← answered (predefined facts.machine name)
-  give (Some d)
+thing name = give (Some (predefined name))
 
 unfoldable pub variable_or : Bool → List ℕ → Option Data → Deed (Option Data)
 variable_or true name fallback = thing name

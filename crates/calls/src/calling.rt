@@ -78,7 +78,8 @@ fn fit<T: Tree, O: Outputs>(
     function: Function,
     arguments: &Arguments,
 ) -> Result<(), Stop>
-    ensures { Carries (λ u. u) (fitting (checked (row_for function (arguments_data arguments.now)) (arguments_data arguments.now))) (state_of T.seen O.seen caller.now)
+    ensures { Carries (λ u. u) (fitting (checked (row_for function (arguments_data arguments.now)) (arguments_data arguments.now)))
+        (state_of T.seen O.seen caller.now)
         result (state_of T.seen O.seen caller.now) }
 {
     let answer = check(caller.alloc, &row_for(function, arguments), arguments)?;

@@ -5,28 +5,17 @@ ghost use Rattle.data.specs.Data.{text as text_data};
 ghost use Rattle.data.specs.Limits.{within, within_bytes};
 ghost use Rattle.data.specs.Tables.{Answers, string_in};
 ghost use Rattle.data.specs.View.{data_of};
-ghost use Rattle.operators.specs.Texts.{begins_with_slash, ends_with_slash, path_below};
+ghost use Rattle.operators.specs.Texts.{begins_with_slash, path_below};
 ghost use Rattle.world.specs.Answering.{Carries};
 ghost use Rattle.world.specs.Caller.{state_of};
 ghost use Rattle.calls.specs.JoinPaths.{join_paths, path_of};
 
 use arguments::Arguments;
 use data::{Refusal, Value, append};
+use operators::{begins_with_slash, ends_with_slash};
 use ports::{Outputs, Tree};
 use std::alloc::{AllocError, Global};
 use world::{Caller, Stop};
-
-fn begins_with_slash(text: &str) -> bool
-    ensures { result ≡ begins_with_slash text.now }
-{
-    matches!(text.as_bytes(), [b'/', ..])
-}
-
-fn ends_with_slash(text: &str) -> bool
-    ensures { result ≡ ends_with_slash text.now }
-{
-    matches!(text.as_bytes(), [.., b'/'])
-}
 
 // A path and a piece behind it, within the limit of a text.
 fn lengthened(mut path: String, piece: &str) -> Result<Result<String, Refusal>, AllocError>

@@ -16,5 +16,5 @@ mod variables;
 
 pub use calling::{call, is_turned_off};
 pub use function::{Function, ProjectFunction};
-pub use names::{function_named, is_left_out, is_name, is_predefined};
+pub use names::{function_named, is_left_out, is_name, is_predefined, predefined};
 pub use rows::{any_values, row};

@@ -1,12 +1,15 @@
 //! The names that the language gives a meaning to.
-ghost use Rattle.std.specs.Prelude.{◌≡◌, option_map};
+ghost use Rattle.std.specs.Prelude.{◌≡◌, IfOk, option_map};
 ghost use Rattle.std.specs.List.{list_all};
-ghost use Rattle.calls.specs.Names.{begins_name, function_named, is_left_out, is_name, is_name_byte, is_predefined, project_function_named};
+ghost use Rattle.calls.specs.Names.{begins_name, function_named, is_left_out, is_name, is_name_byte, is_predefined, predefined, project_function_named};
 ghost use Rattle.calls.specs.Names.{resource_function_named};
+ghost use Rattle.data.specs.View.{data_of};
 ghost use Rattle.calls.specs.declared.function.Function.TheVariants as functions;
 
 use crate::function::{Function, ProjectFunction};
-use among::is_among;
+use data::{Object, Value};
+use std::alloc::{AllocError, Global};
+use text_lists::is_among;
 
 /// The words that are no names.
 const KEYWORDS: [&str; 14] = [
@@ -59,6 +62,18 @@ pub fn is_predefined(name: &str) -> bool
     ensures { result ≡ is_predefined name.now }
 {
     is_among(&PREDEFINED, name)
+}
+
+/// What such a name stands for: the object `meson`, or the machine. What the machine file says of the machine is asked by the methods of
+/// that object, so nothing of it is looked at here.
+pub fn predefined(alloc: Global, name: &str) -> Result<Value, AllocError>
+    ensures { IfOk result (λ value. data_of value ≡ predefined name.now) }
+{
+    if name == "meson" {
+        Value::of_object(alloc, Object::Meson)
+    } else {
+        Value::of_object(alloc, Object::Machine)
+    }
 }
 
 /// Whether a function of this name is left out, so far or for good.

@@ -1,5 +1,5 @@
 //! The functions that name a variable by a text.
-ghost use Rattle.std.specs.Prelude.{◌≡◌, not, ◌&&◌, ◌||◌, is_some, option_map};
+ghost use Rattle.std.specs.Prelude.{◌≡◌, ◌&&◌, ◌||◌, is_some, option_map};
 ghost use Rattle.data.specs.View.{data_of};
 ghost use Rattle.arguments.specs.Arguments.{arguments_data};
 ghost use Rattle.world.specs.Answering.{Carries};
@@ -8,12 +8,11 @@ ghost use Rattle.calls.specs.Names.{is_predefined};
 ghost use Rattle.calls.specs.Variables.{get_variable, is_settable, is_variable, set_or, set_to, set_variable, unset_variable};
 ghost use Rattle.calls.specs.Variables.{thing, value_or, variable_or};
 
-use crate::names::{is_name, is_predefined};
+use crate::names::{is_name, is_predefined, predefined};
 use arguments::Arguments;
 use data::Value;
 use faults::Refusal;
 use ports::{Outputs, Tree};
-use predefined::predefined;
 use world::{Caller, Stop};
 
 // Whether it is a name that definition files may set.
@@ -107,8 +106,7 @@ fn thing<T: Tree, O: Outputs>(caller: &Caller<'_, T, O>, name: &str) -> Result<O
     ensures { Carries (option_map data_of) (thing name.now) (state_of T.seen O.seen caller.now) result
         (state_of T.seen O.seen caller.now) }
 {
-    let answer = predefined(caller.alloc, caller.store.machine(), name)?;
-    let value = caller.answered(answer)?;
+    let value = predefined(caller.alloc, name)?;
     Ok(Some(value))
 }
 

@@ -1,7 +1,7 @@
 -- The checks of the compiler, and `find_library`.
 use Rattle.std.specs.Prelude.{ℕ, Bool, true, false, List, [], ◌∷◌, ◌++◌, Option, Some, None, Result, Ok, Err, option_and_then, codes}
 use Rattle.arguments.specs.Arguments.{ArgumentsData}
-use Rattle.arguments.specs.Flat.{flat_all}
+use Rattle.flat.specs.Flat.{flat_all}
 use Rattle.arguments.specs.Given.{argument, requirement, text_at}
 use Rattle.arguments.specs.declared.given.Requirement.{Requirement}
 use Rattle.arguments.specs.declared.given.Requirement.TheVariants as requirements

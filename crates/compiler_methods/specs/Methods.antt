@@ -1,7 +1,7 @@
 -- The methods of the C compiler, on their arguments. None of them changes anything: the machine file answers them all.
 use Rattle.std.specs.Prelude.{ℕ, Bool, List, [], ◌∷◌, Option, Some, None, is_some, codes, if◌then◌else◌}
 use Rattle.arguments.specs.Arguments.{ArgumentsData}
-use Rattle.arguments.specs.Flat.{flat_all}
+use Rattle.flat.specs.Flat.{flat_all}
 use Rattle.arguments.specs.Given.{text_or_none}
 use Rattle.arguments.specs.Leaves.{leaves_from}
 use Rattle.arguments.specs.Row.{checked}

@@ -27,17 +27,11 @@ use ports::{Outputs, Tree};
 use std::alloc::{AllocError, Global};
 use world::{Caller, Stop};
 
-fn text_value(alloc: Global, bytes: &str) -> Result<Result<Value, Refusal>, AllocError>
-    ensures { IfOk result (λ r. Answers (within (text bytes.now)) r) }
-{
-    Value::of_string(alloc, String::from_str(alloc, bytes)?)
-}
-
 // `get_id()`
 fn get_id<T: Tree, O: Outputs>(caller: &Caller<'_, T, O>) -> Result<Option<Value>, Stop>
     ensures { Carries (option_map data_of) get_id (state_of T.seen O.seen caller.now) result (state_of T.seen O.seen caller.now) }
 {
-    let answer = text_value(caller.alloc, id_of(caller.store.machine()))?;
+    let answer = Value::of_str(caller.alloc, id_of(caller.store.machine()))?;
     let value = caller.answered(answer)?;
     Ok(Some(value))
 }
@@ -46,7 +40,7 @@ fn get_id<T: Tree, O: Outputs>(caller: &Caller<'_, T, O>) -> Result<Option<Value
 fn version<T: Tree, O: Outputs>(caller: &Caller<'_, T, O>) -> Result<Option<Value>, Stop>
     ensures { Carries (option_map data_of) version (state_of T.seen O.seen caller.now) result (state_of T.seen O.seen caller.now) }
 {
-    let answer = text_value(caller.alloc, version_of(caller.store.machine()))?;
+    let answer = Value::of_str(caller.alloc, version_of(caller.store.machine()))?;
     let value = caller.answered(answer)?;
     Ok(Some(value))
 }
@@ -198,7 +192,8 @@ fn called<T: Tree, O: Outputs>(
     name: &str,
     arguments: &Arguments,
 ) -> Result<Option<Value>, Stop>
-    ensures { Carries (option_map data_of) (called method name.now (arguments_data arguments.now)) (state_of T.seen O.seen caller.now) result
+    ensures { Carries (option_map data_of) (called method name.now (arguments_data arguments.now))
+        (state_of T.seen O.seen caller.now) result
         (state_of T.seen O.seen caller.now) }
 {
     fit(caller, method, arguments)?;

@@ -58,7 +58,8 @@ one_file source_root folder _ = None
 -- the path that `input` names, which may be left out; none where it names no file, or several
 abbrev pub input_named : (source_root folder : Path) → ArgumentsData → Option (Option Path)
 input_named source_root folder a =
-    if is_some (keyword (codes "input") a) then option_map Some (one_file source_root folder (leaves_named (codes "input") a)) else Some None
+    if is_some (keyword (codes "input") a) then option_map Some (one_file source_root folder (leaves_named (codes "input") a))
+    else Some None
 
 -- the template: E9 where `input` names none
 unfoldable pub input_given : ArgumentsData → Deed (Option Path)

@@ -152,7 +152,7 @@ fn unquoted_text(text: &str) -> &str
 fn unquoted_value(alloc: Global, text: &str) -> Result<Result<Value, Refusal>, AllocError>
     ensures { IfOk result (λ r. Answers (within (text_data (unquoted_text text.now))) r) }
 {
-    Value::of_string(alloc, String::from_str(alloc, unquoted_text(text))?)
+    Value::of_str(alloc, unquoted_text(text))
 }
 
 fn unquoted(alloc: Global, content: &ConfigValue) -> Result<Result<Value, Refusal>, AllocError>
@@ -198,7 +198,7 @@ fn text_values(alloc: Global, texts: &[&str]) -> Result<Result<Vec<Value>, Refus
 {
     let mut values = Vec::new(alloc);
     for text in texts {
-        match Value::of_string(alloc, String::from_str(alloc, text)?)? {
+        match Value::of_str(alloc, text)? {
             Ok(value) => values.push(value)?,
             Err(refusal) => return Ok(Err(refusal)),
         }

@@ -10,14 +10,14 @@ ghost use Rattle.configuration_calls.specs.ConfigureFile.{configure_file, config
 ghost use Rattle.configuration_calls.specs.GivenView.{given_view};
 ghost use Rattle.configuration_calls.specs.Written.{CarriesOf, filling_in};
 
-use crate::said::{Given, has_meson_format, input_given, is_file_name, values_given};
+use crate::said::{Given, has_meson_format, input_given, values_given};
 use crate::written::write_output;
 use arguments::Arguments;
 use data::{Object, Text, Value};
 use faults::Refusal;
 use operators::path_below;
 use ports::{Outputs, Tree};
-use project::Install;
+use project::{Install, is_file_name};
 use resources::destination;
 use std::alloc::{AllocError, Global};
 use targets::path_in;
@@ -132,7 +132,8 @@ fn configure<T: Tree, O: Outputs>(
     input: &Option<String>,
 ) -> Result<Option<Value>, Stop>
     requires { HasRoom (state_of T.seen O.seen caller.old) }
-    ensures { Carries (option_map data_of) (configured (arguments_data arguments.now) (option_map string_bytes input.now) (given_view given.now))
+    ensures { Carries (option_map data_of)
+        (configured (arguments_data arguments.now) (option_map string_bytes input.now) (given_view given.now))
         (state_of T.seen O.seen caller.old) result (state_of T.seen O.seen caller.new) }
 {
     match input {

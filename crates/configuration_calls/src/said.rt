@@ -3,7 +3,6 @@ ghost use Rattle.std.specs.Prelude.{◌≡◌, IfOk, map, option_and_then, optio
 ghost use Rattle.arguments.specs.Arguments.{arguments_data};
 ghost use Rattle.arguments.specs.Given.{keyword};
 ghost use Rattle.data.specs.View.{data_of};
-ghost use Rattle.project.specs.Adding.{has_slash, is_file_name};
 ghost use Rattle.world.specs.Answering.{Carries};
 ghost use Rattle.world.specs.Caller.{state_of};
 ghost use Rattle.world.specs.Store.{world_of};
@@ -40,19 +39,6 @@ pub fn has_meson_format(arguments: &Arguments) -> bool
         Some(_) => false,
         None => true,
     }
-}
-
-fn has_slash(text: &str) -> bool
-    ensures { result ≡ has_slash text.now }
-{
-    text.as_bytes().iter().any(|byte| *byte == b'/')
-}
-
-/// Whether a file may have the name: it is not empty, `.` or `..`, and has no `/`.
-pub fn is_file_name(name: &str) -> bool
-    ensures { result ≡ is_file_name name.now }
-{
-    !(name == "" || has_slash(name) || name == "." || name == "..")
 }
 
 // The path of a file of the tree.
@@ -109,7 +95,8 @@ fn input_named(
     folder: &str,
     arguments: &Arguments,
 ) -> Result<Option<Option<String>>, AllocError>
-    ensures { IfOk result (λ p. option_map (option_map string_bytes) p ≡ input_named source_root.now folder.now (arguments_data arguments.now)) }
+    ensures { IfOk result (λ p. option_map (option_map string_bytes) p
+        ≡ input_named source_root.now folder.now (arguments_data arguments.now)) }
 {
     if arguments.keyword("input").is_none() {
         return Ok(Some(None));

@@ -121,7 +121,8 @@ fn write_template<T: Tree, O: Outputs>(
     template: &str,
 ) -> Result<(), Stop>
     requires { HasRoom (state_of T.seen O.seen caller.old) }
-    ensures { CarriesOf (λ u. u) (λ files. output_written path.now (template_written values.now.entries template.now (bytes_at files template.now)))
+    ensures { CarriesOf (λ u. u)
+        (λ files. output_written path.now (template_written values.now.entries template.now (bytes_at files template.now)))
         (state_of T.seen O.seen caller.old) result (state_of T.seen O.seen caller.new) }
 {
     let mut line = empty_line(caller.alloc)?;
@@ -138,7 +139,8 @@ pub fn write_output<T: Tree, O: Outputs>(
     template: Option<&str>,
 ) -> Result<(), Stop>
     requires { HasRoom (state_of T.seen O.seen caller.old) }
-    ensures { CarriesOf (λ u. u) (λ files. output_written path.now (filling_in values.now.entries (option_map (λ t. t.now) template.entry) files))
+    ensures { CarriesOf (λ u. u)
+        (λ files. output_written path.now (filling_in values.now.entries (option_map (λ t. t.now) template.entry) files))
         (state_of T.seen O.seen caller.old) result (state_of T.seen O.seen caller.new) }
 {
     match template {

@@ -213,6 +213,13 @@ impl Value {
         }
     }
 
+    /// The value of a copy of a text, or `Refusal::Limit` where it is longer than 16,777,216 bytes.
+    pub fn of_str(alloc: Global, bytes: &str) -> Result<Result<Value, Refusal>, AllocError>
+        ensures { IfOk result (λ r. Answers (within_limits (text bytes.now)) r) }
+    {
+        Value::of_string(alloc, String::from_str(alloc, bytes)?)
+    }
+
     /// The value of a list.
     pub fn of_list(alloc: Global, list: List) -> Result<Value, AllocError>
         ensures { IfOk result (λ v. data_of v ≡ list_data list) }

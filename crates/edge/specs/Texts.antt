@@ -1,7 +1,7 @@
 -- Texts as lists of their bytes, and lists of texts.
-use Rattle.std.specs.Prelude.{ℕ, ◌+◌, Bool, true, List, [], ◌∷◌, ◌++◌, map, bytes_eq, String, string_bytes, if◌then◌else◌}
+pub use Rattle.text_lists.specs.Texts.{texts}
+use Rattle.std.specs.Prelude.{ℕ, ◌+◌, Bool, List, [], ◌∷◌, ◌++◌, bytes_eq, if◌then◌else◌}
 use Rattle.std.specs.List.{list_any}
-use Rattle.std.specs.Global.{Global}
 
 abbrev pub Text : Type 0
 Text = List ℕ
@@ -9,10 +9,6 @@ Text = List ℕ
 -- a path in the tree or in the build folder, its parts divided by `/`
 abbrev pub Path : Type 0
 Path = List ℕ
-
--- the bytes of each of these strings
-abbrev pub texts : List (String Global) → List Text
-texts strings = map string_bytes strings
 
 -- the text is one of these
 abbrev pub holds : Text → List Text → Bool

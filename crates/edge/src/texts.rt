@@ -1,20 +1,10 @@
-//! Lists of texts.
-ghost use Rattle.std.specs.Prelude.{◌≡◌, ◌++◌, [], map, IfOk};
+//! Lists of texts, and sets of them.
+ghost use Rattle.std.specs.Prelude.{◌≡◌, ◌++◌, map, IfOk};
 ghost use Rattle.edge.specs.Texts.{texts, first_kept, holds};
 
 use std::alloc::{AllocError, Global};
 use tables::{SipSet, new_set};
-
-/// The texts as strings of their own.
-pub fn strings(alloc: Global, parts: &[&str]) -> Result<Vec<String>, AllocError>
-    ensures { IfOk result (λ v. texts v.items ≡ map (λ p. p.now) parts.now) }
-{
-    let mut strings = Vec::new(alloc);
-    for part in parts {
-        strings.push(String::from_str(alloc, part)?)?;
-    }
-    Ok(strings)
-}
+use text_lists::copies;
 
 /// Appends each of these texts.
 pub fn push_all(to: &mut Vec<String>, alloc: Global, parts: &[&str]) -> Result<(), AllocError>
@@ -34,15 +24,6 @@ pub fn push_copies(to: &mut Vec<String>, from: &[String]) -> Result<(), AllocErr
         to.push(string.clone()?)?;
     }
     Ok(())
-}
-
-/// The strings once more.
-pub fn copies(alloc: Global, strings: &[String]) -> Result<Vec<String>, AllocError>
-    ensures { IfOk result (λ v. texts v.items ≡ texts strings.now) }
-{
-    let mut copies = Vec::new(alloc);
-    push_copies(&mut copies, strings)?;
-    Ok(copies)
 }
 
 /// Of equal texts the first is kept.

@@ -25,7 +25,6 @@ use Rattle.operators.specs.Index.{index_answer}
 use Rattle.operators.specs.Literal.{literal_answer}
 use Rattle.methods.specs.Methods.{answer as method_answer, has_name}
 use Rattle.objects.specs.Methods.{has_method as has_object_method}
-use Rattle.predefined.specs.Predefined.{predefined}
 use Rattle.texts.specs.Segments.{Segment, text as between, place}
 use Rattle.arguments.specs.Arguments.{ArgumentsData, no_arguments, with_argument}
 use Rattle.arguments.specs.Disablers.{gives_disabler}
@@ -101,7 +100,7 @@ module _ (files : Files) where
   known-cost line name None = refuse-cost line refusals.UndefinedName name
 
   variable_by-cost : (b : Bool) (line : ℕ) (name : List ℕ) → Takes file_cost files 0 (variable_by b line name)
-  variable_by-cost true line name = first (none read) (λ facts. answered-cost line (predefined facts.machine name))
+  variable_by-cost true line name = free _
   variable_by-cost false line name = first (none read) (λ facts. known-cost line name (facts.variables name))
 
   variable-cost : (line : ℕ) (name : List ℕ) → Takes file_cost files 0 (variable line name)

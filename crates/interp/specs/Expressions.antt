@@ -33,13 +33,12 @@ use Rattle.arguments.specs.Arguments.{ArgumentsData, no_arguments, with_argument
 use Rattle.arguments.specs.Disablers.{gives_disabler}
 use Rattle.arguments.specs.Row.{checked}
 use Rattle.calls.specs.Functions.{call, is_turned_off}
-use Rattle.calls.specs.Names.{function_named, is_left_out, is_predefined}
+use Rattle.calls.specs.Names.{function_named, is_left_out, is_predefined, predefined}
 use Rattle.calls.specs.Rows.{any_values}
 use Rattle.calls.specs.declared.function.Function.{Function}
 use Rattle.calls.specs.declared.function.Function.TheVariants as functions
 use Rattle.objects.specs.Left.{is_left_out as is_left_out_method}
 use Rattle.objects.specs.Methods.{has_method as has_object_method, object_method}
-use Rattle.predefined.specs.Predefined.{predefined}
 use Rattle.world.specs.Deed.{read}
 use Rattle.world.specs.Plan.{Plan, deed, ruled, ◌>>=◌, give, at, refuse, answered}
 use Rattle.interp.specs.declared.acting.Action.{Action}
@@ -66,13 +65,11 @@ set_variable line name = do
   known line name (facts.variables name)
 
 -- the thing of the run that a name stands for
-abbrev pub thing : ℕ → List ℕ → Plan Data
-thing line name = do
-  facts ← deed read
-  answered line (predefined facts.machine name)
+abbrev pub thing : List ℕ → Plan Data
+thing name = give (predefined name)
 
 abbrev pub variable_by : Bool → ℕ → List ℕ → Plan Data
-variable_by true line name = thing line name
+variable_by true line name = thing name
 variable_by false line name = set_variable line name
 
 -- A name: the value of the variable, or the thing of the run that it stands for.

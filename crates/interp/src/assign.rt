@@ -1,5 +1,5 @@
 //! Variables that take values.
-ghost use Rattle.std.specs.Prelude.{◌≡◌, ◌<◌, ℕ, IsTrue, Some, length, nat_lt, option_map};
+ghost use Rattle.std.specs.Prelude.{◌≡◌, ◌<◌, IsTrue, Some, length, nat_lt, option_map};
 ghost use Rattle.code.specs.Nodes.{tree_at};
 ghost use Rattle.code.specs.Statements.{name_at, second_within};
 ghost use Rattle.data.specs.View.{data_of};
@@ -197,7 +197,7 @@ impl<'a, T: Tree, O: Outputs, L: Ledger> Evaluator<'a, T, O, L> {
         ensures gives { Answers T.seen O.seen (λ u. u) (summed line name.now (data_of right)) self.old result self.new }
     {
         if is_predefined(name) {
-            let thing = self.thing(line, name)?;
+            let thing = self.thing(name)?;
             return self.sum(line, name, thing, right);
         }
         match self.store.find(name)? {

@@ -122,7 +122,8 @@ fn definitions<T: Tree, O: Outputs, L: Ledger>(
 
 // The world in which the root file is evaluated: what the machine file says is known.
 fn start(alloc: Global, inputs: &Inputs<'_>) -> Result<Store, Stop>
-    ensures starts { (said : MachineSaid) → IsSaid inputs.now.machine.now said → Starts (settings_view inputs.now.settings.now) said result }
+    ensures starts { (said : MachineSaid) → IsSaid inputs.now.machine.now said
+        → Starts (settings_view inputs.now.settings.now) said result }
     ensures entered { IfOk result (λ s. s.entered ≡ []) }
     ensures quiet { (n : ℕ) → failures_after n result ≡ n }
 {

@@ -1,5 +1,5 @@
 //! Names: of variables, of functions and of methods.
-ghost use Rattle.std.specs.Prelude.{◌≡◌, ◌<◌, ◌||◌, ◌&&◌, ℕ, IfOk, [], false, codes, bytes_eq, length, option_map, slice_index_or};
+ghost use Rattle.std.specs.Prelude.{◌≡◌, ◌<◌, ◌||◌, ◌&&◌, ℕ, IfOk, [], false, length, option_map, slice_index_or};
 ghost use Rattle.arguments.specs.Arguments.{arguments_data};
 ghost use Rattle.calls.specs.Functions.{is_turned_off};
 ghost use Rattle.data.specs.Data.{object_in};
@@ -12,13 +12,13 @@ use crate::evaluator::Evaluator;
 use arguments::{Arguments, check, gives_disabler};
 use calls::{
     Function, any_values, call, function_named, is_left_out, is_predefined, is_turned_off,
+    predefined,
 };
 use data::{Object, Value};
 use faults::Refusal;
 use methods::{has_method, method};
 use objects::{has_object_method, is_left_out_method, object_method};
 use ports::{Outputs, Tree};
-use predefined::predefined;
 use std::alloc::{AllocError, Global};
 use std::sync::ledger::Ledger;
 use world::{Caller, Stop};
@@ -61,12 +61,12 @@ impl<'a, T: Tree, O: Outputs, L: Ledger> Evaluator<'a, T, O, L> {
     ghost use Rattle.interp.specs.Evaluates.{Answers, Fails, HasRoom, Same};
 
     // The thing of the run that a name stands for.
-    pub fn thing(&self, line: usize, name: &str) -> Result<Value, Stop>
-        ensures gives { Answers T.seen O.seen data_of (thing line name.now) self.now result self.now }
+    pub fn thing(&self, name: &str) -> Result<Value, Stop>
+        ensures gives { Answers T.seen O.seen data_of (thing name.now) self.now result self.now }
         ensures quiet { (n : ℕ) → failures_after n result ≡ n }
     {
-        let answer = predefined(self.alloc, self.store.machine(), name)?;
-        self.answered(line, answer)
+        let value = predefined(self.alloc, name)?;
+        Ok(value)
     }
 
     // The value of the variable of a number.
@@ -77,7 +77,7 @@ impl<'a, T: Tree, O: Outputs, L: Ledger> Evaluator<'a, T, O, L> {
     {
         let name = self.store.name(number);
         if is_predefined(name) {
-            return self.thing(line, name);
+            return self.thing(name);
         }
         let value = self.store.value(number)?;
         self.known(line, name, value)
@@ -89,7 +89,7 @@ impl<'a, T: Tree, O: Outputs, L: Ledger> Evaluator<'a, T, O, L> {
         ensures quiet { (n : ℕ) → failures_after n result ≡ n }
     {
         if is_predefined(name) {
-            return self.thing(line, name);
+            return self.thing(name);
         }
         let value = self.store.find(name)?;
         self.known(line, name, value)

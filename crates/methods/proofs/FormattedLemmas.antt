@@ -6,23 +6,18 @@ use Rattle.std.proofs.lemmas.Bool.Decides.{nat_tests}
 use Rattle.data.specs.declared.refusal.Refusal.{Refusal}
 use Rattle.data.specs.declared.refusal.Refusal.TheVariants as refusal
 use Rattle.data.specs.declared.value.Value.{Value}
-use Rattle.data.specs.Data.{Data, item}
+use Rattle.data.specs.Data.{Data}
 use Rattle.data.specs.Limits.{within_bytes}
-use Rattle.data.specs.View.{data_of, items_of}
+use Rattle.data.specs.View.{data_of}
 use Rattle.printing.specs.Printed.{is_printable}
 use Rattle.printing.specs.Writes.{Writes}
 use Rattle.texts.specs.declared.placed.Places.TheVariants as places
 use Rattle.texts.specs.Segments.{Segment, segments}
 use Rattle.methods.specs.Formatted.{has_value, filled, formatted_text}
-use Rattle.methods.specs.Flat.{as_items, are_texts, flat_items, flat_texts, opened, opened_items, flat_values}
 
 list_all-data_of : (vs : List Value) → list_all is_printable (map data_of vs) ≡ list_all (λ v. is_printable (data_of v)) vs
 list_all-data_of [] = refl
 list_all-data_of (v ∷ vs) = ap (λ b. is_printable (data_of v) && b) (list_all-data_of vs)
-
-as_items-data_of : (vs : List Value) → as_items (map data_of vs) ≡ items_of vs
-as_items-data_of [] = refl
-as_items-data_of (v ∷ vs) = ap (λ ds. item (data_of v) ds) (as_items-data_of vs)
 
 when : {X : Type 0} (b : Bool) (x y : X) → b ≡ true → (if b then x else y) ≡ x
 when true x y e = refl
@@ -31,22 +26,6 @@ when false x y e = absurd cc
 unless : {X : Type 0} (b : Bool) (x y : X) → b ≡ false → (if b then x else y) ≡ y
 unless true x y e = absurd cc
 unless false x y e = refl
-
-pub flat_refused : (vs : List Value) → are_texts (items_of vs) ≡ false → flat_texts (map data_of vs) ≡ Err refusal.Arguments
-flat_refused vs e =
-    unless (are_texts (as_items (map data_of vs))) (Ok (flat_items (as_items (map data_of vs)))) (Err refusal.Arguments)
-    (ap are_texts (as_items-data_of vs) ∙ e)
-
-pub flat_found : (vs : List Value) (found : List (List ℕ)) → are_texts (items_of vs) ≡ true → found ≡ flat_items (items_of vs)
-    → flat_texts (map data_of vs) ≡ Ok found
-flat_found vs found e is =
-    when (are_texts (as_items (map data_of vs))) (Ok (flat_items (as_items (map data_of vs)))) (Err refusal.Arguments)
-    (ap are_texts (as_items-data_of vs) ∙ e)
-    ∙ ap (λ ds. Ok (flat_items ds)) (as_items-data_of vs) ∙ ap (λ ts. Ok ts) (sym is)
-
-pub flat_values-data_of : (vs : List Value) → flat_values (map data_of vs) ≡ opened_items (items_of vs)
-flat_values-data_of [] = refl
-flat_values-data_of (v ∷ vs) = ap (λ ds. opened (data_of v) ++ ds) (flat_values-data_of vs)
 
 -- ---- a text with places
 

@@ -5,7 +5,7 @@ pub mod Booleans
 pub mod Lists
 pub mod TextLists
 pub mod Dictionaries
-pub mod Flat
+pub mod FlatTexts
 pub mod Formatted
 pub mod TextMethods
 pub mod Methods

@@ -18,7 +18,7 @@ use Rattle.methods.specs.declared.text_methods.TextMethod.{TextMethod}
 use Rattle.methods.specs.declared.text_methods.TextMethod.TheVariants as method
 use Rattle.methods.specs.Steps.{◌>>=◌}
 use Rattle.methods.specs.Arguments.{no_arguments, one_text, two_texts, bounds}
-use Rattle.methods.specs.Flat.{flat_texts}
+use Rattle.methods.specs.FlatTexts.{flat_texts}
 use Rattle.methods.specs.Formatted.{formatted_text}
 use Rattle.methods.specs.TextLists.{text_list}
 

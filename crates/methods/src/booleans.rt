@@ -59,7 +59,7 @@ fn to_string(alloc: Global, boolean: bool, arguments: &[Value]) -> Result<Value,
     match arguments {
         [] => {
             let word = if boolean { "true" } else { "false" };
-            Ok(Value::of_string(alloc, String::from_str(alloc, word)?)??)
+            Ok(Value::of_str(alloc, word)??)
         }
         [Value::Text(yes), Value::Text(no)] => {
             let word = if boolean { yes } else { no };

@@ -5,7 +5,7 @@
 
 mod booleans;
 mod dictionaries;
-mod flat;
+mod flattening;
 mod formatted;
 mod integers;
 mod lists;
@@ -15,6 +15,6 @@ mod stop;
 mod text_lists;
 mod text_methods;
 
-pub use flat::{flat_texts, flat_values};
+pub use flattening::flat_texts;
 pub use formatted::format_text;
 pub use methods::{has_method, method};

@@ -23,7 +23,7 @@ pub fn text_list(alloc: Global, texts: &[&str]) -> Result<Value, Stop>
 fn put(alloc: Global, list: &mut List, text: &str) -> Result<(), Stop>
     ensures { Puts list.old text.now list.new result }
 {
-    let value = Value::of_string(alloc, String::from_str(alloc, text)?)??;
+    let value = Value::of_str(alloc, text)??;
     if !list.has_room(&value) {
         return Err(Stop::Refused(Refusal::Limit));
     }

@@ -8,7 +8,7 @@ ghost use Rattle.methods.specs.Steps.{Gives};
 ghost use Rattle.methods.specs.TextMethods.{named, answer, contains, starts_with, ends_with, format, join, replace, split};
 ghost use Rattle.methods.specs.TextMethods.{split_lines, strip, substring, to_int, to_lower, to_upper, underscorify, version_compare};
 
-use crate::flat::flat_texts;
+use crate::flattening::flat_texts;
 use crate::formatted::format_text;
 use crate::readers::{bounds, none, one_text, two_texts};
 use crate::stop::Stop;

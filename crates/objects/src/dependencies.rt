@@ -34,7 +34,7 @@ fn version_of(alloc: Global, dependency: &Dependency) -> Result<Result<Value, Re
     if dependency.is_found {
         return Ok(Ok(Value::Text(dependency.version.clone()?)));
     }
-    Value::of_string(alloc, String::from_str(alloc, "unknown")?)
+    Value::of_str(alloc, "unknown")
 }
 
 /// What the method with a name gives for a dependency: `found`, `name`, and `version`, that is `unknown` where it is not found.

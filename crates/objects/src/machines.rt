@@ -7,7 +7,6 @@ ghost use Rattle.machine_file.specs.View.{machine_in};
 ghost use Rattle.objects.specs.Machines.{answer, named, text_of};
 ghost use Rattle.world.specs.Store.{world_of};
 
-use crate::meson_object::text_value;
 use data::{Refusal, Value};
 use machine_file::Machine;
 use std::alloc::{AllocError, Global};
@@ -56,7 +55,7 @@ fn told_of(
 ) -> Result<Result<Value, Refusal>, AllocError>
     ensures { IfOk result (λ r. Answers (within (text (text_of method (world_of store.now).facts.machine))) r) }
 {
-    text_value(alloc, text_of(method, store.machine()))
+    Value::of_str(alloc, text_of(method, store.machine()))
 }
 
 /// What the method with a name gives for the build, host or target machine: `system`, `cpu_family`, `cpu` and `endian`, as the machine

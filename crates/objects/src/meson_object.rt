@@ -80,23 +80,16 @@ fn folder_below(alloc: Global, root: &str, folder: &str) -> Result<String, Alloc
     }
 }
 
-/// A text as a value, or E22 where it is too long.
-pub fn text_value(alloc: Global, bytes: &str) -> Result<Result<Value, Refusal>, AllocError>
-    ensures { IfOk result (λ r. Answers (within (text bytes.now)) r) }
-{
-    Value::of_string(alloc, String::from_str(alloc, bytes)?)
-}
-
 fn build_root_value(alloc: Global, store: &Store) -> Result<Result<Value, Refusal>, AllocError>
     ensures { IfOk result (λ r. Answers (within (text (world_of store.now).facts.settings.build_root)) r) }
 {
-    text_value(alloc, build_root(store))
+    Value::of_str(alloc, build_root(store))
 }
 
 fn source_root_value(alloc: Global, store: &Store) -> Result<Result<Value, Refusal>, AllocError>
     ensures { IfOk result (λ r. Answers (within (text (world_of store.now).facts.settings.source_root)) r) }
 {
-    text_value(alloc, source_root(store))
+    Value::of_str(alloc, source_root(store))
 }
 
 // The present folder below the build root.
@@ -136,13 +129,13 @@ fn project_version(store: &Store) -> &str
 fn project_name_value(alloc: Global, store: &Store) -> Result<Result<Value, Refusal>, AllocError>
     ensures { IfOk result (λ r. Answers (within (text (world_of store.now).facts.project.surroundings.facts.name)) r) }
 {
-    text_value(alloc, project_name(store))
+    Value::of_str(alloc, project_name(store))
 }
 
 fn project_version_value(alloc: Global, store: &Store) -> Result<Result<Value, Refusal>, AllocError>
     ensures { IfOk result (λ r. Answers (within (text (world_of store.now).facts.project.surroundings.facts.version)) r) }
 {
-    text_value(alloc, project_version(store))
+    Value::of_str(alloc, project_version(store))
 }
 
 fn compiler_of(alloc: Global, language: &str) -> Result<Result<Value, Refusal>, AllocError>
@@ -167,7 +160,7 @@ pub fn meson_answer(
     ensures { IfOk result (λ r. Answers (answer (world_of store.now).facts name.now (arguments_data arguments.now)) r) }
 {
     match MesonMethod::named(name) {
-        Some(MesonMethod::Backend) => text_value(alloc, "ninja"),
+        Some(MesonMethod::Backend) => Value::of_str(alloc, "ninja"),
         Some(MesonMethod::BuildRoot) => build_root_value(alloc, store),
         Some(MesonMethod::CurrentBuildDir) => build_folder(alloc, store),
         Some(MesonMethod::CurrentSourceDir) => source_folder(alloc, store),
@@ -177,7 +170,7 @@ pub fn meson_answer(
         Some(MesonMethod::ProjectName) => project_name_value(alloc, store),
         Some(MesonMethod::ProjectVersion) => project_version_value(alloc, store),
         Some(MesonMethod::SourceRoot) => source_root_value(alloc, store),
-        Some(MesonMethod::Version) => text_value(alloc, "1.3.0"),
+        Some(MesonMethod::Version) => Value::of_str(alloc, "1.3.0"),
         None => Ok(Err(Refusal::UnknownMethod)),
     }
 }

@@ -10,7 +10,7 @@ ghost use Rattle.objects.specs.Targets.{answer_by, at, build_answer, build_named
 ghost use Rattle.objects.specs.Targets.{only_path, output_answer, output_list, output_named, output_of, outputs_from, path_of, path_value};
 ghost use Rattle.objects.specs.Targets.{told_of};
 
-use crate::meson_object::{build_root, text_value};
+use crate::meson_object::build_root;
 use data::{List, Object, Refusal, Value};
 use operators::path_below;
 use std::alloc::{AllocError, Global};
@@ -142,7 +142,7 @@ fn name_value(alloc: Global, name: Option<&str>) -> Result<Result<Value, Refusal
     ensures { IfOk result (λ r. Answers (name_value (option_map (λ n. n.now) name.entry)) r) }
 {
     match name {
-        Some(name) => text_value(alloc, name),
+        Some(name) => Value::of_str(alloc, name),
         None => Ok(Err(Refusal::Arguments)),
     }
 }

@@ -38,13 +38,15 @@ pub fn path_below(alloc: Global, folder: &str, path: &str) -> Result<String, All
     Ok(text)
 }
 
-fn begins_with_slash(text: &str) -> bool
+/// Whether the text begins with `/`, as an absolute path does.
+pub fn begins_with_slash(text: &str) -> bool
     ensures { result ≡ begins_with_slash text.now }
 {
     matches!(text.as_bytes(), [b'/', ..])
 }
 
-fn ends_with_slash(text: &str) -> bool
+/// Whether the text ends with `/`.
+pub fn ends_with_slash(text: &str) -> bool
     ensures { result ≡ ends_with_slash text.now }
 {
     matches!(text.as_bytes(), [.., b'/'])

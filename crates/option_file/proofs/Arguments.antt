@@ -13,7 +13,7 @@ use Rattle.option_file.specs.Calls.{stands_key, with_key, gives_twice, is_left_o
 use Rattle.option_file.specs.Calls.{option_of, or_fault, call_declares}
 use Rattle.option_file.specs.Declarations.{Declaration}
 use Rattle.option_file.specs.Keywords.{Keywords, nothing_given}
-use Rattle.among.specs.Among.{is_among}
+use Rattle.text_lists.specs.Among.{is_among}
 use Rattle.option_file.proofs.Walks.{next_is, none_is}
 
 trees_at : (xs : List Argument) (i : ℕ) (x : Argument) → i < length xs → x ≡ get_or xs i x

@@ -4,7 +4,7 @@ use Rattle.std.specs.Option.{option_map, option_and_then}
 use Rattle.grammar.specs.ExpressionTree.{ArgumentTree, ArgumentTrees, NoArgument, MoreArguments}
 use Rattle.faults.specs.declared.refusal.Refusal.{Refusal}
 use Rattle.faults.specs.declared.refusal.Refusal.TheVariants as refusals
-use Rattle.among.specs.Among.{is_among}
+use Rattle.text_lists.specs.Among.{is_among}
 use Rattle.option_values.specs.BuiltIns.{is_built_in}
 use Rattle.option_file.specs.declared.keyword.Keyword.{Keyword}
 use Rattle.option_file.specs.Declarations.{Declaration}

@@ -4,7 +4,7 @@ ghost use Rattle.std.specs.Prelude.{◌≡◌, ◌++◌, [], ◌∷◌, IfOk, Is
 ghost use Rattle.std.specs.List.{list_any};
 ghost use Rattle.std.specs.Option.{option_map};
 ghost use Rattle.grammar.specs.ExpressionTree.{argument_of, argument_trees};
-ghost use Rattle.among.specs.Among.{is_among};
+ghost use Rattle.text_lists.specs.Among.{is_among};
 ghost use Rattle.option_values.specs.View.{strings_in};
 ghost use Rattle.option_file.specs.Calls.{stands_key, with_key, gives_twice, is_left_out_key, is_free_name, name_in, with_argument};
 ghost use Rattle.option_file.specs.Calls.{keywords_from, option_of, call_declares};

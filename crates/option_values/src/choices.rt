@@ -1,7 +1,7 @@
 //! The choices of an option.
 
 ghost use Rattle.std.specs.Prelude.{◌≡◌, ℕ, List, IfOk};
-ghost use Rattle.among.specs.Among.{is_among};
+ghost use Rattle.text_lists.specs.Among.{is_among};
 ghost use Rattle.machine_file.specs.View.{strings_in};
 
 use std::alloc::{AllocError, Global};

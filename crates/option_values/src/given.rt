@@ -8,11 +8,11 @@ ghost use Rattle.option_values.specs.Texts.{value_of};
 ghost use Rattle.option_values.specs.View.{kind_in, strings_in, value_in};
 
 use crate::kind::{OptionKind, OptionValue};
-use crate::list::copied;
 use crate::text::{array_of, value_of_text};
 use itoa::Buffer;
 use machine_file::MachineValue;
 use std::alloc::{AllocError, Global};
+use text_lists::copies;
 
 // A list as it is printed: texts in single quotes, in which nothing is escaped, with a comma and a space between each two.
 fn printed(alloc: Global, items: &[String]) -> Result<String, AllocError>
@@ -55,8 +55,8 @@ pub fn value_of_items(
     ensures { IfOk result (λ v. option_map value_in v ≡ value_of_items (kind_in kind.now) (strings_in items.now)) }
 {
     match kind {
-        OptionKind::Array(choices) => Ok(array_of(choices, copied(alloc, items)?)),
-        OptionKind::Words => Ok(Some(OptionValue::Array(copied(alloc, items)?))),
+        OptionKind::Array(choices) => Ok(array_of(choices, copies(alloc, items)?)),
+        OptionKind::Words => Ok(Some(OptionValue::Array(copies(alloc, items)?))),
         _ => value_of_printed(alloc, kind, items),
     }
 }

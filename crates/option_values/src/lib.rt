@@ -19,6 +19,5 @@ pub use choices::Choices;
 pub use given::{value_of_given, value_of_items};
 pub use integer::is_within;
 pub use kind::{FeatureState, OptionKind, OptionType, OptionValue};
-pub use list::copied;
 pub use text::value_of_text;
 pub use words::words_of;

@@ -1,6 +1,6 @@
 //! Texts that give the items of a list.
 
-ghost use Rattle.std.specs.Prelude.{◌≡◌, IfOk, string_bytes};
+ghost use Rattle.std.specs.Prelude.{◌≡◌, IfOk};
 ghost use Rattle.std.specs.Option.{option_map};
 ghost use Rattle.option_values.specs.Lists.{are_among, begins_list, items_of, listed, parts_of, word_items_of};
 ghost use Rattle.option_values.specs.View.{choices_in, strings_in, texts_of};
@@ -9,17 +9,6 @@ use crate::choices::Choices;
 use crate::words::words_of;
 use machine_file::{Blanks, MachineValue, read_value, trimmed};
 use std::alloc::{AllocError, Global};
-
-/// These texts, copied.
-pub fn copied(alloc: Global, texts: &[String]) -> Result<Vec<String>, AllocError>
-    ensures { IfOk result (λ copies. strings_in copies.items ≡ strings_in texts.now) }
-{
-    let mut copies = Vec::new(alloc);
-    for text in texts {
-        copies.push(String::from_str(alloc, text.as_str())?)?;
-    }
-    Ok(copies)
-}
 
 // Whether each item is one of the choices.
 fn all_among(choices: &Choices, items: &[String]) -> bool

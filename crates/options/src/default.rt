@@ -9,10 +9,10 @@ ghost use Rattle.options.specs.Defaults.{declared_value, value_or_kind, default_
 
 use option_file::{Declaration, Given};
 use option_values::{
-    Choices, FeatureState, OptionKind, OptionValue, copied, is_within, value_of_items,
-    value_of_text,
+    Choices, FeatureState, OptionKind, OptionValue, is_within, value_of_items, value_of_text,
 };
 use std::alloc::{AllocError, Global};
+use text_lists::copies;
 
 // A combo's first choice.
 fn first_of(alloc: Global, choices: &Choices) -> Result<Option<OptionValue>, AllocError>
@@ -32,7 +32,7 @@ fn all_choices(alloc: Global, choices: &Option<Choices>) -> Result<Option<Option
     ensures { IfOk result (λ v. option_map value_in v ≡ value_of_kind (kind_in (OptionKind.Array choices.now))) }
 {
     match choices {
-        Some(choices) => Ok(Some(OptionValue::Array(copied(alloc, choices.texts())?))),
+        Some(choices) => Ok(Some(OptionValue::Array(copies(alloc, choices.texts())?))),
         None => Ok(Some(OptionValue::Array(Vec::new(alloc)))),
     }
 }

@@ -21,7 +21,8 @@ use targets::{
 
 // ---- names
 
-fn has_slash(text: &str) -> bool
+/// Whether there is a `/` in the text.
+pub fn has_slash(text: &str) -> bool
     ensures { result ≡ has_slash text.now }
 {
     text.as_bytes().iter().any(|byte| *byte == b'/')

@@ -7,6 +7,7 @@ mod notes;
 mod project;
 mod refusal;
 
+pub use fitting::{has_slash, is_file_name};
 pub use notes::{Answer, Install, Test};
 pub use project::{
     Project, edges, edges_are_writable, edges_stand_in_order, needs_are_made, no_circle,

@@ -70,7 +70,8 @@ pub fn defaults<'a>(
     keys: &'a [Text],
     printed: &'a [String],
 ) -> Result<Vec<ProjectDefault<'a>>, AllocError>
-    ensures { IfOk result (λ v. defaults_in v.items ≡ map Assignment (strings_in texts.now) ++ entry_defaults keys.now (strings_in printed.now)) }
+    ensures { IfOk result (λ v. defaults_in v.items
+        ≡ map Assignment (strings_in texts.now) ++ entry_defaults keys.now (strings_in printed.now)) }
 {
     let mut defaults = Vec::new(alloc);
     for text in texts {

@@ -103,7 +103,8 @@ fn resolution(
     declared: &Declared,
     store: &Store,
 ) -> Result<Resolved, AllocError>
-    ensures { IfOk result (λ r. resolved_in r ≡ resolution (arguments_data arguments.now) (strings_in printed.now) (declared_in declared.now)
+    ensures { IfOk result (λ r. resolved_in r
+        ≡ resolution (arguments_data arguments.now) (strings_in printed.now) (declared_in declared.now)
         (world_of store.now).facts) }
 {
     let texts = arguments.texts(alloc, "default_options")?;
@@ -191,7 +192,8 @@ fn require_c<T: Tree, O: Outputs>(
     caller: &Caller<'_, T, O>,
     arguments: &Arguments,
 ) -> Result<(), Stop>
-    ensures { Carries (λ u. u) (fitting (languages_refusal (texts_behind (arguments_data arguments.now)))) (state_of T.seen O.seen caller.now)
+    ensures { Carries (λ u. u) (fitting (languages_refusal (texts_behind (arguments_data arguments.now))))
+        (state_of T.seen O.seen caller.now)
         result (state_of T.seen O.seen caller.now) }
 {
     let languages = arguments.texts_behind(caller.alloc, 1)?;

@@ -1,7 +1,7 @@
 -- `dependency`: what the machine file has.
 use Rattle.std.specs.Prelude.{ℕ, List, Option, Some, None, codes, option_map, Result}
 use Rattle.arguments.specs.Arguments.{ArgumentsData}
-use Rattle.arguments.specs.Flat.{flat_all}
+use Rattle.flat.specs.Flat.{flat_all}
 use Rattle.arguments.specs.Given.{text_at, texts}
 use Rattle.arguments.specs.declared.given.Requirement.{Requirement}
 use Rattle.arguments.specs.declared.given.Requirement.TheVariants as requirements

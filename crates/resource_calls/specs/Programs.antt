@@ -1,7 +1,7 @@
 -- `find_program`: a program of the machine file, or a file of the tree.
 use Rattle.std.specs.Prelude.{Bool, true, false, List, [], ◌∷◌, Option, Some, None, option_map, ok_or, Result}
 use Rattle.arguments.specs.Arguments.{ArgumentsData}
-use Rattle.arguments.specs.Flat.{flat_all}
+use Rattle.flat.specs.Flat.{flat_all}
 use Rattle.arguments.specs.Given.{text_at}
 use Rattle.arguments.specs.declared.given.Requirement.{Requirement}
 use Rattle.arguments.specs.declared.given.Requirement.TheVariants as requirements

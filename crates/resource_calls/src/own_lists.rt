@@ -1,9 +1,7 @@
 //! What `declare_dependency` lists of its own, as its arguments name it.
 ghost use Rattle.std.specs.Prelude.{◌≡◌, IfOk, map, option_map};
-ghost use Rattle.std.specs.List.{list_all};
 ghost use Rattle.arguments.specs.Arguments.{arguments_data};
 ghost use Rattle.data.specs.View.{data_of};
-ghost use Rattle.targets.specs.Libraries.{is_library_at};
 ghost use Rattle.targets.specs.View.{linked_view};
 ghost use Rattle.resource_calls.specs.OwnLists.{if_libraries, libraries_of, own_lists};
 ghost use Rattle.resource_calls.specs.OwnListsView.{own_view};
@@ -14,7 +12,7 @@ use arguments::Arguments;
 use data::Value;
 use std::alloc::{AllocError, Global};
 use target_arguments::{NamedSource, folders_of, numbers_of, sources_of};
-use targets::{Linked, is_library_at};
+use targets::{Linked, are_libraries};
 
 /// What a call lists of its own.
 #[derive(Drop)]
@@ -24,12 +22,6 @@ pub struct Own {
     /// The numbers of the libraries to link with.
     pub libraries: Vec<usize>,
     pub sources: Vec<NamedSource>,
-}
-
-fn are_libraries(earlier: &[Linked], numbers: &[usize]) -> bool
-    ensures { result ≡ list_all (is_library_at (map linked_view earlier.now)) numbers.now }
-{
-    numbers.iter().all(|number| is_library_at(earlier, *number))
 }
 
 fn if_libraries(earlier: &[Linked], numbers: Vec<usize>) -> Option<Vec<usize>>

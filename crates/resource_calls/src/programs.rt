@@ -1,7 +1,7 @@
 //! `find_program`: <https://mesonbuild.com/Reference-manual_functions.html#find_program>.
 ghost use Rattle.std.specs.Prelude.{◌≡◌, map, option_map, string_bytes};
 ghost use Rattle.arguments.specs.Arguments.{arguments_data};
-ghost use Rattle.arguments.specs.Flat.{flat_all};
+ghost use Rattle.flat.specs.Flat.{flat_all};
 ghost use Rattle.data.specs.View.{data_of};
 ghost use Rattle.world.specs.Answering.{Carries, HasRoom};
 ghost use Rattle.world.specs.Caller.{state_of};

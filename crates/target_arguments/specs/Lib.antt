@@ -1,6 +1,5 @@
 pub mod Folders
 pub mod Libraries
-pub mod Opened
 pub mod Outputs
 pub mod Sources
 pub mod SourcesView

@@ -4,7 +4,6 @@
 
 mod folders;
 mod libraries;
-mod opening;
 mod outputs;
 mod sources;
 mod values;
@@ -12,7 +11,6 @@ mod versions;
 
 pub use folders::{folders_of, strings};
 pub use libraries::numbers_of;
-pub use opening::{opened, opened_values};
 pub use outputs::{output_at, outputs_at};
 pub use sources::{NamedSource, sources_of};
 pub use values::{directories_at, files_at};

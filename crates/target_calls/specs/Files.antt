@@ -3,7 +3,7 @@ use Rattle.std.specs.Prelude.{ℕ, List, [], ◌∷◌, Option, Some, ok_or}
 use Rattle.data.specs.Data.{Data}
 use Rattle.faults.specs.declared.refusal.Refusal.TheVariants as refusals
 use Rattle.arguments.specs.Arguments.{ArgumentsData}
-use Rattle.arguments.specs.Flat.{flat_all}
+use Rattle.flat.specs.Flat.{flat_all}
 use Rattle.paths.specs.Paths.{folder_paths, tree_paths}
 use Rattle.world.specs.Deed.{Deed, give, read, ◌>>=◌, answered, fitting, required}
 use Rattle.target_arguments.specs.Values.{directories_at, files_at}

@@ -2,7 +2,7 @@
 use Rattle.std.specs.Prelude.{Bool, false, List, [], ◌∷◌, Option, None, bytes_eq, codes}
 use Rattle.std.specs.List.{list_all}
 use Rattle.arguments.specs.Arguments.{ArgumentsData}
-use Rattle.arguments.specs.Flat.{flat_all}
+use Rattle.flat.specs.Flat.{flat_all}
 use Rattle.arguments.specs.Given.{texts}
 use Rattle.data.specs.Data.{Data}
 use Rattle.edge.specs.Texts.{Text}

@@ -3,7 +3,6 @@ ghost use Rattle.std.specs.Prelude.{◌≡◌, IfOk, map, option_map, string_byt
 ghost use Rattle.data.specs.View.{data_of};
 ghost use Rattle.edge.specs.Texts.{texts};
 ghost use Rattle.placeholders.specs.View.{place_view};
-ghost use Rattle.project.specs.Adding.{has_slash};
 ghost use Rattle.targets.specs.View.{build_view, source_view};
 ghost use Rattle.target_calls.specs.Commands.{build_target_at, called, command_of, is_executable, joined, of_build_target, of_file};
 ghost use Rattle.target_calls.specs.Commands.{of_object, of_output, of_outputs, of_program, one_path, output_named, outputs_named};
@@ -16,6 +15,7 @@ use crate::sources::{made_of, one_made_of};
 use data::{Object, Program, Value};
 use edge::{copies, source_path};
 use placeholders::{Place, words_of};
+use project::has_slash;
 use std::alloc::{AllocError, Global};
 use target_arguments::{output_at, outputs_at, strings};
 use targets::{BuildTarget, Kind, Source, build_target_at, file_path};
@@ -83,12 +83,6 @@ fn called(alloc: Global, target: &BuildTarget) -> Result<String, AllocError>
     } else {
         Ok(path)
     }
-}
-
-fn has_slash(path: &str) -> bool
-    ensures { result ≡ has_slash path.now }
-{
-    path.as_bytes().iter().any(|byte| *byte == b'/')
 }
 
 fn of_build_target(alloc: Global, target: &BuildTarget) -> Result<Part, AllocError>

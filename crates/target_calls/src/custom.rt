@@ -24,9 +24,10 @@ use crate::sources::{files_among, sources_in};
 use arguments::{Arguments, Named};
 use data::Value;
 use edge::{copies, source_path, source_root};
+use flat::opened;
 use placeholders::{Place, Scope, filled};
 use std::alloc::{AllocError, Global};
-use target_arguments::{opened, sources_of};
+use target_arguments::sources_of;
 use targets::{CustomTarget, Source, Target, path_in, source_paths};
 
 /// Names of files of the folder.

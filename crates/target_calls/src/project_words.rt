@@ -2,7 +2,7 @@
 ghost use Rattle.std.specs.Prelude.{◌≡◌, IfOk, map, option_map};
 ghost use Rattle.std.specs.List.{list_all};
 ghost use Rattle.arguments.specs.Arguments.{arguments_data};
-ghost use Rattle.arguments.specs.Flat.{flat_all};
+ghost use Rattle.flat.specs.Flat.{flat_all};
 ghost use Rattle.data.specs.View.{data_of};
 ghost use Rattle.edge.specs.Texts.{texts};
 ghost use Rattle.world.specs.Answering.{Carries};

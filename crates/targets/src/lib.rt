@@ -12,6 +12,8 @@ pub use files::{
     default_paths, depfile_path, file_name, file_path, link_names, link_paths, objects,
     output_paths, path_in, so_name,
 };
-pub use linking::{Linked, build_target_at, is_library_at, libraries, links_libraries};
+pub use linking::{
+    Linked, are_libraries, build_target_at, is_library_at, libraries, links_libraries,
+};
 pub use sources::{Input, compiled, generated, has_foreign_source, is_c, source_paths};
 pub use target::{BuildTarget, CustomTarget, Kind, Lists, Source, Target};

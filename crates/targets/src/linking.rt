@@ -133,7 +133,8 @@ pub fn libraries(
     }
 }
 
-fn are_libraries(earlier: &[Linked], numbers: &[usize]) -> bool
+/// Whether each of these numbers is that of an earlier library.
+pub fn are_libraries(earlier: &[Linked], numbers: &[usize]) -> bool
     ensures { result ≡ list_all (is_library_at (map linked_view earlier.now)) numbers.now }
 {
     numbers.iter().all(|number| is_library_at(earlier, *number))

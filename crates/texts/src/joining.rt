@@ -6,7 +6,7 @@ ghost use Rattle.data.specs.Limits.{within_bytes, Appends};
 ghost use Rattle.data.specs.Tables.{string_in};
 
 use crate::cut::first_part;
-use data::{Refusal, Text, append};
+use data::{Refusal, append};
 use std::alloc::{AllocError, Global};
 
 /// The pieces in order, with `separator` between each two.
@@ -15,7 +15,7 @@ use std::alloc::{AllocError, Global};
 pub fn join(
     alloc: Global,
     separator: &str,
-    pieces: &[&Text],
+    pieces: &[&str],
 ) -> Result<Result<String, Refusal>, AllocError>
     ensures { IfOk result (λ r. string_in r ≡ within_bytes (joined separator.now (map (λ p. p.now) pieces.now))) }
 {
@@ -23,11 +23,11 @@ pub fn join(
     let Some((first, others)) = pieces.split_first() else {
         return Ok(Ok(made));
     };
-    if let Err(refusal) = append(&mut made, first.as_str())? {
+    if let Err(refusal) = append(&mut made, first)? {
         return Ok(Err(refusal));
     }
     for piece in others {
-        if let Err(refusal) = append_both(&mut made, separator, piece.as_str())? {
+        if let Err(refusal) = append_both(&mut made, separator, piece)? {
             return Ok(Err(refusal));
         }
     }

@@ -1,4 +1,4 @@
-use Rattle.std.proofs.Common.{◌≡◌, ℕ, List, [], Ok, Bor, get_or, refl, sym, ap, ◌∙◌}
+use Rattle.std.proofs.Common.{◌≡◌, ℕ, List, [], Ok, Bor, get_or, refl}
 use Rattle.data.specs.Data.{text}
 use Rattle.data.specs.Limits.{within}
 use Rattle.data.specs.View.{data_of}
@@ -9,5 +9,5 @@ pub loop-text-preserved : goal.loop-text-preserved
 loop-text-preserved c =
     let d : Bor (List ℕ) = record { ref_ptr = (0, 0); now = [] } in
     let t = get_or c.args.texts.now c.loop-text.text-index d in
-    let w : within (text t.now) ≡ Ok (data_of c.in-Ok.value) = ap (λ b. within (text b)) (sym c.in_ok-from_str.ensures.ok) ∙ answers_ok _ _ c.in_ok-value.ensures c.in-Ok.is in
+    let w : within (text t.now) ≡ Ok (data_of c.in-Ok.value) = answers_ok _ _ c.in_ok-value.ensures c.in-Ok.is in
     texts_more _ _ _ c.args.texts.now c.loop-text.text-index d t _ c.loop-text-test.true refl w c.in_ok-push-in-Ok.ensures.items c.loop-text.invariant

@@ -6,4 +6,4 @@ use Rattle.objects.specs.Machines.{text_of}
 use Rattle.objects.proofs.machines.told_of.Goals as goal
 
 pub returns : goal.returns
-returns c = answers_as _ (ap (λ t. within (text t)) (c.text_of.ensures ∙ ap (text_of c.args.method) c.machine.ensures)) c.text_value.ensures
+returns c = answers_as _ (ap (λ t. within (text t)) (c.text_of.ensures ∙ ap (text_of c.args.method) c.machine.ensures)) c.of_str.ensures

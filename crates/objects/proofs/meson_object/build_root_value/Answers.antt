@@ -5,4 +5,4 @@ use Rattle.compiler_methods.proofs.Values.{answers_as}
 use Rattle.objects.proofs.meson_object.build_root_value.Goals as goal
 
 pub returns : goal.returns
-returns c = answers_as _ (ap (λ t. within (text t)) c.build_root.ensures) c.text_value.ensures
+returns c = answers_as _ (ap (λ t. within (text t)) c.build_root.ensures) c.of_str.ensures

@@ -5,4 +5,4 @@ use Rattle.data.specs.Limits.{within}
 use Rattle.objects.proofs.meson_object.project_name_value.Goals as goal
 
 pub returns : goal.returns
-returns c = answers_as _ (ap (λ t. within (text t)) c.project_name.ensures) c.text_value.ensures
+returns c = answers_as _ (ap (λ t. within (text t)) c.project_name.ensures) c.of_str.ensures

@@ -1,4 +1,4 @@
-use Rattle.std.proofs.Common.{◌≡◌, ◌+◌, ◌++◌, get_or, Err, map, string_bytes, sym, ◌∙◌, ap, arith}
+use Rattle.std.proofs.Common.{◌+◌, ◌++◌, Err, map, string_bytes, sym, ◌∙◌, ap, arith}
 use Rattle.std.proofs.lemmas.List.{append-nil}
 use Rattle.texts.specs.Joined.{joined}
 use Rattle.texts.proofs.JoinedLemmas.{pieces_from, no_pieces, next_piece, too_long, short_enough, grown}
@@ -6,7 +6,7 @@ use Rattle.texts.proofs.joining.join.Goals as goal
 
 pub loop-piece-init : goal.loop-piece-init
 loop-piece-init c =
-    let appended = rw (c.in_default-2.is, c.as_str.ensures.text) at c.in_ok-refusal.ensures in (
+    let appended = rw c.in_default-2.is at c.in_ok-refusal.ensures in (
       ap (λ ps. joined c.args.separator.now (map (λ p. p.now) ps)) c.in-Some.ensures.cases.0
           ∙ ap (λ made. made ++ pieces_from c.args.separator.now c.in-Some.others.now 0)
           (sym (appended.0 ∙ ap (λ made. made ++ c.in-Some.first.now.now) c.new-made.ensures.bytes)),
@@ -15,25 +15,19 @@ loop-piece-init c =
 
 pub returns-in-Err-2 : goal.returns-in-Err-2
 returns-in-Err-2 c =
-    let x = c.piece-item.result in
-    let text : c.as_str-in-loop-piece.result.now ≡ (get_or c.in-Some.others.now c.loop-piece.piece-index x).now =
-    c.as_str-in-loop-piece.ensures.text ∙ ap (λ p. p.now) c.piece-item.is in
-    let refused = rw (c.in-Err-2.is, text) at c.in_ok-refusal-2.ensures in
+    let refused = rw c.in-Err-2.is at c.in_ok-refusal-2.ensures in
     ap (λ e. Err e) refused.0
     ∙ too_long _ (string_bytes c.loop-piece.made) _ (pieces_from c.args.separator.now c.in-Some.others.now (c.loop-piece.piece-index + 1))
     (c.loop-piece.invariant.0 ∙ ap (λ more. string_bytes c.loop-piece.made ++ more)
-    (next_piece c.args.separator.now c.in-Some.others.now c.loop-piece.piece-index x c.loop-piece-test.true))
+    (next_piece c.args.separator.now c.in-Some.others.now c.loop-piece.piece-index _ c.loop-piece-test.true))
     refused.1
 
 pub loop-piece-preserved : goal.loop-piece-preserved
 loop-piece-preserved c =
-    let x = c.piece-item.result in
-    let text : c.as_str-in-loop-piece.result.now ≡ (get_or c.in-Some.others.now c.loop-piece.piece-index x).now =
-    c.as_str-in-loop-piece.ensures.text ∙ ap (λ p. p.now) c.piece-item.is in
-    let appended = rw (c.in_default-3.is, text) at c.in_ok-refusal-2.ensures in (
+    let appended = rw c.in_default-3.is at c.in_ok-refusal-2.ensures in (
       grown _ (string_bytes c.loop-piece.made) _ (pieces_from c.args.separator.now c.in-Some.others.now (c.loop-piece.piece-index + 1)) _
           (c.loop-piece.invariant.0 ∙ ap (λ more. string_bytes c.loop-piece.made ++ more)
-          (next_piece c.args.separator.now c.in-Some.others.now c.loop-piece.piece-index x c.loop-piece-test.true))
+          (next_piece c.args.separator.now c.in-Some.others.now c.loop-piece.piece-index _ c.loop-piece-test.true))
           appended.0,
       appended.1,
     )

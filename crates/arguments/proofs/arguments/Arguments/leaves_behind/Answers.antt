@@ -1,13 +1,12 @@
-use Rattle.std.proofs.Common.{drop, map, ap, sym, ◌∙◌, ◌++◌}
+use Rattle.std.proofs.Common.{◌≡◌, drop, ap, sym, ◌∙◌, map}
 use Rattle.std.proofs.lemmas.List.{drop-map}
-use Rattle.data.specs.View.{data_of, items_of}
-use Rattle.arguments.specs.Leaves.{all_leaves, item_leaves}
-use Rattle.arguments.proofs.FlatLemmas.{item_leaves-items_of}
+use Rattle.std.proofs.lemmas.Result.{IfOk-weaker}
+use Rattle.data.specs.View.{data_of}
+use Rattle.flat.specs.Flat.{opened_all}
 use Rattle.arguments.proofs.arguments.Arguments.leaves_behind.Goals as goal
 
 pub returns : goal.returns
 returns c =
-    let at = c.behind.ensures ∙ ap (drop c.args.place) c.deref.ensures.value in
-    c.in_ok-collect_items.ensures ∙ ap (λ vs. map (λ v. data_of v.now) vs ++ item_leaves (items_of c.behind.result.now)) c.new-found.ensures.items
-    ∙ ap (λ vs. item_leaves (items_of vs)) at ∙ item_leaves-items_of (drop c.args.place c.args.self.now.positional.items)
-    ∙ ap all_leaves (sym (drop-map data_of c.args.place c.args.self.now.positional.items))
+    let at = ap (λ vs. opened_all (map data_of vs)) (c.behind.ensures ∙ ap (drop c.args.place) c.deref.ensures.value)
+    ∙ ap opened_all (sym (drop-map data_of c.args.place c.args.self.now.positional.items)) in
+    IfOk-weaker c.opened_all.result (λ found. map (λ v. data_of v.now) found.items ≡ opened_all (map data_of c.behind.result.now)) _ (λ found is. is ∙ at) c.opened_all.ensures
