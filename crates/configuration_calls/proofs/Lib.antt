@@ -1,5 +1,4 @@
 pub mod Data
 pub mod Filling
 pub mod Quotes
-pub mod Setting
 pub mod Telling

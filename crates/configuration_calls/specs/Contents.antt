@@ -1,6 +1,6 @@
 -- Values of the language in configuration data.
 use Rattle.std.specs.Prelude.{ℕ, false, ◌==◌, List, [], ◌∷◌, Option, Some, None, option_map, unwrap_or, Result, Ok, Err, if◌then◌else◌}
-use Rattle.data.specs.Data.{Data, boolean, integer, text, list, Entries as DictionaryEntries, Items, no_items, item, items_append}
+use Rattle.data.specs.Data.{Data, boolean, integer, text, Entries as DictionaryEntries, Items, no_items, item}
 use Rattle.data.specs.Data.{entry_values, keys_in}
 use Rattle.data.specs.Limits.{within}
 use Rattle.data.specs.declared.refusal.Refusal.{Refusal}
@@ -79,18 +79,3 @@ unquoted_fallback (Some d) = Ok d
 abbrev pub found_unquoted : Option Content → Option Data → Result Data Refusal
 found_unquoted (Some content) fallback = within (data_in (unquoted content))
 found_unquoted None fallback = unquoted_fallback fallback
-
--- ---- names as values
-
-abbrev pub and_then : {A B : Type 0} → Result A Refusal → (A → Result B Refusal) → Result B Refusal
-and_then (Ok a) next = next a
-and_then (Err refusal) next = Err refusal
-
--- items, and behind them texts, each within the limit of a text
-abbrev pub texts_behind : Items → List (List ℕ) → Result Items Refusal
-texts_behind ds [] = Ok ds
-texts_behind ds (t ∷ ts) = and_then (within (text t)) (λ d. texts_behind (items_append ds (item d no_items)) ts)
-
--- the list of these texts
-abbrev pub texts_list : List (List ℕ) → Result Data Refusal
-texts_list ts = and_then (texts_behind no_items ts) (λ ds. within (list ds))

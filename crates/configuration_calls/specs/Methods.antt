@@ -9,7 +9,8 @@ use Rattle.template.specs.Config.{Content, Number, names, value_of}
 use Rattle.template.specs.Line.{is_name}
 use Rattle.world.specs.Configuring.{configuration_at, merge_configured, set_configured, set_quoted}
 use Rattle.world.specs.Deed.{Deed, give, refuse, read, ◌>>=◌, answered, fitting, need}
-use Rattle.configuration_calls.specs.Contents.{content_in, found_or, found_unquoted, texts_list}
+use Rattle.configuration_calls.specs.Contents.{content_in, found_or, found_unquoted}
+use Rattle.operators.specs.TextLists.{text_list}
 use Rattle.configuration_calls.specs.Given.{entries_of, number_in}
 use Rattle.configuration_calls.specs.Rows.{row_of}
 use Rattle.configuration_calls.specs.declared.methods.Method.{Method}
@@ -64,7 +65,7 @@ has number a = do
 unfoldable pub keys : ℕ → Deed (Option Data)
 keys number = do
   facts ← read
-  d ← answered (texts_list (names (entries_of facts number)))
+  d ← answered (text_list (names (entries_of facts number)))
   give (Some d)
 
 -- the data that a call is given

@@ -1,7 +1,7 @@
 //! Values of the language in configuration data.
-ghost use Rattle.std.specs.Prelude.{◌≡◌, [], IfOk, OnOk, map, option_map};
+ghost use Rattle.std.specs.Prelude.{◌≡◌, [], IfOk, OnOk, option_map};
 ghost use Rattle.std.specs.List.{list_all};
-ghost use Rattle.data.specs.Data.{no_items, text as text_data};
+ghost use Rattle.data.specs.Data.{text as text_data};
 ghost use Rattle.data.specs.Tables.{Answers};
 ghost use Rattle.data.specs.Limits.{within};
 ghost use Rattle.data.specs.View.{data_of, items_of};
@@ -9,10 +9,9 @@ ghost use Rattle.template.specs.Config.{with_value};
 ghost use Rattle.template.specs.ConfigData.{content_of};
 ghost use Rattle.template.specs.Line.{is_name, is_name_byte};
 ghost use Rattle.configuration_calls.specs.Contents.{all_set, content_at, content_in, data_in, entries_in, fallback_or_none, found_or};
-ghost use Rattle.configuration_calls.specs.Contents.{found_unquoted, texts_behind, texts_list, unfrozen, unquoted, unquoted_fallback, unquoted_text};
-ghost use Rattle.target_arguments.specs.ValuesView.{items_in};
+ghost use Rattle.configuration_calls.specs.Contents.{found_unquoted, unfrozen, unquoted, unquoted_fallback, unquoted_text};
 
-use data::{Dictionary, List, Refusal, Text, Value};
+use data::{Dictionary, Refusal, Text, Value};
 use std::alloc::{AllocError, Global};
 use template::{ConfigData, ConfigValue};
 
@@ -189,32 +188,5 @@ pub fn found_unquoted(
     match content {
         Some(content) => unquoted(alloc, content),
         None => unquoted_fallback(alloc, fallback),
-    }
-}
-
-// Texts as values.
-fn text_values(alloc: Global, texts: &[&str]) -> Result<Result<Vec<Value>, Refusal>, AllocError>
-    ensures { IfOk result (λ r. items_in r ≡ texts_behind no_items (map (λ t. t.now) texts.now)) }
-{
-    let mut values = Vec::new(alloc);
-    for text in texts {
-        match Value::of_str(alloc, text)? {
-            Ok(value) => values.push(value)?,
-            Err(refusal) => return Ok(Err(refusal)),
-        }
-    }
-    Ok(Ok(values))
-}
-
-/// The list of texts, or `Refusal::Limit` where one of them or the list passes a limit.
-pub fn texts_list(alloc: Global, texts: &[&str]) -> Result<Result<Value, Refusal>, AllocError>
-    ensures { IfOk result (λ r. Answers (texts_list (map (λ t. t.now) texts.now)) r) }
-{
-    match text_values(alloc, texts)? {
-        Ok(values) => match List::from_items(values) {
-            Ok(list) => Ok(Ok(Value::of_list(alloc, list)?)),
-            Err(refusal) => Ok(Err(refusal)),
-        },
-        Err(refusal) => Ok(Err(refusal)),
     }
 }

@@ -16,12 +16,13 @@ ghost use Rattle.configuration_calls.specs.Methods.{configuration_method, conten
 ghost use Rattle.configuration_calls.specs.Methods.{keys, merge_from, name_given, named, one_or_zero, other_given, set, set10, set_text_quoted};
 ghost use Rattle.configuration_calls.specs.Rows.{row_of};
 
-use crate::contents::{content_in, found_or, found_unquoted, is_name, texts_list};
+use crate::contents::{content_in, found_or, found_unquoted, is_name};
 use crate::data_call::copy_of;
 use crate::rows::row_of;
 use arguments::{Arguments, check};
 use data::{Object, Value};
 use faults::Refusal;
+use operators::text_list;
 use ports::{Outputs, Tree};
 use std::alloc::{AllocError, Global};
 use template::ConfigValue;
@@ -150,7 +151,7 @@ fn keys<T: Tree, O: Outputs>(
         (state_of T.seen O.seen caller.now) result (state_of T.seen O.seen caller.now) }
 {
     let names = names_at(caller.alloc, caller.store, number)?;
-    let answer = texts_list(caller.alloc, &names)?;
+    let answer = text_list(caller.alloc, &names)?;
     let value = caller.answered(answer)?;
     Ok(Some(value))
 }

@@ -20,7 +20,7 @@ use Rattle.methods.specs.Steps.{◌>>=◌}
 use Rattle.methods.specs.Arguments.{no_arguments, one_text, two_texts, bounds}
 use Rattle.methods.specs.FlatTexts.{flat_texts}
 use Rattle.methods.specs.Formatted.{formatted_text}
-use Rattle.methods.specs.TextLists.{text_list}
+use Rattle.operators.specs.TextLists.{text_list}
 
 -- the method of a name
 abbrev pub named : List ℕ → Option TextMethod

@@ -12,7 +12,6 @@ mod lists;
 mod methods;
 pub mod readers;
 mod stop;
-mod text_lists;
 mod text_methods;
 
 pub use flattening::flat_texts;

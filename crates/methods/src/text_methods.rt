@@ -12,8 +12,8 @@ use crate::flattening::flat_texts;
 use crate::formatted::format_text;
 use crate::readers::{bounds, none, one_text, two_texts};
 use crate::stop::Stop;
-use crate::text_lists::text_list;
 use data::{Refusal, Value};
+use operators::text_list;
 use std::alloc::Global;
 
 /// A method of texts.
@@ -140,11 +140,11 @@ fn split(alloc: Global, text: &str, arguments: &[Value]) -> Result<Value, Stop>
 {
     if arguments.is_empty() {
         let words = texts::split_blank(alloc, text)??;
-        return text_list(alloc, &words);
+        return Ok(text_list(alloc, &words)??);
     }
     let separator = one_text(arguments)?;
     let parts = texts::split_at(alloc, text, separator.as_str())??;
-    text_list(alloc, &parts)
+    Ok(text_list(alloc, &parts)??)
 }
 
 fn split_lines(alloc: Global, text: &str, arguments: &[Value]) -> Result<Value, Stop>
@@ -152,7 +152,7 @@ fn split_lines(alloc: Global, text: &str, arguments: &[Value]) -> Result<Value, 
 {
     none(arguments)?;
     let lines = texts::split_lines(alloc, text)??;
-    text_list(alloc, &lines)
+    Ok(text_list(alloc, &lines)??)
 }
 
 fn strip(alloc: Global, text: &str, arguments: &[Value]) -> Result<Value, Stop>

@@ -6,3 +6,4 @@ pub mod Operations
 pub mod Logic
 pub mod Index
 pub mod Literal
+pub mod TextLists

@@ -12,7 +12,7 @@ mod parts;
 mod relations;
 mod text_sums;
 
-pub use literal::{dictionary, list};
+pub use literal::{dictionary, list, text_list};
 pub use logic::{Left, left_side, right_side};
 pub use operations::{binary, unary};
 pub use operator::{Binary, Connective, Unary};

@@ -1,11 +1,12 @@
-//! Literals of lists and dictionaries.
+//! Literals of lists and dictionaries, and lists of texts.
 
-ghost use Rattle.std.specs.Prelude.{◌≡◌, ◌+◌, ◌<◌, ◌≤◌, ◌^◌, IfOk, MatchResult, Ok, Err};
-ghost use Rattle.data.specs.Data.{no_entries, list as list_data};
+ghost use Rattle.std.specs.Prelude.{◌≡◌, ◌+◌, ◌<◌, ◌≤◌, ◌^◌, IfOk, MatchResult, Ok, Err, map};
+ghost use Rattle.data.specs.Data.{no_entries, no_items, list as list_data};
 ghost use Rattle.data.specs.Limits.{within};
 ghost use Rattle.data.specs.Weight.{entries_weight};
 ghost use Rattle.data.specs.View.{data_of, items_of};
 ghost use Rattle.data.specs.Tables.{Answers};
+ghost use Rattle.operators.specs.TextLists.{items_in, text_list, texts_behind};
 ghost use Rattle.operators.specs.Literal.{with_entry, with_entries, literal_answer, pairs_of};
 
 use data::{DictionaryBuilder, List, Refusal, Value};
@@ -17,6 +18,30 @@ pub fn list(alloc: Global, items: Vec<Value>) -> Result<Result<Value, Refusal>, 
 {
     match List::from_items(items) {
         Ok(list) => Ok(Ok(Value::of_list(alloc, list)?)),
+        Err(refusal) => Ok(Err(refusal)),
+    }
+}
+
+// These texts as values, or `Refusal::Limit` where one is too long.
+fn text_values(alloc: Global, texts: &[&str]) -> Result<Result<Vec<Value>, Refusal>, AllocError>
+    ensures { IfOk result (λ r. items_in r ≡ texts_behind no_items (map (λ t. t.now) texts.now)) }
+{
+    let mut values = Vec::new(alloc);
+    for text in texts {
+        match Value::of_str(alloc, text)? {
+            Ok(value) => values.push(value)?,
+            Err(refusal) => return Ok(Err(refusal)),
+        }
+    }
+    Ok(Ok(values))
+}
+
+/// The list of these texts, or `Refusal::Limit` where one of them or the list passes a limit.
+pub fn text_list(alloc: Global, texts: &[&str]) -> Result<Result<Value, Refusal>, AllocError>
+    ensures { IfOk result (λ r. Answers (text_list (map (λ t. t.now) texts.now)) r) }
+{
+    match text_values(alloc, texts)? {
+        Ok(values) => list(alloc, values),
         Err(refusal) => Ok(Err(refusal)),
     }
 }

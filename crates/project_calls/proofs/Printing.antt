@@ -6,7 +6,7 @@ use Rattle.data.specs.declared.refusal.Refusal.{Refusal}
 use Rattle.data.specs.declared.value.Value.{Value}
 use Rattle.printing.specs.Printed.{printed}
 use Rattle.project_calls.specs.Defaults.{printed_behind}
-use Rattle.project_calls.specs.GetOption.{and_then}
+use Rattle.operators.specs.TextLists.{and_then}
 
 -- one value more
 pub printed_more : (ts new : List (String Global)) (t : String Global) (vs : List Value) (i : ℕ) (v : Value) (whole : Result (List (List ℕ)) Refusal)

@@ -6,7 +6,7 @@ use Rattle.arguments.specs.Arguments.{ArgumentsData}
 use Rattle.arguments.specs.Given.{keyword, texts}
 use Rattle.options.specs.Verdicts.{Default, Assignment, Entry}
 use Rattle.printing.specs.Printed.{printed}
-use Rattle.project_calls.specs.GetOption.{and_then}
+use Rattle.operators.specs.TextLists.{and_then}
 
 -- texts, and behind them those that values are printed as
 abbrev pub printed_behind : List (List ℕ) → Items → Result (List (List ℕ)) OperationRefusal

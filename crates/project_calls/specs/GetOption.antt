@@ -1,7 +1,8 @@
 -- `get_option`.
-use Rattle.std.specs.Prelude.{ℕ, List, [], ◌∷◌, Option, Some, None, Result, Ok, Err}
-use Rattle.data.specs.Data.{Data, boolean, integer, text, list, object, Items, no_items, item, items_append}
-use Rattle.data.specs.Limits.{within, within_bytes}
+use Rattle.std.specs.Prelude.{[], Option, Some, None, Result, Ok}
+use Rattle.data.specs.Data.{Data, boolean, integer, text, object}
+use Rattle.data.specs.Limits.{within}
+use Rattle.operators.specs.TextLists.{text_list}
 use Rattle.data.specs.declared.object.Feature.{Feature}
 use Rattle.data.specs.declared.object.Feature.TheVariants as features
 use Rattle.data.specs.declared.object.Object.TheVariants as objects
@@ -14,19 +15,6 @@ use Rattle.option_values.specs.declared.kind.FeatureState.{FeatureState}
 use Rattle.option_values.specs.declared.kind.FeatureState.TheVariants as states
 use Rattle.options.specs.Resolves.{value_named}
 use Rattle.world.specs.Deed.{Deed, give, refuse, read, ◌>>=◌, answered}
-
-abbrev pub and_then : {A B : Type 0} → Result A OperationRefusal → (A → Result B OperationRefusal) → Result B OperationRefusal
-and_then (Ok a) next = next a
-and_then (Err refusal) next = Err refusal
-
--- items, and behind them texts, each within the limit of a text
-abbrev pub texts_behind : Items → List (List ℕ) → Result Items OperationRefusal
-texts_behind ds [] = Ok ds
-texts_behind ds (t ∷ ts) = and_then (within_bytes t) (λ u. texts_behind (items_append ds (item (text u) no_items)) ts)
-
--- a list of texts, within the limits
-abbrev pub text_list : List (List ℕ) → Result Data OperationRefusal
-text_list ts = and_then (texts_behind no_items ts) (λ ds. within (list ds))
 
 abbrev pub feature_of : FeatureState → Feature
 feature_of states.Enabled = features.Enabled

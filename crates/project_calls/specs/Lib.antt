@@ -5,4 +5,3 @@ pub mod OptionFile
 pub mod OptionFileView
 pub mod Project
 pub mod Rows
-pub mod ValuesView

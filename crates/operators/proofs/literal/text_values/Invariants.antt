@@ -1,8 +1,8 @@
 use Rattle.std.proofs.Common.{◌≡◌, map, drop}
 use Rattle.data.specs.Data.{no_items}
 use Rattle.data.specs.View.{items_of}
-use Rattle.configuration_calls.specs.Contents.{texts_behind}
-use Rattle.configuration_calls.proofs.contents.text_values.Given as goal
+use Rattle.operators.specs.TextLists.{texts_behind}
+use Rattle.operators.proofs.literal.text_values.Given as goal
 
 -- the values so far and the texts that are left decide
 abbrev pub invariant-loop-text : goal.invariant-loop-text

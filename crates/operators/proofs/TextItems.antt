@@ -1,4 +1,4 @@
--- Names and their values, one after another, and texts as items.
+-- Texts as items, one after another.
 use Rattle.std.proofs.Common.{◌≡◌, ℕ, ◌+◌, ◌<◌, List, [], ◌∷◌, ◌++◌, map, drop, length, get_or, Result, Ok, refl, sym, ap, subst, ◌∙◌, Bor}
 use Rattle.std.proofs.lemmas.List.{at_drop_more}
 use Rattle.data.specs.Data.{Data, text, Items, no_items, item, items_append}
@@ -8,7 +8,7 @@ use Rattle.data.specs.View.{data_of, items_of}
 use Rattle.data.specs.declared.refusal.Refusal.{Refusal}
 use Rattle.data.specs.declared.value.Value.{Value}
 use Rattle.data.proofs.ItemsLemmas.{items_of-push}
-use Rattle.configuration_calls.specs.Contents.{and_then, texts_behind}
+use Rattle.operators.specs.TextLists.{and_then, texts_behind}
 
 pub answers_ok : {given : Result Data Refusal} (r : Result Value Refusal) (v : Value) → Answers given r → r ≡ Ok v → given ≡ Ok (data_of v)
 answers_ok {given = given} r v p is = subst (λ x. Answers given x) is p

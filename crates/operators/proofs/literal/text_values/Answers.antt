@@ -2,8 +2,8 @@ use Rattle.std.proofs.Common.{◌≡◌, ℕ, List, [], Ok, Bor, get_or, refl}
 use Rattle.data.specs.Data.{text}
 use Rattle.data.specs.Limits.{within}
 use Rattle.data.specs.View.{data_of}
-use Rattle.configuration_calls.proofs.Setting.{answers_ok, texts_more}
-use Rattle.configuration_calls.proofs.contents.text_values.Goals as goal
+use Rattle.operators.proofs.TextItems.{answers_ok, texts_more}
+use Rattle.operators.proofs.literal.text_values.Goals as goal
 
 pub loop-text-preserved : goal.loop-text-preserved
 loop-text-preserved c =

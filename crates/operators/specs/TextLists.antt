@@ -1,0 +1,27 @@
+-- The list of some texts.
+use Rattle.std.specs.Prelude.{ℕ, List, [], ◌∷◌, Result, Ok, Err}
+use Rattle.std.specs.declared.alloc.Global.{Global}
+use Rattle.std.specs.declared.vec.Vec.{Vec}
+use Rattle.data.specs.Data.{Data, text, list, Items, no_items, item, items_append}
+use Rattle.data.specs.Limits.{within}
+use Rattle.data.specs.View.{items_of}
+use Rattle.data.specs.declared.refusal.Refusal.{Refusal}
+use Rattle.data.specs.declared.value.Value.{Value}
+
+-- the values of an answer as items
+abbrev pub items_in : Result (Vec Value Global) Refusal → Result Items Refusal
+items_in (Ok values) = Ok (items_of values.items)
+items_in (Err refusal) = Err refusal
+
+abbrev pub and_then : {A B : Type 0} → Result A Refusal → (A → Result B Refusal) → Result B Refusal
+and_then (Ok a) next = next a
+and_then (Err refusal) next = Err refusal
+
+-- items, and behind them texts, each within the limit of a text
+abbrev pub texts_behind : Items → List (List ℕ) → Result Items Refusal
+texts_behind ds [] = Ok ds
+texts_behind ds (t ∷ ts) = and_then (within (text t)) (λ d. texts_behind (items_append ds (item d no_items)) ts)
+
+-- the list of these texts, where each of them and the list are within the limits
+abbrev pub text_list : List (List ℕ) → Result Data Refusal
+text_list ts = and_then (texts_behind no_items ts) (λ ds. within (list ds))
