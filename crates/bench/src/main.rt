@@ -6,7 +6,7 @@
 //! | `syntax:statements:FILE` | this definition file parsed |
 //! | `values:MEASURE:COUNT` | so many operations on values, of the kinds in `value_measures` |
 //! | `options:MEASURE:COUNT` | calls on so many options, of the kinds in `option_measures` |
-//! | `template:FILE:NAME=TEXT,..` | this template of the folder written to `FILE.out`, where these names stand for these texts; its log goes to the standard output |
+//! | `template:FILE:NAME=TEXT,..` | the template FILE of the folder with these texts for names, as `FILE.out`; its log on standard output |
 #![tactic(auto)]
 
 mod measured;

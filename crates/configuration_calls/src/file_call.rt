@@ -142,8 +142,8 @@ fn configure<T: Tree, O: Outputs>(
     }
 }
 
-/// `configure_file()`: E9, E14, E21, E11 in this order; E19 or E22 at the template's first line that is refused, when the lines before it are
-/// written.
+/// `configure_file()`: E9, E14, E21, E11 in this order; E19 or E22 at the template's first line that is refused, when the lines before it
+/// are written.
 pub fn configure_file<T: Tree, O: Outputs>(
     caller: &mut Caller<'_, T, O>,
     arguments: &Arguments,

@@ -41,4 +41,5 @@ end_run (Some path) = puts (codes " DEPFILE = ") ++ (puts (value_text path) ++ p
 abbrev pub bindings_run : EdgeData → List Step
 bindings_run e =
     puts (codes "\n COMMAND = ")
-    ++ (puts (value_text (words_text e.words e.redirect)) ++ (puts (codes "\n DESC = ") ++ (puts (value_text e.description) ++ (puts (codes "\n") ++ end_run e.depfile))))
+    ++ (puts (value_text (words_text e.words e.redirect))
+    ++ (puts (codes "\n DESC = ") ++ (puts (value_text e.description) ++ (puts (codes "\n") ++ end_run e.depfile))))

@@ -115,7 +115,8 @@ names_of place a = do
   Some (record { outputs = outputs; depfile = first_of depfile })
 
 abbrev pub place_of : HereData → (inputs : List Path) → NamesData → PlaceData
-place_of here inputs names = place_with here inputs (map (path_in here.folder) names.outputs) (option_map (path_in here.folder) names.depfile)
+place_of here inputs names =
+    place_with here inputs (map (path_in here.folder) names.outputs) (option_map (path_in here.folder) names.depfile)
 
 -- ---- the target
 
