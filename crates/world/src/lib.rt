@@ -7,7 +7,8 @@
 //! of all of them by one induction each: what a run depends on, and how many rules it ends.
 //!
 //! The code stands beside it. A [`Store`] keeps the world, [`Steps`] counts the rules, and a [`Caller`] is what the code of a function
-//! works on: a store and the devices. How an answer of the code stands to the run of a deed is one relation, `Carries` of `specs/Answering.antt`.
+//! works on: a store and the devices. How an answer of the code stands to the run of a deed is one relation, `Carries` of
+//! `specs/Answering.antt`.
 #![tactic(auto)]
 
 mod caller;
