@@ -5,7 +5,7 @@ use Rattle.data.specs.declared.object.Feature.{Feature}
 use Rattle.data.specs.declared.object.Feature.TheVariants as features
 use Rattle.data.specs.declared.object.Object.TheVariants as objects
 use Rattle.arguments.specs.Arguments.{ArgumentsData}
-use Rattle.flat.specs.Flat.{flat, flat_all}
+use Rattle.data.specs.Flat.{flat, flat_all}
 use Rattle.arguments.specs.Row.{value_named}
 use Rattle.arguments.specs.declared.given.Requirement.{Requirement}
 use Rattle.arguments.specs.declared.given.Requirement.TheVariants as requirements

@@ -2,15 +2,15 @@
 use Rattle.std.specs.Prelude.{ℕ, ◌+◌, nat_le, Bool, true, false, ◌&&◌, ◌||◌, not, List, [], ◌∷◌, ◌++◌, length, slice_get}
 use Rattle.std.specs.Prelude.{Option, Some, None, is_some, Result, Ok, Err, bytes_eq, codes, if◌then◌else◌}
 use Rattle.std.specs.List.{list_any}
-use Rattle.text_lists.specs.Among.{is_among}
+use Rattle.basics.specs.Among.{is_among}
 use Rattle.data.specs.Data.{Data, boolean_in, integer_in, text_in, entries_in, object}
 use Rattle.data.specs.declared.object.Object.{Object}
-use Rattle.faults.specs.declared.refusal.Refusal.{Refusal}
-use Rattle.faults.specs.declared.refusal.Refusal.TheVariants as refusals
+use Rattle.basics.specs.declared.faults.refusal.Refusal.{Refusal}
+use Rattle.basics.specs.declared.faults.refusal.Refusal.TheVariants as refusals
 use Rattle.arguments.specs.declared.row.Kind.{Kind}
 use Rattle.arguments.specs.declared.row.Kind.TheVariants as kinds
 use Rattle.arguments.specs.Arguments.{ArgumentsData}
-use Rattle.flat.specs.Flat.{is_texts}
+use Rattle.data.specs.Flat.{is_texts}
 use Rattle.arguments.specs.Dependencies.{are_dependencies}
 use Rattle.arguments.specs.Pieces.{are_pieces, is_command, is_configuration, is_feature, is_file}
 

@@ -7,14 +7,14 @@ ghost use Rattle.arguments.specs.Arguments.{arguments_data, named_data};
 ghost use Rattle.arguments.specs.Given.{argument, flag, flag_at, integer_of, keyword, of_boolean};
 ghost use Rattle.arguments.specs.Given.{of_feature, path_at, requirement, requirement_in, text_at, text_given, text_of, text_or, texts};
 ghost use Rattle.arguments.specs.Given.{texts_from};
-ghost use Rattle.flat.specs.Flat.{flat_all};
+ghost use Rattle.data.specs.Flat.{flat_all};
 ghost use Rattle.arguments.specs.Row.{value_named};
 
 use crate::arguments::{Arguments, Named};
 use data::{Feature, Object, Text, Value};
-use flat::{flat, flat_all};
+use data::{flat, flat_all};
 use std::alloc::{AllocError, Global};
-use text_lists::strings;
+use basics::text_lists::strings;
 
 /// What the keyword `required` says of a thing that is looked up.
 #[derive(Clone, Copy)]

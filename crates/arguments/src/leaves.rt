@@ -7,7 +7,7 @@ ghost use Rattle.arguments.specs.Leaves.{leaves_from, leaves_named};
 use crate::arguments::Arguments;
 use crate::given::behind;
 use data::Value;
-use flat::{opened, opened_all};
+use data::{opened, opened_all};
 use std::alloc::{AllocError, Global};
 
 impl Arguments {

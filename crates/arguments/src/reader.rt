@@ -15,11 +15,11 @@ use crate::given::value_named;
 use crate::pieces::{are_pieces, is_command, is_configuration, is_feature, is_file};
 use crate::row::{Keyword, Kind, Row};
 use data::Value;
-use faults::Refusal;
-use flat::is_texts;
+use basics::faults::Refusal;
+use data::is_texts;
 use std::alloc::{AllocError, Global};
-use tables::{SipSet, new_set};
-use text_lists::is_among;
+use basics::tables::{SipSet, new_set};
+use basics::text_lists::is_among;
 
 fn is_file_value(value: &Value) -> bool
     ensures { result ≡ is_object is_file (data_of value.now) }

@@ -13,7 +13,7 @@ use Rattle.targets.specs.Files.{default_paths, file_name, file_path, is_static, 
 use Rattle.targets.specs.Libraries.{LinkedData, linked, linked_after, linked_of, libraries_in}
 use Rattle.targets.specs.View.{linked_view}
 use Rattle.targets.specs.declared.linking.Linked.{Linked}
-use Rattle.edges.specs.Edges.{naming, file_edge, link_edges, compile_edges, custom_edge, edges_of, edges_after, all_edges}
+use Rattle.target_edges.specs.Edges.{naming, file_edge, link_edges, compile_edges, custom_edge, edges_of, edges_after, all_edges}
 use Rattle.build_file.specs.BuildFile.{asked_of, defaults_of, is_default}
 
 -- ---- kept with its paths

@@ -2,3 +2,5 @@ pub mod Stopping
 pub mod Parts
 pub mod DefaultPaths
 pub mod Counting
+pub mod FaultLines
+pub mod Ends

@@ -1,3 +1,6 @@
 pub mod BuildFile
 pub mod Parts
 pub mod Means
+pub mod FaultSteps
+pub mod Document
+pub mod Concluding

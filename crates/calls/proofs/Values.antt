@@ -4,7 +4,7 @@ use Rattle.data.specs.View.{data_of}
 use Rattle.data.specs.declared.refusal.Refusal.{Refusal as OperationRefusal}
 use Rattle.data.specs.declared.value.Value.{Value}
 use Rattle.data.specs.Tables.{string_in}
-use Rattle.faults.specs.declared.refusal.Refusal.{Refusal}
+use Rattle.basics.specs.declared.faults.refusal.Refusal.{Refusal}
 use Rattle.world.specs.Answering.{State, Carries, IsAnswered, Refuses}
 use Rattle.world.specs.Deed.{Deed, answered, need, then}
 use Rattle.world.specs.World.{fault_here}

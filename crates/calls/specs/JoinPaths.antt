@@ -4,7 +4,7 @@ use Rattle.data.specs.Data.{Data, text}
 use Rattle.data.specs.Limits.{within}
 use Rattle.operators.specs.Texts.{path_below}
 use Rattle.arguments.specs.Arguments.{ArgumentsData}
-use Rattle.flat.specs.Flat.{flat_all}
+use Rattle.data.specs.Flat.{flat_all}
 use Rattle.world.specs.Deed.{Deed, give, ◌>>=◌, answered}
 
 -- each path below the one before it, as the operator `/` has it

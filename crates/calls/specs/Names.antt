@@ -3,7 +3,7 @@ use Rattle.std.specs.Prelude.{ℕ, List, [], ◌∷◌, Bool, false, not, ◌||�
 use Rattle.std.specs.Char.{is_ascii_alphabetic, is_ascii_alphanumeric}
 use Rattle.std.specs.List.{list_all}
 use Rattle.std.specs.Str.{bytes_eq}
-use Rattle.text_lists.specs.Among.{is_among}
+use Rattle.basics.specs.Among.{is_among}
 use Rattle.data.specs.Data.{Data, object}
 use Rattle.data.specs.declared.object.Object.TheVariants as objects
 use Rattle.calls.specs.declared.function.Function.{Function}

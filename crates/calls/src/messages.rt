@@ -9,7 +9,7 @@ ghost use Rattle.calls.specs.Messages.{assert, error, logged, message, printed_a
 
 use arguments::Arguments;
 use data::Value;
-use faults::Refusal;
+use basics::faults::Refusal;
 use ports::{Outputs, Tree};
 use printing::printed;
 use std::alloc::{AllocError, Global};

@@ -9,7 +9,7 @@ ghost use Rattle.calls.specs.declared.function.Function.TheVariants as functions
 use crate::function::{Function, ProjectFunction};
 use data::{Object, Value};
 use std::alloc::{AllocError, Global};
-use text_lists::is_among;
+use basics::text_lists::is_among;
 
 /// The words that are no names.
 const KEYWORDS: [&str; 14] = [
@@ -115,38 +115,23 @@ pub fn is_name(text: &str) -> bool
 pub fn function_named(name: &str) -> Option<Function>
     ensures { result ≡ function_named name.now }
 {
-    if name == "assert" {
-        Some(Function::Assert)
-    } else if name == "disabler" {
-        Some(Function::Disabler)
-    } else if name == "error" {
-        Some(Function::Error)
-    } else if name == "get_variable" {
-        Some(Function::GetVariable)
-    } else if name == "is_disabler" {
-        Some(Function::IsDisabler)
-    } else if name == "is_variable" {
-        Some(Function::IsVariable)
-    } else if name == "join_paths" {
-        Some(Function::JoinPaths)
-    } else if name == "message" {
-        Some(Function::Message)
-    } else if name == "project" {
-        Some(Function::Project)
-    } else if name == "range" {
-        Some(Function::Range)
-    } else if name == "set_variable" {
-        Some(Function::SetVariable)
-    } else if name == "subdir" {
-        Some(Function::Subdir)
-    } else if name == "subdir_done" {
-        Some(Function::SubdirDone)
-    } else if name == "unset_variable" {
-        Some(Function::UnsetVariable)
-    } else if name == "warning" {
-        Some(Function::Warning)
-    } else {
-        of_project(project_function_named(name))
+    match name {
+        "assert" => Some(Function::Assert),
+        "disabler" => Some(Function::Disabler),
+        "error" => Some(Function::Error),
+        "get_variable" => Some(Function::GetVariable),
+        "is_disabler" => Some(Function::IsDisabler),
+        "is_variable" => Some(Function::IsVariable),
+        "join_paths" => Some(Function::JoinPaths),
+        "message" => Some(Function::Message),
+        "project" => Some(Function::Project),
+        "range" => Some(Function::Range),
+        "set_variable" => Some(Function::SetVariable),
+        "subdir" => Some(Function::Subdir),
+        "subdir_done" => Some(Function::SubdirDone),
+        "unset_variable" => Some(Function::UnsetVariable),
+        "warning" => Some(Function::Warning),
+        _ => of_project(project_function_named(name)),
     }
 }
 
@@ -160,26 +145,17 @@ fn of_project(function: Option<ProjectFunction>) -> Option<Function>
 fn project_function_named(name: &str) -> Option<ProjectFunction>
     ensures { result ≡ project_function_named name.now }
 {
-    if name == "add_project_arguments" {
-        Some(ProjectFunction::AddProjectArguments)
-    } else if name == "add_project_link_arguments" {
-        Some(ProjectFunction::AddProjectLinkArguments)
-    } else if name == "custom_target" {
-        Some(ProjectFunction::CustomTarget)
-    } else if name == "executable" {
-        Some(ProjectFunction::Executable)
-    } else if name == "files" {
-        Some(ProjectFunction::Files)
-    } else if name == "include_directories" {
-        Some(ProjectFunction::IncludeDirectories)
-    } else if name == "library" {
-        Some(ProjectFunction::Library)
-    } else if name == "shared_library" {
-        Some(ProjectFunction::SharedLibrary)
-    } else if name == "static_library" {
-        Some(ProjectFunction::StaticLibrary)
-    } else {
-        resource_function_named(name)
+    match name {
+        "add_project_arguments" => Some(ProjectFunction::AddProjectArguments),
+        "add_project_link_arguments" => Some(ProjectFunction::AddProjectLinkArguments),
+        "custom_target" => Some(ProjectFunction::CustomTarget),
+        "executable" => Some(ProjectFunction::Executable),
+        "files" => Some(ProjectFunction::Files),
+        "include_directories" => Some(ProjectFunction::IncludeDirectories),
+        "library" => Some(ProjectFunction::Library),
+        "shared_library" => Some(ProjectFunction::SharedLibrary),
+        "static_library" => Some(ProjectFunction::StaticLibrary),
+        _ => resource_function_named(name),
     }
 }
 
@@ -187,27 +163,17 @@ fn project_function_named(name: &str) -> Option<ProjectFunction>
 fn resource_function_named(name: &str) -> Option<ProjectFunction>
     ensures { result ≡ resource_function_named name.now }
 {
-    if name == "configuration_data" {
-        Some(ProjectFunction::ConfigurationData)
-    } else if name == "configure_file" {
-        Some(ProjectFunction::ConfigureFile)
-    } else if name == "declare_dependency" {
-        Some(ProjectFunction::DeclareDependency)
-    } else if name == "dependency" {
-        Some(ProjectFunction::Dependency)
-    } else if name == "find_program" {
-        Some(ProjectFunction::FindProgram)
-    } else if name == "get_option" {
-        Some(ProjectFunction::GetOption)
-    } else if name == "install_data" {
-        Some(ProjectFunction::InstallData)
-    } else if name == "install_headers" {
-        Some(ProjectFunction::InstallHeaders)
-    } else if name == "install_man" {
-        Some(ProjectFunction::InstallMan)
-    } else if name == "test" {
-        Some(ProjectFunction::Test)
-    } else {
-        None
+    match name {
+        "configuration_data" => Some(ProjectFunction::ConfigurationData),
+        "configure_file" => Some(ProjectFunction::ConfigureFile),
+        "declare_dependency" => Some(ProjectFunction::DeclareDependency),
+        "dependency" => Some(ProjectFunction::Dependency),
+        "find_program" => Some(ProjectFunction::FindProgram),
+        "get_option" => Some(ProjectFunction::GetOption),
+        "install_data" => Some(ProjectFunction::InstallData),
+        "install_headers" => Some(ProjectFunction::InstallHeaders),
+        "install_man" => Some(ProjectFunction::InstallMan),
+        "test" => Some(ProjectFunction::Test),
+        _ => None,
     }
 }

@@ -10,7 +10,7 @@ ghost use Rattle.calls.specs.Range.{how_many, integer_at, integers_from, range, 
 
 use arguments::Arguments;
 use data::{List, Refusal, Value};
-use limits::ITEMS;
+use basics::limits::ITEMS;
 use ports::{Outputs, Tree};
 use std::alloc::{AllocError, Global};
 use world::{Caller, Stop};

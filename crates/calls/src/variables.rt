@@ -11,7 +11,7 @@ ghost use Rattle.calls.specs.Variables.{thing, value_or, variable_or};
 use crate::names::{is_name, is_predefined, predefined};
 use arguments::Arguments;
 use data::Value;
-use faults::Refusal;
+use basics::faults::Refusal;
 use ports::{Outputs, Tree};
 use world::{Caller, Stop};
 

@@ -5,7 +5,7 @@ ghost use Rattle.code.specs.Names.{number_in, with_name};
 
 use std::alloc::{AllocError, Global};
 use std::marker::Model;
-use tables::{SipSet, new_set};
+use basics::tables::{SipSet, new_set};
 
 /// Names, each once, in the order in which they were put. The number of a name is its place, from 0 on, and never changes.
 #[derive(Drop)]

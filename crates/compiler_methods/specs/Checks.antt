@@ -1,7 +1,7 @@
 -- The checks of the compiler, and `find_library`.
 use Rattle.std.specs.Prelude.{ℕ, Bool, true, false, List, [], ◌∷◌, ◌++◌, Option, Some, None, Result, Ok, Err, option_and_then, codes}
 use Rattle.arguments.specs.Arguments.{ArgumentsData}
-use Rattle.flat.specs.Flat.{flat_all}
+use Rattle.data.specs.Flat.{flat_all}
 use Rattle.arguments.specs.Given.{argument, requirement, text_at}
 use Rattle.arguments.specs.declared.given.Requirement.{Requirement}
 use Rattle.arguments.specs.declared.given.Requirement.TheVariants as requirements
@@ -10,7 +10,7 @@ use Rattle.data.specs.declared.object.Dependency.{Dependency}
 use Rattle.data.specs.declared.object.Object.TheVariants as objects
 use Rattle.data.specs.declared.refusal.Refusal.{Refusal}
 use Rattle.data.specs.declared.refusal.Refusal.TheVariants as operations
-use Rattle.faults.specs.declared.refusal.Refusal.TheVariants as refusals
+use Rattle.basics.specs.declared.faults.refusal.Refusal.TheVariants as refusals
 use Rattle.resources.specs.Found.{found, missing}
 use Rattle.world.specs.Deed.{Deed, give, read, ◌>>=◌, answered, need}
 use Rattle.compiler_methods.specs.Said.{is_true}

@@ -1,13 +1,13 @@
 -- The methods of the C compiler, on their arguments. None of them changes anything: the machine file answers them all.
 use Rattle.std.specs.Prelude.{ℕ, Bool, List, [], ◌∷◌, Option, Some, None, is_some, codes, if◌then◌else◌}
 use Rattle.arguments.specs.Arguments.{ArgumentsData}
-use Rattle.flat.specs.Flat.{flat_all}
+use Rattle.data.specs.Flat.{flat_all}
 use Rattle.arguments.specs.Given.{text_or_none}
 use Rattle.arguments.specs.Leaves.{leaves_from}
 use Rattle.arguments.specs.Row.{checked}
 use Rattle.data.specs.Data.{Data, integer, list, text, Items, no_items, item, items_append}
 use Rattle.data.specs.Limits.{within}
-use Rattle.faults.specs.declared.refusal.Refusal.TheVariants as refusals
+use Rattle.basics.specs.declared.faults.refusal.Refusal.TheVariants as refusals
 use Rattle.machine_file.specs.Files.{Section}
 use Rattle.world.specs.Deed.{Deed, give, refuse, read, ◌>>=◌, answered, fitting}
 use Rattle.compiler_methods.specs.Checks.{check, find_library}

@@ -1,6 +1,6 @@
 -- The names of the methods of the C compiler: the type `compiler` of the page "Reference manual".
 use Rattle.std.specs.Prelude.{ℕ, Bool, List, [], ◌∷◌, Option, Some, None, codes, bytes_eq, if◌then◌else◌}
-use Rattle.text_lists.specs.Among.{is_among}
+use Rattle.basics.specs.Among.{is_among}
 use Rattle.compiler_methods.specs.declared.names.CompilerMethod.{CompilerMethod}
 use Rattle.compiler_methods.specs.declared.names.CompilerMethod.TheVariants as methods
 

@@ -212,6 +212,6 @@ pub fn compiler_method<T: Tree, O: Outputs>(
 {
     match CompilerMethod::named(name) {
         Some(method) => called(caller, method, name, arguments),
-        None => caller.refuse(faults::Refusal::UnknownFunction, ""),
+        None => caller.refuse(basics::faults::Refusal::UnknownFunction, ""),
     }
 }

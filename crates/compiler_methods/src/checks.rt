@@ -30,7 +30,7 @@ fn required_as<T: Tree, O: Outputs>(
 {
     match requirement {
         Requirement::Required => {
-            caller.need(is_so, faults::Refusal::NotFound, name)?;
+            caller.need(is_so, basics::faults::Refusal::NotFound, name)?;
             Ok(is_so)
         }
         Requirement::Optional => Ok(is_so),

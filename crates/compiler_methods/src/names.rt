@@ -3,7 +3,7 @@ ghost use Rattle.std.specs.Prelude.{◌≡◌};
 ghost use Rattle.compiler_methods.specs.Methods.{has_method};
 ghost use Rattle.compiler_methods.specs.Names.{is_left_out, named};
 
-use text_lists::is_among;
+use basics::text_lists::is_among;
 
 /// A method of the compiler, by what it gives.
 #[derive(Clone, Copy)]

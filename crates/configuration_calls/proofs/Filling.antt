@@ -1,9 +1,9 @@
 -- Deeds that the files of the tree make, against code that reads a file as it writes.
 use Rattle.std.proofs.Common.{◌≡◌, ℕ, ◌+◌, ◌≤◌, Bool, true, false, IsTrue, List, [], ◌∷◌, ◌++◌, Option, Some, None, Result, Ok, Err, IsErrAnd, is_some, unwrap_or, ◌⊎◌, inl, inr, refl, sym, ap, subst, ◌∙◌, arith}
 use Rattle.edge.specs.Texts.{Path}
-use Rattle.faults.specs.Faults.{FaultData, plain_fault}
-use Rattle.faults.specs.declared.refusal.Refusal.{Refusal}
-use Rattle.faults.specs.declared.refusal.Refusal.TheVariants as refusals
+use Rattle.basics.specs.Faults.{FaultData, plain_fault}
+use Rattle.basics.specs.declared.faults.refusal.Refusal.{Refusal}
+use Rattle.basics.specs.declared.faults.refusal.Refusal.TheVariants as refusals
 use Rattle.ports.specs.Outputs.{OutputState, Sends, Step}
 use Rattle.ports.specs.Tree.{Stays, TreeState, bytes_at, file_at}
 use Rattle.template.specs.Config.{Entries}

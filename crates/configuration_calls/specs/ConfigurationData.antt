@@ -4,7 +4,7 @@ use Rattle.arguments.specs.Arguments.{ArgumentsData}
 use Rattle.arguments.specs.Given.{argument}
 use Rattle.data.specs.Data.{Data, object}
 use Rattle.data.specs.declared.object.Object.TheVariants as objects
-use Rattle.faults.specs.declared.refusal.Refusal.TheVariants as refusals
+use Rattle.basics.specs.declared.faults.refusal.Refusal.TheVariants as refusals
 use Rattle.template.specs.Config.{Configuration}
 use Rattle.world.specs.Configuring.{add_configuration, configuration_at}
 use Rattle.world.specs.Deed.{Deed, give, read, ◌>>=◌, fitting}

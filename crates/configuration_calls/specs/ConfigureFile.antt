@@ -9,7 +9,7 @@ use Rattle.data.specs.Limits.{within_bytes}
 use Rattle.data.specs.declared.object.Object.{Object}
 use Rattle.data.specs.declared.object.Object.TheVariants as objects
 use Rattle.edge.specs.Texts.{Path, Text}
-use Rattle.faults.specs.declared.refusal.Refusal.TheVariants as refusals
+use Rattle.basics.specs.declared.faults.refusal.Refusal.TheVariants as refusals
 use Rattle.operators.specs.Texts.{path_below}
 use Rattle.paths.specs.Paths.{tree_path}
 use Rattle.project.specs.Adding.{is_file_name}

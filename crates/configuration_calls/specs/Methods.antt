@@ -4,7 +4,7 @@ use Rattle.arguments.specs.Arguments.{ArgumentsData}
 use Rattle.arguments.specs.Given.{argument, flag_at, text_at}
 use Rattle.arguments.specs.Row.{checked}
 use Rattle.data.specs.Data.{Data, boolean}
-use Rattle.faults.specs.declared.refusal.Refusal.TheVariants as refusals
+use Rattle.basics.specs.declared.faults.refusal.Refusal.TheVariants as refusals
 use Rattle.template.specs.Config.{Content, Number, names, value_of}
 use Rattle.template.specs.Line.{is_name}
 use Rattle.world.specs.Configuring.{configuration_at, merge_configured, set_configured, set_quoted}

@@ -1,9 +1,9 @@
 -- What `configure_file` writes into its output, and what the answer of code says that reads a file of the tree as it writes.
 use Rattle.std.specs.Prelude.{◌≡◌, ℕ, List, [], Option, Some, None, Result, is_some, unwrap_or}
 use Rattle.edge.specs.Texts.{Path}
-use Rattle.faults.specs.Faults.{plain_fault}
-use Rattle.faults.specs.declared.refusal.Refusal.{Refusal}
-use Rattle.faults.specs.declared.refusal.Refusal.TheVariants as refusals
+use Rattle.basics.specs.Faults.{plain_fault}
+use Rattle.basics.specs.declared.faults.refusal.Refusal.{Refusal}
+use Rattle.basics.specs.declared.faults.refusal.Refusal.TheVariants as refusals
 use Rattle.ports.specs.Outputs.{closing, opening}
 use Rattle.ports.specs.Tree.{Stays, bytes_at}
 use Rattle.template.specs.Config.{Entries}

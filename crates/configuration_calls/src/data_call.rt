@@ -13,7 +13,7 @@ ghost use Rattle.configuration_calls.specs.Given.{data_given, data_with};
 use crate::contents::entries_in;
 use arguments::Arguments;
 use data::{Object, Value};
-use faults::Refusal;
+use basics::faults::Refusal;
 use ports::{Outputs, Tree};
 use std::alloc::{AllocError, Global};
 use template::ConfigData;

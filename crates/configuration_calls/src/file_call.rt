@@ -14,7 +14,7 @@ use crate::said::{Given, has_meson_format, input_given, values_given};
 use crate::written::write_output;
 use arguments::Arguments;
 use data::{Object, Text, Value};
-use faults::Refusal;
+use basics::faults::Refusal;
 use operators::path_below;
 use ports::{Outputs, Tree};
 use project::{Install, is_file_name};

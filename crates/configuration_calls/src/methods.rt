@@ -21,7 +21,7 @@ use crate::data_call::copy_of;
 use crate::rows::row_of;
 use arguments::{Arguments, check};
 use data::{Object, Value};
-use faults::Refusal;
+use basics::faults::Refusal;
 use operators::text_list;
 use ports::{Outputs, Tree};
 use std::alloc::{AllocError, Global};

@@ -15,7 +15,7 @@ use crate::data_call::copy_of;
 use crate::methods::number_in;
 use arguments::Arguments;
 use data::{Object, Value};
-use faults::Refusal;
+use basics::faults::Refusal;
 use paths::tree_path;
 use ports::{Outputs, Tree};
 use std::alloc::{AllocError, Global};

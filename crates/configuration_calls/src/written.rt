@@ -1,6 +1,6 @@
 //! What `configure_file` writes into its output.
 ghost use Rattle.std.specs.Prelude.{◌≡◌, IfOk, OnOk, length, option_map};
-ghost use Rattle.faults.specs.Faults.{plain_fault};
+ghost use Rattle.basics.specs.Faults.{plain_fault};
 ghost use Rattle.ports.specs.Outputs.{IsOpen, closing, opening};
 ghost use Rattle.ports.specs.Tree.{bytes_at};
 ghost use Rattle.world.specs.Answering.{Carries, HasRoom};
@@ -9,7 +9,7 @@ ghost use Rattle.world.specs.Deed.{tell};
 ghost use Rattle.world.specs.Gives.{IsRefusal};
 ghost use Rattle.configuration_calls.specs.Written.{CarriesOf, StopsSo, filling_in, header_written, output_written, template_written};
 
-use faults::{Fault, Refusal};
+use basics::faults::{Fault, Refusal};
 use ports::{Outputs, Tree};
 use std::alloc::{AllocError, Global};
 use template::{ConfigData, LINE_LIMIT, PassStop, header, pass};

@@ -3,3 +3,4 @@ pub mod EntriesLemmas
 pub mod ListLemmas
 pub mod SameLemmas
 pub mod BuilderLemmas
+mod FlatLists

@@ -7,3 +7,4 @@ pub mod Falls
 pub mod Tables
 pub mod Same
 pub mod Builder
+pub mod Flat

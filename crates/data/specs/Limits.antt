@@ -1,6 +1,6 @@
 -- How large a value may be.
 use Rattle.std.specs.Prelude.{◌≡◌, ◌<◌, ◌≤◌, ◌++◌, ◌+◌, ℕ, Bool, true, ◌&&◌, nat_le, List, length, Result, Ok, Err, if◌then◌else◌}
-use Rattle.limits.specs.Limits.{items as most_items, levels as most_levels, weight as most_weight, text_bytes, is_short}
+use Rattle.basics.specs.Limits.{items as most_items, levels as most_levels, weight as most_weight, text_bytes, is_short}
 use Rattle.data.specs.declared.refusal.Refusal.{Refusal}
 use Rattle.data.specs.declared.refusal.Refusal.TheVariants as refusal
 use Rattle.data.specs.Data.{Data, boolean, integer, text, list, dictionary, object, Items, Entries, count, entry_count}

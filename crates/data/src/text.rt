@@ -2,10 +2,10 @@
 
 ghost use Rattle.std.specs.Prelude.{◌≡◌, ◌++◌, ◌∷◌, [], ◌≤◌, length, OnOk, IfOk, string_bytes};
 ghost use Rattle.data.specs.Limits.{within_bytes, Appends};
-ghost use Rattle.limits.specs.Limits.{text_bytes};
+ghost use Rattle.basics.specs.Limits.{text_bytes};
 
 use crate::refusal::Refusal;
-use limits::TEXT_BYTES;
+use basics::limits::TEXT_BYTES;
 use std::alloc::{AllocError, Global};
 use std::cmp::Ordering;
 use std::hash::{Hash, Hasher};
@@ -20,7 +20,7 @@ pub struct Text {
 
 impl Model for Text {
     ghost use Rattle.std.specs.Prelude.{◌≤◌, List, ℕ, length, string_bytes};
-    ghost use Rattle.limits.specs.Limits.{text_bytes};
+    ghost use Rattle.basics.specs.Limits.{text_bytes};
 
     ghost Value = { List ℕ };
 

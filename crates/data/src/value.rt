@@ -17,11 +17,11 @@ use crate::object::Object;
 use crate::refusal::Refusal;
 use crate::text::Text;
 pub use builder::DictionaryBuilder;
-use limits::{ITEMS, LEVELS, WEIGHT};
+use basics::limits::{ITEMS, LEVELS, WEIGHT};
 use std::alloc::{AllocError, Global};
 use std::marker::Model;
 use std::rc::Rc;
-use tables::{SipSet, new_set};
+use basics::tables::{SipSet, new_set};
 
 /// A value.
 #[cycle(value)]

@@ -1,9 +1,9 @@
 -- Refusals at other places than that of the call.
 use Rattle.std.proofs.Common.{◌≡◌, ℕ, List, [], Err, refl}
-use Rattle.faults.specs.Faults.{plain_fault}
-use Rattle.faults.specs.View.{fault_view}
-use Rattle.faults.specs.declared.fault.Fault.{Fault}
-use Rattle.faults.specs.declared.refusal.Refusal.{Refusal}
+use Rattle.basics.specs.Faults.{plain_fault}
+use Rattle.basics.specs.View.{fault_view}
+use Rattle.basics.specs.declared.faults.fault.Fault.{Fault}
+use Rattle.basics.specs.declared.faults.refusal.Refusal.{Refusal}
 use Rattle.world.specs.Answering.{State, Carries, seen_at}
 use Rattle.world.specs.World.{with_facts, with_place}
 use Rattle.world.specs.declared.stop.Stop.TheVariants as stops

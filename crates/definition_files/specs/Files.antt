@@ -7,9 +7,9 @@ use Rattle.lexer.specs.declared.fault.FaultKind.{FaultKind}
 use Rattle.lexer.specs.declared.fault.FaultKind.TheVariants as kinds
 use Rattle.grammar.specs.Parsed.{parsed}
 use Rattle.grammar.specs.Tree.{FileTree, Statements, statements}
-use Rattle.faults.specs.declared.refusal.Refusal.{Refusal}
-use Rattle.faults.specs.declared.refusal.Refusal.TheVariants as refusals
-use Rattle.limits.specs.Limits.{text_bytes}
+use Rattle.basics.specs.declared.faults.refusal.Refusal.{Refusal}
+use Rattle.basics.specs.declared.faults.refusal.Refusal.TheVariants as refusals
+use Rattle.basics.specs.Limits.{text_bytes}
 use Rattle.world.specs.World.{with_line}
 use Rattle.world.specs.Deed.{Deed, give, refuse, change, ◌>>=◌, need}
 

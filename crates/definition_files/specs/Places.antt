@@ -1,6 +1,6 @@
 -- Refusals at other places than that of the call.
 use Rattle.std.specs.Prelude.{ℕ, List, []}
-use Rattle.faults.specs.declared.refusal.Refusal.{Refusal}
+use Rattle.basics.specs.declared.faults.refusal.Refusal.{Refusal}
 use Rattle.world.specs.World.{with_place}
 use Rattle.world.specs.Deed.{Deed, refuse, change, ◌>>=◌}
 

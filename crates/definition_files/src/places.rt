@@ -4,7 +4,7 @@ ghost use Rattle.world.specs.Answering.{Carries};
 ghost use Rattle.world.specs.Caller.{state_of};
 ghost use Rattle.definition_files.specs.Places.{refuse_at};
 
-use faults::Refusal;
+use basics::faults::Refusal;
 use ports::{Outputs, Tree};
 use world::{Caller, Place, Stop};
 

@@ -6,7 +6,7 @@ ghost use Rattle.world.specs.Gives.{Holds, failures_after};
 ghost use Rattle.definition_files.specs.Files.{line_at, refusal_of};
 ghost use Rattle.definition_files.specs.Reading.{IsNoFault};
 
-use faults::Refusal;
+use basics::faults::Refusal;
 use grammar::fault::FaultKind;
 use ports::{DeviceFault, Tree};
 use std::alloc::Global;

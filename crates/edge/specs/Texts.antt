@@ -1,5 +1,5 @@
 -- Texts as lists of their bytes, and lists of texts.
-pub use Rattle.text_lists.specs.Texts.{texts}
+pub use Rattle.basics.specs.Texts.{texts}
 use Rattle.std.specs.Prelude.{ℕ, ◌+◌, Bool, List, [], ◌∷◌, ◌++◌, bytes_eq, if◌then◌else◌}
 use Rattle.std.specs.List.{list_any}
 

@@ -14,8 +14,8 @@ use Rattle.world.specs.Store.{changing}
 use Rattle.world.specs.Trace.{Seen, seen}
 use Rattle.world.specs.Run.{ran, Done, Faulted, outcome_of}
 use Rattle.world.specs.Operation.{of_operation}
-use Rattle.faults.specs.Faults.{FaultData}
-use Rattle.faults.specs.declared.refusal.Refusal.TheVariants as refusals
+use Rattle.basics.specs.Faults.{FaultData}
+use Rattle.basics.specs.declared.faults.refusal.Refusal.TheVariants as refusals
 use Rattle.operators.specs.declared.operator.Binary.TheVariants.{Add}
 use Rattle.operators.specs.Operations.{binary_answer}
 use Rattle.calls.specs.Names.{is_predefined}

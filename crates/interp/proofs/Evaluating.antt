@@ -3,7 +3,7 @@ use Rattle.std.proofs.Common.{◌≡◌, ℕ, ◌+◌, ◌<◌, ◌≤◌, List,
 use Rattle.ports.specs.Outputs.{OutputState}
 use Rattle.ports.specs.Tree.{TreeState}
 use Rattle.data.specs.Data.{Data}
-use Rattle.faults.specs.declared.refusal.Refusal.{Refusal}
+use Rattle.basics.specs.declared.faults.refusal.Refusal.{Refusal}
 use Rattle.world.specs.Answering.{Carries, Refuses}
 use Rattle.world.specs.Deed.{Files, Deed, read, change}
 use Rattle.world.specs.Store.{changing}

@@ -3,8 +3,8 @@ use Rattle.std.proofs.Common.{◌≡◌, ℕ, ◌≤◌, Bool, true, false, List
 use Rattle.std.specs.Prelude.{nat_le, if◌then◌else◌}
 use Rattle.std.proofs.lemmas.Bool.Decides.{nat_tests}
 use Rattle.data.specs.Data.{Data, boolean, integer, text, list, dictionary, object}
-use Rattle.faults.specs.declared.refusal.Refusal.{Refusal}
-use Rattle.faults.specs.declared.refusal.Refusal.TheVariants as refusals
+use Rattle.basics.specs.declared.faults.refusal.Refusal.{Refusal}
+use Rattle.basics.specs.declared.faults.refusal.Refusal.TheVariants as refusals
 use Rattle.world.specs.Plan.{Plan, refuse}
 use Rattle.interp.specs.Rounds.{Loops, rounds_in}
 use Rattle.interp.specs.Statements.{Round, item_rounds, entry_rounds, limited, looped, rounds_of, walked}

@@ -10,8 +10,8 @@ use Rattle.grammar.specs.Tree.{FileTree, Statements, statements}
 use Rattle.lexer.specs.declared.fault.SyntaxFault.{SyntaxFault}
 use Rattle.ports.specs.Outputs.{OutputState}
 use Rattle.ports.specs.Tree.{TreeState, file_at}
-use Rattle.faults.specs.declared.refusal.Refusal.{Refusal}
-use Rattle.faults.specs.declared.refusal.Refusal.TheVariants as refusals
+use Rattle.basics.specs.declared.faults.refusal.Refusal.{Refusal}
+use Rattle.basics.specs.declared.faults.refusal.Refusal.TheVariants as refusals
 use Rattle.world.specs.Answering.{Refuses}
 use Rattle.world.specs.Deed.{Files, ask, need, perform, refuse as refuse_deed}
 use Rattle.world.specs.Gives.{Gives, Holds}

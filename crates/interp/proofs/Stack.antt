@@ -3,7 +3,7 @@ use Rattle.std.proofs.Common.{◌≡◌, ℕ, zero, suc, ◌+◌, List, [], ◌�
 use Rattle.code.specs.Draft.{IsFront}
 use Rattle.code.specs.declared.code.Code.{Code}
 use Rattle.code.specs.Statements.{name_at, statement_at}
-use Rattle.faults.specs.declared.refusal.Refusal.TheVariants as refusals
+use Rattle.basics.specs.declared.faults.refusal.Refusal.TheVariants as refusals
 use Rattle.world.specs.Deed.{Files}
 use Rattle.world.specs.Gives.{Gives, Holds, is_ended}
 use Rattle.world.specs.Plan.{Plan, next, ruled, carry, give, refuse}

@@ -5,7 +5,7 @@ use Rattle.std.proofs.lemmas.Option.{get_or_from_slice_get}
 use Rattle.data.specs.Data.{Data, boolean, integer, text, list, dictionary, object, Items, no_items, item, count, items_in, Entries, no_entries, entry, entry_count, entry_values, entries_in, keys_in}
 use Rattle.data.specs.View.{data_of, items_of}
 use Rattle.data.specs.declared.value.Value.{Value}
-use Rattle.faults.specs.declared.refusal.Refusal.TheVariants as refusals
+use Rattle.basics.specs.declared.faults.refusal.Refusal.TheVariants as refusals
 use Rattle.interp.specs.Rounds.{Loops}
 use Rattle.interp.specs.Statements.{Round, item_rounds, entry_rounds, limited, looped}
 

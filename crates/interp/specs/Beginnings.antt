@@ -1,8 +1,8 @@
 -- How an evaluation begins.
 use Rattle.std.specs.Prelude.{◌≡◌, ℕ, Bool, true, false, [], Option, Some, None, Result, Ok, Err}
 use Rattle.grammar.specs.Tree.{StatementTree, AssignTree, AppendTree, ValueTree, BreakTree, ContinueTree, IfTree, ForeachTree, Statements, NoStatement, MoreStatements}
-use Rattle.faults.specs.View.{fault_view}
-use Rattle.faults.specs.declared.refusal.Refusal.TheVariants as refusals
+use Rattle.basics.specs.View.{fault_view}
+use Rattle.basics.specs.declared.faults.refusal.Refusal.TheVariants as refusals
 use Rattle.machine_file.specs.Fault.{told}
 use Rattle.ports.specs.Outputs.{OutputState}
 use Rattle.world.specs.Deed.{Files}

@@ -1,7 +1,7 @@
 -- What a call of `subdir` does, up to the folder that it enters.
 use Rattle.std.specs.Prelude.{ℕ, Bool, true, false, List, [], Option, Some, None, Result, Ok, Err, codes}
 use Rattle.data.specs.Data.{Data}
-use Rattle.faults.specs.declared.refusal.Refusal.{Refusal}
+use Rattle.basics.specs.declared.faults.refusal.Refusal.{Refusal}
 use Rattle.arguments.specs.Arguments.{ArgumentsData}
 use Rattle.arguments.specs.Dependencies.{are_found}
 use Rattle.arguments.specs.Disablers.{gives_disabler}

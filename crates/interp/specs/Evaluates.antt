@@ -6,8 +6,8 @@ use Rattle.code.specs.declared.code.Code.{Code}
 use Rattle.grammar.specs.ExpressionTree.{ExpressionTree}
 use Rattle.ports.specs.Outputs.{OutputState}
 use Rattle.ports.specs.Tree.{TreeState}
-use Rattle.faults.specs.Faults.{FaultData}
-use Rattle.faults.specs.declared.refusal.Refusal.{Refusal}
+use Rattle.basics.specs.Faults.{FaultData}
+use Rattle.basics.specs.declared.faults.refusal.Refusal.{Refusal}
 use Rattle.world.specs.Deed.{Files}
 use Rattle.world.specs.Gives.{Continues, Gives, Holds, failures_after}
 use Rattle.world.specs.Plan.{Plan, carry}

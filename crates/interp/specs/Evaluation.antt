@@ -3,7 +3,7 @@ use Rattle.std.specs.Prelude.{ℕ, Bool, true, false, List, [], codes, bytes_eq,
 use Rattle.std.specs.Str.{IsUtf8}
 use Rattle.grammar.specs.ExpressionTree.{ExpressionTree, FunctionTree}
 use Rattle.grammar.specs.Tree.{StatementTree, AssignTree, AppendTree, ValueTree, BreakTree, ContinueTree, IfTree, ForeachTree, Statements, NoStatement, MoreStatements}
-use Rattle.faults.specs.declared.refusal.Refusal.TheVariants as refusals
+use Rattle.basics.specs.declared.faults.refusal.Refusal.TheVariants as refusals
 use Rattle.definition_files.specs.Places.{refuse_at}
 use Rattle.machine_file.specs.Answers.{IsFault}
 use Rattle.machine_file.specs.Files.{Section}

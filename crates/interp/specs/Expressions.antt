@@ -16,7 +16,7 @@ use Rattle.data.specs.declared.refusal.Refusal.{Refusal as OperationRefusal}
 use Rattle.data.specs.declared.refusal.Refusal.TheVariants as operation
 use Rattle.data.specs.Data.{Data, boolean, integer, text, list, object, Items, no_items, item, items_append, boolean_in, object_in, is_disabler}
 use Rattle.data.specs.Limits.{within}
-use Rattle.faults.specs.declared.refusal.Refusal.TheVariants as refusals
+use Rattle.basics.specs.declared.faults.refusal.Refusal.TheVariants as refusals
 use Rattle.printing.specs.Printed.{printed}
 use Rattle.texts.specs.declared.placed.Places.TheVariants as places
 use Rattle.texts.specs.Segments.{Segment, text as between, place, segments}

@@ -2,7 +2,7 @@
 use Rattle.std.specs.Prelude.{ℕ, zero, suc, List, [], length, nat_lt, not, bytes_eq, Option, Some, None}
 use Rattle.std.specs.List.{list_any}
 use Rattle.grammar.specs.Tree.{Statements}
-use Rattle.faults.specs.declared.refusal.Refusal.TheVariants as refusals
+use Rattle.basics.specs.declared.faults.refusal.Refusal.TheVariants as refusals
 use Rattle.paths.specs.Paths.{folder_below}
 use Rattle.world.specs.Costs.{definition_file}
 use Rattle.world.specs.World.{Facts, with_place}

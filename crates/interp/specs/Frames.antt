@@ -5,7 +5,7 @@ use Rattle.code.specs.Statements.{branch_at, name_at}
 use Rattle.code.specs.declared.code.Code.{Code}
 use Rattle.code.specs.declared.node.BranchNode.{BranchNode}
 use Rattle.data.specs.View.{data_of}
-use Rattle.faults.specs.declared.refusal.Refusal.TheVariants as refusals
+use Rattle.basics.specs.declared.faults.refusal.Refusal.TheVariants as refusals
 use Rattle.grammar.specs.Tree.{StatementTree, Statements, Branches, NoBranch, MoreBranches, branches}
 use Rattle.grammar.specs.ExpressionTree.{ExpressionTree}
 use Rattle.ports.specs.Outputs.{OutputState}

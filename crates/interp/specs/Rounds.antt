@@ -2,8 +2,8 @@
 use Rattle.std.specs.Prelude.{◌≡◌, ℕ, ◌+◌, List, [], ◌∷◌, drop, Option, Some, None, Result, Ok, Err, option_map, is_some, Bool, nat_le, if◌then◌else◌}
 use Rattle.data.specs.Data.{Data, boolean, integer, text, list, dictionary, object}
 use Rattle.data.specs.View.{data_of}
-use Rattle.faults.specs.declared.refusal.Refusal.{Refusal}
-use Rattle.faults.specs.declared.refusal.Refusal.TheVariants as refusals
+use Rattle.basics.specs.declared.faults.refusal.Refusal.{Refusal}
+use Rattle.basics.specs.declared.faults.refusal.Refusal.TheVariants as refusals
 use Rattle.interp.specs.declared.loops.Round.{Round as Declared}
 use Rattle.interp.specs.Statements.{Round, item_rounds, entry_rounds, looped}
 

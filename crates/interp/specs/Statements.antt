@@ -6,8 +6,8 @@ use Rattle.grammar.specs.Tree.{StatementTree, AssignTree, AppendTree, ValueTree,
 use Rattle.data.specs.declared.object.Object.{Object}
 use Rattle.data.specs.declared.object.Object.TheVariants as objects
 use Rattle.data.specs.Data.{Data, text, list, dictionary, Items, no_items, item, Entries, no_entries, entry, object, boolean_in, object_in, is_disabler}
-use Rattle.faults.specs.declared.refusal.Refusal.{Refusal}
-use Rattle.faults.specs.declared.refusal.Refusal.TheVariants as refusals
+use Rattle.basics.specs.declared.faults.refusal.Refusal.{Refusal}
+use Rattle.basics.specs.declared.faults.refusal.Refusal.TheVariants as refusals
 use Rattle.operators.specs.declared.operator.Binary.TheVariants.{Add}
 use Rattle.operators.specs.Operations.{binary_answer}
 use Rattle.calls.specs.Names.{is_predefined}

@@ -16,7 +16,7 @@ use calls::is_predefined;
 use code::Code;
 use configuration_calls::copied;
 use data::{Object, Value};
-use faults::Refusal;
+use basics::faults::Refusal;
 use operators::{Binary, binary};
 use ports::{Outputs, Tree};
 use std::sync::ledger::Ledger;

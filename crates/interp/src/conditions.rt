@@ -7,7 +7,7 @@ ghost use Rattle.interp.specs.Conditions.{choice_of};
 
 use crate::evaluator::Evaluator;
 use data::Value;
-use faults::Refusal;
+use basics::faults::Refusal;
 use ports::{Outputs, Tree};
 use std::sync::ledger::Ledger;
 use world::Stop;

@@ -7,7 +7,7 @@ use crate::block::Block;
 use crate::evaluator::Evaluator;
 use crate::flow::Flow;
 use crate::frames::{BlockRest, Frame};
-use faults::Refusal;
+use basics::faults::Refusal;
 use ports::{Outputs, Tree};
 use std::alloc::AllocError;
 use std::rc::Rc;

@@ -17,7 +17,7 @@ use crate::beginning::line_before_project;
 use crate::evaluator::Evaluator;
 use crate::flow::Flow;
 use code::Code;
-use faults::Refusal;
+use basics::faults::Refusal;
 use machine_file::Machine;
 use ports::{Outputs, Tree};
 use std::alloc::Global;

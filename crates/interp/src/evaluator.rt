@@ -4,7 +4,7 @@ ghost use Rattle.data.specs.Data.{Data, is_disabler};
 ghost use Rattle.data.specs.Tables.{Answers as AnswersSo};
 ghost use Rattle.data.specs.View.{data_of};
 ghost use Rattle.data.specs.declared.refusal.Refusal.{Refusal as OperationRefusal};
-ghost use Rattle.faults.specs.View.{fault_view};
+ghost use Rattle.basics.specs.View.{fault_view};
 ghost use Rattle.world.specs.Answering.{Refuses};
 ghost use Rattle.world.specs.Gives.{failures_after};
 ghost use Rattle.world.specs.Plan.{answered};
@@ -12,7 +12,7 @@ ghost use Rattle.interp.specs.Entering.{fitted};
 ghost use Rattle.interp.specs.Expressions.{needed, unchosen};
 
 use data::Value;
-use faults::{Fault, Refusal};
+use basics::faults::{Fault, Refusal};
 use ports::{Outputs, Tree};
 use std::alloc::{AllocError, Global};
 use std::sync::ledger::Ledger;

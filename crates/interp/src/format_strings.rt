@@ -11,7 +11,7 @@ ghost use Rattle.interp.specs.Expressions.{at_place, filled, format_string, is_p
 
 use crate::evaluator::Evaluator;
 use data::{Value, append};
-use faults::Refusal;
+use basics::faults::Refusal;
 use lexer::text_of_slice;
 use lexer::token::Kind;
 use ports::{Outputs, Tree};

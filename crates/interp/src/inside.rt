@@ -15,7 +15,7 @@ use crate::halt::{Halt, Inside};
 use arguments::{Arguments, gives_disabler};
 use calls::Function;
 use data::{Object, Value};
-use faults::Refusal;
+use basics::faults::Refusal;
 use ports::{Outputs, Tree};
 use std::sync::ledger::Ledger;
 use world::Stop;

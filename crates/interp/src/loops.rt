@@ -6,8 +6,8 @@ ghost use Rattle.interp.specs.Rounds.{Loops, RoundAt, rounds_in};
 ghost use Rattle.interp.specs.Statements.{entry_rounds, item_rounds};
 
 use data::{Dictionary, Value};
-use faults::Refusal;
-use limits::ITEMS;
+use basics::faults::Refusal;
+use basics::limits::ITEMS;
 use std::alloc::{AllocError, Global};
 
 /// The values of a round's variables: of the first, and of the second where there is one.

@@ -15,7 +15,7 @@ use calls::{
     predefined,
 };
 use data::{Object, Value};
-use faults::Refusal;
+use basics::faults::Refusal;
 use methods::{has_method, method};
 use objects::{has_object_method, is_left_out_method, object_method};
 use ports::{Outputs, Tree};

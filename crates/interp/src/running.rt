@@ -12,7 +12,7 @@ use crate::frames::{BlockRest, Frame, LoopRest};
 use crate::loops::round_at;
 use crate::unwinding::unwind;
 use code::Code;
-use faults::Refusal;
+use basics::faults::Refusal;
 use ports::{Outputs, Tree};
 use std::rc::Rc;
 use std::sync::ledger::Ledger;

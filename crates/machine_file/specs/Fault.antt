@@ -1,6 +1,6 @@
 -- A fault of a machine file, as a run tells it.
 use Rattle.std.specs.Prelude.{codes}
-use Rattle.faults.specs.Faults.{FaultData, plain_fault}
+use Rattle.basics.specs.Faults.{FaultData, plain_fault}
 use Rattle.machine_file.specs.declared.fault.MachineFault.{MachineFault}
 
 abbrev pub told : MachineFault → FaultData

@@ -4,7 +4,7 @@ use Rattle.std.specs.Prelude.{bytes_eq}
 use Rattle.std.specs.Option.{option_and_then}
 use Rattle.std.specs.List.{list_any, starts_with}
 use Rattle.lexer.specs.Bytes.{space}
-use Rattle.text_lists.specs.Among.{is_among}
+use Rattle.basics.specs.Among.{is_among}
 use Rattle.machine_file.specs.Texts.{cut_first}
 use Rattle.machine_file.specs.Values.{Value, Text, Integer, Boolean, Texts}
 use Rattle.machine_file.specs.declared.section.SectionKind.{SectionKind}

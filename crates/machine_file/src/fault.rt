@@ -1,10 +1,10 @@
 //! Why bytes are no machine file.
 
 ghost use Rattle.std.specs.Prelude.{◌≡◌, IfOk};
-ghost use Rattle.faults.specs.View.{fault_view};
+ghost use Rattle.basics.specs.View.{fault_view};
 ghost use Rattle.machine_file.specs.Fault.{told};
 
-use faults::{Fault, Refusal};
+use basics::faults::{Fault, Refusal};
 use std::alloc::{AllocError, Global};
 
 /// What is wrong with a machine file, and the line, from 1: E1, where the bytes are no UTF-8, or E16, where the lines up to this

@@ -7,10 +7,10 @@ ghost use Rattle.machine_file.specs.Lookups.{check_key};
 use crate::fault::MachineFault;
 use crate::reading::read_lines;
 use crate::value::MachineValue;
-use faults::Refusal;
+use basics::faults::Refusal;
 use lexer::newlines;
 use std::alloc::{AllocError, Global};
-use tables::{SipMap, new_map};
+use basics::tables::{SipMap, new_map};
 
 /// What a key has: a value, and the line, from 1, that gives it.
 #[derive(Drop)]

@@ -7,7 +7,7 @@ ghost use Rattle.machine_file.specs.View.{value_in};
 
 use crate::text::cut_first;
 use crate::value::MachineValue;
-use text_lists::is_among;
+use basics::text_lists::is_among;
 
 /// A kind of section.
 #[derive(Clone, Copy, PartialEq, Eq)]

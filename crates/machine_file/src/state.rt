@@ -6,7 +6,7 @@ ghost use Rattle.indexmap.specs.IndexMap.{get_by_text};
 
 use crate::machine::{Entry, Section};
 use crate::section::SectionKind;
-use tables::SipMap;
+use basics::tables::SipMap;
 
 /// A section that further lines may add to, and the line that it begins on.
 #[derive(Drop)]

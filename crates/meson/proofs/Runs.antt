@@ -4,12 +4,12 @@ use Rattle.std.proofs.lemmas.Bool.{false≢true}
 use Rattle.ports.specs.Endings.{HasRoom}
 use Rattle.ports.specs.Outputs.{OutputState, Step, Sends, faults}
 use Rattle.ports.proofs.Sending.{sends_part, sends_stop, sends_then}
-use Rattle.faults.specs.Faults.{FaultData, fault_line}
-use Rattle.faults.specs.View.{fault_view}
+use Rattle.basics.specs.Faults.{FaultData, fault_line}
+use Rattle.basics.specs.View.{fault_view}
 use Rattle.build_file.specs.Means.{Means}
-use Rattle.conclusion.specs.Concluding.{Agrees, Whole, done_with, failed_devices, faulted_with, is_finished, outputs_steps, told_before}
-use Rattle.conclusion.specs.declared.concluding.Status.{Status}
-use Rattle.conclusion.specs.declared.concluding.Status.TheVariants as statuses
+use Rattle.build_file.specs.Concluding.{Agrees, Whole, done_with, failed_devices, faulted_with, is_finished, outputs_steps, told_before}
+use Rattle.build_file.specs.declared.concluding.Status.{Status}
+use Rattle.build_file.specs.declared.concluding.Status.TheVariants as statuses
 use Rattle.world.specs.Gives.{failures_after}
 use Rattle.world.specs.Run.{Outcome, Run, ran, Done, Faulted, marks_of, outcome_of, world_after}
 use Rattle.world.specs.Store.{Kept}

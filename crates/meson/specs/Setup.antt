@@ -1,11 +1,11 @@
 -- One run: what the outputs are asked to take, and how the run ends.
 use Rattle.std.specs.Prelude.{◌≡◌, ◌+◌, Result, Ok, Err}
 use Rattle.ports.specs.Outputs.{OutputState}
-use Rattle.faults.specs.View.{fault_view}
+use Rattle.basics.specs.View.{fault_view}
 use Rattle.project.specs.World.{WorldData}
-use Rattle.conclusion.specs.Concluding.{Agrees, Whole, done_with, failed_devices, faulted_with, told_before}
-use Rattle.conclusion.specs.declared.concluding.Status.{Status}
-use Rattle.conclusion.specs.declared.concluding.Status.TheVariants as statuses
+use Rattle.build_file.specs.Concluding.{Agrees, Whole, done_with, failed_devices, faulted_with, told_before}
+use Rattle.build_file.specs.declared.concluding.Status.{Status}
+use Rattle.build_file.specs.declared.concluding.Status.TheVariants as statuses
 use Rattle.world.specs.Deed.{Files}
 use Rattle.world.specs.Plan.{carry}
 use Rattle.world.specs.Run.{Run, ran, Done, Faulted, world_after}

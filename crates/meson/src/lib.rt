@@ -6,7 +6,7 @@ mod program;
 mod running;
 
 pub use command::{Line, LineFault, command_line};
-pub use conclusion::Status;
+pub use build_file::Status;
 pub use law::{depends_on_looked, machine_files_say};
 pub use program::run;
 pub use running::setup;

@@ -1,11 +1,11 @@
 //! A run of the program, over a folder of a disk.
 ghost use Rattle.std.specs.Prelude.{◌≡◌, ◌<◌, ◌≤◌, map, string_bytes};
 ghost use Rattle.command.specs.CommandLine.{IsRefused, IsTaken};
-ghost use Rattle.conclusion.specs.Concluding.{exit_status};
+ghost use Rattle.build_file.specs.Concluding.{exit_status};
 
 use crate::running::setup;
 use command::{Line, LineFault, command_line};
-use conclusion::Status;
+use build_file::Status;
 use operators::path_below;
 use ports::{DiskOutputs, DiskTree};
 use std::alloc::{AllocError, Global};

@@ -2,14 +2,14 @@
 ghost use Rattle.std.specs.Prelude.{◌≡◌, ◌+◌, ◌<◌};
 ghost use Rattle.ports.specs.Endings.{HasRoom};
 ghost use Rattle.build_file.specs.Means.{Means};
-ghost use Rattle.conclusion.specs.Concluding.{Agrees, failed_devices};
+ghost use Rattle.build_file.specs.Concluding.{Agrees, failed_devices};
 ghost use Rattle.interp.specs.Evaluation.{IsSaid, MachineSaid};
 ghost use Rattle.world.specs.Deed.{Files};
 ghost use Rattle.world.specs.Gives.{Holds};
 ghost use Rattle.world.specs.SettingsView.{settings_view};
 ghost use Rattle.meson.specs.Setup.{OnDone, OnEnd, OnProject, Settles, project_of, run_of};
 
-use conclusion::{Status, conclude, refuse};
+use build_file::{Status, conclude, refuse};
 use interp::{Inputs, evaluate};
 use ports::{Outputs, Tree};
 use std::alloc::Global;

@@ -3,7 +3,7 @@ use Rattle.std.specs.Prelude.{ℕ, List, Result, Ok, Err, if◌then◌else◌}
 use Rattle.data.specs.declared.refusal.Refusal.{Refusal}
 use Rattle.data.specs.declared.refusal.Refusal.TheVariants as refusal
 use Rattle.data.specs.Data.{Data}
-use Rattle.flat.specs.Flat.{are_texts, flat_all}
+use Rattle.data.specs.Flat.{are_texts, flat_all}
 
 -- the texts in the arguments, with all lists opened; nothing else may stand in them
 abbrev pub flat_texts : List Data → Result (List (List ℕ)) Refusal

@@ -13,7 +13,7 @@ use Rattle.texts.specs.Number.{integer_of}
 use Rattle.texts.specs.Part.{part}
 use Rattle.texts.specs.Pieces as pieces
 use Rattle.texts.specs.Strip.{stripped, is_blank, is_among}
-use Rattle.versions.specs.Condition.{meets}
+use Rattle.texts.specs.Condition.{meets}
 use Rattle.methods.specs.declared.text_methods.TextMethod.{TextMethod}
 use Rattle.methods.specs.declared.text_methods.TextMethod.TheVariants as method
 use Rattle.methods.specs.Steps.{◌>>=◌}

@@ -205,7 +205,7 @@ fn version_compare(text: &str, arguments: &[Value]) -> Result<Value, Stop>
     ensures { Gives (version_compare text.now (map data_of arguments.now)) result }
 {
     let condition = one_text(arguments)?;
-    Ok(Value::Boolean(versions::version_compare(text, condition.as_str())))
+    Ok(Value::Boolean(texts::version_compare(text, condition.as_str())))
 }
 
 fn value_of(alloc: Global, string: String) -> Result<Value, Stop>

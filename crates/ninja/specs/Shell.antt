@@ -1,5 +1,5 @@
 -- What a POSIX shell takes as part of a word, and what it takes as a word of its own language.
-use Rattle.std.specs.Prelude.{ℕ, Bool, true, false, ◌==◌, nat_le, ◌||◌, ◌&&◌, List, [], ◌∷◌, codes}
+use Rattle.std.specs.Prelude.{ℕ, Bool, bytes_eq, true, false, ◌==◌, nat_le, ◌||◌, ◌&&◌, List, [], ◌∷◌, codes}
 use Rattle.std.specs.List.{list_any}
 
 -- `A-Z a-z 0-9 _ @ % + = : , . / -`
@@ -19,7 +19,7 @@ same_bytes (a ∷ more) (b ∷ bs) = (a == b) && same_bytes more bs
 
 abbrev pub is_one_of : List (List ℕ) → List ℕ → Bool
 is_one_of [] word = false
-is_one_of (w ∷ ws) word = same_bytes w word || is_one_of ws word
+is_one_of (w ∷ ws) word = bytes_eq word w || is_one_of ws word
 
 abbrev pub is_reserved : List ℕ → Bool
 is_reserved word = is_one_of (codes "case" ∷ codes "do" ∷ codes "done" ∷ codes "elif" ∷ codes "else" ∷ codes "esac" ∷ codes "fi"

@@ -40,20 +40,20 @@ fn is_reserved_word(word: &str) -> bool
     ensures { result ≡ is_reserved word.now }
 {
     matches!(
-        word.as_bytes(),
-        b"case"
-            | b"do"
-            | b"done"
-            | b"elif"
-            | b"else"
-            | b"esac"
-            | b"fi"
-            | b"for"
-            | b"if"
-            | b"in"
-            | b"then"
-            | b"until"
-            | b"while"
+        word,
+        "case"
+            | "do"
+            | "done"
+            | "elif"
+            | "else"
+            | "esac"
+            | "fi"
+            | "for"
+            | "if"
+            | "in"
+            | "then"
+            | "until"
+            | "while"
     )
 }
 

@@ -9,7 +9,7 @@ use Rattle.std.proofs.lemmas.Int.{ints}
 use Rattle.std.specs.Option.{SomeIff}
 use Rattle.std.specs.Prelude.{if◌then◌else◌}
 use Rattle.std.specs.Int.RustNames.{FitsSigned}
-use Rattle.limits.specs.Limits.{is_in_range}
+use Rattle.basics.specs.Limits.{is_in_range}
 use Rattle.operators.specs.Integers.{IsRest, in_range, is_zero, floor, quotient, remainder}
 
 -- one more than a, divided by n

@@ -8,12 +8,12 @@ use Rattle.std.specs.declared.alloc.Global.{Global}
 use Rattle.grammar.specs.declared.tree.Argument.{Argument}
 use Rattle.grammar.specs.ExpressionTree.{NoArgument, MoreArguments, arguments, argument_of, argument_trees}
 use Rattle.option_values.specs.View.{strings_in}
-use Rattle.faults.specs.declared.refusal.Refusal.TheVariants as refusals
+use Rattle.basics.specs.declared.faults.refusal.Refusal.TheVariants as refusals
 use Rattle.option_file.specs.Calls.{stands_key, with_key, gives_twice, is_left_out_key, gives_left_out, with_argument, keywords_from}
 use Rattle.option_file.specs.Calls.{option_of, or_fault, call_declares}
 use Rattle.option_file.specs.Declarations.{Declaration}
 use Rattle.option_file.specs.Keywords.{Keywords, nothing_given}
-use Rattle.text_lists.specs.Among.{is_among}
+use Rattle.basics.specs.Among.{is_among}
 use Rattle.option_file.proofs.Walks.{next_is, none_is}
 
 trees_at : (xs : List Argument) (i : ℕ) (x : Argument) → i < length xs → x ≡ get_or xs i x

@@ -4,7 +4,7 @@ use Rattle.std.proofs.Common.{refl, sym, ap, ◌∙◌, append_assoc}
 use Rattle.std.specs.Prelude.{◌||◌, ◌&&◌, not, bytes_eq, codes, if◌then◌else◌, slice_get}
 use Rattle.std.proofs.lemmas.Slice.Eq.{bytes_eq-Decides}
 use Rattle.std.specs.Option.{option_map, option_and_then}
-use Rattle.faults.specs.declared.refusal.Refusal.TheVariants as refusals
+use Rattle.basics.specs.declared.faults.refusal.Refusal.TheVariants as refusals
 use Rattle.grammar.specs.ExpressionTree.{ExpressionTree, ArgumentTrees, NoArgument, MoreArguments, FunctionTree}
 use Rattle.grammar.specs.Tree.{StatementTree, ValueTree}
 use Rattle.option_values.specs.BuiltIns.{is_built_in}

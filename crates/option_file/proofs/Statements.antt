@@ -2,7 +2,7 @@
 use Rattle.std.proofs.Common.{◌≡◌, ℕ, ◌+◌, ◌<◌, ◌≤◌, List, [], length, drop, get_or, Result, Ok, Err, map, sym, ap, ◌∙◌}
 use Rattle.grammar.specs.declared.tree.Statement.{Statement}
 use Rattle.grammar.specs.Tree.{StatementTree, statement_of}
-use Rattle.faults.specs.declared.refusal.Refusal.{Refusal}
+use Rattle.basics.specs.declared.faults.refusal.Refusal.{Refusal}
 use Rattle.option_file.specs.Declarations.{Declaration}
 use Rattle.option_file.specs.Declares.{line_of, after, go_on, declares_from}
 use Rattle.option_file.proofs.Walks.{next_is, none_is}

@@ -2,9 +2,9 @@
 use Rattle.std.specs.Prelude.{ℕ, Bool, false, not, ◌||◌, ◌&&◌, List, [], ◌∷◌, ◌++◌, Option, Some, None, Result, Ok, Err, if◌then◌else◌}
 use Rattle.std.specs.Option.{option_map, option_and_then}
 use Rattle.grammar.specs.ExpressionTree.{ArgumentTree, ArgumentTrees, NoArgument, MoreArguments}
-use Rattle.faults.specs.declared.refusal.Refusal.{Refusal}
-use Rattle.faults.specs.declared.refusal.Refusal.TheVariants as refusals
-use Rattle.text_lists.specs.Among.{is_among}
+use Rattle.basics.specs.declared.faults.refusal.Refusal.{Refusal}
+use Rattle.basics.specs.declared.faults.refusal.Refusal.TheVariants as refusals
+use Rattle.basics.specs.Among.{is_among}
 use Rattle.option_values.specs.BuiltIns.{is_built_in}
 use Rattle.option_file.specs.declared.keyword.Keyword.{Keyword}
 use Rattle.option_file.specs.Declarations.{Declaration}

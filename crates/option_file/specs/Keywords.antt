@@ -9,7 +9,7 @@ use Rattle.option_values.specs.declared.kind.OptionType.{OptionType}
 use Rattle.option_values.specs.declared.kind.OptionType.TheVariants as types
 use Rattle.option_values.specs.Types.{type_named}
 use Rattle.option_file.specs.Given.{Given, Text, Integer, Texts}
-use Rattle.text_lists.specs.Among.{is_among}
+use Rattle.basics.specs.Among.{is_among}
 
 -- what the keywords up to some place give; a type, choices and bounds are what they have to be
 pub record Keywords : Type 0 where

@@ -2,7 +2,7 @@
 pub use Rattle.option_file.specs.Entries.{given_in, option_in, entry_in, shown_in, entries_in}
 use Rattle.std.specs.Prelude.{List, Result, Ok, Err, String}
 use Rattle.std.specs.declared.alloc.Global.{Global}
-use Rattle.faults.specs.declared.refusal.Refusal.{Refusal}
+use Rattle.basics.specs.declared.faults.refusal.Refusal.{Refusal}
 use Rattle.option_file.specs.declared.declaration.Declaration.{Declaration}
 use Rattle.option_file.specs.declared.declaration.Declared.{Declared}
 use Rattle.option_file.specs.declared.fault.DeclareFault.{DeclareFault}

@@ -4,7 +4,7 @@ ghost use Rattle.std.specs.Prelude.{◌≡◌, ◌++◌, [], ◌∷◌, IfOk, Is
 ghost use Rattle.std.specs.List.{list_any};
 ghost use Rattle.std.specs.Option.{option_map};
 ghost use Rattle.grammar.specs.ExpressionTree.{argument_of, argument_trees};
-ghost use Rattle.text_lists.specs.Among.{is_among};
+ghost use Rattle.basics.specs.Among.{is_among};
 ghost use Rattle.option_values.specs.View.{strings_in};
 ghost use Rattle.option_file.specs.Calls.{stands_key, with_key, gives_twice, is_left_out_key, is_free_name, name_in, with_argument};
 ghost use Rattle.option_file.specs.Calls.{keywords_from, option_of, call_declares};
@@ -16,11 +16,11 @@ use crate::declaration::{Declaration, Given};
 use crate::given::given;
 use crate::keyword::{Keyword, Keywords, is_left_out};
 use crate::names::is_name;
-use faults::Refusal;
+use basics::faults::Refusal;
 use grammar::tree::Argument;
 use option_values::is_built_in;
 use std::alloc::{AllocError, Global};
-use tables::{SipSet, new_set};
+use basics::tables::{SipSet, new_set};
 
 // Puts a key behind the others; false where it stands among them.
 fn put_new(keys: &mut SipSet<String>, key: String) -> Result<bool, AllocError>

@@ -7,7 +7,7 @@ ghost use Rattle.option_file.specs.Lookups.{are_new};
 
 use option_values::OptionKind;
 use std::alloc::{AllocError, Global};
-use tables::{SipMap, new_map};
+use basics::tables::{SipMap, new_map};
 
 /// What an argument gives, as it is written. Of `value:` only its form is known: whether it is a value of the option is found
 /// when the options are resolved.

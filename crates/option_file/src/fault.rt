@@ -1,10 +1,10 @@
 //! Why a file is no option file.
 
 ghost use Rattle.std.specs.Prelude.{◌≡◌, IfOk};
-ghost use Rattle.faults.specs.View.{fault_view};
+ghost use Rattle.basics.specs.View.{fault_view};
 ghost use Rattle.option_file.specs.Fault.{told_in};
 
-use faults::{Fault, Refusal};
+use basics::faults::{Fault, Refusal};
 use std::alloc::{AllocError, Global};
 
 /// What is wrong with an option file, and the line, from 1, of the statement: E15, where it declares no option, or E23, where it

@@ -9,7 +9,7 @@ ghost use Rattle.option_file.specs.View.{call_in, after_in, options_in, declared
 use crate::call::call_declares;
 use crate::declaration::{Declaration, Declared};
 use crate::fault::DeclareFault;
-use faults::Refusal;
+use basics::faults::Refusal;
 use grammar::tree::{Argument, Expression, File, Statement};
 use std::alloc::{AllocError, Global};
 

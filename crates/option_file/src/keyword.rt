@@ -11,7 +11,7 @@ ghost use Rattle.option_values.specs.View.{kind_in, texts_of};
 use crate::declaration::Given;
 use option_values::{Choices, OptionKind, OptionType};
 use std::alloc::{AllocError, Global};
-use text_lists::is_among;
+use basics::text_lists::is_among;
 
 /// A keyword of `option`, by what it gives.
 #[derive(Clone, Copy, PartialEq, Eq)]

@@ -8,7 +8,7 @@ use Rattle.std.proofs.lemmas.List.{at_drop_more, map-append, take_more}
 use Rattle.lexer.specs.Bytes.{comma}
 use Rattle.option_values.specs.Given.{quoted}
 use Rattle.option_values.specs.Lists.{without_spaces, parts_of}
-use Rattle.text_lists.specs.Among.{is_among}
+use Rattle.basics.specs.Among.{is_among}
 use Rattle.option_values.specs.View.{strings_in}
 
 pub all_items : (choices : List (List ℕ)) (items : List (String Global))

@@ -3,7 +3,7 @@ use Rattle.std.specs.Prelude.{ℕ, Bool, true, false, ◌==◌, List, [], ◌∷
 use Rattle.std.specs.List.{list_all, slice_split}
 use Rattle.lexer.specs.Bytes.{comma, open_bracket}
 use Rattle.machine_file.specs.declared.text.Blanks.TheVariants as blanks
-use Rattle.text_lists.specs.Among.{is_among}
+use Rattle.basics.specs.Among.{is_among}
 use Rattle.machine_file.specs.Texts.{trimmed}
 use Rattle.machine_file.specs.Values as machine
 use Rattle.option_values.specs.Words.{words_of}

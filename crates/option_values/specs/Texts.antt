@@ -6,7 +6,7 @@ use Rattle.option_values.specs.declared.kind.FeatureState.TheVariants as feature
 use Rattle.option_values.specs.Kinds as kind
 use Rattle.option_values.specs.Values as value
 use Rattle.option_values.specs.Integers.{integer_within}
-use Rattle.text_lists.specs.Among.{is_among}
+use Rattle.basics.specs.Among.{is_among}
 use Rattle.option_values.specs.Lists.{are_among, items_of, word_items_of}
 
 abbrev pub boolean_of : List ℕ → Option Bool

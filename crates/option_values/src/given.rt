@@ -12,7 +12,7 @@ use crate::text::{array_of, value_of_text};
 use itoa::Buffer;
 use machine_file::MachineValue;
 use std::alloc::{AllocError, Global};
-use text_lists::copies;
+use basics::text_lists::copies;
 
 // A list as it is printed: texts in single quotes, in which nothing is escaped, with a comma and a space between each two.
 fn printed(alloc: Global, items: &[String]) -> Result<String, AllocError>

@@ -13,7 +13,7 @@ use Rattle.option_values.specs.Kinds.{Kind}
 use Rattle.option_values.specs.Values.{Value}
 use Rattle.option_file.specs.Declarations.{Declaration}
 use Rattle.option_file.specs.Lookups.{is_new, are_new_after, are_new}
-use Rattle.faults.specs.declared.refusal.Refusal.{Refusal}
+use Rattle.basics.specs.declared.faults.refusal.Refusal.{Refusal}
 use Rattle.options.specs.declared.fault.Place.{Place}
 use Rattle.options.specs.declared.fault.Place.TheVariants.{Declared, Project, MachineFile, CommandLine}
 use Rattle.options.specs.declared.known.Scope.{Scope}

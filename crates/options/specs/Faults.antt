@@ -1,6 +1,6 @@
 -- A fault of an option's value, as a run tells it.
 use Rattle.std.specs.Prelude.{ℕ, List, codes}
-use Rattle.faults.specs.Faults.{FaultData, plain_fault}
+use Rattle.basics.specs.Faults.{FaultData, plain_fault}
 use Rattle.options.specs.declared.fault.Place.{Place}
 use Rattle.options.specs.declared.fault.Place.TheVariants.{Declared, Project, MachineFile, CommandLine}
 use Rattle.options.specs.declared.fault.OptionFault.{OptionFault}

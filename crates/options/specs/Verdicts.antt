@@ -13,8 +13,8 @@ use Rattle.option_file.specs.Declarations.{Declaration}
 use Rattle.option_file.specs.Lookups.{option_named}
 use Rattle.options.specs.declared.fault.Place.{Place}
 use Rattle.options.specs.declared.fault.Place.TheVariants.{Declared, Project, MachineFile, CommandLine}
-use Rattle.faults.specs.declared.refusal.Refusal.{Refusal}
-use Rattle.faults.specs.declared.refusal.Refusal.TheVariants as refusals
+use Rattle.basics.specs.declared.faults.refusal.Refusal.{Refusal}
+use Rattle.basics.specs.declared.faults.refusal.Refusal.TheVariants as refusals
 use Rattle.options.specs.declared.fault.OptionFault.{OptionFault}
 use Rattle.options.specs.declared.known.Scope.{Scope}
 use Rattle.options.specs.declared.known.Scope.TheVariants.{BuiltIn, OfProject}

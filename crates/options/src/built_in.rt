@@ -9,7 +9,7 @@ use crate::settings::Setting;
 use crate::state::put;
 use option_values::{BuiltIn, built_in_value, built_ins};
 use std::alloc::{AllocError, Global};
-use tables::{SipMap, new_map};
+use basics::tables::{SipMap, new_map};
 
 // The option of a row of the table has the value that stands there.
 fn put_value_of(

@@ -12,7 +12,7 @@ use option_values::{
     Choices, FeatureState, OptionKind, OptionValue, is_within, value_of_items, value_of_text,
 };
 use std::alloc::{AllocError, Global};
-use text_lists::copies;
+use basics::text_lists::copies;
 
 // A combo's first choice.
 fn first_of(alloc: Global, choices: &Choices) -> Result<Option<OptionValue>, AllocError>

@@ -1,10 +1,10 @@
 //! Why options have no values.
 
 ghost use Rattle.std.specs.Prelude.{◌≡◌, IfOk};
-ghost use Rattle.faults.specs.View.{fault_view};
+ghost use Rattle.basics.specs.View.{fault_view};
 ghost use Rattle.options.specs.Faults.{told_in};
 
-use faults::{Fault, Refusal};
+use basics::faults::{Fault, Refusal};
 use std::alloc::{AllocError, Global};
 
 /// Where a value stands.

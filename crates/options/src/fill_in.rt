@@ -11,7 +11,7 @@ ghost use Rattle.options.specs.View.{Becomes, settings_in, type_in};
 use crate::settings::Setting;
 use option_values::{FeatureState, OptionValue};
 use std::alloc::{AllocError, Global};
-use tables::SipMap;
+use basics::tables::SipMap;
 
 /// What a type of build says of the options `debug` and `optimization`.
 #[derive(Clone, Copy)]

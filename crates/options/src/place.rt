@@ -17,7 +17,7 @@ use crate::known::{Known, Scope, scope_of};
 use crate::settings::Setting;
 use crate::state::State;
 use crate::verdict::{Verdict, Written, of_named, refused};
-use faults::Refusal;
+use basics::faults::Refusal;
 use machine_file::{Entry, Machine, Section, cut_first};
 use option_file::{Declaration, Declared};
 use option_values::OptionKind;

@@ -4,7 +4,7 @@ ghost use Rattle.std.specs.Prelude.{◌≡◌, ◌==◌, length, slice_get};
 ghost use Rattle.std.specs.Option.{option_map};
 
 use option_values::OptionValue;
-use tables::SipMap;
+use basics::tables::SipMap;
 
 /// The value of an option.
 #[derive(Drop)]

@@ -10,7 +10,7 @@ use crate::fault::OptionFault;
 use crate::settings::Setting;
 use crate::verdict::Verdict;
 use std::alloc::{AllocError, Global};
-use tables::SipMap;
+use basics::tables::SipMap;
 
 /// The names of no option so far, the options with their values, and the first fault.
 #[derive(Drop)]

@@ -10,7 +10,7 @@ ghost use Rattle.options.specs.View.{verdict_in, written_in};
 
 use crate::fault::{OptionFault, Place};
 use crate::settings::Setting;
-use faults::Refusal;
+use basics::faults::Refusal;
 use machine_file::MachineValue;
 use option_values::{OptionKind, OptionValue, value_of_given, value_of_text};
 use std::alloc::{AllocError, Global};

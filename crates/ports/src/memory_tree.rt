@@ -11,7 +11,7 @@ ghost use Rattle.ports.specs.declared.plan.TreeCall.TheVariants.{Any};
 use crate::plan::{Plan, TreeCall, tree_call_fails};
 use crate::{DeviceFault, Tree};
 use std::alloc::{AllocError, Global};
-use tables::{SipMap, SipSet, map_with_capacity, set_with_capacity};
+use basics::tables::{SipMap, SipSet, map_with_capacity, set_with_capacity};
 
 /// A tree of files in memory.
 #[derive(Drop)]

@@ -1,6 +1,6 @@
 -- What printing a value does to a text.
 use Rattle.std.specs.Prelude.{◌≡◌, ◌<◌, ◌≤◌, ℕ, List, ◌++◌, length, Result, Ok, Err}
-use Rattle.limits.specs.Limits.{text_bytes}
+use Rattle.basics.specs.Limits.{text_bytes}
 use Rattle.data.specs.declared.refusal.Refusal.{Refusal}
 use Rattle.data.specs.declared.refusal.Refusal.TheVariants as refusal
 

@@ -8,7 +8,7 @@ use Rattle.edge.specs.Holding.{are_writable}
 use Rattle.targets.specs.Data.{SurroundingsData, SourceData, Tree, Built, Made, TargetData}
 use Rattle.targets.specs.Files.{default_paths}
 use Rattle.targets.specs.Libraries.{LinkedData, linked, linked_of, libraries_in}
-use Rattle.edges.specs.Edges.{edges_of, target_edges, all_edges}
+use Rattle.target_edges.specs.Edges.{edges_of, target_edges, all_edges}
 use Rattle.project.specs.Laws.{outputs_of, times, all_made, all_inside}
 use Rattle.project.specs.World.{WorldData, reserved, made_of, taken_of, known_of, is_made_in}
 use Rattle.project.specs.Whole.{targets_in, IsWhole, IsNext}

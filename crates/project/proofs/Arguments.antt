@@ -6,7 +6,7 @@ use Rattle.edge.specs.Data.{EdgeData}
 use Rattle.edge.specs.Holding.{are_writable}
 use Rattle.targets.specs.Data.{SurroundingsData, TargetData, Build, Custom}
 use Rattle.targets.specs.Libraries.{LinkedData, linked}
-use Rattle.edges.specs.Edges.{edges_of, edges_after, all_edges}
+use Rattle.target_edges.specs.Edges.{edges_of, edges_after, all_edges}
 use Rattle.project.specs.Laws.{outputs_of, times, all_made, all_inside}
 use Rattle.project.specs.World.{reserved, known_of}
 use Rattle.project.specs.Whole.{targets_in, IsWhole}

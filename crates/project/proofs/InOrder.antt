@@ -4,7 +4,7 @@ use Rattle.std.specs.Prelude.{slice_get, Some}
 use Rattle.std.proofs.Math.Seq.{take-append_seam}
 use Rattle.targets.specs.Data.{SurroundingsData, TargetData}
 use Rattle.targets.specs.Libraries.{LinkedData, linked, linked_after, linked_of}
-use Rattle.edges.specs.Edges.{edges_of, edges_after, all_edges}
+use Rattle.target_edges.specs.Edges.{edges_of, edges_after, all_edges}
 use Rattle.project.specs.Adding.{edges_if, edges_between}
 
 record Begun (earlier : List LinkedData) (ts : List TargetData) : Type 0 where

@@ -9,7 +9,7 @@ use Rattle.targets.specs.Data.{SurroundingsData, BuildData, CustomData, TargetDa
 use Rattle.targets.specs.Sources.{InputData, compiled, has_foreign}
 use Rattle.targets.specs.Files.{path_in, file_path, file_name, link_names, link_paths, object_paths, output_paths}
 use Rattle.targets.specs.Libraries.{LinkedData, linked, links_libraries}
-use Rattle.edges.specs.Edges.{edges_of}
+use Rattle.target_edges.specs.Edges.{edges_of}
 use Rattle.project.specs.Laws.{outputs_of, all_inside}
 use Rattle.project.specs.Adding.{has_slash, is_file_name, is_folder, names_fit, has_c, begins_with_dash, optional_file_name, target_fits}
 use Rattle.project.proofs.EdgeOrder.{split_and, both, list_all-weaker, list_all-joined}

@@ -12,8 +12,8 @@ use Rattle.targets.specs.Data.{SurroundingsData, SourceData, Tree, Built, Made, 
 use Rattle.targets.specs.Sources.{InputData, all_sources, is_c, own_input, inputs_in, c_input, c_inputs_in, put_input, put_inputs, compiled, if_not_c, generated_in, generated, source_paths}
 use Rattle.targets.specs.Files.{is_static, file_path, file_name, link_paths, object_paths, output_paths}
 use Rattle.targets.specs.Libraries.{LinkedData, linked, linked_after, linked_of, build_at, build_in}
-use Rattle.edges.specs.Words.{compile_words, file_in, library_file, library_files, link_words}
-use Rattle.edges.specs.Edges.{compile_edge, compile_edges, archiving, linking, file_edge, naming, link_edges, custom_edge, build_edges, target_edges, edges_of, edges_after, all_edges}
+use Rattle.target_edges.specs.Words.{compile_words, file_in, library_file, library_files, link_words}
+use Rattle.target_edges.specs.Edges.{compile_edge, compile_edges, archiving, linking, file_edge, naming, link_edges, custom_edge, build_edges, target_edges, edges_of, edges_after, all_edges}
 use Rattle.project.specs.Laws.{outputs_of, needs, all_held, all_made}
 use Rattle.project.specs.World.{known_of, made_of}
 use Rattle.project.specs.Adding.{sources_of, is_made_source, is_present}

@@ -8,7 +8,7 @@ use Rattle.edge.specs.Paths.{way_up, source_path, is_upward}
 use Rattle.edge.specs.Data.{EdgeData}
 use Rattle.targets.specs.Data.{SurroundingsData, TargetData}
 use Rattle.targets.specs.Libraries.{LinkedData}
-use Rattle.edges.specs.Edges.{all_edges}
+use Rattle.target_edges.specs.Edges.{all_edges}
 use Rattle.project.specs.Laws.{outputs_of, needs, times, AtMostOnce, all_held, all_made, outputs_if, needs_if, Feeds, Reaches, at_once, through, all_inside}
 use Rattle.project.specs.World.{reserved, known_of, taken_of}
 use Rattle.project.specs.Whole.{targets_in, IsWhole}

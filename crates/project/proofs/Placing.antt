@@ -11,7 +11,7 @@ use Rattle.edge.specs.Holding.{are_writable, is_writable}
 use Rattle.edge.specs.Paths.{is_upward, source_path}
 use Rattle.targets.specs.Data.{SurroundingsData, TargetData}
 use Rattle.targets.specs.Libraries.{LinkedData, linked, linked_after, linked_of}
-use Rattle.edges.specs.Edges.{edges_of, edges_after, all_edges}
+use Rattle.target_edges.specs.Edges.{edges_of, edges_after, all_edges}
 use Rattle.project.specs.Laws.{outputs_of, all_new, times, AtMostOnce, all_held, all_made, all_inside}
 use Rattle.project.specs.World.{WorldData, reserved, made_of, taken_of, known_of, taken_in}
 use Rattle.project.specs.Whole.{SamePaths, targets_in, IsWhole, IsNext}

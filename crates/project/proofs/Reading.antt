@@ -9,7 +9,7 @@ use Rattle.targets.specs.Data.{SurroundingsData}
 use Rattle.targets.specs.Libraries.{LinkedData, linked_of}
 use Rattle.targets.specs.View.{linked_view}
 use Rattle.targets.specs.declared.linking.Linked.{Linked}
-use Rattle.edges.specs.Edges.{edges_of}
+use Rattle.target_edges.specs.Edges.{edges_of}
 use Rattle.project.specs.World.{WorldData}
 use Rattle.project.specs.Adding.{edges_if, edges_at}
 

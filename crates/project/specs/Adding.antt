@@ -2,7 +2,7 @@
 use Rattle.std.specs.Prelude.{ℕ, zero, suc, ◌+◌, Bool, true, false, nat_le, not, ◌&&◌, ◌||◌, ◌==◌, List, [], ◌∷◌, ◌++◌, length, take}
 use Rattle.std.specs.Prelude.{slice_get, bytes_eq, codes, Option, Some, None, Result, Ok, Err, if◌then◌else◌}
 use Rattle.std.specs.List.{list_any, list_all, sum_by}
-use Rattle.limits.specs.Limits.{items}
+use Rattle.basics.specs.Limits.{items}
 use Rattle.edge.specs.Texts.{Path, Text, holds, put_new}
 use Rattle.edge.specs.Paths.{is_upward}
 use Rattle.edge.specs.Data.{EdgeData}
@@ -11,7 +11,7 @@ use Rattle.targets.specs.Data.{SurroundingsData, SourceData, Tree, Built, Made, 
 use Rattle.targets.specs.Sources.{all_sources, is_c, has_foreign}
 use Rattle.targets.specs.Files.{path_in, file_name, link_names}
 use Rattle.targets.specs.Libraries.{LinkedData, linked, linked_of, links_libraries}
-use Rattle.edges.specs.Edges.{edges_of}
+use Rattle.target_edges.specs.Edges.{edges_of}
 use Rattle.project.specs.Laws.{outputs_of, all_new}
 use Rattle.project.specs.World.{WorldData, AnswerData, InstallData, TestData, made_in, taken_in}
 use Rattle.project.specs.declared.fitting.ListOf.{ListOf}

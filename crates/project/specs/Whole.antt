@@ -6,7 +6,7 @@ use Rattle.edge.specs.Data.{EdgeData}
 use Rattle.edge.specs.Holding.{are_writable}
 use Rattle.targets.specs.Data.{SurroundingsData, TargetData}
 use Rattle.targets.specs.Libraries.{LinkedData, linked, linked_of}
-use Rattle.edges.specs.Edges.{all_edges, edges_of}
+use Rattle.target_edges.specs.Edges.{all_edges, edges_of}
 use Rattle.project.specs.Laws.{outputs_of, AtMostOnce, all_made, all_inside}
 use Rattle.project.specs.World.{taken_of, known_of}
 

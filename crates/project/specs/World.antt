@@ -4,7 +4,7 @@ use Rattle.edge.specs.Texts.{Path, Text, holds}
 use Rattle.edge.specs.Paths.{source_path}
 use Rattle.targets.specs.Data.{FactsData, SurroundingsData, TargetData}
 use Rattle.edge.specs.Data.{EdgeData}
-use Rattle.edges.specs.Edges.{all_edges}
+use Rattle.target_edges.specs.Edges.{all_edges}
 use Rattle.project.specs.Laws.{outputs_of}
 
 -- what a call of `dependency` answered

@@ -7,7 +7,7 @@ ghost use Rattle.project.specs.Whole.{IsFront};
 
 use edge::{Edge, push_copies};
 use std::alloc::{AllocError, Global};
-use tables::SipSet;
+use basics::tables::SipSet;
 
 /// What the edges make, in their order.
 pub fn outputs_of(alloc: Global, edges: &[Edge]) -> Result<Vec<String>, AllocError>

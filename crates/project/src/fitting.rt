@@ -1,7 +1,7 @@
 //! What a target may be.
 ghost use Rattle.std.specs.Prelude.{◌≡◌, ◌+◌, map, min, IfOk, not, ◌&&◌, ◌||◌, string_bytes, option_map};
 ghost use Rattle.std.specs.List.{list_any, list_all};
-ghost use Rattle.limits.specs.Limits.{items};
+ghost use Rattle.basics.specs.Limits.{items};
 ghost use Rattle.edge.specs.Texts.{texts, holds as is_held};
 ghost use Rattle.targets.specs.View.{source_view, lists_view, build_view, custom_view, target_view, linked_view};
 ghost use Rattle.targets.specs.Libraries.{links_libraries as links_all};
@@ -13,7 +13,7 @@ ghost use Rattle.project.specs.Adding.{is_short, is_within, is_build};
 
 use edge::{holds, is_upward};
 use std::alloc::{AllocError, Global};
-use tables::SipSet;
+use basics::tables::SipSet;
 use targets::{
     BuildTarget, CustomTarget, Linked, Lists, Source, Target, file_name, has_foreign_source, is_c,
     link_names, links_libraries,
@@ -332,7 +332,7 @@ fn length_in(lists: &Lists, which: ListOf) -> usize
 fn length_up_to(target: &BuildTarget, which: ListOf) -> usize
     ensures { result ≡ min (items + 1) (length_of which (build_view target.now)) }
 {
-    let most = limits::ITEMS + 1;
+    let most = basics::limits::ITEMS + 1;
     let mut count = most.min(length_in(&target.own, which));
     for lists in &target.dependencies {
         count = most.min(count + most.min(length_in(lists, which)));
@@ -343,7 +343,7 @@ fn length_up_to(target: &BuildTarget, which: ListOf) -> usize
 fn is_short(target: &BuildTarget, which: ListOf) -> bool
     ensures { result ≡ is_short which (build_view target.now) }
 {
-    length_up_to(target, which) <= limits::ITEMS
+    length_up_to(target, which) <= basics::limits::ITEMS
 }
 
 /// Whether no list of the target, those of its dependencies counted, has more than 65,536 items.
@@ -358,6 +358,6 @@ pub fn is_within(target: &Target) -> bool
                 && is_short(target, ListOf::OfLinkArgs)
                 && is_short(target, ListOf::OfLibraries)
         }
-        Target::Custom(target) => target.longest <= limits::ITEMS,
+        Target::Custom(target) => target.longest <= basics::limits::ITEMS,
     }
 }

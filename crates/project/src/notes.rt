@@ -16,7 +16,6 @@ pub struct Install {
 }
 
 /// What `test` declares.
-#[derive(Drop)]
 pub struct Test {
     pub name: String,
     /// The words of the command, files and targets by absolute paths.
@@ -27,4 +26,10 @@ pub struct Test {
     pub should_fail: bool,
     /// In seconds.
     pub timeout: i64,
+}
+
+impl Drop for Test {
+    fn drop(self) {
+        let Test { name: _, command: _, environment: _, suites: _, should_fail: _, timeout: _ } = self;
+    }
 }

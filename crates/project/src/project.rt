@@ -17,7 +17,7 @@ ghost use Rattle.edge.specs.Holding.{are_writable};
 ghost use Rattle.targets.specs.Files.{path_in as path_of};
 ghost use Rattle.project.specs.Laws.{outputs_of as outputs_of_edges, AtMostOnce, all_made, Reaches};
 ghost use Rattle.project.specs.World.{new_world, edges_in, known_in};
-ghost use Rattle.edges.specs.Edges.{target_edges as target_edges_of, edges_of};
+ghost use Rattle.target_edges.specs.Edges.{target_edges as target_edges_of, edges_of};
 
 use crate::claims::{claim, outputs_of};
 use crate::fitting::{
@@ -27,14 +27,13 @@ use crate::fitting::{
 use crate::notes::{Answer, Install, Test};
 use crate::refusal::Refusal;
 use edge::{Edge, are_writable, can_hold_path, can_hold_values, copies, strings};
-use edges::{Context, target_edges};
+use target_edges::{Context, target_edges};
 use std::alloc::{AllocError, Global};
 use std::marker::Model;
-use tables::{SipSet, new_set};
+use basics::tables::{SipSet, new_set};
 use targets::{Facts, Linked, Surroundings, Target, default_paths, libraries, path_in};
 
 // What was looked at, and what was noted.
-#[derive(Drop)]
 struct Notes {
     present: SipSet<String>,
     absent: SipSet<String>,
@@ -43,11 +42,16 @@ struct Notes {
     tests: Vec<Test>,
 }
 
+impl Drop for Notes {
+    fn drop(self) {
+        let Notes { present: _, absent: _, dependencies: _, installs: _, tests: _ } = self;
+    }
+}
+
 /// A project: what `project`, the options and the machine file say of it, and what its definition files declare.
 ///
 /// A target refers only to earlier targets, no two of the project's outputs have the same path, each file that an edge needs is there
 /// or is made before it, and `build.ninja` can hold each edge. A call that refuses leaves the project as it was.
-#[derive(Drop)]
 pub struct Project {
     alloc: Global,
     surroundings: Surroundings,
@@ -56,6 +60,12 @@ pub struct Project {
     // What targets and `configure_file` make, and what is reserved.
     taken: SipSet<String>,
     notes: Notes,
+}
+
+impl Drop for Project {
+    fn drop(self) {
+        let Project { alloc: _, surroundings: _, linked: _, outputs: _, taken: _, notes: _ } = self;
+    }
 }
 
 impl Model for Project {

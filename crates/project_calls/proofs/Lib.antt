@@ -3,3 +3,4 @@ pub mod Printing
 pub mod SpelledOptions
 pub mod Views
 pub mod Warnings
+mod Listed

@@ -7,7 +7,7 @@ use Rattle.data.specs.declared.object.Feature.{Feature}
 use Rattle.data.specs.declared.object.Feature.TheVariants as features
 use Rattle.data.specs.declared.object.Object.TheVariants as objects
 use Rattle.data.specs.declared.refusal.Refusal.{Refusal as OperationRefusal}
-use Rattle.faults.specs.declared.refusal.Refusal.TheVariants as refusals
+use Rattle.basics.specs.declared.faults.refusal.Refusal.TheVariants as refusals
 use Rattle.arguments.specs.Arguments.{ArgumentsData}
 use Rattle.arguments.specs.Given.{text_at}
 use Rattle.option_values.specs.Values.{Value, Text, Boolean, Combo, Integer, Array, Feature as FeatureValue}

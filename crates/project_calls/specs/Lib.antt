@@ -5,3 +5,6 @@ pub mod OptionFile
 pub mod OptionFileView
 pub mod Project
 pub mod Rows
+pub mod Entries
+pub mod Flags
+pub mod Programs

@@ -3,7 +3,7 @@ use Rattle.std.specs.Prelude.{ℕ, List, [], ◌∷◌, codes, Result, Ok, Err}
 use Rattle.std.specs.Str.{is_utf8}
 use Rattle.grammar.specs.Parsed.{parsed}
 use Rattle.grammar.specs.Tree.{FileTree, Statements, NoStatement, MoreStatements}
-use Rattle.faults.specs.declared.refusal.Refusal.TheVariants as refusals
+use Rattle.basics.specs.declared.faults.refusal.Refusal.TheVariants as refusals
 use Rattle.option_file.specs.Declarations.{Declaration}
 use Rattle.option_file.specs.Declares.{file_declares}
 use Rattle.option_file.specs.declared.fault.DeclareFault.{DeclareFault}

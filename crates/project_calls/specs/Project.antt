@@ -4,8 +4,8 @@ use Rattle.std.specs.Prelude.{Result, Ok, Err}
 use Rattle.std.specs.List.{list_all}
 use Rattle.std.specs.Str.{bytes_eq}
 use Rattle.data.specs.Data.{Data, text_in}
-use Rattle.faults.specs.declared.refusal.Refusal.{Refusal}
-use Rattle.faults.specs.declared.refusal.Refusal.TheVariants as refusals
+use Rattle.basics.specs.declared.faults.refusal.Refusal.{Refusal}
+use Rattle.basics.specs.declared.faults.refusal.Refusal.TheVariants as refusals
 use Rattle.arguments.specs.Arguments.{ArgumentsData}
 use Rattle.arguments.specs.Given.{keyword, text_at, texts, texts_from}
 use Rattle.definition_files.specs.Places.{refuse_at}
@@ -16,9 +16,9 @@ use Rattle.options.specs.Settings.{Setting}
 use Rattle.options.specs.declared.fault.OptionFault.{OptionFault}
 use Rattle.project_calls.specs.Defaults.{defaults_of, printed_values}
 use Rattle.project_calls.specs.OptionFile.{option_file}
-use Rattle.project_facts.specs.Entries.{entries_in}
-use Rattle.project_facts.specs.Flags.{flags_in}
-use Rattle.project_facts.specs.Programs.{program}
+use Rattle.project_calls.specs.Entries.{entries_in}
+use Rattle.project_calls.specs.Flags.{flags_in}
+use Rattle.project_calls.specs.Programs.{program}
 use Rattle.targets.specs.Data.{FactsData}
 use Rattle.world.specs.World.{Facts, begun, with_options}
 use Rattle.world.specs.Deed.{Deed, give, refuse, read, change, ◌>>=◌, answered, fitting, say}

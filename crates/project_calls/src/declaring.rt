@@ -13,7 +13,7 @@ ghost use Rattle.project_calls.specs.OptionFile.{bytes_declare};
 ghost use Rattle.project_calls.specs.OptionFileView.{file_in};
 
 use definition_files::{Found, find, line_at, refusal_of};
-use faults::Refusal;
+use basics::faults::Refusal;
 use grammar::fault::SyntaxError;
 use grammar::parse;
 use grammar::tree::File;

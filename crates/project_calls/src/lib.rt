@@ -3,7 +3,10 @@
 
 mod declaring;
 mod defaults;
+mod entries;
+mod flags;
 mod option_call;
+mod programs;
 mod project_call;
 mod rows;
 mod values;

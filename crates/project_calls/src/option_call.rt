@@ -9,7 +9,7 @@ ghost use Rattle.project_calls.specs.GetOption.{get_option};
 use crate::values::as_data;
 use arguments::Arguments;
 use data::Value;
-use faults::Refusal;
+use basics::faults::Refusal;
 use ports::{Outputs, Tree};
 use world::{Caller, Stop};
 

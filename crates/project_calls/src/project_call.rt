@@ -19,12 +19,14 @@ ghost use Rattle.project_calls.specs.Project.{settled, texts_behind, version_of,
 
 use crate::declaring::option_file;
 use crate::defaults::{defaults, keys_given, printed_all, values_given};
+use crate::entries::option_entries;
+use crate::flags::flags_of;
+use crate::programs::program;
 use arguments::Arguments;
 use data::Value;
-use faults::Refusal;
+use basics::faults::Refusal;
 use options::{Declared, OptionFault, Options, Resolved, resolve};
 use ports::{Outputs, Tree};
-use project_facts::{flags_of, option_entries, program};
 use std::alloc::{AllocError, Global};
 use targets::Facts;
 use world::{Caller, Stop, Store};

@@ -4,7 +4,7 @@ use Rattle.arguments.specs.Arguments.{ArgumentsData}
 use Rattle.data.specs.Data.{Data, object}
 use Rattle.data.specs.declared.object.Dependency.{Dependency}
 use Rattle.data.specs.declared.object.Object.TheVariants as objects
-use Rattle.faults.specs.declared.refusal.Refusal.TheVariants as refusals
+use Rattle.basics.specs.declared.faults.refusal.Refusal.TheVariants as refusals
 use Rattle.targets.specs.Libraries.{linked_of}
 use Rattle.world.specs.Deed.{Deed, give, read, ◌>>=◌, answered, fitting}
 use Rattle.resource_calls.specs.JoinedLists.{joined_dependency}

@@ -1,7 +1,7 @@
 -- `dependency`: what the machine file has.
 use Rattle.std.specs.Prelude.{ℕ, List, Option, Some, None, codes, option_map, Result}
 use Rattle.arguments.specs.Arguments.{ArgumentsData}
-use Rattle.flat.specs.Flat.{flat_all}
+use Rattle.data.specs.Flat.{flat_all}
 use Rattle.arguments.specs.Given.{text_at, texts}
 use Rattle.arguments.specs.declared.given.Requirement.{Requirement}
 use Rattle.arguments.specs.declared.given.Requirement.TheVariants as requirements
@@ -9,7 +9,7 @@ use Rattle.data.specs.Data.{Data, object}
 use Rattle.data.specs.declared.object.Dependency.{Dependency}
 use Rattle.data.specs.declared.object.Object.TheVariants as objects
 use Rattle.data.specs.declared.refusal.Refusal.{Refusal}
-use Rattle.faults.specs.declared.refusal.Refusal.TheVariants as refusals
+use Rattle.basics.specs.declared.faults.refusal.Refusal.TheVariants as refusals
 use Rattle.machine_file.specs.Files.{Entry, Section}
 use Rattle.project.specs.World.{AnswerData}
 use Rattle.resources.specs.Fitting.{first_fitting, said_dependency}

@@ -9,7 +9,7 @@ use Rattle.operators.specs.Texts.{path_below}
 use Rattle.project.specs.World.{InstallData}
 use Rattle.placeholders.specs.Names.{plain_name}
 use Rattle.resources.specs.Installs.{destination, headers_folder, man_folder}
-use Rattle.target_arguments.specs.Sources.{NamedData, tree, built, sources_of}
+use Rattle.named_sources.specs.Sources.{NamedData, tree, built, sources_of}
 use Rattle.world.specs.Options.{option_text}
 use Rattle.world.specs.World.{Facts}
 use Rattle.resource_calls.specs.declared.destinations.Sort.{Sort}

@@ -1,7 +1,7 @@
 -- Folders and files that are installed, without where they lie in memory.
 use Rattle.std.specs.Prelude.{map}
 use Rattle.project.specs.View.{install_view}
-use Rattle.target_arguments.specs.SourcesView.{named_view}
+use Rattle.named_sources.specs.SourcesView.{named_view}
 use Rattle.resource_calls.specs.Destinations.{FoldersData, SaidData}
 use Rattle.resource_calls.specs.declared.destinations.Folders.{Folders}
 use Rattle.resource_calls.specs.declared.destinations.Said.{Said}

@@ -12,8 +12,8 @@ use Rattle.data.specs.declared.refusal.Refusal.{Refusal}
 use Rattle.edge.specs.Texts.{Path, Text}
 use Rattle.resources.specs.Found.{◌>>=◌, found, within_texts}
 use Rattle.resources.specs.Joined.{dependencies_in, joined}
-use Rattle.target_arguments.specs.Outputs.{outputs_at}
-use Rattle.target_arguments.specs.Sources.{NamedData, tree, built, outputs, output}
+use Rattle.named_sources.specs.Outputs.{outputs_at}
+use Rattle.named_sources.specs.Sources.{NamedData, tree, built, outputs, output}
 use Rattle.targets.specs.Libraries.{LinkedData}
 use Rattle.resource_calls.specs.OwnLists.{OwnData}
 

@@ -1,6 +1,6 @@
 -- The files of the tree among sources, which have to be there.
 use Rattle.std.specs.Prelude.{List, [], ◌∷◌}
-use Rattle.target_arguments.specs.Sources.{NamedData, tree, built, outputs, output}
+use Rattle.named_sources.specs.Sources.{NamedData, tree, built, outputs, output}
 use Rattle.world.specs.Deed.{Deed, give, ◌>>=◌, required}
 
 -- a file of the tree is looked at and is there (E14)

@@ -6,9 +6,9 @@ use Rattle.arguments.specs.Leaves.{leaves_named}
 use Rattle.arguments.specs.Maybe.{◌>>=◌}
 use Rattle.data.specs.Data.{Data}
 use Rattle.edge.specs.Texts.{Path}
-use Rattle.target_arguments.specs.Folders.{folders_of}
-use Rattle.target_arguments.specs.Libraries.{numbers_of}
-use Rattle.target_arguments.specs.Sources.{NamedData, sources_of}
+use Rattle.named_sources.specs.Folders.{folders_of}
+use Rattle.named_sources.specs.Libraries.{numbers_of}
+use Rattle.named_sources.specs.Sources.{NamedData, sources_of}
 use Rattle.targets.specs.Libraries.{LinkedData, is_library_at}
 use Rattle.resource_calls.specs.Place.{PlaceData}
 

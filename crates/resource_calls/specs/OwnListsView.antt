@@ -1,7 +1,7 @@
 -- What a call lists of its own, without where it lies in memory.
 use Rattle.std.specs.Prelude.{map}
 use Rattle.edge.specs.Texts.{texts}
-use Rattle.target_arguments.specs.SourcesView.{named_view}
+use Rattle.named_sources.specs.SourcesView.{named_view}
 use Rattle.resource_calls.specs.OwnLists.{OwnData}
 use Rattle.resource_calls.specs.declared.own_lists.Own.{Own}
 

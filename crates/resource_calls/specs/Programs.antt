@@ -1,7 +1,7 @@
 -- `find_program`: a program of the machine file, or a file of the tree.
 use Rattle.std.specs.Prelude.{Bool, true, false, List, [], ◌∷◌, Option, Some, None, option_map, ok_or, Result}
 use Rattle.arguments.specs.Arguments.{ArgumentsData}
-use Rattle.flat.specs.Flat.{flat_all}
+use Rattle.data.specs.Flat.{flat_all}
 use Rattle.arguments.specs.Given.{text_at}
 use Rattle.arguments.specs.declared.given.Requirement.{Requirement}
 use Rattle.arguments.specs.declared.given.Requirement.TheVariants as requirements
@@ -12,7 +12,7 @@ use Rattle.data.specs.declared.object.Program.{Program}
 use Rattle.data.specs.declared.object.Program.TheVariants as programs
 use Rattle.data.specs.declared.refusal.Refusal.{Refusal}
 use Rattle.edge.specs.Texts.{Path, Text}
-use Rattle.faults.specs.declared.refusal.Refusal.TheVariants as refusals
+use Rattle.basics.specs.declared.faults.refusal.Refusal.TheVariants as refusals
 use Rattle.paths.specs.Paths.{tree_path}
 use Rattle.resources.specs.Fitting.{program_words}
 use Rattle.resources.specs.Found.{within_texts}

@@ -16,7 +16,7 @@ use Rattle.resources.specs.Testing.{environment}
 use Rattle.targets.specs.Data.{BuildData}
 use Rattle.targets.specs.Files.{file_path, is_library}
 use Rattle.targets.specs.Libraries.{build_at}
-use Rattle.target_arguments.specs.Outputs.{output_at, outputs_at}
+use Rattle.named_sources.specs.Outputs.{output_at, outputs_at}
 use Rattle.resource_calls.specs.Place.{PlaceData}
 
 -- ---- things of the project, by the words that they are

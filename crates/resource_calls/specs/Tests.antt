@@ -4,7 +4,7 @@ use Rattle.arguments.specs.Arguments.{ArgumentsData}
 use Rattle.arguments.specs.Given.{flag, integer_of, text_at, texts}
 use Rattle.data.specs.Data.{Data}
 use Rattle.data.specs.declared.refusal.Refusal.{Refusal}
-use Rattle.faults.specs.declared.refusal.Refusal.TheVariants as refusals
+use Rattle.basics.specs.declared.faults.refusal.Refusal.TheVariants as refusals
 use Rattle.project.specs.World.{TestData}
 use Rattle.resources.specs.Testing.{seconds_of}
 use Rattle.world.specs.Declaring.{add_test}

@@ -17,7 +17,7 @@ use data::{Object, Program, Value};
 use operators::path_below;
 use resources::environment;
 use std::alloc::{AllocError, Global};
-use target_arguments::{output_at, outputs_at, strings};
+use named_sources::{output_at, outputs_at, strings};
 use targets::{BuildTarget, build_target_at, file_path};
 
 /// What a test runs.

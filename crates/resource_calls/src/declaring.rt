@@ -13,7 +13,7 @@ use crate::own_lists::{Own, own_lists};
 use crate::place::place_of;
 use arguments::Arguments;
 use data::{Dependency, Object, Value};
-use faults::Refusal;
+use basics::faults::Refusal;
 use ports::{Outputs, Tree};
 use world::{Caller, Stop};
 

@@ -14,7 +14,7 @@ ghost use Rattle.resource_calls.specs.Required.{required_by};
 use crate::required::{missing_object, required_by};
 use arguments::{Arguments, Requirement};
 use data::{Dependency, Object, Value};
-use faults::Refusal;
+use basics::faults::Refusal;
 use machine_file::Machine;
 use ports::{Outputs, Tree};
 use project::Answer;

@@ -3,7 +3,7 @@ ghost use Rattle.std.specs.Prelude.{◌≡◌, [], IfOk, codes, map, option_map,
 ghost use Rattle.arguments.specs.Arguments.{arguments_data};
 ghost use Rattle.arguments.specs.Given.{text_given};
 ghost use Rattle.project.specs.View.{install_view};
-ghost use Rattle.target_arguments.specs.SourcesView.{named_view};
+ghost use Rattle.named_sources.specs.SourcesView.{named_view};
 ghost use Rattle.world.specs.Caller.{state_of};
 ghost use Rattle.resource_calls.specs.Destinations.{folders_in, given_or, install_at, install_folder, install_of, installs_behind, said_of};
 ghost use Rattle.resource_calls.specs.Destinations.{usual_folder};
@@ -16,7 +16,7 @@ use ports::{Outputs, Tree};
 use project::Install;
 use resources::{destination, headers_folder, man_folder};
 use std::alloc::{AllocError, Global};
-use target_arguments::{NamedSource, sources_of};
+use named_sources::{NamedSource, sources_of};
 use world::Caller;
 
 /// What sort of file is installed.

@@ -13,7 +13,7 @@ use crate::destinations::{Said, Sort, folders_in, said_of};
 use crate::named_files::require_files;
 use arguments::Arguments;
 use data::Value;
-use faults::Refusal;
+use basics::faults::Refusal;
 use ports::{Outputs, Tree};
 use project::Install;
 use std::alloc::{AllocError, Global};

@@ -2,7 +2,7 @@
 ghost use Rattle.std.specs.Prelude.{◌≡◌, codes, IfOk, map};
 ghost use Rattle.arguments.specs.Arguments.{arguments_data};
 ghost use Rattle.arguments.specs.Given.{keyword};
-ghost use Rattle.target_arguments.specs.SourcesView.{named_view};
+ghost use Rattle.named_sources.specs.SourcesView.{named_view};
 ghost use Rattle.targets.specs.View.{linked_view};
 ghost use Rattle.resource_calls.specs.JoinedLists.{count_at, dependencies_given, joined_dependency, own_dependency, source_of};
 ghost use Rattle.resource_calls.specs.JoinedLists.{sources_within, tree_source, version_or, with_arguments, with_own};
@@ -15,7 +15,7 @@ use arguments::Arguments;
 use data::{Dependency, Refusal, Source, Sources, Text, Texts};
 use resources::{dependencies_in, found_dependency, joined, within_texts};
 use std::alloc::{AllocError, Global};
-use target_arguments::NamedSource;
+use named_sources::NamedSource;
 use targets::Linked;
 
 // ---- sources

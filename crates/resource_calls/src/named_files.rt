@@ -1,12 +1,12 @@
 //! The files of the tree among sources.
 ghost use Rattle.std.specs.Prelude.{map};
-ghost use Rattle.target_arguments.specs.SourcesView.{named_view};
+ghost use Rattle.named_sources.specs.SourcesView.{named_view};
 ghost use Rattle.world.specs.Answering.{Carries, HasRoom};
 ghost use Rattle.world.specs.Caller.{state_of};
 ghost use Rattle.resource_calls.specs.NamedFiles.{file_required, files_required};
 
 use ports::{Outputs, Tree};
-use target_arguments::NamedSource;
+use named_sources::NamedSource;
 use world::{Caller, Stop};
 
 fn require_file<T: Tree, O: Outputs>(

@@ -11,7 +11,7 @@ use crate::place::Place;
 use arguments::Arguments;
 use data::Value;
 use std::alloc::{AllocError, Global};
-use target_arguments::{NamedSource, folders_of, numbers_of, sources_of};
+use named_sources::{NamedSource, folders_of, numbers_of, sources_of};
 use targets::{Linked, are_libraries};
 
 /// What a call lists of its own.

@@ -1,7 +1,7 @@
 //! `find_program`: <https://mesonbuild.com/Reference-manual_functions.html#find_program>.
 ghost use Rattle.std.specs.Prelude.{◌≡◌, map, option_map, string_bytes};
 ghost use Rattle.arguments.specs.Arguments.{arguments_data};
-ghost use Rattle.flat.specs.Flat.{flat_all};
+ghost use Rattle.data.specs.Flat.{flat_all};
 ghost use Rattle.data.specs.View.{data_of};
 ghost use Rattle.world.specs.Answering.{Carries, HasRoom};
 ghost use Rattle.world.specs.Caller.{state_of};
@@ -13,7 +13,7 @@ ghost use Rattle.resource_calls.specs.Required.{required_by};
 use crate::required::{missing_object, required_by};
 use arguments::{Arguments, Requirement};
 use data::{Object, Program, Text, Texts, Value};
-use faults::Refusal;
+use basics::faults::Refusal;
 use paths::tree_path;
 use ports::{Outputs, Tree};
 use resources::program_words;

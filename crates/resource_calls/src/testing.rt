@@ -12,7 +12,7 @@ use crate::commands::{Run, run_of};
 use crate::place::place_of;
 use arguments::Arguments;
 use data::Value;
-use faults::Refusal;
+use basics::faults::Refusal;
 use ports::{Outputs, Tree};
 use project::Test;
 use resources::seconds_of;

@@ -5,7 +5,7 @@ use Rattle.std.proofs.lemmas.Bool.{leb-true, le-leb}
 use Rattle.std.proofs.lemmas.List.{length-append}
 use Rattle.data.specs.declared.object.Dependency.{Dependency}
 use Rattle.data.specs.declared.refusal.Refusal.TheVariants as refusal
-use Rattle.limits.specs.Limits.{items}
+use Rattle.basics.specs.Limits.{items}
 use Rattle.resources.specs.Joined.{is_within, with_all_lists, with_lists, with_all, joined}
 
 pub front_short : {A : Type 0} (xs ys : List A) → nat_le (length (xs ++ ys)) items ≡ true → nat_le (length xs) items ≡ true

@@ -7,7 +7,7 @@ use Rattle.resources.specs.Found.{found}
 use Rattle.machine_file.specs.Files.{Entry, Section}
 use Rattle.machine_file.specs.Lookups.{entry_at, dependency_at, value_at}
 use Rattle.machine_file.specs.Readers.{text_said, texts_said, words_said}
-use Rattle.versions.specs.Condition.{meets}
+use Rattle.texts.specs.Condition.{meets}
 
 -- the version that a section gives
 abbrev pub said_version : List Entry → List ℕ

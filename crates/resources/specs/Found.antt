@@ -4,7 +4,7 @@ use Rattle.data.specs.declared.object.Dependency.{Dependency}
 use Rattle.data.specs.declared.refusal.Refusal.{Refusal}
 use Rattle.data.specs.declared.refusal.Refusal.TheVariants as refusal
 use Rattle.data.specs.Limits.{within_bytes}
-use Rattle.limits.specs.Limits.{items, is_short}
+use Rattle.basics.specs.Limits.{items, is_short}
 
 infixl 10 ◌>>=◌
 abbrev pub ◌>>=◌ : {A B : Type 0} → Result A Refusal → (A → Result B Refusal) → Result B Refusal

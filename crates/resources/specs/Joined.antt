@@ -6,7 +6,7 @@ use Rattle.data.specs.declared.object.Object.{Object}
 use Rattle.data.specs.declared.object.Object.TheVariants as objects
 use Rattle.data.specs.declared.refusal.Refusal.{Refusal}
 use Rattle.data.specs.declared.refusal.Refusal.TheVariants as refusal
-use Rattle.limits.specs.Limits.{items}
+use Rattle.basics.specs.Limits.{items}
 
 abbrev pub if_dependency : Object → List Dependency
 if_dependency (objects.Dependency d) = d ∷ []

@@ -11,7 +11,7 @@ use crate::found::{found_dependency, within_texts};
 use data::{Dependency, Refusal, Texts};
 use machine_file::{Machine, MachineValue, Section};
 use std::alloc::{AllocError, Global};
-use versions::version_compare;
+use texts::version_compare;
 
 /// A dependency that a machine file has: a name that was asked for, and what its section says.
 pub struct Fitting<'a> {

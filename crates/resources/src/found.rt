@@ -9,7 +9,7 @@ use std::alloc::{AllocError, Global};
 pub fn within_texts(alloc: Global, strings: &[String]) -> Result<Result<Texts, Refusal>, AllocError>
     ensures { IfOk result (λ r. r ≡ within_texts (map string_bytes strings.now)) }
 {
-    if strings.len() > limits::ITEMS {
+    if strings.len() > basics::limits::ITEMS {
         return Ok(Err(Refusal::Limit));
     }
     let mut texts = Texts::new(alloc);

@@ -46,18 +46,17 @@ fn collect_items<'v>(found: &mut Vec<&'v Dependency>, items: &'v [Value]) -> Res
 fn is_within(dependency: &Dependency) -> bool
     ensures { result ≡ is_within dependency.now }
 {
-    dependency.include_directories.as_slice().len() <= limits::ITEMS
-        && dependency.compile_args.as_slice().len() <= limits::ITEMS
-        && dependency.link_args.as_slice().len() <= limits::ITEMS
-        && dependency.link_with.as_slice().len() <= limits::ITEMS
-        && dependency.sources.as_slice().len() <= limits::ITEMS
+    dependency.include_directories.as_slice().len() <= basics::limits::ITEMS
+        && dependency.compile_args.as_slice().len() <= basics::limits::ITEMS
+        && dependency.link_args.as_slice().len() <= basics::limits::ITEMS
+        && dependency.link_with.as_slice().len() <= basics::limits::ITEMS
+        && dependency.sources.as_slice().len() <= basics::limits::ITEMS
 }
 
-// A dependency with the lists of another behind its own. Texts are shared, and no byte is copied.
-fn with_lists(dependency: Dependency, other: &Dependency) -> Result<Dependency, AllocError>
-    ensures { IfOk result (λ d. d ≡ with_lists dependency other.now) }
+// Puts the lists of another dependency behind its own. Texts are shared, and no byte is copied.
+fn extend(both: &mut Dependency, other: &Dependency) -> Result<(), AllocError>
+    ensures { OnOk result (both.new ≡ with_lists both.old other.now) }
 {
-    let mut both = dependency;
     if other.is_found {
         both.include_directories
             .extend(other.include_directories.as_slice())?;
@@ -66,6 +65,15 @@ fn with_lists(dependency: Dependency, other: &Dependency) -> Result<Dependency, 
         both.link_with.extend(other.link_with.as_slice())?;
         both.sources.extend(other.sources.as_slice())?;
     }
+    Ok(())
+}
+
+// A dependency with the lists of another behind its own.
+fn with_lists(dependency: Dependency, other: &Dependency) -> Result<Dependency, AllocError>
+    ensures { IfOk result (λ d. d ≡ with_lists dependency other.now) }
+{
+    let mut both = dependency;
+    extend(&mut both, other)?;
     Ok(both)
 }
 

@@ -9,10 +9,10 @@ use Rattle.data.specs.Data.{Data, integer, text}
 use Rattle.edge.specs.Texts.{Path, Text}
 use Rattle.targets.specs.Data.{Build, BuildData, ListsData, SourceData, TargetData}
 use Rattle.targets.specs.declared.target.Kind.{Kind}
-use Rattle.target_arguments.specs.Folders.{folders_of}
-use Rattle.target_arguments.specs.Libraries.{numbers_of}
-use Rattle.target_arguments.specs.Sources.{NamedData, sources_of}
-use Rattle.target_arguments.specs.Versions.{is_library_version}
+use Rattle.named_sources.specs.Folders.{folders_of}
+use Rattle.named_sources.specs.Libraries.{numbers_of}
+use Rattle.named_sources.specs.Sources.{NamedData, sources_of}
+use Rattle.named_sources.specs.Versions.{is_library_version}
 use Rattle.target_calls.specs.Dependencies.{dependencies_of}
 use Rattle.target_calls.specs.Here.{HereData}
 use Rattle.target_calls.specs.Sources.{file_in, sources_in}

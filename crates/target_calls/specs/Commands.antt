@@ -14,7 +14,7 @@ use Rattle.targets.specs.Files.{file_path}
 use Rattle.targets.specs.Libraries.{build_at}
 use Rattle.targets.specs.declared.target.Kind.{Kind}
 use Rattle.targets.specs.declared.target.Kind.TheVariants as kinds
-use Rattle.target_arguments.specs.Outputs.{output_at, outputs_at}
+use Rattle.named_sources.specs.Outputs.{output_at, outputs_at}
 use Rattle.target_calls.specs.Here.{HereData}
 use Rattle.target_calls.specs.Sources.{one_made}
 

@@ -13,8 +13,8 @@ use Rattle.placeholders.specs.declared.holes.Scope.TheVariants.{FileName}
 use Rattle.targets.specs.Data.{Custom, CustomData, SourceData}
 use Rattle.targets.specs.Files.{path_in}
 use Rattle.targets.specs.Sources.{source_paths}
-use Rattle.flat.specs.Flat.{opened}
-use Rattle.target_arguments.specs.Sources.{sources_of}
+use Rattle.data.specs.Flat.{opened}
+use Rattle.named_sources.specs.Sources.{sources_of}
 use Rattle.target_calls.specs.BuildTargets.{NamedTargetData}
 use Rattle.target_calls.specs.Commands.{PartData, command_of}
 use Rattle.target_calls.specs.Here.{HereData}

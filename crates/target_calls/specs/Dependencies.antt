@@ -8,7 +8,7 @@ use Rattle.data.specs.declared.object.Source.{Source}
 use Rattle.data.specs.declared.object.Source.TheVariants as source
 use Rattle.targets.specs.Data.{ListsData, SourceData}
 use Rattle.targets.specs.Libraries.{LinkedData}
-use Rattle.target_arguments.specs.Sources.{NamedData, tree, built, outputs, output}
+use Rattle.named_sources.specs.Sources.{NamedData, tree, built, outputs, output}
 use Rattle.target_calls.specs.Sources.{sources_in}
 
 -- a source of a dependency, as a call names it

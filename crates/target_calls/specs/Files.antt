@@ -1,12 +1,12 @@
 -- `files` and `include_directories`: paths of the tree as values.
 use Rattle.std.specs.Prelude.{ℕ, List, [], ◌∷◌, Option, Some, ok_or}
 use Rattle.data.specs.Data.{Data}
-use Rattle.faults.specs.declared.refusal.Refusal.TheVariants as refusals
+use Rattle.basics.specs.declared.faults.refusal.Refusal.TheVariants as refusals
 use Rattle.arguments.specs.Arguments.{ArgumentsData}
-use Rattle.flat.specs.Flat.{flat_all}
+use Rattle.data.specs.Flat.{flat_all}
 use Rattle.paths.specs.Paths.{folder_paths, tree_paths}
 use Rattle.world.specs.Deed.{Deed, give, read, ◌>>=◌, answered, fitting, required}
-use Rattle.target_arguments.specs.Values.{directories_at, files_at}
+use Rattle.named_sources.specs.Values.{directories_at, files_at}
 
 -- the files of the tree that texts of the present definition file name: E9 where one names none
 unfoldable pub named_files : List (List ℕ) → Deed (List (List ℕ))

@@ -2,11 +2,11 @@
 use Rattle.std.specs.Prelude.{Bool, false, List, [], ◌∷◌, Option, None, bytes_eq, codes}
 use Rattle.std.specs.List.{list_all}
 use Rattle.arguments.specs.Arguments.{ArgumentsData}
-use Rattle.flat.specs.Flat.{flat_all}
+use Rattle.data.specs.Flat.{flat_all}
 use Rattle.arguments.specs.Given.{texts}
 use Rattle.data.specs.Data.{Data}
 use Rattle.edge.specs.Texts.{Text}
-use Rattle.faults.specs.declared.refusal.Refusal.TheVariants as refusals
+use Rattle.basics.specs.declared.faults.refusal.Refusal.TheVariants as refusals
 use Rattle.world.specs.Declaring.{add_arguments, add_link_arguments}
 use Rattle.world.specs.Deed.{Deed, give, ◌>>=◌, need}
 

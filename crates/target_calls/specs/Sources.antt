@@ -3,8 +3,8 @@ use Rattle.std.specs.Prelude.{List, [], ◌∷◌, ◌++◌, Option, Some, None,
 use Rattle.edge.specs.Texts.{Path}
 use Rattle.targets.specs.Data.{SourceData, Tree, Built, Made}
 use Rattle.targets.specs.Libraries.{LinkedData}
-use Rattle.target_arguments.specs.Outputs.{output_at, outputs_at}
-use Rattle.target_arguments.specs.Sources.{NamedData, tree, built, outputs, output}
+use Rattle.named_sources.specs.Outputs.{output_at, outputs_at}
+use Rattle.named_sources.specs.Sources.{NamedData, tree, built, outputs, output}
 
 abbrev pub one_made : Path → SourceData
 one_made path = Made (path ∷ [])

@@ -3,7 +3,7 @@ use Rattle.std.specs.Prelude.{â„•, [], Option, Some, bytes_eq, codes, ok_or, ifâ
 use Rattle.arguments.specs.Arguments.{ArgumentsData}
 use Rattle.data.specs.Data.{Data, object}
 use Rattle.data.specs.declared.object.Object.TheVariants as objects
-use Rattle.faults.specs.declared.refusal.Refusal.TheVariants as refusals
+use Rattle.basics.specs.declared.faults.refusal.Refusal.TheVariants as refusals
 use Rattle.option_values.specs.Values as option
 use Rattle.options.specs.Resolves.{value_named}
 use Rattle.project.specs.Adding.{is_fit}

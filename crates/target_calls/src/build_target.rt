@@ -4,7 +4,7 @@ ghost use Rattle.arguments.specs.Arguments.{arguments_data};
 ghost use Rattle.arguments.specs.Given.{text_given};
 ghost use Rattle.data.specs.View.{data_of};
 ghost use Rattle.targets.specs.View.{build_view, lists_view, source_view};
-ghost use Rattle.target_arguments.specs.SourcesView.{named_view, named_views};
+ghost use Rattle.named_sources.specs.SourcesView.{named_view, named_views};
 ghost use Rattle.target_calls.specs.BuildTargets.{build_target, declared, declared_from, named_sources, number_in, own_lists};
 ghost use Rattle.target_calls.specs.BuildTargets.{source_values, soversion_given, version_fits};
 ghost use Rattle.target_calls.specs.BuildTargetsView.{named_target_view};
@@ -17,7 +17,7 @@ use arguments::Arguments;
 use data::Value;
 use std::alloc::{AllocError, Global};
 use std::rc::Rc;
-use target_arguments::{NamedSource, folders_of, is_library_version, numbers_of, sources_of};
+use named_sources::{NamedSource, folders_of, is_library_version, numbers_of, sources_of};
 use targets::{BuildTarget, Kind, Lists, Source, Target};
 
 /// What a call declares.

@@ -17,7 +17,7 @@ use edge::{copies, source_path};
 use placeholders::{Place, words_of};
 use project::has_slash;
 use std::alloc::{AllocError, Global};
-use target_arguments::{output_at, outputs_at, strings};
+use named_sources::{output_at, outputs_at, strings};
 use targets::{BuildTarget, Kind, Source, build_target_at, file_path};
 
 /// The words of a part of the command, and what has to be there for it.

@@ -7,7 +7,7 @@ ghost use Rattle.placeholders.specs.Holes.{first_of};
 ghost use Rattle.placeholders.specs.View.{place_view};
 ghost use Rattle.targets.specs.Files.{path_in as path_of_file};
 ghost use Rattle.targets.specs.View.{custom_view, source_view};
-ghost use Rattle.target_arguments.specs.SourcesView.{named_view};
+ghost use Rattle.named_sources.specs.SourcesView.{named_view};
 ghost use Rattle.target_calls.specs.BuildTargetsView.{named_target_view};
 ghost use Rattle.target_calls.specs.CommandsView.{part_view};
 ghost use Rattle.target_calls.specs.CustomTargets.{build_folder, call_fits, captures_one, count_named, custom_from, custom_target};
@@ -24,10 +24,10 @@ use crate::sources::{files_among, sources_in};
 use arguments::{Arguments, Named};
 use data::Value;
 use edge::{copies, source_path, source_root};
-use flat::opened;
+use data::opened;
 use placeholders::{Place, Scope, filled};
 use std::alloc::{AllocError, Global};
-use target_arguments::sources_of;
+use named_sources::sources_of;
 use targets::{CustomTarget, Source, Target, path_in, source_paths};
 
 /// Names of files of the folder.

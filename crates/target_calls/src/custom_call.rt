@@ -15,7 +15,7 @@ use crate::here::here_of;
 use crate::tree::require_all;
 use arguments::Arguments;
 use data::{Object, Value};
-use faults::Refusal;
+use basics::faults::Refusal;
 use ports::{Outputs, Tree};
 use world::{Caller, Stop};
 

@@ -16,7 +16,7 @@ use crate::installs::{folders_in, install_of, note};
 use crate::tree::require_all;
 use arguments::Arguments;
 use data::{Object, Value};
-use faults::Refusal;
+use basics::faults::Refusal;
 use options::OptionValue;
 use ports::{Outputs, Tree};
 use targets::{Kind, Target};

@@ -2,14 +2,14 @@
 ghost use Rattle.std.specs.Prelude.{◌≡◌, IfOk, map, option_map};
 ghost use Rattle.data.specs.View.{data_of};
 ghost use Rattle.targets.specs.View.{linked_view, lists_view};
-ghost use Rattle.target_arguments.specs.SourcesView.{named_view};
+ghost use Rattle.named_sources.specs.SourcesView.{named_view};
 ghost use Rattle.target_calls.specs.Dependencies.{dependencies_of, found_in, lists_of, named_of};
 
 use crate::sources::sources_in;
 use data::{Dependency, Object, Value};
 use std::alloc::{AllocError, Global};
 use std::rc::Rc;
-use target_arguments::{NamedSource, strings};
+use named_sources::{NamedSource, strings};
 use targets::{Linked, Lists};
 
 fn named_of(alloc: Global, source: &data::Source) -> Result<NamedSource, AllocError>

@@ -2,7 +2,7 @@
 ghost use Rattle.std.specs.Prelude.{◌≡◌, IfOk, map, option_map};
 ghost use Rattle.std.specs.List.{list_all};
 ghost use Rattle.arguments.specs.Arguments.{arguments_data};
-ghost use Rattle.flat.specs.Flat.{flat_all};
+ghost use Rattle.data.specs.Flat.{flat_all};
 ghost use Rattle.data.specs.View.{data_of};
 ghost use Rattle.edge.specs.Texts.{texts};
 ghost use Rattle.world.specs.Answering.{Carries};
@@ -12,7 +12,7 @@ ghost use Rattle.target_calls.specs.ProjectWords.{add_project_arguments, add_pro
 use arguments::Arguments;
 use data::Value;
 use edge::strings;
-use faults::Refusal;
+use basics::faults::Refusal;
 use ports::{Outputs, Tree};
 use std::alloc::{AllocError, Global};
 use world::{Caller, Stop};

@@ -3,14 +3,14 @@ ghost use Rattle.std.specs.Prelude.{◌≡◌, ◌++◌, IfOk, flat_map, map, op
 ghost use Rattle.edge.specs.Texts.{texts};
 ghost use Rattle.targets.specs.Data.{Made};
 ghost use Rattle.targets.specs.View.{linked_view, source_view};
-ghost use Rattle.target_arguments.specs.Outputs.{output_at, outputs_at};
-ghost use Rattle.target_arguments.specs.SourcesView.{named_view};
+ghost use Rattle.named_sources.specs.Outputs.{output_at, outputs_at};
+ghost use Rattle.named_sources.specs.SourcesView.{named_view};
 ghost use Rattle.target_calls.specs.Sources.{file_in, one_made, source_in, sources_in};
 
 use edge::copies;
 use std::alloc::{AllocError, Global};
 use std::rc::Rc;
-use target_arguments::{NamedSource, output_at, outputs_at};
+use named_sources::{NamedSource, output_at, outputs_at};
 use targets::{Linked, Source};
 
 /// Outputs of one target.

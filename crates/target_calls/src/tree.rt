@@ -9,10 +9,10 @@ ghost use Rattle.target_calls.specs.Files.{all_required, files, include_director
 
 use arguments::Arguments;
 use data::Value;
-use faults::Refusal;
+use basics::faults::Refusal;
 use paths::{folder_paths, tree_paths};
 use ports::{Outputs, Tree};
-use target_arguments::{directories_at, files_at};
+use named_sources::{directories_at, files_at};
 use world::{Caller, Stop};
 
 // The paths of the files that texts name.

@@ -1,5 +1,4 @@
 /// What edges take from the options.
-#[derive(Drop)]
 pub struct Flags {
     /// `warning_level`, 0 to 3.
     pub warning_level: usize,
@@ -13,6 +12,12 @@ pub struct Flags {
     pub is_debug: bool,
     pub c_args: Vec<String>,
     pub c_link_args: Vec<String>,
+}
+
+impl Drop for Flags {
+    fn drop(self) {
+        let Flags { warning_level: _, is_werror: _, c_std: _, optimization: _, is_debug: _, c_args: _, c_link_args: _ } = self;
+    }
 }
 
 /// The type of an option (the manual's page "Build options").
@@ -36,15 +41,19 @@ pub enum OptionValue {
 }
 
 /// An option as it is listed.
-#[derive(Drop)]
 pub struct OptionEntry {
     pub name: String,
     pub kind: OptionType,
     pub value: OptionValue,
 }
 
+impl Drop for OptionEntry {
+    fn drop(self) {
+        let OptionEntry { name: _, kind: _, value: _ } = self;
+    }
+}
+
 /// What `project`, the options and the machine file say of a project.
-#[derive(Drop)]
 pub struct Facts {
     pub name: String,
     pub version: String,
@@ -64,10 +73,21 @@ pub struct Facts {
     pub options: Vec<OptionEntry>,
 }
 
+impl Drop for Facts {
+    fn drop(self) {
+        let Facts { name: _, version: _, license: _, depth: _, source_root: _, build_root: _, compiler: _, archiver: _, flags: _, options: _ } = self;
+    }
+}
+
 /// What edges take from the project: its facts, and the words of `add_project_arguments` and `add_project_link_arguments`.
-#[derive(Drop)]
 pub struct Surroundings {
     pub facts: Facts,
     pub arguments: Vec<String>,
     pub link_arguments: Vec<String>,
+}
+
+impl Drop for Surroundings {
+    fn drop(self) {
+        let Surroundings { facts: _, arguments: _, link_arguments: _ } = self;
+    }
 }

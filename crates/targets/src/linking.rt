@@ -7,10 +7,9 @@ ghost use Rattle.targets.specs.View.{linked_view, target_view, build_view};
 
 use crate::target::{BuildTarget, Target};
 use std::alloc::{AllocError, Global};
-use tables::new_set;
+use basics::tables::new_set;
 
 /// A target with what is made of it once.
-#[derive(Drop)]
 pub struct Linked {
     pub target: Target,
     /// The libraries that it links, by their numbers: those that it names, those of its dependencies, and behind a static library its
@@ -18,6 +17,12 @@ pub struct Linked {
     pub libraries: Vec<usize>,
     /// What it is asked for, as the edge `all` names it: its outputs and the symbolic links.
     pub paths: Vec<String>,
+}
+
+impl Drop for Linked {
+    fn drop(self) {
+        let Linked { target: _, libraries: _, paths: _ } = self;
+    }
 }
 
 fn build_of(target: &Target) -> Option<&BuildTarget>

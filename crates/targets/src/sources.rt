@@ -10,7 +10,7 @@ ghost use Rattle.targets.specs.Inputs.{input_view};
 use crate::target::{BuildTarget, Lists, Source};
 use edge::{first_kept, push_copies, source_path};
 use std::alloc::{AllocError, Global};
-use tables::new_set;
+use basics::tables::new_set;
 
 /// A source that is compiled.
 #[derive(Drop)]

@@ -55,7 +55,6 @@ pub enum Source {
 ///
 /// A dependency that names others is its own lists and then theirs, so it is a list of these, and whoever joins dependencies shares
 /// them.
-#[derive(Drop)]
 pub struct Lists {
     pub sources: Vec<Source>,
     /// Folders of the tree, `""` for its root.
@@ -66,8 +65,13 @@ pub struct Lists {
     pub link_with: Vec<usize>,
 }
 
+impl Drop for Lists {
+    fn drop(self) {
+        let Lists { sources: _, include_folders: _, compile_args: _, link_args: _, link_with: _ } = self;
+    }
+}
+
 /// An executable or a library (the Reference manual's `executable`, `static_library` and `shared_library`).
-#[derive(Drop)]
 pub struct BuildTarget {
     pub kind: Kind,
     /// The folder of the definition file, `""` for the root.
@@ -83,8 +87,13 @@ pub struct BuildTarget {
     pub is_installed: bool,
 }
 
+impl Drop for BuildTarget {
+    fn drop(self) {
+        let BuildTarget { kind: _, folder: _, name: _, own: _, dependencies: _, version: _, soversion: _, is_default: _, is_installed: _ } = self;
+    }
+}
+
 /// A command that makes files (the Reference manual's `custom_target`), its placeholders replaced.
-#[derive(Drop)]
 pub struct CustomTarget {
     pub name: String,
     /// The folder of the definition file, `""` for the root.
@@ -104,6 +113,12 @@ pub struct CustomTarget {
     pub longest: usize,
     pub is_default: bool,
     pub is_installed: bool,
+}
+
+impl Drop for CustomTarget {
+    fn drop(self) {
+        let CustomTarget { name: _, folder: _, outputs: _, inputs: _, needs: _, words: _, captures: _, depfile: _, longest: _, is_default: _, is_installed: _ } = self;
+    }
 }
 
 #[derive(Drop)]

@@ -2,7 +2,7 @@
 use Rattle.std.specs.Prelude.{ℕ, zero, suc, ◌+◌, ◌-◌, ◌/◌, ◌%◌, Bool, true, false, ◌||◌, ◌&&◌, ◌==◌, nat_eq, nat_lt, nat_le, List, [], ◌∷◌, ◌++◌, length, take, drop, replicate, slice_index, Option, Some, None, codes, decimal, if◌then◌else◌}
 use Rattle.std.specs.List.{starts_with, prefix_len, list_all}
 use Rattle.std.specs.Str.{bytes_eq}
-use Rattle.limits.specs.Limits.{line_bytes}
+use Rattle.basics.specs.Limits.{line_bytes}
 use Rattle.ports.specs.Outputs.{Step, puts, logs}
 use Rattle.template.specs.Config.{Content, Flag, Number, Bytes, Entries, value_of, printed}
 
@@ -20,11 +20,14 @@ is_name name = nat_lt 0 (length name) && list_all is_name_byte name
 unfoldable pub name_length : List ℕ → ℕ
 name_length bytes = let n = prefix_len is_name_byte bytes in if slice_index bytes n == 64 then n else 0
 
+-- the end of the log's line for a name that stands for nothing
+unfoldable pub no_value : List ℕ → List Step
+no_value name = logs (codes ": no value for ") ++ (logs name ++ logs (codes "\n"))
+
 -- the log's line for a name that stands for nothing
 unfoldable pub warning : List ℕ → ℕ → List ℕ → List Step
 warning path number name =
-    logs (codes "WARNING: ")
-    ++ (logs path ++ (logs (codes ":") ++ (logs (decimal number) ++ (logs (codes ": no value for ") ++ (logs name ++ logs (codes "\n"))))))
+    logs (codes "WARNING: ") ++ (logs path ++ (logs (codes ":") ++ (logs (decimal number) ++ no_value name)))
 
 unfoldable pub value_or_warning : Option Content → List Step → List Step
 value_or_warning (Some content) warning = puts (printed content)

@@ -5,7 +5,7 @@ ghost use Rattle.std.specs.List.{prefix_len, list_all, AllPass};
 ghost use Rattle.template.specs.Config.{value_of, printed};
 ghost use Rattle.template.specs.ConfigData.{content_of};
 ghost use Rattle.template.specs.Template.{Agrees, ending_of, first_fault};
-ghost use Rattle.template.specs.Line.{Defines, Malformed, body_length, defined_in, definition, definition_or_comment, is_blank, is_name, line_fault, line_steps, in_place, name_length, replaced, warning, words, is_name_byte};
+ghost use Rattle.template.specs.Line.{Defines, Malformed, body_length, defined_in, definition, definition_or_comment, is_blank, is_name, line_fault, line_steps, in_place, name_length, no_value, replaced, warning, words, is_name_byte};
 ghost use Rattle.template.specs.Scan.{is_word_byte, IsFirstWord, IsPlain, IsSign, slashes_at};
 
 use crate::{ConfigData, ConfigValue, PassStop};
@@ -147,6 +147,17 @@ fn put_value<O: Outputs>(value: &ConfigValue, out: &mut O) -> Result<(), DeviceF
     }
 }
 
+// Logs the end of the line that says so.
+#[tactic(auto, using(ports::proofs::Sending::sending), unfolding(crate::specs::Line::no_value))]
+fn log_no_value<O: Outputs>(name: &[u8], out: &mut O) -> Result<(), DeviceFault>
+    requires { HasRoom (O.seen out.old).failures }
+    ensures { Writes (O.seen out.old) (no_value name.now) (ended result) (O.seen out.new) }
+{
+    log_all(out, b": no value for ")?;
+    log_all(out, name)?;
+    log_all(out, b"\n")
+}
+
 /// Logs that a name has no value.
 #[tactic(auto, using(ports::proofs::Sending::sending), unfolding(crate::specs::Line::warning))]
 fn log_warning<O: Outputs>(
@@ -163,9 +174,7 @@ fn log_warning<O: Outputs>(
     log_all(out, path.as_bytes())?;
     log_all(out, b":")?;
     log_all(out, buffer.format(number).as_bytes())?;
-    log_all(out, b": no value for ")?;
-    log_all(out, name)?;
-    log_all(out, b"\n")
+    log_no_value(name, out)
 }
 
 /// How many bytes stand before a line's end.

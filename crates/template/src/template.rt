@@ -7,7 +7,7 @@ ghost use Rattle.template.specs.Template.{Agrees, Lacks, PassFailures, ending_of
 
 use crate::replace::replace_line;
 use crate::{ConfigData, PassStop};
-use limits::LINE_BYTES;
+use basics::limits::LINE_BYTES;
 use memchr::memchr;
 use ports::{DeviceFault, Outputs, Tree};
 

@@ -8,3 +8,5 @@ pub mod JoinedLemmas
 pub mod SegmentLemmas
 pub mod PartsLaws
 mod Examples
+pub mod Runs
+pub mod Numbers

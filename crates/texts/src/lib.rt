@@ -12,6 +12,8 @@ mod part;
 mod placed;
 mod search;
 mod split;
+mod versions;
+pub use versions::version_compare;
 
 pub use ends::{strip, strip_of};
 pub use joining::{join, replace};

@@ -8,7 +8,7 @@ use Rattle.data.specs.Tables.{Answers}
 use Rattle.data.specs.View.{data_of}
 use Rattle.data.specs.declared.refusal.Refusal.{Refusal as OperationRefusal}
 use Rattle.data.specs.declared.value.Value.{Value}
-use Rattle.faults.specs.Faults.{FaultData}
+use Rattle.basics.specs.Faults.{FaultData}
 use Rattle.world.specs.Trace.{Seen, seen}
 use Rattle.world.specs.World.{World, Facts, looking, fault_here}
 use Rattle.world.specs.Store.{changing}
@@ -20,7 +20,7 @@ use Rattle.world.proofs.Follow.{stopped_later, failed_later, ended_later, refuse
 use Rattle.world.proofs.Holding.{holds_later, stays_here, stays_on}
 use Rattle.world.proofs.Marks.{none_added, same_front, grown_added}
 use Rattle.world.proofs.Tells.{ends_told, begins_logs}
-use Rattle.faults.specs.declared.refusal.Refusal.{Refusal}
+use Rattle.basics.specs.declared.faults.refusal.Refusal.{Refusal}
 use Rattle.world.specs.declared.stop.Stop.{Stop}
 use Rattle.world.specs.declared.stop.Stop.TheVariants as stops
 

@@ -1,6 +1,6 @@
 -- Changes of configuration data, against their deeds.
 use Rattle.std.proofs.Common.{◌≡◌, ◌↔◌, ℕ, Bool, true, false, not, List, [], Result, Ok, Err, IsErrOf, IsTrue, OnOk, OnErr, IsErrAnd, sym, subst, ◌∙◌, refl}
-use Rattle.faults.specs.declared.refusal.Refusal.TheVariants as refusals
+use Rattle.basics.specs.declared.faults.refusal.Refusal.TheVariants as refusals
 use Rattle.ports.specs.Outputs.{OutputState}
 use Rattle.ports.specs.Tree.{TreeState}
 use Rattle.template.specs.declared.config.SetStop.{SetStop}

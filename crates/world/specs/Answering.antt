@@ -3,7 +3,7 @@ use Rattle.std.specs.Prelude.{◌≡◌, ℕ, ◌+◌, ◌<◌, ◌≤◌, ◌^�
 use Rattle.ports.specs.Outputs.{OutputState}
 use Rattle.ports.specs.Tree.{TreeState, Stays}
 use Rattle.data.specs.declared.refusal.Refusal.{Refusal as OperationRefusal}
-use Rattle.faults.specs.Faults.{FaultData}
+use Rattle.basics.specs.Faults.{FaultData}
 use Rattle.project.specs.declared.refusal.Refusal.{Refusal as ProjectRefusal}
 use Rattle.template.specs.declared.config.SetStop.{SetStop}
 use Rattle.template.specs.declared.config.SetStop.TheVariants as set_stops
@@ -13,8 +13,8 @@ use Rattle.world.specs.Trace.{Seen, seen}
 use Rattle.world.specs.Gives.{Gives, Holds, Continues, IsRefusal, failures_after}
 use Rattle.world.specs.Deed.{Files, Deed, perform}
 use Rattle.world.specs.Declaring.{of_project}
-use Rattle.faults.specs.declared.refusal.Refusal.{Refusal}
-use Rattle.faults.specs.declared.refusal.Refusal.TheVariants as refusals
+use Rattle.basics.specs.declared.faults.refusal.Refusal.{Refusal}
+use Rattle.basics.specs.declared.faults.refusal.Refusal.TheVariants as refusals
 use Rattle.world.specs.declared.stop.Stop.{Stop}
 use Rattle.world.specs.declared.stop.Stop.TheVariants as stops
 

@@ -1,8 +1,8 @@
 -- Deeds that declare what a project has.
 use Rattle.std.specs.Prelude.{ℕ, List, [], Result, Ok, Err}
 use Rattle.edge.specs.Texts.{Path, Text}
-use Rattle.faults.specs.declared.refusal.Refusal.{Refusal}
-use Rattle.faults.specs.declared.refusal.Refusal.TheVariants as refusals
+use Rattle.basics.specs.declared.faults.refusal.Refusal.{Refusal}
+use Rattle.basics.specs.declared.faults.refusal.Refusal.TheVariants as refusals
 use Rattle.project.specs.Adding.{after_answer, after_target, arguments_answer, output_answer, target_answer, with_arguments}
 use Rattle.project.specs.Adding.{with_dependency}
 use Rattle.project.specs.Adding.{with_install, with_link_arguments, with_output, with_test}

@@ -8,8 +8,8 @@ use Rattle.world.specs.Operation.{of_operation}
 use Rattle.world.specs.Trace.{Told}
 use Rattle.world.specs.World.{Facts, looking, with_facts, fault_here}
 use Rattle.world.specs.Run.{Act, ran, Done, pure, fails, follow}
-use Rattle.faults.specs.declared.refusal.Refusal.{Refusal}
-use Rattle.faults.specs.declared.refusal.Refusal.TheVariants as refusals
+use Rattle.basics.specs.declared.faults.refusal.Refusal.{Refusal}
+use Rattle.basics.specs.declared.faults.refusal.Refusal.TheVariants as refusals
 
 -- the files of the tree, by their paths
 abbrev pub Files : Type 0

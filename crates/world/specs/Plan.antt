@@ -5,7 +5,7 @@ use Rattle.world.specs.Operation.{of_operation}
 use Rattle.world.specs.World.{entering, with_line}
 use Rattle.world.specs.Run.{Act, ran, Done, pure, with_end, follow}
 use Rattle.world.specs.Deed.{Files, Deed, give as give_deed, refuse as refuse_deed, change, perform}
-use Rattle.faults.specs.declared.refusal.Refusal.{Refusal}
+use Rattle.basics.specs.declared.faults.refusal.Refusal.{Refusal}
 
 pub data Plan : Type 0 → Type 1 where
   deed : {A : Type 0} → Deed A → Plan A

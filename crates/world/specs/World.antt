@@ -3,8 +3,8 @@ use Rattle.std.specs.Prelude.{ℕ, Bool, true, false, List, [], ◌∷◌, ◌++
 use Rattle.std.specs.Str.{bytes_eq}
 use Rattle.data.specs.Data.{Data}
 use Rattle.edge.specs.Texts.{first_kept}
-use Rattle.faults.specs.Faults.{FaultData}
-use Rattle.faults.specs.declared.refusal.Refusal.{Refusal}
+use Rattle.basics.specs.Faults.{FaultData}
+use Rattle.basics.specs.declared.faults.refusal.Refusal.{Refusal}
 use Rattle.machine_file.specs.Files.{Section}
 use Rattle.options.specs.Settings.{Setting}
 use Rattle.project.specs.Adding.{with_absent, with_present}

@@ -2,7 +2,7 @@
 ghost use Rattle.std.specs.Prelude.{◌≡◌, IfOk};
 ghost use Rattle.world.specs.Answering.{Carries, HasRoom, IsAnswered, IsFitting, Refuses};
 ghost use Rattle.world.specs.Deed.{need, required, say, there};
-ghost use Rattle.faults.specs.View.{fault_view};
+ghost use Rattle.basics.specs.View.{fault_view};
 ghost use Rattle.world.specs.Store.{world_of};
 ghost use Rattle.world.specs.World.{fault_here};
 
@@ -12,7 +12,7 @@ mod declaring;
 use crate::operation::of_operation;
 use crate::stop::Stop;
 use crate::store::Store;
-use faults::{Fault, Refusal};
+use basics::faults::{Fault, Refusal};
 use ports::{Outputs, Tree, log_all};
 use std::alloc::{AllocError, Global};
 

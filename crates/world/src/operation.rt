@@ -2,7 +2,7 @@
 ghost use Rattle.std.specs.Prelude.{◌≡◌};
 ghost use Rattle.world.specs.Operation.{of_operation};
 
-use faults::Refusal;
+use basics::faults::Refusal;
 
 /// The refusal that an operation on values is.
 pub fn of_operation(refusal: data::Refusal) -> Refusal

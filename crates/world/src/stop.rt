@@ -1,7 +1,7 @@
 //! Why a run came to no value.
 ghost use Rattle.std.specs.Prelude.{◌≡◌};
 
-use faults::Fault;
+use basics::faults::Fault;
 use ports::DeviceFault;
 use std::alloc::{AllocError, AllocFailed};
 

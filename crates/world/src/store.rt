@@ -45,7 +45,6 @@ pub struct Place {
 }
 
 /// The world of a run. The value of each variable is in the slot of its name's number.
-#[derive(Drop)]
 pub struct Store {
     place: Place,
     settings: Settings,
@@ -58,6 +57,14 @@ pub struct Store {
     project: Project,
     entered: Names,
     looked: Vec<String>,
+}
+
+impl Drop for Store {
+    fn drop(self) {
+        let Store {
+            place: _, settings: _, names: _, slots: _, machine: _, options: _, configurations: _, is_begun: _, project: _, entered: _, looked: _,
+        } = self;
+    }
 }
 
 impl Model for Store {

@@ -14,7 +14,7 @@ use crate::refusal::Refusal;
 use crate::text::Text;
 use std::alloc::{AllocError, Global};
 use std::marker::Model;
-use tables::{SipSet, new_set};
+use basics::tables::{SipSet, new_set};
 
 /// A dictionary that may pass the limits while it is made; `finish` looks at them once.
 #[derive(Drop)]

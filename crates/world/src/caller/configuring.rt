@@ -6,7 +6,7 @@ ghost use Rattle.world.specs.Configuring.{add_configuration, freeze_configured, 
 
 use crate::caller::Caller;
 use crate::stop::Stop;
-use faults::Refusal;
+use basics::faults::Refusal;
 use ports::{Outputs, Tree};
 use template::{ConfigData, ConfigValue, SetStop};
 

@@ -12,7 +12,7 @@ ghost use Rattle.world.specs.World.{begun};
 
 use crate::caller::Caller;
 use crate::stop::Stop;
-use faults::Refusal;
+use basics::faults::Refusal;
 use ports::{Outputs, Tree};
 use project::{Answer, Install, Test};
 use targets::{Facts, Target};

@@ -57,7 +57,10 @@ impl Store {
     pub fn into_project(self) -> Project
         ensures { result ≡ self.project }
     {
-        self.project
+        let Store {
+            place: _, settings: _, names: _, slots: _, machine: _, options: _, configurations: _, is_begun: _, project, entered: _, looked: _,
+        } = self;
+        project
     }
 
     /// Whether `project` was called.

@@ -1,6 +1,6 @@
 use Rattle.std.proofs.Common.{map, ap}
 use Rattle.data.specs.View.{data_of}
-use Rattle.faults.specs.declared.refusal.Refusal.TheVariants as refusals
+use Rattle.basics.specs.declared.faults.refusal.Refusal.TheVariants as refusals
 use Rattle.world.specs.Deed.{answered, refuse}
 use Rattle.calls.specs.Messages.{error, printed_all}
 use Rattle.calls.proofs.Values.{carries_text}

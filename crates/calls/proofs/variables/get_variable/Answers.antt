@@ -1,6 +1,6 @@
 use Rattle.std.proofs.Common.{ℕ, List, [], Option, ap, ◌∙◌}
 use Rattle.data.specs.Data.{Data}
-use Rattle.faults.specs.declared.refusal.Refusal.TheVariants as refusals
+use Rattle.basics.specs.declared.faults.refusal.Refusal.TheVariants as refusals
 use Rattle.world.specs.Deed.{need}
 use Rattle.calls.specs.Names.{is_name, is_predefined}
 use Rattle.calls.specs.Variables.{get_variable, variable_or}

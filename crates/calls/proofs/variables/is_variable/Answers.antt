@@ -1,7 +1,7 @@
 use Rattle.std.proofs.Common.{[], Some, is_some, ap, ◌∙◌}
 use Rattle.std.specs.Prelude.{◌||◌}
 use Rattle.data.specs.Data.{boolean}
-use Rattle.faults.specs.declared.refusal.Refusal.TheVariants as refusals
+use Rattle.basics.specs.declared.faults.refusal.Refusal.TheVariants as refusals
 use Rattle.world.specs.Deed.{need}
 use Rattle.world.specs.Store.{world_of}
 use Rattle.calls.specs.Names.{is_name, is_predefined}

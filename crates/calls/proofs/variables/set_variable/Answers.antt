@@ -1,5 +1,5 @@
 use Rattle.std.proofs.Common.{[], ap, refl, ◌∙◌}
-use Rattle.faults.specs.declared.refusal.Refusal.TheVariants as refusals
+use Rattle.basics.specs.declared.faults.refusal.Refusal.TheVariants as refusals
 use Rattle.world.specs.Deed.{need}
 use Rattle.calls.specs.Variables.{set_variable, is_settable, set_to}
 use Rattle.world.proofs.Values.{two}

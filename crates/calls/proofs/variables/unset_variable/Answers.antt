@@ -1,5 +1,5 @@
 use Rattle.std.proofs.Common.{[], None, is_some, ap, refl, ◌∙◌}
-use Rattle.faults.specs.declared.refusal.Refusal.TheVariants as refusals
+use Rattle.basics.specs.declared.faults.refusal.Refusal.TheVariants as refusals
 use Rattle.world.specs.Deed.{need, change}
 use Rattle.world.specs.Store.{world_of}
 use Rattle.world.specs.World.{with_variable}

@@ -1,6 +1,6 @@
 use Rattle.std.proofs.Common.{Ok, Err, sym, ap, refl, ◌∙◌}
 use Rattle.std.specs.Prelude.{ok_or}
-use Rattle.faults.specs.declared.refusal.Refusal.TheVariants as refusals
+use Rattle.basics.specs.declared.faults.refusal.Refusal.TheVariants as refusals
 use Rattle.template.specs.Config.{Configuration}
 use Rattle.world.proofs.Answering.{carries_fitting, carries_none}
 use Rattle.configuration_calls.specs.ConfigurationData.{said_data}

@@ -1,5 +1,5 @@
 use Rattle.std.proofs.Common.{[], ap, ◌∙◌}
-use Rattle.faults.specs.declared.refusal.Refusal.TheVariants as refusals
+use Rattle.basics.specs.declared.faults.refusal.Refusal.TheVariants as refusals
 use Rattle.project.specs.Adding.{is_file_name}
 use Rattle.world.specs.Deed.{need}
 use Rattle.world.proofs.Answering.{carries_as, carries_stop, carries_then}

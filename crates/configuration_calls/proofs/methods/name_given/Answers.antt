@@ -1,5 +1,5 @@
 use Rattle.std.proofs.Common.{[], ap, ◌∙◌}
-use Rattle.faults.specs.declared.refusal.Refusal.TheVariants as refusals
+use Rattle.basics.specs.declared.faults.refusal.Refusal.TheVariants as refusals
 use Rattle.template.specs.Line.{is_name}
 use Rattle.world.specs.Deed.{need}
 use Rattle.world.proofs.Answering.{carries_as, carries_give, carries_stop, carries_then}

@@ -1,6 +1,6 @@
 use Rattle.std.proofs.Common.{ℕ, Ok, Err, sym, ap, refl, ◌∙◌}
 use Rattle.std.specs.Prelude.{ok_or}
-use Rattle.faults.specs.declared.refusal.Refusal.TheVariants as refusals
+use Rattle.basics.specs.declared.faults.refusal.Refusal.TheVariants as refusals
 use Rattle.world.proofs.Answering.{carries_fitting}
 use Rattle.configuration_calls.specs.Methods.{other_given}
 use Rattle.configuration_calls.proofs.methods.other_given.Goals as goal

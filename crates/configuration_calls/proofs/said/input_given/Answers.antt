@@ -1,7 +1,7 @@
 use Rattle.std.proofs.Common.{Ok, Err, option_map, string_bytes, sym, ap, refl, ◌∙◌}
 use Rattle.std.specs.Prelude.{ok_or}
 use Rattle.arguments.specs.Arguments.{arguments_data}
-use Rattle.faults.specs.declared.refusal.Refusal.TheVariants as refusals
+use Rattle.basics.specs.declared.faults.refusal.Refusal.TheVariants as refusals
 use Rattle.world.specs.Settings.{SettingsData}
 use Rattle.world.proofs.Answering.{carries_fitting, carries_none, carries_read}
 use Rattle.configuration_calls.specs.ConfigureFile.{input_given, input_named}

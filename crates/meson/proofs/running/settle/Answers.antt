@@ -1,7 +1,7 @@
 use Rattle.std.proofs.Common.{Err, subst, sym}
 use Rattle.ports.specs.Endings.{HasRoom}
 use Rattle.build_file.specs.Means.{Means}
-use Rattle.conclusion.specs.Concluding.{Agrees, done_with}
+use Rattle.build_file.specs.Concluding.{Agrees, done_with}
 use Rattle.world.specs.Store.{Kept}
 use Rattle.meson.specs.Setup.{OnEnd, OnProject, Settles}
 use Rattle.meson.proofs.running.settle.Goals as goal

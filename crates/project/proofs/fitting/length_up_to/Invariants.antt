@@ -1,6 +1,6 @@
 use Rattle.std.proofs.Common.{◌≡◌, ◌+◌, min, take}
 use Rattle.std.specs.List.{sum_by}
-use Rattle.limits.specs.Limits.{items}
+use Rattle.basics.specs.Limits.{items}
 use Rattle.targets.specs.View.{lists_view}
 use Rattle.project.specs.Adding.{length_in}
 use Rattle.project.proofs.fitting.length_up_to.Given as goal

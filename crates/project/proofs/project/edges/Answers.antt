@@ -4,7 +4,7 @@ use Rattle.edge.specs.View.{edge_view}
 use Rattle.targets.specs.Libraries.{linked_of}
 use Rattle.targets.specs.View.{surroundings_view, linked_view}
 use Rattle.targets.specs.declared.linking.Linked.{Linked}
-use Rattle.edges.specs.Edges.{edges_of}
+use Rattle.target_edges.specs.Edges.{edges_of}
 use Rattle.project.specs.World.{WorldData}
 use Rattle.project.specs.Adding.{edges_at}
 use Rattle.project.proofs.Reading.{edges_found}

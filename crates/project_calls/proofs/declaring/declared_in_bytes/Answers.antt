@@ -1,6 +1,6 @@
 use Rattle.std.proofs.Common.{ap, ◌∙◌}
 use Rattle.definition_files.specs.Files.{line_at}
-use Rattle.faults.specs.declared.refusal.Refusal.TheVariants as refusals
+use Rattle.basics.specs.declared.faults.refusal.Refusal.TheVariants as refusals
 use Rattle.world.proofs.Answering.{carries_as}
 use Rattle.project_calls.specs.OptionFile.{text_declares}
 use Rattle.project_calls.proofs.SpelledOptions.{carries_line_first, text_is, text_is_not}

@@ -1,5 +1,5 @@
 use Rattle.std.proofs.Common.{Some, map, ap}
-use Rattle.target_arguments.specs.SourcesView.{named_view}
+use Rattle.named_sources.specs.SourcesView.{named_view}
 use Rattle.world.proofs.Answering.{carries_as, carries_give, carries_none, carries_stop, carries_then}
 use Rattle.resource_calls.specs.DeclareDependency.{declare_dependency}
 use Rattle.resource_calls.specs.NamedFiles.{files_required}

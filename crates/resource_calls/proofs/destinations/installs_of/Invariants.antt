@@ -1,7 +1,7 @@
 use Rattle.std.proofs.Common.{◌≡◌, [], map, drop}
 use Rattle.arguments.specs.Arguments.{arguments_data}
 use Rattle.project.specs.View.{install_view}
-use Rattle.target_arguments.specs.SourcesView.{named_view}
+use Rattle.named_sources.specs.SourcesView.{named_view}
 use Rattle.resource_calls.specs.Destinations.{installs_behind}
 use Rattle.resource_calls.specs.DestinationsView.{folders_view}
 use Rattle.resource_calls.proofs.destinations.installs_of.Given as goal

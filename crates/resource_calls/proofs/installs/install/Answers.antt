@@ -1,6 +1,6 @@
 use Rattle.std.proofs.Common.{map, ap, refl}
 use Rattle.project.specs.View.{install_view}
-use Rattle.target_arguments.specs.SourcesView.{named_view}
+use Rattle.named_sources.specs.SourcesView.{named_view}
 use Rattle.world.proofs.Answering.{carries_as, carries_give, carries_stop, carries_then}
 use Rattle.resource_calls.specs.Installs.{all_installed, install}
 use Rattle.resource_calls.specs.NamedFiles.{files_required}

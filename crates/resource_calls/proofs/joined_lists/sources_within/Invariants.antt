@@ -1,5 +1,5 @@
 use Rattle.std.proofs.Common.{◌≡◌, [], map, drop}
-use Rattle.target_arguments.specs.SourcesView.{named_view}
+use Rattle.named_sources.specs.SourcesView.{named_view}
 use Rattle.targets.specs.View.{linked_view}
 use Rattle.resource_calls.specs.JoinedLists.{sources_behind}
 use Rattle.resource_calls.proofs.joined_lists.sources_within.Given as goal

@@ -1,5 +1,5 @@
 use Rattle.std.proofs.Common.{ap, refl, sym}
-use Rattle.target_arguments.specs.SourcesView.{named_view}
+use Rattle.named_sources.specs.SourcesView.{named_view}
 use Rattle.world.specs.Deed.{required}
 use Rattle.world.proofs.Answering.{carries_as, carries_give}
 use Rattle.resource_calls.specs.NamedFiles.{file_required}

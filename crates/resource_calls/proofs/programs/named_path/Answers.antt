@@ -1,6 +1,6 @@
 use Rattle.std.proofs.Common.{Ok, Err, option_map, string_bytes, sym, ap, refl, ◌∙◌}
 use Rattle.std.specs.Prelude.{ok_or}
-use Rattle.faults.specs.declared.refusal.Refusal.TheVariants as refusals
+use Rattle.basics.specs.declared.faults.refusal.Refusal.TheVariants as refusals
 use Rattle.paths.specs.Paths.{tree_path}
 use Rattle.world.specs.Settings.{SettingsData}
 use Rattle.world.proofs.Answering.{carries_none, carries_read, carries_fitting}

@@ -1,6 +1,6 @@
 use Rattle.std.proofs.Common.{ap, refl, sym, ◌∙◌}
 use Rattle.arguments.specs.Arguments.{arguments_data}
-use Rattle.flat.specs.Flat.{flat_all}
+use Rattle.data.specs.Flat.{flat_all}
 use Rattle.world.proofs.Answering.{carries_as, carries_give}
 use Rattle.resource_calls.specs.Programs.{first_program, program_wanted}
 use Rattle.resource_calls.proofs.Either.{either_way}

@@ -1,7 +1,7 @@
 use Rattle.std.proofs.Common.{Ok, Err, option_map, sym, ap, refl, ◌∙◌}
 use Rattle.std.specs.Prelude.{ok_or}
 use Rattle.arguments.specs.Arguments.{arguments_data}
-use Rattle.faults.specs.declared.refusal.Refusal.TheVariants as refusals
+use Rattle.basics.specs.declared.faults.refusal.Refusal.TheVariants as refusals
 use Rattle.world.proofs.Answering.{carries_none, carries_read, carries_fitting}
 use Rattle.target_calls.specs.BuildTargets.{declared}
 use Rattle.target_calls.specs.BuildTargetsView.{named_target_view}

@@ -1,5 +1,5 @@
 use Rattle.std.proofs.Common.{[], map, string_bytes, ap, ◌∙◌}
-use Rattle.faults.specs.declared.refusal.Refusal.TheVariants as refusals
+use Rattle.basics.specs.declared.faults.refusal.Refusal.TheVariants as refusals
 use Rattle.world.specs.Deed.{need}
 use Rattle.world.proofs.Answering.{carries_as, carries_none}
 use Rattle.target_calls.specs.ProjectWords.{are_c, required_c}

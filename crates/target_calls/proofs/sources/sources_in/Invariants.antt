@@ -1,6 +1,6 @@
 use Rattle.std.proofs.Common.{◌≡◌, [], map, drop}
 use Rattle.targets.specs.View.{linked_view, source_view}
-use Rattle.target_arguments.specs.SourcesView.{named_view}
+use Rattle.named_sources.specs.SourcesView.{named_view}
 use Rattle.target_calls.specs.Sources.{sources_behind}
 use Rattle.target_calls.proofs.sources.sources_in.Given as goal
 

@@ -1,7 +1,7 @@
 use Rattle.std.proofs.Common.{map, string_bytes, ap, refl, ◌∙◌}
 use Rattle.world.specs.Deed.{answered}
 use Rattle.world.proofs.Answering.{carries_as, carries_then, carries_stop, carries_none, carries_give, carries_value}
-use Rattle.target_arguments.specs.Values.{files_at}
+use Rattle.named_sources.specs.Values.{files_at}
 use Rattle.target_calls.specs.Files.{all_required, files, named_files}
 use Rattle.target_calls.proofs.tree.files.Goals as goal
 

@@ -1,7 +1,7 @@
 use Rattle.std.proofs.Common.{map, string_bytes, ap, refl, ◌∙◌}
 use Rattle.world.specs.Deed.{answered}
 use Rattle.world.proofs.Answering.{carries_as, carries_then, carries_stop, carries_none, carries_give, carries_value}
-use Rattle.target_arguments.specs.Values.{directories_at}
+use Rattle.named_sources.specs.Values.{directories_at}
 use Rattle.target_calls.specs.Files.{include_directories, named_folders}
 use Rattle.target_calls.proofs.tree.include_directories.Goals as goal
 

@@ -1,6 +1,6 @@
 use Rattle.std.proofs.Common.{Ok, Err, map, option_map, sym, ap, refl, ◌∙◌}
 use Rattle.std.specs.Prelude.{ok_or}
-use Rattle.faults.specs.declared.refusal.Refusal.TheVariants as refusals
+use Rattle.basics.specs.declared.faults.refusal.Refusal.TheVariants as refusals
 use Rattle.paths.specs.Folder.{strings_of}
 use Rattle.paths.specs.Paths.{tree_paths}
 use Rattle.world.specs.Settings.{SettingsData}

@@ -1,6 +1,6 @@
 use Rattle.std.proofs.Common.{ap, ◌∙◌}
 use Rattle.grammar.specs.Parsed.{parsed}
-use Rattle.faults.specs.declared.refusal.Refusal.TheVariants as refusals
+use Rattle.basics.specs.declared.faults.refusal.Refusal.TheVariants as refusals
 use Rattle.world.specs.Plan.{deed}
 use Rattle.definition_files.specs.Files.{line_at, refuse_line, tree_or_fault}
 use Rattle.interp.proofs.Evaluating.{given_as}

@@ -2,7 +2,7 @@ use Rattle.std.proofs.Common.{ℕ, Option, Some, None, Result, [], ap, refl, sym
 use Rattle.data.specs.Data.{Data}
 use Rattle.data.specs.View.{data_of}
 use Rattle.data.specs.declared.refusal.Refusal.{Refusal as OperationRefusal}
-use Rattle.faults.specs.declared.refusal.Refusal.{Refusal}
+use Rattle.basics.specs.declared.faults.refusal.Refusal.{Refusal}
 use Rattle.grammar.specs.ExpressionTree.{ExpressionTree}
 use Rattle.world.specs.Plan.{Plan, answered, next, refuse, ruled}
 use Rattle.interp.specs.Expressions.{unless_decided, value_of}

@@ -1,5 +1,5 @@
 use Rattle.std.proofs.Common.{subst, ◌≡◌, ℕ, suc, ◌-◌, [], ◌∷◌, ◌++◌, sym, ap, refl, ◌∙◌, string_bytes, arith}
-use Rattle.faults.specs.declared.refusal.Refusal.TheVariants as refusals
+use Rattle.basics.specs.declared.faults.refusal.Refusal.TheVariants as refusals
 use Rattle.world.specs.Answering.{Refuses}
 use Rattle.world.specs.Plan.{next}
 use Rattle.interp.specs.Blocks.{file_by}

@@ -1,5 +1,5 @@
 use Rattle.std.proofs.Common.{◌≡◌, ℕ, [], ◌∷◌, ◌++◌, List, add-one, sym, ap, refl, ◌∙◌, arith}
-use Rattle.faults.specs.declared.refusal.Refusal.TheVariants as refusals
+use Rattle.basics.specs.declared.faults.refusal.Refusal.TheVariants as refusals
 use Rattle.world.specs.Plan.{next, refuse}
 use Rattle.interp.specs.Folders.{folder}
 use Rattle.interp.specs.Frames.{Refuses, behind_all}

@@ -2,7 +2,7 @@ use Rattle.std.proofs.Common.{[], ap, ◌∙◌, sym, refl}
 use Rattle.std.specs.Prelude.{bytes_eq, nat_lt, not}
 use Rattle.std.specs.List.{list_any}
 use Rattle.std.proofs.lemmas.Bool.{lt-ltb, le-ltb}
-use Rattle.faults.specs.declared.refusal.Refusal.TheVariants as refusals
+use Rattle.basics.specs.declared.faults.refusal.Refusal.TheVariants as refusals
 use Rattle.interp.proofs.Evaluating.{given_give}
 use Rattle.interp.proofs.Opening.{given_lack, given_need}
 use Rattle.interp.proofs.evaluator.Evaluator.not_entered.Goals as goal

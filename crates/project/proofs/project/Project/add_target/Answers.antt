@@ -8,7 +8,7 @@ use Rattle.edge.specs.Holding.{are_writable}
 use Rattle.targets.specs.Data.{TargetData}
 use Rattle.targets.specs.Libraries.{LinkedData, linked_of, libraries_in}
 use Rattle.targets.specs.View.{surroundings_view, linked_view, target_view}
-use Rattle.edges.specs.Edges.{target_edges}
+use Rattle.target_edges.specs.Edges.{target_edges}
 use Rattle.project.specs.Laws.{outputs_of}
 use Rattle.project.specs.World.{WorldData}
 use Rattle.project.specs.Whole.{IsWhole, IsNext}

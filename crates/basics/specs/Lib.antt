@@ -1,0 +1,5 @@
+pub mod Limits
+pub mod Among
+pub mod Texts
+pub mod Faults
+pub mod View

@@ -1,3 +1,0 @@
-pub mod FaultSteps
-pub mod Document
-pub mod Concluding

@@ -1,0 +1,18 @@
+-- The values of a slice are those of a list.
+use Rattle.std.proofs.Common.{◌≡◌, List, [], ◌∷◌, ◌++◌, map, refl, ap}
+use Rattle.std.specs.Prelude.{◌&&◌}
+use Rattle.data.specs.View.{data_of, items_of}
+use Rattle.data.specs.declared.value.Value.{Value}
+use Rattle.data.specs.Flat.{is_texts, are_texts, items_are_texts, flat, flat_all, flat_items, opened, opened_all, opened_items}
+
+pub are_texts-items_of : (vs : List Value) → items_are_texts (items_of vs) ≡ are_texts (map data_of vs)
+are_texts-items_of [] = refl
+are_texts-items_of (v ∷ vs) = ap (λ b. is_texts (data_of v) && b) (are_texts-items_of vs)
+
+pub flat-items_of : (vs : List Value) → flat_items (items_of vs) ≡ flat_all (map data_of vs)
+flat-items_of [] = refl
+flat-items_of (v ∷ vs) = ap (λ ts. flat (data_of v) ++ ts) (flat-items_of vs)
+
+pub opened-items_of : (vs : List Value) → opened_items (items_of vs) ≡ opened_all (map data_of vs)
+opened-items_of [] = refl
+opened-items_of (v ∷ vs) = ap (λ ds. opened (data_of v) ++ ds) (opened-items_of vs)

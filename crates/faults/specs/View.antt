@@ -1,7 +1,0 @@
--- What a fault is seen as.
-use Rattle.std.specs.Prelude.{string_bytes}
-use Rattle.faults.specs.declared.fault.Fault.{Fault}
-use Rattle.faults.specs.Faults.{FaultData}
-
-abbrev pub fault_view : Fault → FaultData
-fault_view f = record { file = string_bytes f.file; line = f.line; refusal = f.refusal; detail = string_bytes f.detail }

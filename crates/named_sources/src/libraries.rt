@@ -1,0 +1,39 @@
+//! The build targets that `link_with` names.
+ghost use Rattle.std.specs.Prelude.{◌≡◌, IfOk, map, option_map};
+ghost use Rattle.data.specs.View.{data_of};
+ghost use Rattle.named_sources.specs.Libraries.{build_target_in, numbers_of, of_object};
+
+use data::{Object, Value};
+use std::alloc::{AllocError, Global};
+
+fn of_object(object: &Object) -> Option<usize>
+    ensures { result ≡ of_object object.now }
+{
+    match object {
+        Object::BuildTarget(number) => Some(*number),
+        _ => None,
+    }
+}
+
+fn build_target_in(value: &Value) -> Option<usize>
+    ensures { result ≡ build_target_in (data_of value.now) }
+{
+    match value {
+        Value::Object(object) => of_object(object),
+        _ => None,
+    }
+}
+
+/// The numbers of the build targets that values, their lists opened, are, in order. None where one of them is none.
+pub fn numbers_of(alloc: Global, values: &[&Value]) -> Result<Option<Vec<usize>>, AllocError>
+    ensures { IfOk result (λ ns. option_map (λ v. v.items) ns ≡ numbers_of (map (λ v. data_of v.now) values.now)) }
+{
+    let mut numbers = Vec::new(alloc);
+    for value in values {
+        match build_target_in(value) {
+            Some(number) => numbers.push(number)?,
+            None => return Ok(None),
+        }
+    }
+    Ok(Some(numbers))
+}

@@ -1,0 +1,95 @@
+//! The sources that a call names.
+ghost use Rattle.std.specs.Prelude.{◌≡◌, IfOk, map, option_map};
+ghost use Rattle.data.specs.View.{data_of};
+ghost use Rattle.named_sources.specs.Sources.{of_object, source_of, sources_of, tree};
+ghost use Rattle.paths.specs.Paths.{tree_path};
+ghost use Rattle.named_sources.specs.SourcesView.{named_view, named_views};
+
+use data::{Object, Text, Value};
+use paths::tree_path;
+use std::alloc::{AllocError, Global};
+
+/// A source as a call names it.
+#[derive(Drop)]
+pub enum NamedSource {
+    /// A file of the tree, by its path there.
+    Tree(String),
+    /// A file that is built while the definition files are read, by its path in the build folder.
+    Built(Text),
+    /// All outputs of the custom target with this number.
+    Outputs(usize),
+    /// One of them.
+    Output { target: usize, place: usize },
+}
+
+fn of_object(alloc: Global, object: &Object) -> Result<Option<NamedSource>, AllocError>
+    ensures { IfOk result (λ s. option_map named_view s ≡ of_object object.now) }
+{
+    match object {
+        Object::File { path, is_built } => {
+            if *is_built {
+                Ok(Some(NamedSource::Built(path.clone()?)))
+            } else {
+                Ok(Some(NamedSource::Tree(String::from_str(alloc, path.as_str())?)))
+            }
+        }
+        Object::CustomTarget { number, .. } => Ok(Some(NamedSource::Outputs(*number))),
+        Object::CustomOutput { target, output } => Ok(Some(NamedSource::Output {
+            target: *target,
+            place: *output,
+        })),
+        _ => Ok(None),
+    }
+}
+
+fn of_text(
+    alloc: Global,
+    source_root: &str,
+    folder: &str,
+    text: &str,
+) -> Result<Option<NamedSource>, AllocError>
+    ensures { IfOk result (λ s. option_map named_view s
+        ≡ option_map tree (tree_path source_root.now folder.now text.now)) }
+{
+    match tree_path(alloc, source_root, folder, text)? {
+        Some(path) => Ok(Some(NamedSource::Tree(path))),
+        None => Ok(None),
+    }
+}
+
+// The source that a value names.
+fn source_of(
+    alloc: Global,
+    source_root: &str,
+    folder: &str,
+    value: &Value,
+) -> Result<Option<NamedSource>, AllocError>
+    ensures { IfOk result (λ s. option_map named_view s ≡ source_of source_root.now folder.now (data_of value.now)) }
+{
+    match value {
+        Value::Text(text) => of_text(alloc, source_root, folder, text.as_str()),
+        Value::Object(object) => of_object(alloc, object),
+        _ => Ok(None),
+    }
+}
+
+/// The sources that values, their lists opened, name in a definition file of a folder, in order. None where one of them is no text, file,
+/// custom target or output of one, or a text that names no file of the tree.
+pub fn sources_of(
+    alloc: Global,
+    source_root: &str,
+    folder: &str,
+    values: &[&Value],
+) -> Result<Option<Vec<NamedSource>>, AllocError>
+    ensures { IfOk result (λ ss. option_map named_views ss
+        ≡ sources_of source_root.now folder.now (map (λ v. data_of v.now) values.now)) }
+{
+    let mut sources = Vec::new(alloc);
+    for value in values {
+        match source_of(alloc, source_root, folder, value)? {
+            Some(source) => sources.push(source)?,
+            None => return Ok(None),
+        }
+    }
+    Ok(Some(sources))
+}

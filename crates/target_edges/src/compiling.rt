@@ -1,0 +1,258 @@
+//! The edges that compile sources.
+ghost use Rattle.std.specs.Prelude.{◌≡◌, ◌++◌, ◌∷◌, [], map, flat_map, IfOk, string_bytes, codes};
+ghost use Rattle.edge.specs.Texts.{texts};
+ghost use Rattle.edge.specs.View.{edge_view};
+ghost use Rattle.targets.specs.Inputs.{input_view};
+ghost use Rattle.targets.specs.Sources.{listed, generated};
+ghost use Rattle.targets.specs.View.{flags_view, surroundings_view, lists_view, build_view};
+ghost use Rattle.targets.specs.Files.{file_path};
+ghost use Rattle.target_edges.specs.Words.{build_folder, source_folder, include_words, includes, warning_words, standard_words};
+ghost use Rattle.target_edges.specs.Words.{optimization_words, option_words, argument_words, compile_words};
+ghost use Rattle.target_edges.specs.Edges.{source_words, compiling, compile_edge};
+
+use crate::words::{push_brought_compile_args, push_if};
+use edge::{
+    Edge, Rule, copies, first_kept, object_path, push_all, push_copies, source_path, source_root,
+    strings,
+};
+use std::alloc::{AllocError, Global};
+use targets::{BuildTarget, Flags, Input, Surroundings, compiled, generated};
+
+// ---- where headers are looked for
+
+// A folder of the tree as the build folder has it.
+fn build_folder(folder: &str) -> &str
+    ensures { result.now ≡ build_folder folder.now }
+{
+    if folder.is_empty() { "." } else { folder }
+}
+
+// A folder of the tree, seen from the build folder.
+fn source_folder(alloc: Global, depth: usize, folder: &str) -> Result<String, AllocError>
+    ensures { IfOk result (λ s. string_bytes s ≡ source_folder depth folder.now) }
+{
+    if folder.is_empty() {
+        source_root(alloc, depth)
+    } else {
+        source_path(alloc, depth, folder)
+    }
+}
+
+// The words for a folder of the tree.
+fn push_include(
+    words: &mut Vec<String>,
+    alloc: Global,
+    depth: usize,
+    folder: &str,
+) -> Result<(), AllocError>
+    ensures { IfOk result (λ _. texts words.new.items ≡ texts words.old.items ++ include_words depth folder.now) }
+{
+    let built = build_folder(folder);
+    let source = source_folder(alloc, depth, folder)?;
+    words.push(format!(in alloc; "-I{built}")?)?;
+    words.push(format!(in alloc; "-I{source}")?)?;
+    Ok(())
+}
+
+fn push_includes(
+    words: &mut Vec<String>,
+    alloc: Global,
+    depth: usize,
+    folders: &[String],
+) -> Result<(), AllocError>
+    ensures { IfOk result (λ _. texts words.new.items ≡ texts words.old.items ++ flat_map (include_words depth) (texts folders.now)) }
+{
+    for folder in folders {
+        push_include(words, alloc, depth, folder)?;
+    }
+    Ok(())
+}
+
+// The words for all folders, those of dependencies too.
+fn all_includes(
+    alloc: Global,
+    depth: usize,
+    target: &BuildTarget,
+) -> Result<Vec<String>, AllocError>
+    ensures { IfOk result (λ v. texts v.items
+        ≡ (include_words depth (string_bytes target.now.folder)
+        ++ flat_map (include_words depth) (texts target.now.own.include_folders.items))
+        ++ flat_map (λ l. flat_map (include_words depth) (texts l.value.include_folders.items)) target.now.dependencies.items) }
+{
+    let mut words = Vec::new(alloc);
+    push_include(&mut words, alloc, depth, &target.folder)?;
+    push_includes(&mut words, alloc, depth, &target.own.include_folders)?;
+    for lists in &target.dependencies {
+        push_includes(&mut words, alloc, depth, &lists.include_folders)?;
+    }
+    Ok(words)
+}
+
+fn includes(alloc: Global, depth: usize, target: &BuildTarget) -> Result<Vec<String>, AllocError>
+    ensures { IfOk result (λ v. texts v.items ≡ includes depth (build_view target.now)) }
+{
+    let words = all_includes(alloc, depth, target)?;
+    first_kept(alloc, &words)
+}
+
+// ---- what options and arguments say
+
+fn push_warnings(words: &mut Vec<String>, alloc: Global, level: usize) -> Result<(), AllocError>
+    ensures { IfOk result (λ _. texts words.new.items ≡ texts words.old.items ++ warning_words level) }
+{
+    push_if(words, alloc, level >= 1, "-Wall")?;
+    push_if(words, alloc, level >= 2, "-Wextra")?;
+    push_if(words, alloc, level >= 3, "-Wpedantic")
+}
+
+fn push_standard(words: &mut Vec<String>, alloc: Global, standard: &str) -> Result<(), AllocError>
+    ensures { IfOk result (λ _. texts words.new.items ≡ texts words.old.items ++ standard_words standard.now) }
+{
+    if standard == "none" {
+        return Ok(());
+    }
+    words.push(format!(in alloc; "-std={standard}")?)?;
+    Ok(())
+}
+
+fn push_optimization(words: &mut Vec<String>, alloc: Global, level: &str) -> Result<(), AllocError>
+    ensures { IfOk result (λ _. texts words.new.items ≡ texts words.old.items ++ optimization_words level.now) }
+{
+    if level == "plain" {
+        return Ok(());
+    }
+    words.push(format!(in alloc; "-O{level}")?)?;
+    Ok(())
+}
+
+fn push_options(words: &mut Vec<String>, alloc: Global, flags: &Flags) -> Result<(), AllocError>
+    ensures { IfOk result (λ _. texts words.new.items ≡ texts words.old.items ++ option_words (flags_view flags.now)) }
+{
+    push_warnings(words, alloc, flags.warning_level)?;
+    push_if(words, alloc, flags.is_werror, "-Werror")?;
+    push_standard(words, alloc, &flags.c_std)?;
+    push_optimization(words, alloc, &flags.optimization)?;
+    push_if(words, alloc, flags.is_debug, "-g")
+}
+
+fn push_arguments(
+    words: &mut Vec<String>,
+    surroundings: &Surroundings,
+    target: &BuildTarget,
+) -> Result<(), AllocError>
+    ensures { IfOk result (λ _. texts words.new.items
+        ≡ texts words.old.items ++ argument_words (surroundings_view surroundings.now) (build_view target.now)) }
+{
+    push_copies(words, &surroundings.arguments)?;
+    push_brought_compile_args(words, target)?;
+    push_copies(words, &surroundings.facts.flags.c_args)?;
+    push_copies(words, &target.own.compile_args)
+}
+
+// The words of the target's compile commands, up to what differs from source to source.
+fn compile_words(
+    alloc: Global,
+    surroundings: &Surroundings,
+    target: &BuildTarget,
+) -> Result<Vec<String>, AllocError>
+    ensures { IfOk result (λ v. texts v.items ≡ compile_words (surroundings_view surroundings.now) (build_view target.now)) }
+{
+    let facts = &surroundings.facts;
+    let mut words = Vec::new(alloc);
+    push_copies(&mut words, &facts.compiler)?;
+    push_copies(&mut words, &includes(alloc, facts.depth, target)?)?;
+    push_options(&mut words, alloc, &facts.flags)?;
+    push_if(&mut words, alloc, target.kind.is_library(), "-fPIC")?;
+    push_arguments(&mut words, surroundings, target)?;
+    Ok(words)
+}
+
+// ---- edges
+
+// What the compile edges of a target share.
+#[derive(Drop)]
+struct Shared {
+    words: Vec<String>,
+    generated: Vec<String>,
+    // The target's file.
+    file: String,
+}
+
+fn words_for(
+    alloc: Global,
+    words: &[String],
+    object: &str,
+    source: &str,
+    depfile: &str,
+) -> Result<Vec<String>, AllocError>
+    ensures { IfOk result (λ v. texts v.items ≡ texts words.now ++ source_words object.now depfile.now source.now) }
+{
+    let mut all = copies(alloc, words)?;
+    push_all(
+        &mut all,
+        alloc,
+        &[
+            "-MD", "-MQ", object, "-MF", depfile, "-o", object, "-c", source,
+        ],
+    )?;
+    Ok(all)
+}
+
+fn edge_for(alloc: Global, shared: &Shared, object: &str, source: &str) -> Result<Edge, AllocError>
+    ensures { IfOk result (λ e. edge_view e
+        ≡ compiling (texts shared.now.words.items) (texts shared.now.generated.items) object.now source.now) }
+{
+    let depfile = format!(in alloc; "{object}.d")?;
+    Ok(Edge {
+        rule: Rule::CCompile,
+        outputs: strings(alloc, &[object])?,
+        inputs: strings(alloc, &[source])?,
+        implicit: Vec::new(alloc),
+        order_only: copies(alloc, &shared.generated)?,
+        words: words_for(alloc, &shared.words, object, source, &depfile)?,
+        redirect: None,
+        description: format!(in alloc; "Compiling C object {object}")?,
+        depfile: Some(depfile),
+    })
+}
+
+fn compile_edge(alloc: Global, shared: &Shared, input: &Input) -> Result<Edge, AllocError>
+    ensures { IfOk result (λ e. edge_view e
+        ≡ compile_edge (texts shared.now.words.items) (texts shared.now.generated.items) (string_bytes shared.now.file)
+        (input_view input.now)) }
+{
+    let object = object_path(alloc, &shared.file, &input.name)?;
+    edge_for(alloc, shared, &object, &input.path)
+}
+
+fn edges_for(alloc: Global, shared: &Shared, inputs: &[Input]) -> Result<Vec<Edge>, AllocError>
+    ensures { IfOk result (λ v. map edge_view v.items
+        ≡ map (compile_edge (texts shared.now.words.items) (texts shared.now.generated.items) (string_bytes shared.now.file))
+        (map input_view inputs.now)) }
+{
+    let mut edges = Vec::new(alloc);
+    for input in inputs {
+        edges.push(compile_edge(alloc, shared, input)?)?;
+    }
+    Ok(edges)
+}
+
+/// The edges that compile these inputs, of the target whose file this is.
+pub fn compile_edges(
+    alloc: Global,
+    surroundings: &Surroundings,
+    target: &BuildTarget,
+    file: &str,
+    inputs: &[Input],
+) -> Result<Vec<Edge>, AllocError>
+    ensures { IfOk result (λ v. map edge_view v.items
+        ≡ map (compile_edge (compile_words (surroundings_view surroundings.now) (build_view target.now))
+        (generated (build_view target.now)) file.now) (map input_view inputs.now)) }
+{
+    let shared = Shared {
+        words: compile_words(alloc, surroundings, target)?,
+        generated: generated(alloc, target)?,
+        file: String::from_str(alloc, file)?,
+    };
+    edges_for(alloc, &shared, inputs)
+}

@@ -1,0 +1,372 @@
+//! The edges that link and archive objects.
+ghost use Rattle.std.specs.Prelude.{◌≡◌, ◌++◌, ◌∷◌, [], Some, map, flat_map, IfOk, string_bytes, codes};
+ghost use Rattle.edge.specs.Texts.{texts, first_kept as first_of_texts};
+ghost use Rattle.edge.specs.View.{edge_view};
+ghost use Rattle.targets.specs.View.{linked_view, surroundings_view, build_view};
+ghost use Rattle.targets.specs.Files.{so_name as so_name_of};
+ghost use Rattle.target_edges.specs.Words.{file_in, library_file, library_files, shared_folder_in, shared_folder, static_arguments_in};
+ghost use Rattle.target_edges.specs.Words.{static_arguments, search_word, search_words, shared_words};
+ghost use Rattle.target_edges.specs.Words.{shared_library_words, link_arguments, library_words, link_words};
+ghost use Rattle.target_edges.specs.Edges.{archiving, linking, file_edge, naming};
+
+use crate::way::push_way;
+use crate::words::push_brought_link_args;
+use edge::{Edge, Rule, copies, first_kept, push_all, push_copies, strings};
+use std::alloc::{AllocError, Global};
+use targets::{BuildTarget, Kind, Linked, Surroundings, build_target_at, file_path, so_name};
+
+/// What a target's edges are made from, besides the target.
+#[derive(Clone, Copy)]
+pub struct Context<'a> {
+    pub alloc: Global,
+    pub surroundings: &'a Surroundings,
+    /// The targets before it.
+    pub earlier: &'a [Linked],
+    /// The libraries that it links, by their numbers.
+    pub libraries: &'a [usize],
+}
+
+// ---- libraries
+
+// The file of the library with a number.
+fn push_library(
+    files: &mut Vec<String>,
+    alloc: Global,
+    earlier: &[Linked],
+    number: usize,
+) -> Result<(), AllocError>
+    ensures { IfOk result (λ _. texts files.new.items ≡ texts files.old.items ++ library_file (map linked_view earlier.now) number) }
+{
+    if let Some(target) = build_target_at(earlier, number) {
+        files.push(file_path(alloc, target)?)?;
+    }
+    Ok(())
+}
+
+// The files of the libraries.
+fn library_files(
+    alloc: Global,
+    earlier: &[Linked],
+    numbers: &[usize],
+) -> Result<Vec<String>, AllocError>
+    ensures { IfOk result (λ v. texts v.items ≡ library_files (map linked_view earlier.now) numbers.now) }
+{
+    let mut files = Vec::new(alloc);
+    for number in numbers {
+        push_library(&mut files, alloc, earlier, *number)?;
+    }
+    Ok(files)
+}
+
+// The folder of a shared library.
+fn push_if_shared(folders: &mut Vec<String>, target: &BuildTarget) -> Result<(), AllocError>
+    ensures { IfOk result (λ _. texts folders.new.items ≡ texts folders.old.items ++ shared_folder_in (Some (build_view target.now))) }
+{
+    if target.kind.is_shared() {
+        folders.push(target.folder.clone()?)?;
+    }
+    Ok(())
+}
+
+fn push_shared_folder(
+    folders: &mut Vec<String>,
+    earlier: &[Linked],
+    number: usize,
+) -> Result<(), AllocError>
+    ensures { IfOk result (λ _. texts folders.new.items ≡ texts folders.old.items ++ shared_folder (map linked_view earlier.now) number) }
+{
+    match build_target_at(earlier, number) {
+        Some(target) => push_if_shared(folders, target),
+        None => Ok(()),
+    }
+}
+
+// The folders of the shared ones of the libraries.
+fn shared_folders(
+    alloc: Global,
+    earlier: &[Linked],
+    numbers: &[usize],
+) -> Result<Vec<String>, AllocError>
+    ensures { IfOk result (λ v. texts v.items ≡ flat_map (shared_folder (map linked_view earlier.now)) numbers.now) }
+{
+    let mut folders = Vec::new(alloc);
+    for number in numbers {
+        push_shared_folder(&mut folders, earlier, *number)?;
+    }
+    Ok(folders)
+}
+
+// What the dependencies of a static library bring for linking.
+fn push_if_static(words: &mut Vec<String>, target: &BuildTarget) -> Result<(), AllocError>
+    ensures { IfOk result (λ _. texts words.new.items ≡ texts words.old.items ++ static_arguments_in (Some (build_view target.now))) }
+{
+    if target.kind.is_static() {
+        push_brought_link_args(words, target)?;
+    }
+    Ok(())
+}
+
+fn push_static_argument(
+    words: &mut Vec<String>,
+    earlier: &[Linked],
+    number: usize,
+) -> Result<(), AllocError>
+    ensures { IfOk result (λ _. texts words.new.items ≡ texts words.old.items ++ static_arguments (map linked_view earlier.now) number) }
+{
+    match build_target_at(earlier, number) {
+        Some(target) => push_if_static(words, target),
+        None => Ok(()),
+    }
+}
+
+// What the dependencies of the static ones of the libraries bring for linking.
+fn push_static_arguments(
+    words: &mut Vec<String>,
+    earlier: &[Linked],
+    numbers: &[usize],
+) -> Result<(), AllocError>
+    ensures { IfOk result (λ _. texts words.new.items
+        ≡ texts words.old.items ++ flat_map (static_arguments (map linked_view earlier.now)) numbers.now) }
+{
+    for number in numbers {
+        push_static_argument(words, earlier, *number)?;
+    }
+    Ok(())
+}
+
+// ---- words
+
+// The word that says where a program of a folder looks for a shared library of another.
+fn search_word(alloc: Global, from: &str, to: &str) -> Result<String, AllocError>
+    ensures { IfOk result (λ s. string_bytes s ≡ search_word from.now to.now) }
+{
+    let mut word = String::from_str(alloc, "-Wl,-rpath,$ORIGIN")?;
+    push_way(&mut word, alloc, from, to)?;
+    Ok(word)
+}
+
+// Such a word for each of the folders.
+fn search_words(alloc: Global, from: &str, folders: &[String]) -> Result<Vec<String>, AllocError>
+    ensures { IfOk result (λ v. texts v.items ≡ map (search_word from.now) (texts folders.now)) }
+{
+    let mut words = Vec::new(alloc);
+    for folder in folders {
+        words.push(search_word(alloc, from, folder)?)?;
+    }
+    Ok(words)
+}
+
+fn push_search_words(
+    words: &mut Vec<String>,
+    alloc: Global,
+    earlier: &[Linked],
+    from: &str,
+    numbers: &[usize],
+) -> Result<(), AllocError>
+    ensures { IfOk result (λ _. texts words.new.items
+        ≡ texts words.old.items ++ search_words (map linked_view earlier.now) from.now numbers.now) }
+{
+    let all = shared_folders(alloc, earlier, numbers)?;
+    let folders = first_kept(alloc, &all)?;
+    push_copies(words, &search_words(alloc, from, &folders)?)
+}
+
+// The word that gives a shared library its name.
+fn name_word(alloc: Global, target: &BuildTarget) -> Result<String, AllocError>
+    ensures { IfOk result (λ s. string_bytes s ≡ codes "-Wl,-soname," ++ so_name_of (build_view target.now)) }
+{
+    let name = so_name(alloc, target)?;
+    format!(in alloc; "-Wl,-soname,{name}")
+}
+
+fn push_if_linked_shared(
+    words: &mut Vec<String>,
+    alloc: Global,
+    target: &BuildTarget,
+) -> Result<(), AllocError>
+    ensures { IfOk result (λ _. texts words.new.items ≡ texts words.old.items ++ shared_library_words (build_view target.now)) }
+{
+    push_all(words, alloc, &["-shared", "-fPIC"])?;
+    words.push(name_word(alloc, target)?)?;
+    Ok(())
+}
+
+fn push_shared(
+    words: &mut Vec<String>,
+    alloc: Global,
+    target: &BuildTarget,
+) -> Result<(), AllocError>
+    ensures { IfOk result (λ _. texts words.new.items ≡ texts words.old.items ++ shared_words target.now.kind (build_view target.now)) }
+{
+    match target.kind {
+        Kind::Executable | Kind::StaticLibrary => Ok(()),
+        Kind::SharedLibrary => push_if_linked_shared(words, alloc, target),
+    }
+}
+
+fn push_link_arguments(
+    words: &mut Vec<String>,
+    context: &Context,
+    target: &BuildTarget,
+) -> Result<(), AllocError>
+    ensures { IfOk result (λ _. texts words.new.items
+        ≡ texts words.old.items ++ link_arguments (surroundings_view context.now.surroundings.now)
+        (map linked_view context.now.earlier.now) context.now.libraries.now (build_view target.now)) }
+{
+    let surroundings = context.surroundings;
+    push_copies(words, &surroundings.facts.flags.c_link_args)?;
+    push_copies(words, &surroundings.link_arguments)?;
+    push_copies(words, &target.own.link_args)?;
+    push_brought_link_args(words, target)?;
+    push_static_arguments(words, context.earlier, context.libraries)
+}
+
+fn push_libraries(
+    words: &mut Vec<String>,
+    context: &Context,
+    target: &BuildTarget,
+) -> Result<(), AllocError>
+    ensures { IfOk result (λ _. texts words.new.items
+        ≡ texts words.old.items ++ library_words (surroundings_view context.now.surroundings.now)
+        (map linked_view context.now.earlier.now) context.now.libraries.now (build_view target.now)) }
+{
+    let files = library_files(context.alloc, context.earlier, context.libraries)?;
+    push_copies(words, &files)?;
+    push_search_words(
+        words,
+        context.alloc,
+        context.earlier,
+        &target.folder,
+        context.libraries,
+    )?;
+    push_link_arguments(words, context, target)
+}
+
+fn link_words(
+    context: &Context,
+    target: &BuildTarget,
+    file: &str,
+    objects: &[String],
+) -> Result<Vec<String>, AllocError>
+    ensures { IfOk result (λ v. texts v.items
+        ≡ link_words (surroundings_view context.now.surroundings.now) (map linked_view context.now.earlier.now) context.now.libraries.now
+        (build_view target.now) file.now (texts objects.now)) }
+{
+    let mut words = Vec::new(context.alloc);
+    push_copies(&mut words, &context.surroundings.facts.compiler)?;
+    push_shared(&mut words, context.alloc, target)?;
+    push_all(&mut words, context.alloc, &["-o", file])?;
+    push_copies(&mut words, objects)?;
+    push_libraries(&mut words, context, target)?;
+    Ok(words)
+}
+
+// ---- edges
+
+fn archive_edge(
+    alloc: Global,
+    archiver: &[String],
+    file: &str,
+    objects: Vec<String>,
+) -> Result<Edge, AllocError>
+    ensures { IfOk result (λ e. edge_view e ≡ archiving (texts archiver.now) file.now (texts objects.items)) }
+{
+    let mut words = copies(alloc, archiver)?;
+    push_all(&mut words, alloc, &["csr", file])?;
+    push_copies(&mut words, &objects)?;
+    Ok(Edge {
+        rule: Rule::Ar,
+        outputs: strings(alloc, &[file])?,
+        inputs: objects,
+        implicit: Vec::new(alloc),
+        order_only: Vec::new(alloc),
+        words,
+        redirect: None,
+        description: format!(in alloc; "Archiving {file}")?,
+        depfile: None,
+    })
+}
+
+fn link_edge(
+    context: &Context,
+    target: &BuildTarget,
+    file: &str,
+    objects: Vec<String>,
+) -> Result<Edge, AllocError>
+    ensures { IfOk result (λ e. edge_view e
+        ≡ linking (link_words (surroundings_view context.now.surroundings.now)
+        (map linked_view context.now.earlier.now) context.now.libraries.now (build_view target.now) file.now
+        (texts objects.items)) file.now (texts objects.items)
+        (library_files (map linked_view context.now.earlier.now) context.now.libraries.now)) }
+{
+    let alloc = context.alloc;
+    let words = link_words(context, target, file, &objects)?;
+    Ok(Edge {
+        rule: Rule::CLink,
+        outputs: strings(alloc, &[file])?,
+        inputs: objects,
+        implicit: library_files(alloc, context.earlier, context.libraries)?,
+        order_only: Vec::new(alloc),
+        words,
+        redirect: None,
+        description: format!(in alloc; "Linking target {file}")?,
+        depfile: None,
+    })
+}
+
+/// The edge that makes the target's file of its objects.
+pub fn file_edge(
+    context: &Context,
+    target: &BuildTarget,
+    file: &str,
+    objects: Vec<String>,
+) -> Result<Edge, AllocError>
+    ensures { IfOk result (λ e. edge_view e
+        ≡ file_edge (surroundings_view context.now.surroundings.now) (map linked_view context.now.earlier.now) context.now.libraries.now
+        (build_view target.now) file.now (texts objects.items)) }
+{
+    if target.kind.is_static() {
+        archive_edge(
+            context.alloc,
+            &context.surroundings.facts.archiver,
+            file,
+            objects,
+        )
+    } else {
+        link_edge(context, target, file, objects)
+    }
+}
+
+// ---- symbolic links
+
+fn naming_edge(alloc: Global, file: &str, name: &str, link: &str) -> Result<Edge, AllocError>
+    ensures { IfOk result (λ e. edge_view e ≡ naming file.now name.now link.now) }
+{
+    Ok(Edge {
+        rule: Rule::Symlink,
+        outputs: strings(alloc, &[link])?,
+        inputs: strings(alloc, &[file])?,
+        implicit: Vec::new(alloc),
+        order_only: Vec::new(alloc),
+        words: strings(alloc, &["ln", "-f", "-s", name, link])?,
+        redirect: None,
+        description: format!(in alloc; "Linking name {link}")?,
+        depfile: None,
+    })
+}
+
+/// The edges that make these symbolic links to the file of this name.
+pub fn link_edges(
+    alloc: Global,
+    file: &str,
+    name: &str,
+    links: &[String],
+) -> Result<Vec<Edge>, AllocError>
+    ensures { IfOk result (λ v. map edge_view v.items ≡ map (naming file.now name.now) (texts links.now)) }
+{
+    let mut edges = Vec::new(alloc);
+    for link in links {
+        edges.push(naming_edge(alloc, file, name, link)?)?;
+    }
+    Ok(edges)
+}

@@ -1,0 +1,52 @@
+//! Words of commands.
+ghost use Rattle.std.specs.Prelude.{◌≡◌, ◌++◌, ◌∷◌, [], map, flat_map, IfOk, string_bytes, codes, nat_le};
+ghost use Rattle.edge.specs.Texts.{texts};
+ghost use Rattle.targets.specs.Data.{ListsData};
+ghost use Rattle.targets.specs.Sources.{brought};
+ghost use Rattle.targets.specs.View.{lists_view, build_view};
+ghost use Rattle.target_edges.specs.Words.{word_if};
+
+use edge::push_copies;
+use std::alloc::{AllocError, Global};
+use targets::BuildTarget;
+
+/// Appends the word where the test holds.
+pub fn push_if(
+    words: &mut Vec<String>,
+    alloc: Global,
+    test: bool,
+    word: &str,
+) -> Result<(), AllocError>
+    ensures { IfOk result (λ _. texts words.new.items ≡ texts words.old.items ++ word_if test word.now) }
+{
+    if test {
+        words.push(String::from_str(alloc, word)?)?;
+    }
+    Ok(())
+}
+
+/// Appends what the dependencies bring for compiling.
+pub fn push_brought_compile_args(
+    words: &mut Vec<String>,
+    target: &BuildTarget,
+) -> Result<(), AllocError>
+    ensures { IfOk result (λ _. texts words.new.items ≡ texts words.old.items ++ brought (λ l. l.compile_args) (build_view target.now)) }
+{
+    for lists in &target.dependencies {
+        push_copies(words, &lists.compile_args)?;
+    }
+    Ok(())
+}
+
+/// Appends what the dependencies bring for linking.
+pub fn push_brought_link_args(
+    words: &mut Vec<String>,
+    target: &BuildTarget,
+) -> Result<(), AllocError>
+    ensures { IfOk result (λ _. texts words.new.items ≡ texts words.old.items ++ brought (λ l. l.link_args) (build_view target.now)) }
+{
+    for lists in &target.dependencies {
+        push_copies(words, &lists.link_args)?;
+    }
+    Ok(())
+}

@@ -1,6 +1,0 @@
-use Rattle.std.proofs.Common.{◌≡◌, take}
-use Rattle.text_lists.specs.Texts.{texts}
-use Rattle.text_lists.proofs.copies.Given as goal
-
-abbrev pub invariant-loop-string : goal.invariant-loop-string
-invariant-loop-string l = texts l.copies.items ≡ texts (take l.string-index l.strings)
