@@ -14,4 +14,4 @@ pub use libraries::numbers_of;
 pub use outputs::{output_at, outputs_at};
 pub use sources::{NamedSource, sources_of};
 pub use values::{directories_at, files_at};
-pub use texts::is_library_version;
+pub use versions::is_library_version;

@@ -16,7 +16,7 @@ mod laws;
 mod words;
 
 pub use edge::{Edge, can_hold_path, can_hold_value};
-pub use target_edges::write_edge;
+pub use edges::write_edge;
 pub use escapes::{write_path, write_value};
 pub use file::{write_head, write_tail};
 pub use laws::{edge_law, file_law, value_law, words_law};

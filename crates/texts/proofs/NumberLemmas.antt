@@ -9,7 +9,7 @@ use Rattle.std.specs.Str.Parse.{AllDigits, IsNumeral, without_leading_sign, sign
 use Rattle.std.proofs.lemmas.Bool.{false≢true}
 use Rattle.std.proofs.lemmas.Bool.Decides.{nat_tests}
 use Rattle.data.specs.declared.refusal.Refusal.TheVariants as refusal
-use Rattle.limits.specs.Limits.{is_in_range}
+use Rattle.basics.specs.Limits.{is_in_range}
 use Rattle.texts.specs.Number.{is_numeral, integer_of}
 
 pub digit_below_ten : (c : ℕ) → is_ascii_digit c ≡ true → digit_value c < 10

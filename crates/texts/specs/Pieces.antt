@@ -2,7 +2,7 @@
 use Rattle.std.specs.Prelude.{ℕ, zero, suc, ◌-◌, Bool, true, false, List, [], ◌∷◌, length, filter, nat_eq, nat_le, ◌==◌, ◌||◌, Result}
 use Rattle.std.specs.Prelude.{Ok, Err, if◌then◌else◌}
 use Rattle.std.specs.List.{starts_with, slice_split, onto_first}
-use Rattle.limits.specs.Limits.{items}
+use Rattle.basics.specs.Limits.{items}
 use Rattle.data.specs.declared.refusal.Refusal.{Refusal}
 use Rattle.data.specs.declared.refusal.Refusal.TheVariants as refusal
 use Rattle.texts.specs.Strip.{is_blank}

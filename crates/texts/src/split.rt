@@ -9,7 +9,7 @@ ghost use Rattle.texts.specs.Answers.{pieces_in};
 
 use crate::cut::Cut;
 use data::Refusal;
-use limits::ITEMS;
+use basics::limits::ITEMS;
 use std::alloc::{AllocError, Global};
 
 /// The parts of `text` between the places where `separator` stands: the method `split` with an argument.
