@@ -3,7 +3,7 @@ use Rattle.options.specs.Resolves.{named_value}
 use Rattle.options.specs.View.{options_in}
 use Rattle.targets.specs.View.{option_entry_view}
 use Rattle.project_calls.specs.Entries.{entry_of}
-use Rattle.project_calls.proofs.entries.option_entries.Given as goal
+use Rattle.project_calls.proofs.shown_options.option_entries.Given as goal
 
 -- so many are listed
 abbrev pub invariant-loop-i : goal.invariant-loop-i
