@@ -7,9 +7,10 @@ use crate::running::setup;
 use command::{Line, LineFault, command_line};
 use build_file::Status;
 use operators::path_below;
-use ports::{DiskOutputs, DiskTree};
+use ports::{DiskOutputs, DiskTree, OutputPlace};
 use std::alloc::{AllocError, Global};
-use std::io::{ErrorKind, Write};
+use std::fs::File;
+use std::io::{ErrorKind, Read, Write};
 use std::rt::Files;
 use std::{fs, io};
 use world::Settings;
@@ -17,13 +18,16 @@ use world::Settings;
 // The exit status for words that are no command line.
 const BAD_LINE: u8 = 4;
 
+// The most bytes that are read of a machine file, which may be a pipe or a device.
+const MACHINE_FILE_BYTES: usize = 16_777_216;
+
 /// Configures the project in the folder `root` as the words say, of which the first is the program's
 /// name. The log goes to `log`, fault lines and the program's own texts to `faults`, outputs to the
 /// folder that the words name, below `root`.
 ///
 /// Answers the exit status: 0 done, 1 a fault of the sources, 2 a device failed, 3 memory ran out,
 /// 4 the words are no command line.
-pub fn run<R: Files + AllocGlobal, L: Write + Drop, F: Write + Drop>(
+pub fn run<R: Files<File = File> + AllocGlobal, L: Write + Drop, F: Write + Drop>(
     rt: &R,
     words: &[String],
     root: &str,
@@ -54,17 +58,46 @@ pub fn run<R: Files + AllocGlobal, L: Write + Drop, F: Write + Drop>(
     }
 }
 
-// Configures as the line says.
-fn configure<R: Files + AllocGlobal, L: Write + Drop, F: Write + Drop>(
+// Configures as the line says. A folder that holds a `meson.build` is one of sources, and none to build in.
+fn configure<R: Files<File = File> + AllocGlobal, L: Write + Drop, F: Write + Drop>(
     rt: &R,
     line: Line,
     root: &str,
     log: L,
-    faults: F,
+    mut faults: F,
 ) -> io::Result<Status> {
+    if holds_sources(rt, root, line.folder.as_str())? {
+        tell_of_sources(line.folder.as_str(), &mut faults)?;
+        return Ok(Status::Device);
+    }
     let machine = machine_bytes(rt, root, &line.machine_file)?;
+    let place = OutputPlace {
+        root: String::from_str(rt.alloc(), root)?,
+        folder: line.folder.clone()?,
+    };
+    let mut out = DiskOutputs::new(rt, rt.alloc(), place, log, faults)?;
     let settings = settings_of(rt.alloc(), line, root)?;
-    configure_folder(rt, root, &settings, machine.as_slice(), log, faults)
+    let mut tree = DiskTree::new(rt, rt.alloc(), String::from_str(rt.alloc(), root)?);
+    Ok(setup(rt.alloc(), &mut tree, &settings, machine.as_slice(), &mut out))
+}
+
+// Whether there is a `meson.build` in the folder below this root.
+fn holds_sources<R: Files + AllocGlobal>(rt: &R, root: &str, folder: &str) -> io::Result<bool> {
+    let path = format!(in rt.alloc(); "{root}/{folder}/meson.build")?;
+    match fs::symlink_metadata(rt, path.as_str()) {
+        Ok(_) => Ok(true),
+        Err(error) if matches!(error.kind(), ErrorKind::NotFound | ErrorKind::NotADirectory) => {
+            Ok(false)
+        }
+        Err(error) => Err(error),
+    }
+}
+
+// Says why nothing is built in the folder.
+fn tell_of_sources<F: Write>(folder: &str, faults: &mut F) -> io::Result<()> {
+    faults.write_all(b"meson: ")?;
+    faults.write_all(folder.as_bytes())?;
+    faults.write_all(b" holds a meson.build: it is a folder of sources\n")
 }
 
 // What the line says of a run over the sources in this folder.
@@ -79,32 +112,23 @@ fn settings_of(alloc: Global, line: Line, root: &str) -> Result<Settings, AllocE
     })
 }
 
-// Configures the sources in this folder, with these bytes of a machine file.
-fn configure_folder<R: Files + AllocGlobal, L: Write + Drop, F: Write + Drop>(
-    rt: &R,
-    root: &str,
-    settings: &Settings,
-    machine: &[u8],
-    log: L,
-    faults: F,
-) -> io::Result<Status> {
-    let alloc = rt.alloc();
-    let mut tree = DiskTree::new(rt, alloc, String::from_str(alloc, root)?);
-    let folder = settings.build_root.clone()?;
-    let mut out = DiskOutputs::new(rt, alloc, folder, log, faults)?;
-    Ok(setup(alloc, &mut tree, settings, machine, &mut out))
-}
-
 // The bytes of the machine file; none where none is named.
-fn machine_bytes<R: Files + AllocGlobal>(
+fn machine_bytes<R: Files<File = File> + AllocGlobal>(
     rt: &R,
     root: &str,
     machine_file: &Option<String>,
 ) -> io::Result<Vec<u8>> {
-    match machine_file {
-        Some(file) => fs::read(rt, path_below(rt.alloc(), root, file.as_str())?),
-        None => Ok(Vec::new(rt.alloc())),
+    let mut bytes = Vec::new(rt.alloc());
+    let Some(name) = machine_file else {
+        return Ok(bytes);
+    };
+    let path = path_below(rt.alloc(), root, name.as_str())?;
+    let file = fs::open(rt, path.as_str())?;
+    file.take(MACHINE_FILE_BYTES as u64 + 1).read_to_end(&mut bytes)?;
+    if bytes.len() > MACHINE_FILE_BYTES {
+        return Err(io::Error::from(ErrorKind::FileTooLarge));
     }
+    Ok(bytes)
 }
 
 fn status_of(error: &io::Error) -> Status {
