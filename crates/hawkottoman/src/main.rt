@@ -1,7 +1,22 @@
-//! The program `meson`: hands the words and the runtime to `run`.
+//! `meson setup` for C projects: from the words of a command line and the bytes of a source tree to the bytes of a build folder.
+//!
+//! `main` hands the words and the runtime to [`run`]; [`running::setup`] is the run of a project, over any devices, and states the
+//! theorem of the whole. What is in `law` holds of every run.
 #![tactic(auto)]
 
-use meson::run;
+#[cfg(test)]
+mod device_failures;
+#[cfg(test)]
+mod expected;
+#[cfg(test)]
+mod given;
+mod law;
+#[cfg(test)]
+mod no_words;
+mod program;
+mod running;
+
+use program::run;
 use std::fs::File;
 use std::io::ErrorKind;
 use std::os::fd::AsRawFd;

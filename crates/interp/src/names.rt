@@ -1,7 +1,7 @@
 //! Names: of variables, of functions and of methods.
 ghost use Rattle.std.specs.Prelude.{◌≡◌, ◌<◌, ◌||◌, ◌&&◌, ℕ, IfOk, [], false, length, option_map, slice_index_or};
 ghost use Rattle.arguments.specs.Arguments.{arguments_data};
-ghost use Rattle.calls.specs.Functions.{is_turned_off};
+ghost use Rattle.language_calls.specs.Turning.{is_turned_off};
 ghost use Rattle.data.specs.Data.{object_in};
 ghost use Rattle.data.specs.View.{data_of};
 ghost use Rattle.methods.specs.Methods.{has_name};
