@@ -16,8 +16,8 @@ use arguments::{Arguments, Row, check};
 use configuration_calls::{has_meson_format, other_format_row};
 use data::Value;
 use language_calls::{
-    Function, assert, disabler, error, get_variable, is_disabler, is_variable, join_paths, makes_file,
-    message, range, set_variable, unset_variable, warning,
+    Function, assert, disabler, error, get_variable, is_disabler, is_variable, join_paths,
+    makes_file, message, range, set_variable, unset_variable, warning,
 };
 use ports::{Outputs, Tree};
 use project_calls::project;

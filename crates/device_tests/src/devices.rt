@@ -7,8 +7,8 @@ ghost use Rattle.ports.specs.Tree.{TreeState};
 
 use crate::given::strings;
 use ports::{
-    DeviceFault, DiskOutputs, DiskTree, Event, MemOutputs, MemTree, OutputCall, OutputPlace, Outputs, Tree,
-    TreeCall, fault_all, log_all, put_all,
+    DeviceFault, DiskOutputs, DiskTree, Event, MemOutputs, MemTree, OutputCall, OutputPlace,
+    Outputs, Tree, TreeCall, fault_all, log_all, put_all,
 };
 use std::alloc::{AllocError, Global};
 use std::test::Fail;

@@ -8,9 +8,9 @@ ghost use Rattle.ports.specs.Tree.{TreeState};
 use crate::expected::Expected;
 use crate::running::setup;
 use build_file::Status;
-use world::Settings;
 use ports::{MemTree, Outputs, Tree};
 use std::alloc::{AllocError, Global};
+use world::Settings;
 
 /// The bytes of the root's `meson.build`, the paths of the other files, which are empty, and what a run of these comes to.
 #[derive(Clone, Copy)]

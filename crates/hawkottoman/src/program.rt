@@ -4,8 +4,8 @@ ghost use Rattle.command.specs.CommandLine.{IsRefused, IsTaken};
 ghost use Rattle.build_file.specs.Concluding.{exit_status};
 
 use crate::running::setup;
-use command::{Line, LineFault, command_line};
 use build_file::Status;
+use command::{Line, LineFault, command_line};
 use operators::path_below;
 use ports::{DiskOutputs, DiskTree, OutputPlace};
 use std::alloc::{AllocError, Global};
@@ -78,7 +78,13 @@ fn configure<R: Files<File = File> + AllocGlobal, L: Write + Drop, F: Write + Dr
     let mut out = DiskOutputs::new(rt, rt.alloc(), place, log, faults)?;
     let settings = settings_of(rt.alloc(), line, root)?;
     let mut tree = DiskTree::new(rt, rt.alloc(), String::from_str(rt.alloc(), root)?);
-    Ok(setup(rt.alloc(), &mut tree, &settings, machine.as_slice(), &mut out))
+    Ok(setup(
+        rt.alloc(),
+        &mut tree,
+        &settings,
+        machine.as_slice(),
+        &mut out,
+    ))
 }
 
 // Whether there is a `meson.build` in the folder below this root.
@@ -124,7 +130,8 @@ fn machine_bytes<R: Files<File = File> + AllocGlobal>(
     };
     let path = path_below(rt.alloc(), root, name.as_str())?;
     let file = fs::open(rt, path.as_str())?;
-    file.take(MACHINE_FILE_BYTES as u64 + 1).read_to_end(&mut bytes)?;
+    file.take(MACHINE_FILE_BYTES as u64 + 1)
+        .read_to_end(&mut bytes)?;
     if bytes.len() > MACHINE_FILE_BYTES {
         return Err(io::Error::from(ErrorKind::FileTooLarge));
     }

@@ -10,12 +10,12 @@ ghost use Rattle.interp.specs.Expressions.{asked_of, called, called_by, disabler
 
 use crate::evaluator::Evaluator;
 use arguments::{Arguments, check, gives_disabler};
+use basics::faults::Refusal;
 use calls::{
     Function, any_values, call, function_named, is_left_out, is_predefined, is_turned_off,
     predefined,
 };
 use data::{Object, Value};
-use basics::faults::Refusal;
 use methods::{has_method, method};
 use objects::{has_object_method, is_left_out_method, object_method};
 use ports::{Outputs, Tree};

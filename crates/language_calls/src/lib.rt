@@ -15,9 +15,9 @@ mod variables;
 
 pub use disablers::{disabler, is_disabler};
 pub use function::{Function, ProjectFunction};
-pub use path_joining::join_paths;
 pub use messages::{assert, error, message, warning};
 pub use names::{function_named, is_left_out, is_name, is_predefined, predefined};
+pub use path_joining::join_paths;
 pub use ranges::range;
 pub use rows::{any_values, some_texts, subdir_row, values};
 pub use turning::{is_turned_off, makes_file};

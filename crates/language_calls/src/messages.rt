@@ -8,8 +8,8 @@ ghost use Rattle.world.specs.Caller.{state_of};
 ghost use Rattle.language_calls.specs.Messages.{assert, error, logged, message, printed_all, warning};
 
 use arguments::Arguments;
-use data::Value;
 use basics::faults::Refusal;
+use data::Value;
 use ports::{Outputs, Tree};
 use printing::printed;
 use std::alloc::{AllocError, Global};

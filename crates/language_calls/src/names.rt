@@ -7,9 +7,9 @@ ghost use Rattle.data.specs.View.{data_of};
 ghost use Rattle.language_calls.specs.declared.function.Function.TheVariants as functions;
 
 use crate::function::{Function, ProjectFunction};
+use basics::text_lists::is_among;
 use data::{Object, Value};
 use std::alloc::{AllocError, Global};
-use basics::text_lists::is_among;
 
 /// The words that are no names.
 const KEYWORDS: [&str; 14] = [

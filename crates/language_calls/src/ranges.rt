@@ -9,8 +9,8 @@ ghost use Rattle.world.specs.Caller.{state_of};
 ghost use Rattle.language_calls.specs.Range.{how_many, integer_at, integers_from, range, range_answer, range_of, stepped};
 
 use arguments::Arguments;
-use data::{List, Refusal, Value};
 use basics::limits::ITEMS;
+use data::{List, Refusal, Value};
 use ports::{Outputs, Tree};
 use std::alloc::{AllocError, Global};
 use world::{Caller, Stop};

@@ -10,8 +10,8 @@ ghost use Rattle.language_calls.specs.Variables.{thing, value_or, variable_or};
 
 use crate::names::{is_name, is_predefined, predefined};
 use arguments::Arguments;
-use data::Value;
 use basics::faults::Refusal;
+use data::Value;
 use ports::{Outputs, Tree};
 use world::{Caller, Stop};
 

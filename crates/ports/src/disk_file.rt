@@ -27,7 +27,10 @@ pub(crate) struct Paths {
 }
 
 // The file beside ends in what no output's name can have: `|` means something else in a `build.ninja`.
-fn paths_of<R: Files<File = File>>(disk: &DiskFolder<'_, R>, name: &str) -> Result<Paths, AllocError>
+fn paths_of<R: Files<File = File>>(
+    disk: &DiskFolder<'_, R>,
+    name: &str,
+) -> Result<Paths, AllocError>
     ensures { IfOk result (λ made. string_bytes made.name ≡ name.now) }
 {
     let place = disk.whole(name)?;

@@ -177,7 +177,8 @@ impl<'a, R: Files<File = File>, L: Write + Drop, F: Write + Drop> DiskOutputs<'a
     }
 }
 
-impl<'a, R: Files<File = File>, L: Write + Drop, F: Write + Drop> Outputs for DiskOutputs<'a, R, L, F> {
+impl<'a, R: Files<File = File>, L: Write + Drop, F: Write + Drop> Outputs
+    for DiskOutputs<'a, R, L, F> {
     ghost seen = { λ d. untold_state d.current d.failures };
 
     fn failures(&self) -> u64 {

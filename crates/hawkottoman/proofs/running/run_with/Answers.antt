@@ -35,5 +35,5 @@ returns-clause-device g c =
       of_tree = failed.of_tree;
       of_out = rises_then out.failures mid.failures after.failures failed.of_out (rises c.evaluate-answer.result c.settle.result mid after c.settle.ensures.settles);
       sum = failures_settled c.evaluate-answer.result c.settle.result (g.T.Tree.seen c.args.tree.now).failures out.failures
-        (g.T.Tree.seen c.evaluate-answer.new.tree).failures mid after failed.sum c.settle.ensures.settles;
+          (g.T.Tree.seen c.evaluate-answer.new.tree).failures mid after failed.sum c.settle.ensures.settles;
     }
