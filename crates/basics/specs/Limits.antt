@@ -19,12 +19,9 @@ levels = 64
 abbrev pub weight : ℕ
 weight = 33554432
 
--- the folders that are entered, and those inside one another, the root counted
+-- the folders that are entered, the root counted
 abbrev pub folders : ℕ
 folders = 4096
-
-abbrev pub folder_levels : ℕ
-folder_levels = 64
 
 -- the bytes of a template's line, its end counted
 abbrev pub line_bytes : ℕ

@@ -12,10 +12,8 @@ pub const LEVELS: u32 = 64;
 /// The most that a value may weigh: a text weighs its bytes and one, a list or a dictionary one and what it holds, anything else one.
 pub const WEIGHT: u32 = 33_554_432;
 
-/// How many folders may be entered, and how many of them inside one another. The root counts.
+/// How many folders may be entered. The root counts.
 pub const FOLDERS: usize = 4_096;
-
-pub const FOLDER_LEVELS: usize = 64;
 
 /// How many bytes a line of a template may have, its end counted.
 pub const LINE_BYTES: usize = 65_536;

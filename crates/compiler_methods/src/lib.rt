@@ -2,6 +2,11 @@
 //!
 //! No compiler is asked: the machine file says in `[compiler]` which one it is, and in `[checks]` what it answers. What a method does is
 //! a deed of `specs/`, and its code carries it out on a [`world::Caller`].
+//!
+//! # Decisions
+//!
+//! **One name has one answer.** A check's answer belongs to its method and its plain arguments. Keywords change no answer, so one name
+//! asked with two prefixes has one answer; the manual's page has them change what is compiled.
 #![tactic(auto)]
 
 mod calling;

@@ -1,4 +1,12 @@
 //! Values of the language, shared, and within its limits.
+//!
+//! # Decisions
+//!
+//! **Weight and depth are kept with a value.** A list or dictionary keeps its weight, depth and count beside its items, tied to the
+//! definition by its invariant, so the limits of size cost nothing for each operation. Where a key that is there gets another value, the
+//! depth is known by the two values, unless one of the deepest goes for a shallower one: then the builder of a dictionary forgets the
+//! depth, and counts it in one pass when it is finished. The limits of a dictionary are asked once, when it is finished. A builder's
+//! weight has 128 bits, so that no count of entries in memory can overflow it, and no limit is asked too early.
 #![tactic(auto)]
 
 mod equal;

@@ -2,9 +2,7 @@
 #![tactic(auto)]
 
 mod finding;
-mod places;
 mod reading;
 
 pub use finding::{Found, MOST_BYTES, find};
-pub use places::refuse_at;
 pub use reading::{line_at, read_file, refusal_of};

@@ -2,6 +2,14 @@
 //!
 //! `main` hands the words and the runtime to [`run`]; [`running::setup`] is the run of a project, over any devices, and states the
 //! theorem of the whole. What is in `law` holds of every run.
+//!
+//! # Decisions
+//!
+//! **`run` is lent its streams.** [`run`] takes the runtime for files and memory, and two writers: one for the log and help, one for
+//! faults and refusals. So a test can read what a run says, and only `main` names the standard streams.
+//!
+//! **Closed streams are taken first.** The numbers of standard streams that are closed are taken by the root folder, opened for reading,
+//! so that no output gets one and what is said goes nowhere but into an error.
 #![tactic(auto)]
 
 #[cfg(test)]

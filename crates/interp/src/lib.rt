@@ -1,4 +1,15 @@
 //! What definition files do.
+//!
+//! # Decisions
+//!
+//! **An expression is left for the folder that it enters.** A call of `subdir` inside of an expression carries out the folder's file and
+//! is refused then, since it gives nothing. No function of an expression calls itself through that file: its functions end with the
+//! folder's name and the number of rules that are still to end, and the statement puts those rules, the refusal and the file on the stack
+//! of frames. The definition is plain: it does what the file does, and refuses. What stands in the expression behind the call never comes,
+//! so nothing else of it has to be kept.
+//!
+//! **What an evaluation is given.** [`evaluate`] is lent the settings and the bytes of the machine file. Its world keeps settings of its
+//! own, so they are copied once for a run, and callers keep theirs.
 #![tactic(auto)]
 
 mod acting;

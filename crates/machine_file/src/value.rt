@@ -65,17 +65,6 @@ impl MachineValue {
         }
     }
 
-    /// How many words the value has: a text is one, a list has its texts, and anything else has none.
-    pub fn word_count(&self) -> usize
-        ensures { result ≡ length (words_said (value_in self.now)) }
-    {
-        match self {
-            MachineValue::Text(_) => 1,
-            MachineValue::Texts(items) => items.len(),
-            _ => 0,
-        }
-    }
-
     /// The i-th word.
     pub fn word(&self, i: usize) -> Option<&str>
         ensures { option_map (λ word. word.now) result ≡ slice_get (words_said (value_in self.now)) i }

@@ -7,6 +7,11 @@
 //! `specs/Reading` says what a Ninja file says, and `specs/Commands` which words a shell reads in a command. Neither knows of the
 //! writers. That what is written is read as what was meant is the contract of [`edge_law`], [`file_law`], [`value_law`] and
 //! [`words_law`], which do nothing.
+//!
+//! # Decisions
+//!
+//! **A redirection without a word.** [`write_words`] of no word and a file writes `> FILE` without a blank in front, so that what is
+//! written as a value never begins with a blank.
 #![tactic(auto)]
 
 mod edges;

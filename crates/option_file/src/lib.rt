@@ -2,6 +2,14 @@
 //!
 //! The rules are those of the Meson manual's page "Build options". Values are not looked at here: whether a declared default
 //! is a value of its option is found where options are resolved.
+//!
+//! # Decisions
+//!
+//! **What a declared default is.** An argument of `option` is read by its form alone: a text, a truth value, an integer of 64 bits, a list
+//! of texts, or `Other`: a number that 64 bits don't hold, or a list of other things than texts.
+//!
+//! **The order of faults in one call.** A keyword that comes twice is found first, then one that is left out, and then all else. All else
+//! has one number and one line, so no order is kept among the rest.
 #![tactic(auto)]
 
 mod call;

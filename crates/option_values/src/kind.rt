@@ -1,8 +1,7 @@
 //! Kinds of options, their types, and their values.
 
 ghost use Rattle.std.specs.Prelude.{◌≡◌};
-ghost use Rattle.option_values.specs.Types.{name_of_type, type_named, type_of, type_of_value};
-ghost use Rattle.option_values.specs.View.{kind_in, value_in};
+ghost use Rattle.option_values.specs.Types.{name_of_type, type_named};
 
 use crate::choices::Choices;
 
@@ -84,39 +83,6 @@ impl OptionType {
             OptionType::Integer => "integer",
             OptionType::Array => "array",
             OptionType::Feature => "feature",
-        }
-    }
-}
-
-impl OptionKind {
-    /// The type of the options that take this. Words are an array.
-    pub fn option_type(&self) -> OptionType
-        ensures { result ≡ type_of (kind_in self.now) }
-    {
-        match self {
-            OptionKind::Text => OptionType::Text,
-            OptionKind::Boolean => OptionType::Boolean,
-            OptionKind::Combo(_) => OptionType::Combo,
-            OptionKind::Integer { .. } => OptionType::Integer,
-            OptionKind::Array(_) => OptionType::Array,
-            OptionKind::Words => OptionType::Array,
-            OptionKind::Feature => OptionType::Feature,
-        }
-    }
-}
-
-impl OptionValue {
-    /// The type of the options that have such a value.
-    pub fn option_type(&self) -> OptionType
-        ensures { result ≡ type_of_value (value_in self.now) }
-    {
-        match self {
-            OptionValue::Text(_) => OptionType::Text,
-            OptionValue::Boolean(_) => OptionType::Boolean,
-            OptionValue::Combo(_) => OptionType::Combo,
-            OptionValue::Integer(_) => OptionType::Integer,
-            OptionValue::Array(_) => OptionType::Array,
-            OptionValue::Feature(_) => OptionType::Feature,
         }
     }
 }

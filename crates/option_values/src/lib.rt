@@ -3,6 +3,22 @@
 //! The rules are those of the Meson manual's page "Build options": a value is written as a text on a command line and in
 //! `default_options`, and as a value of its own in a machine file. [`value_of_text`] reads the first, [`value_of_given`] the
 //! second.
+//!
+//! # Decisions
+//!
+//! **Words are cut by a machine, and written as a relation says.** `c_args` is cut character by character, with six places where a
+//! character can stand. Beside this machine `Shell.Reads` says how words are written: pieces that stand bare, behind a backslash, or in
+//! single or double quotes, and blanks between words. [`words_of`] is proved to give the words as which a text is written, and none where
+//! there are no such words.
+//!
+//! **A list for an option that takes none is its printed text.** In a machine file a list for a string option is `['a', 'b']`, and nothing
+//! in it is escaped. An array and words take the items themselves, so a quote or a comma in one is safe.
+//!
+//! **Choices stand twice.** An option's choices are kept in their order, since an array without a value has them all, one that stands
+//! there twice too, and once more in a table in which they are looked up.
+//!
+//! **A value tells its option's type.** A combo's value is a form of its own, though it is a text as a string's is. So nothing is kept
+//! beside a value to say which type its option has.
 #![tactic(auto)]
 
 mod built_in;

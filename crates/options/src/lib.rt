@@ -5,6 +5,16 @@
 //! show stands here under one name, from the crates below.
 //!
 //! The rules are those of the Meson manual's pages "Build options" and "Built-in options".
+//!
+//! # Decisions
+//!
+//! **A project's defaults are texts or entries.** `default_options` may be a list of texts, which are cut at their first `=`, or a
+//! dictionary, whose keys are names as they stand. [`resolve`] takes either, item by item: an `=` in a key is part of a name that no
+//! option has.
+//!
+//! **Values come as a list of verdicts.** What a place says of an option is one of three: it sets a value, it warns of a name that no
+//! option has, or it refuses. The definition makes the list of all verdicts, in the order of the places, and folds it up to the first
+//! refusal; so "the last one holds" and "the first bad one is the fault" are read off one line each.
 #![tactic(auto)]
 
 mod built_in;

@@ -28,6 +28,25 @@
 //! counted, and `IsOpen` where it writes into an output.
 //!
 //! [`put_all`], [`log_all`] and [`fault_all`] are the calls to write with. Their run is one step a byte.
+//!
+//! # Decisions
+//!
+//! **What a disk does where the rules are silent.** A path that goes through a file, one with a NUL byte and one that is too long are
+//! absent, not failures. Reading a file that is not there gives no bytes. [`DiskOutputs`] writes an output's bytes out when its buffer is
+//! full, at `close`, and before the next output is begun or a fault is told, and takes the buffers of log and fault lines when it is made.
+//! So a run that a template's fault ends has status 2 where the bytes in front of the fault can't be written. A line of the log and one of
+//! a fault are written out at their ends, each after the other stream's, so that a user sees them in order.
+//!
+//! **An output is whole or it isn't there.** An output is written beside its place, under a name that no output can have (`|` is refused
+//! in the paths of a `build.ninja`). Before it is renamed it is compared with the old one where both are as long: a file with the same
+//! bytes keeps its time. Where the comparison fails for any reason the file is synced and renamed.
+//!
+//! **Nothing below the root is trusted.** What stands beside an output is taken away and the file made new, so that no link there is
+//! followed; a folder on the way that is a link is refused. What changes the folders while the program runs is not kept out: the library
+//! has no calls that go from folder to folder.
+//!
+//! **A device in memory states its plan, not its moment.** `with_plan` and `only` state what is planned. Which call then fails is stated
+//! on private functions and shown by tests: the traits' clauses let any call fail, and a caller has to reckon with that.
 #![tactic(auto)]
 
 mod disk_file;

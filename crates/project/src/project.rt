@@ -128,13 +128,6 @@ impl Project {
         })
     }
 
-    /// How many targets there are.
-    pub fn target_count(&self) -> usize
-        ensures { result ≡ length self.now.targets }
-    {
-        self.linked.len()
-    }
-
     // Whether the target has a folder and names that files may have, and what else it is by itself.
     fn target_fits(&self, target: &Target) -> Result<bool, AllocError>
         ensures { IfOk result (λ fit. fit ≡ target_fits (linked_of self.now.targets) (target_view target.now)) }

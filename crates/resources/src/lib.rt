@@ -3,6 +3,15 @@
 //!
 //! These are the parts that look at nothing but their arguments and the machine file. What they make is made of `data`, and a refusal is
 //! one of `data` too, so that the function of the language which calls them refuses at its own place.
+//!
+//! # Decisions
+//!
+//! **A dependency that grows is measured before it grows further.** `declare_dependency` may name others many times, each with up to
+//! 65,536 items. So [`joined`] asks for the limit before each of them is put behind the rest, and no list is longer than two such; what is
+//! too long stays too long, so the refusal is that of the whole.
+//!
+//! **A folder of headers that is not given is an empty one.** `subdir` of `install_headers` that is not given, or empty, leaves a slash
+//! behind `includedir`, which the path of the file doesn't show.
 #![tactic(auto)]
 
 mod fitting;

@@ -1,8 +1,6 @@
 -- The marks of a run as counts of events.
-use Rattle.std.specs.Prelude.{◌≡◌, ℕ, ◌+◌, ◌≤◌, List, [], ◌∷◌, ◌++◌, length, if◌then◌else◌, nat_lt, Result, Ok, Err}
+use Rattle.std.specs.Prelude.{◌≡◌, ℕ, ◌+◌, ◌≤◌, List, [], ◌∷◌, ◌++◌, length, if◌then◌else◌, nat_lt}
 use Rattle.world.specs.Trace.{Mark, Told, Ended, ends_of, steps_of}
-use Rattle.world.specs.declared.stop.Stop.{Stop}
-use Rattle.world.specs.declared.stop.Stop.TheVariants as stops
 
 -- for each rule that ended, the number of events by then, where `n` came before
 abbrev pub counts_from : ℕ → List Mark → List ℕ
@@ -31,10 +29,3 @@ pub record TicksSome (marks : List Mark) (cost : ℕ) (old new : ℕ) : Type 0 w
   pub all : marks ≡ made ++ left
   pub most : new ≤ old + cost
   pub least : old + below (length (steps_of made)) (counts_from 0 marks) ≤ new
-
--- how a call that ends so has ticked
-abbrev pub Ticks : {B : Type 0} → List Mark → ℕ → Result B Stop → ℕ → ℕ → Type 0
-Ticks marks cost (Ok x) old new = TicksAll marks cost old new
-Ticks marks cost (Err (stops.Refused fault)) old new = TicksAll marks cost old new
-Ticks marks cost (Err stops.Device) old new = TicksSome marks cost old new
-Ticks marks cost (Err stops.Memory) old new = TicksSome marks cost old new

@@ -9,6 +9,11 @@
 //! The code stands beside it. A [`Store`] keeps the world, [`Steps`] counts the rules, and a [`Caller`] is what the code of a function
 //! works on: a store and the devices. How an answer of the code stands to the run of a deed is one relation, `Carries` of
 //! `specs/Answering.antt`.
+//!
+//! # Decisions
+//!
+//! **The steps of a run are counted by a ledger.** The counter of steps takes no bytes: it is a book and a share of `std::sync::ledger`,
+//! whose total only `tick` raises. A machine number would need a bound on the steps of a run.
 #![tactic(auto)]
 
 mod caller;

@@ -304,19 +304,6 @@ impl Store {
         Ok(())
     }
 
-    /// The variable of a number takes a value.
-    pub fn set_number(&mut self, number: usize, value: Value) -> Result<(), AllocError>
-        requires { number < length self.old.names }
-        ensures names { self.new.names ≡ self.old.names }
-        ensures world { OnOk result (world_of self.new
-            ≡ changing (with_variable (slice_index_or self.old.names number []) (Some (data_of value))) (world_of self.old)) }
-    {
-        let _distinct = self.names.len();
-        reach(&mut self.slots, number)?;
-        self.slots[number] = Some(value);
-        Ok(())
-    }
-
     /// Takes the value of the variable of a number out of it, which then has none.
     pub fn take(&mut self, number: usize) -> Option<Value>
         requires { number < length self.old.names }

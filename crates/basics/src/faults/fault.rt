@@ -1,9 +1,8 @@
 ghost use Rattle.std.specs.Prelude.{◌≡◌, IfOk, string_bytes};
-ghost use Rattle.basics.specs.Faults.{fault_text, number_of, plain_fault};
+ghost use Rattle.basics.specs.Faults.{number_of, plain_fault};
 ghost use Rattle.basics.specs.View.{fault_view};
 
 use crate::faults::Refusal;
-use itoa::Buffer;
 use std::alloc::{AllocError, Global};
 
 /// Why a run ended: the first refusal in the order of evaluation.
@@ -54,21 +53,5 @@ impl Fault {
         ensures { result ≡ number_of (fault_view self.now).refusal }
     {
         self.refusal.number()
-    }
-
-    /// The number, a space and the words, and the detail where it is told.
-    pub fn text(&self, alloc: Global) -> Result<String, AllocError>
-        ensures { IfOk result (λ text. string_bytes text ≡ fault_text (fault_view self.now)) }
-    {
-        let mut digits = Buffer::new();
-        let mut text = String::from_str(alloc, "E")?;
-        text.push_str(digits.format(self.number()))?;
-        text.push_str(" ")?;
-        text.push_str(self.refusal.words())?;
-        if let Some(sign) = self.refusal.detail_sign() {
-            text.push_str(sign)?;
-            text.push_str(&self.detail)?;
-        }
-        Ok(text)
     }
 }

@@ -53,26 +53,6 @@ impl Store {
         &self.project
     }
 
-    /// The project, once the run is over.
-    pub fn into_project(self) -> Project
-        ensures { result ≡ self.project }
-    {
-        let Store {
-            place: _,
-            settings: _,
-            names: _,
-            slots: _,
-            machine: _,
-            options: _,
-            configurations: _,
-            is_begun: _,
-            project,
-            entered: _,
-            looked: _,
-        } = self;
-        project
-    }
-
     /// Whether `project` was called.
     pub fn is_begun(&self) -> bool
         ensures { result ≡ self.now.is_begun }
