@@ -76,10 +76,8 @@ class Expected:
                 raise FormError(f"'json {text}' has no ' = '")
             self.says = True
             self.values.append((path.strip(), json.loads(out(value))))
-        elif word == "has":
-            self.outputs.append(("build.ninja", "has", line))
-        elif word == "lacks":
-            self.outputs.append(("build.ninja", "lacks", line))
+        elif word in ("has", "lacks"):
+            self.outputs.append(("build.ninja", word, line))
         elif word == "looks":
             self.looks = {out(it).decode() for it in text.split()}
         elif word == "stays":

@@ -71,8 +71,8 @@ def why_not_kept(came, stamps: dict, old: dict, whole, kind: str) -> str | None:
         return None
     statuses = (3, 2) if kind == "memory" else (2,)
     if came.status not in statuses:
-        torn = sorted(name for name in after if came.outputs.get(name) != after[name])
-        return f"status {' or '.join(map(str, statuses))} must come, and {came.status} came" + (f"; not what must come: {torn}" if torn else "")
+        wrong = sorted(name for name in after if came.outputs.get(name) != after[name])
+        return f"status {' or '.join(map(str, statuses))} must come, and {came.status} came; outputs that are not right: {wrong}"
     if not whole.log.startswith(came.log) or not whole.complaint.startswith(came.complaint.removesuffix(SAID[came.status])):
         return f"it said:\n{shown(came.log)}\n{shown(came.complaint)}"
     for name in old:
