@@ -57,8 +57,9 @@ def states_below(top: str) -> dict:
 def changes(before: dict, after: dict) -> list:
     """What changed between two states, a line for each path."""
     nothing = ("nothing", "")
+    told = lambda states, path: f"{states.get(path, nothing)[0]} {states.get(path, nothing)[1][:60]!r}"
     paths = sorted(path for path in before.keys() | after.keys() if before.get(path, nothing) != after.get(path, nothing))
-    return [f"{path} is changed: it was {before.get(path, nothing)}, and is {after.get(path, nothing)}" for path in paths]
+    return [f"{path} is changed: it was {told(before, path)}, and is {told(after, path)}" for path in paths]
 
 
 def stream_changer(closed: list, full: list) -> Callable | None:
