@@ -5,7 +5,7 @@ import subprocess
 import time
 from collections.abc import Callable
 
-# The most seconds that runs may take together.
+# The most seconds that runs may take together; then they are ended.
 MOST_SECONDS = 60
 
 # Waits until its standard input ends, and is then the program.
@@ -14,12 +14,14 @@ WAITS = 'read gate; exec "$0" "$@"'
 
 @dataclasses.dataclass
 class Run:
-    """One run that has ended: its words, its status, which is below 0 where a signal ended it, and what it said."""
+    """One run that has ended: its words, its status, which is below 0 where a signal ended it, and what it said; whether it was ended
+    since it went on for too long."""
 
     words: list
     status: int
     log: str
     complaint: str
+    is_late: bool = False
 
 
 def run_at_once(program: str, folder: str, lines: list, look: Callable = lambda: None, kills: Callable = lambda: {}) -> list:
@@ -29,22 +31,19 @@ def run_at_once(program: str, folder: str, lines: list, look: Callable = lambda:
     running = [start(program, folder, words, reading) for words in lines]
     os.close(reading)
     os.close(writing)
-    began, waiting = time.monotonic(), dict(kills())
-    try:
-        while any(it.poll() is None for it in running):
-            since = time.monotonic() - began
-            for place in [place for place, after in waiting.items() if after <= since]:
-                running[place].kill()
-                del waiting[place]
-            if since > MOST_SECONDS:
-                raise TimeoutError(f"{lines} have not ended within {MOST_SECONDS} seconds")
-            look()
-            time.sleep(0.0005)
-    finally:
-        for it in running:
-            it.kill()
-        ended = [(it, *it.communicate()) for it in running]
-    return [Run(words, it.returncode, log, complaint) for words, (it, log, complaint) in zip(lines, ended)]
+    began, waiting, since = time.monotonic(), dict(kills()), 0.0
+    while since < MOST_SECONDS and any(it.poll() is None for it in running):
+        since = time.monotonic() - began
+        for place in [place for place, after in waiting.items() if after <= since]:
+            running[place].kill()
+            del waiting[place]
+        look()
+        time.sleep(0.0005)
+    late = [it.poll() is None for it in running]
+    for it in running:
+        it.kill()
+    ended = [(it, *it.communicate()) for it in running]
+    return [Run(words, it.returncode, log, complaint, is_late) for words, (it, log, complaint), is_late in zip(lines, ended, late)]
 
 
 def start(program: str, folder: str, words: list, gate: int) -> subprocess.Popen:
