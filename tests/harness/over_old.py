@@ -44,6 +44,10 @@ def each_fails_over_old(room, whole, kind: str, share: int, shares: int) -> list
     for which, old in old_sets(whole).items():
         put_old(room, old)
         calls = room.run_here(traced=True).counts[kind]
+        stamps = times(room, set(old))
+        moved = sorted(name for name, data in old.items() if whole.outputs.get(name) == data and stamps[name] != OLD_TIME)
+        if moved:
+            return [f"these have the same bytes, and not their time: {moved}"]
         if not calls:
             # A run that makes no output loses none.
             return [] if kind == "late" else [f"the run makes no call of {kind}"]
