@@ -50,6 +50,16 @@ def configured(folder, size):
     return template(folder, size)
 
 
+def headers(folder, count):
+    """A project with so many headers by `configure_file`, each of a template of 20 lines; its option `value` stands in all of them."""
+    write(folder, "meson.options", "option('value', type: 'string')\n")
+    write(folder, "h.in", "".join(f'#define SETTING_{i} "@value@"\n' for i in range(20)))
+    lines = ["project('p','c')", "c = configuration_data({'value': get_option('value')})", f"foreach i : range({count})"]
+    lines += ["  configure_file(input: 'h.in', output: f'h@i@.h', configuration: c)", "endforeach"]
+    write(folder, "meson.build", "\n".join(lines) + "\n")
+    return count
+
+
 # Projects of a whole run, with so many items.
 
 

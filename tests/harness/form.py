@@ -18,11 +18,13 @@ MOST_BYTES = 1 << 26
 
 DIRECTIVES = {
     "L2": "content", "file": "content", "files": "line", "folder": "line", "in": "line", "machine": "content", "word": "line", "build": "line",
+    "link": "line", "hardlink": "line", "fifo": "line", "socket": "line", "locked": "line", "closed": "line", "full": "line",
     "command": "either", "log": "either", "fault": "line", "status": "line", "complaint": "either", "out": "content", "no": "line",
-    "edge": "content", "json": "line", "ok": "none", "cut": "line", "fail": "line", "pieces": "line", "looks": "line", "rows": "rows",
+    "edge": "content", "json": "line", "ok": "none", "cut": "line", "fail": "line", "pieces": "line", "looks": "line", "stays": "line",
+    "rows": "rows",
 }
 
-EXPECTS = {"log", "fault", "status", "complaint", "out", "no", "edge", "json", "ok", "looks"}
+EXPECTS = {"log", "fault", "status", "complaint", "out", "no", "edge", "json", "ok", "looks", "stays"}
 
 
 class FormError(Exception):
@@ -171,7 +173,7 @@ def rows_of(group, title, items, rows, shown):
     if text not in ("", "printed"):
         raise FormError(f"{place}: rows are 'rows' or 'rows printed'")
     for it in items:
-        if it.word in EXPECTS - {"out", "edge", "no", "json", "looks"} or fault_of(f"{it.word} {it.text}"):
+        if it.word in EXPECTS - {"out", "edge", "no", "json", "looks", "stays"} or fault_of(f"{it.word} {it.text}"):
             raise FormError(f"{it.place}: what a table must come to stands in its rows")
     holes = {number for it in items for number in HOLE.findall(it.text + "\n" + it.content)}
     if not holes:

@@ -24,8 +24,8 @@ FAULT_LINE = re.compile(rb"[^\n]+:[0-9]+: ERROR: E([0-9]+) [^\n]*\n")
 
 DOCUMENT = "meson-info/introspect.json"
 
-# What stands behind the name of an output that is begun and not ended.
-UNENDED = ".new~"
+# What stands behind the name of an output that is begun and not ended: no output's name can have it, since '|' is refused there.
+UNENDED = "|new"
 
 
 class Expected:
@@ -33,14 +33,17 @@ class Expected:
 
     def __init__(self):
         self.status = 0
-        self.log, self.log_parts = b"", []
-        self.complaint, self.complaint_parts = None, []
+        # Of a stream the whole, the parts that it must have, and those that it must not have.
+        self.log, self.log_parts, self.log_lacks = b"", [], []
+        self.complaint, self.complaint_parts, self.complaint_lacks = None, [], []
         # Each a name, how it is compared, and a text.
         self.outputs = []
         self.absent = []
         self.edges, self.no_edges = [], []
         self.values = []
         self.looks = None
+        # The paths below which nothing may change.
+        self.stays = []
         self.says = False
 
     def take(self, word, text, content, names, where):
@@ -73,12 +76,13 @@ class Expected:
                 raise FormError(f"'json {text}' has no ' = '")
             self.says = True
             self.values.append((path.strip(), json.loads(out(value))))
-        elif word == "has":
-            self.outputs.append(("build.ninja", "has", line))
-        elif word == "lacks":
-            self.outputs.append(("build.ninja", "lacks", line))
+        elif word in ("has", "lacks"):
+            self.outputs.append(("build.ninja", word, line))
         elif word == "looks":
             self.looks = {out(it).decode() for it in text.split()}
+        elif word == "stays":
+            self.says = True
+            self.stays += [out(it).decode() for it in text.split()]
         else:
             raise FormError(f"'{word}' says nothing of what comes")
 
@@ -99,9 +103,11 @@ class Expected:
 
     def take_stream(self, word, text, line, content):
         self.says = True
-        parts = self.log_parts if word == "log" else self.complaint_parts
-        if text.startswith("has "):
-            parts.append(line[4:])
+        if text.startswith(("has ", "lacks ")):
+            how, _, part = line.partition(b" ")
+            parts = {("log", b"has"): self.log_parts, ("log", b"lacks"): self.log_lacks,
+                     ("complaint", b"has"): self.complaint_parts, ("complaint", b"lacks"): self.complaint_lacks}
+            parts[word, how].append(part)
             if word == "log":
                 self.log = None
             return
@@ -131,15 +137,17 @@ class Expected:
         """What differs, each a text of some lines; none where all is as it must be."""
         found = [] if came.status == self.status else [f"status: {self.status} must come, and {came.status} came"]
         found += differing("log", self.log, came.log)
-        found += [f"the log has no\n{shown(it)}\nit is\n{shown(came.log)}" for it in self.log_parts if it not in came.log]
+        found += parts_differ("log", self.log_parts, self.log_lacks, came.log)
         complaint = b"" if self.complaint is None and self.status == 0 else self.complaint
         found += differing("complaint", complaint, came.complaint)
-        found += [f"the complaint has no\n{shown(it)}\nit is\n{shown(came.complaint)}" for it in self.complaint_parts if it not in came.complaint]
+        found += parts_differ("complaint", self.complaint_parts, self.complaint_lacks, came.complaint)
         for path, how, text in self.outputs:
             unended = came.outputs.get(path + UNENDED) if came.status != 0 else None
             found += self.output_differs(path, how, text, came.outputs.get(path, unended))
         absent = self.absent + ["build.ninja"] * (self.status != 0 and not any(it[0] == "build.ninja" for it in self.outputs))
         found += [f"there is an output {it}" for it in absent if it in came.outputs]
+        found += [f"there is a {came.others[it]} at the place of the output {it}" for it in self.absent if it in came.others]
+        found += came.changes
         found += self.edges_differ(came.outputs.get("build.ninja", b""))
         found += self.values_differ(came.outputs.get(DOCUMENT))
         if self.looks is not None and came.looks is not None and self.looks != came.looks:
@@ -200,6 +208,12 @@ def shown(text):
     return text if len(text) < 4000 else f"{text[:2000]}\n[..]\n{text[-1500:]}"
 
 
+def parts_differ(name: str, has: list, lacks: list, came: bytes) -> list:
+    """What a stream lacks of the parts that it must have, and has of those that it must not have."""
+    found = [f"the {name} has no\n{shown(it)}\nit is\n{shown(came)}" for it in has if it not in came]
+    return found + [f"the {name} has\n{shown(it)}\nit is\n{shown(came)}" for it in lacks if it in came]
+
+
 def differing(name, wanted, came):
     """What differs between two texts: short ones one above the other, others line by line."""
     if wanted is None or wanted == came:
@@ -237,11 +251,12 @@ def filled(text, columns):
 
 def result_parts(case):
     """The directives that a row's result stands for: a word and the rest of its line."""
-    parts = re.split(r" & (?=(?:ok$|E\d+(?:$| at |: )|(?:log|fault|status|complaint|has|lacks|json|out|no|edge|looks) ))", case.result)
+    words = "log|fault|status|complaint|has|lacks|json|out|no|edge|looks|stays"
+    parts = re.split(rf" & (?=(?:ok$|E\d+(?:$| at |: )|(?:{words}) ))", case.result)
     made = []
     for number, part in enumerate(parts):
         word = part.partition(" ")[0]
-        known = fault_of(part) or word in ("ok", "log", "fault", "status", "complaint", "has", "lacks", "json", "no", "edge", "looks")
+        known = fault_of(part) or word == "ok" or (word in words.split("|") and word != "out")
         if case.prints and number == 0 and not fault_of(part):
             made.append(("log", f"Message: {part}"))
         elif known:

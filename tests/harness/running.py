@@ -9,6 +9,8 @@ import tempfile
 
 from form import FormError, written_out
 from judge import DOCUMENT, FAULT_LINE, SAID, UNENDED, Expected, filled, result_parts, row_place, shown
+from over_old import each_fails_over_old
+from places import changes, kind_of, locked, make_thing, pipe_of, states_below, stream_changer
 
 # The most seconds that one run may take.
 MOST_SECONDS = 60
@@ -18,6 +20,13 @@ MOST_CALLS = 20_000
 
 # The directives that ask for further runs.
 MODES = {"cut", "fail", "pieces"}
+
+# The kinds of calls that fail, in the order of their counts, and those that fail where a case says no more.
+KINDS = ("memory", "device", "late")
+USUAL_KINDS = ("memory", "device")
+
+# How a directive 'fail' ends whose runs are over old outputs.
+OVER_OLD = " over old outputs"
 
 
 @dataclasses.dataclass
@@ -29,11 +38,15 @@ class Came:
     complaint: bytes
     outputs: dict
     looks: set = None
+    # What is no file below the folder of the build, and what it is; what changed of what has to stay.
+    others: dict = dataclasses.field(default_factory=dict)
+    changes: list = dataclasses.field(default_factory=list)
     # The outputs that were begun, in their order; the call that failed, and whether a run may go on after that.
     begun: tuple = ()
     failed: str = ""
     may_go_on: bool = False
-    counts: tuple = (0, 0)
+    # How many calls of each kind were made.
+    counts: dict = dataclasses.field(default_factory=dict)
 
 
 class Room:
@@ -45,12 +58,15 @@ class Room:
         self.names = {"root": self.root}
         self.files, self.folders, self.words, self.command = {}, [], [], None
         self.machine, self.build, self.inside = None, "build", ""
+        # What is no plain file: of each its kind, its path and what it leads to. Streams by their numbers; the folder that is locked.
+        self.things, self.streams, self.locked, self.is_piped = [], {"closed": [], "full": []}, None, False
         self.expected = Expected()
         where = row_place(case.items, case.columns, self.names) if case.columns else None
         for it in case.items:
             self.take(it, filled(it.text, case.columns), filled(it.content, case.columns), where)
         for word, text in result_parts(case) if case.columns else ():
             self.expected.take(word, text, "", self.names, where)
+        self.expect_of_streams()
         if not self.expected.says and not case.columns:
             raise FormError("it does not say what must come: 'ok', a fault, a status, a log or an output")
 
@@ -70,15 +86,44 @@ class Room:
             self.inside = path(text)
             self.folders.append(self.inside)
         elif word == "machine":
-            self.machine = out(content)
+            if text not in ("", "through a pipe"):
+                raise FormError(f"'machine {text}' is 'machine' or 'machine through a pipe'")
+            self.machine, self.is_piped = out(content), bool(text)
+        elif word in ("link", "hardlink"):
+            place, to, target = text.partition(" to ")
+            if not to:
+                raise FormError(f"'{word} {text}' has no ' to '")
+            self.things.append((word, path(place), path(target)))
+        elif word in ("fifo", "socket"):
+            self.things += [(word, path(it), "") for it in text.split()]
+        elif word in self.streams:
+            self.streams[word] += [int(it) for it in text.split()]
+        elif word == "locked":
+            self.locked = path(text)
         elif word == "word":
             self.words.append(b"-D" + out(text.replace("¶", "\n")))
         elif word == "build":
             self.build = path(text)
         elif word == "command":
             self.command = out(content).split(b"\n")[:-1] if content else out(text).split()
+        elif word == "fail":
+            self.check_fail(text)
         elif word not in MODES:
             self.expected.take(word, text, content, self.names, where)
+
+    def expect_of_streams(self) -> None:
+        """Nothing comes of a stream that is closed or full."""
+        shut = self.streams["closed"] + self.streams["full"]
+        if 1 in shut:
+            self.expected.log, self.expected.log_parts = b"", []
+        if 2 in shut:
+            self.expected.complaint, self.expected.complaint_parts = b"", []
+
+    @staticmethod
+    def check_fail(text: str) -> None:
+        kinds = (" " + text).partition(" begun ")[0].removesuffix(OVER_OLD).split()
+        if not set(kinds) <= set(KINDS) or ("late" in kinds and not text.endswith(OVER_OLD)):
+            raise FormError(f"'fail {text}' names kinds of {KINDS}, and 'late' ones over old outputs alone")
 
     def take_file(self, text, content):
         path, _, span = text.partition(" for i in ")
@@ -90,16 +135,17 @@ class Room:
             names = {**self.names, **it}
             self.files[os.fsdecode(written_out(path, names))] = written_out(content, names)
 
-    def line(self):
+    def line(self, pipe=()):
+        """The words of the command line; a machine file that comes through a pipe has that pipe's number."""
         if self.command is not None:
             return self.command
         line = [b"setup", *self.words]
         if self.machine is not None:
-            line += [b"--native-file", os.path.join(self.folder, "machine").encode()]
+            line += [b"--native-file", f"/dev/fd/{pipe[0]}".encode() if pipe else os.path.join(self.folder, "machine").encode()]
         return [*line, os.fsencode(self.build)]
 
     def fill(self, files):
-        """Makes the folder with these files, and nothing else."""
+        """Makes the folder with these files, and what else the case gives."""
         shutil.rmtree(self.root, ignore_errors=True)
         os.makedirs(self.root)
         for path in self.folders:
@@ -110,6 +156,10 @@ class Room:
                 os.makedirs(os.path.dirname(whole), exist_ok=True)
             with open(whole, "wb") as file:
                 file.write(data)
+        for kind, path, target in self.things:
+            # Over fewer files a second name of one that isn't there is left out.
+            if kind != "hardlink" or kind_of(os.path.join(self.root, target)) != "nothing":
+                make_thing(kind, os.path.join(self.root, path), os.path.join(self.root, target) if kind == "hardlink" else target)
         if self.machine is not None:
             with open(os.path.join(self.folder, "machine"), "wb") as file:
                 file.write(self.machine)
@@ -117,31 +167,50 @@ class Room:
     def run(self, files=None, traced=False, **faults):
         """Runs the program over the case's files, or over these; 'faults' are what faults.c is to do."""
         self.fill(self.files if files is None else files)
+        return self.run_here(traced, **faults)
+
+    def run_here(self, traced=False, **faults):
+        """Runs the program over what the folder holds."""
         environment = {"PATH": os.environ.get("PATH", ""), "LC_ALL": "C"}
         trace, counts = os.path.join(self.folder, "trace"), os.path.join(self.folder, "counts")
         if traced or faults:
             with open(trace, "wb"), open(counts, "wb") as file:
-                file.write(bytes(16))
+                file.write(bytes(24))
             environment.update({f"FAULTS_{name.upper()}": str(value) for name, value in faults.items()})
             environment.update(LD_PRELOAD=self.library, FAULTS_TRACE=trace, FAULTS_COUNTS=counts)
-        ran = subprocess.run(
-            [b"meson", *self.line()], executable=self.program, cwd=os.path.join(self.root, self.inside), env=environment, stdin=subprocess.DEVNULL,
-            stdout=subprocess.PIPE, stderr=subprocess.PIPE, timeout=MOST_SECONDS,
-        )
-        came = Came(ran.returncode, ran.stdout, ran.stderr, self.outputs())
+        before = self.what_stays()
+        folder = os.path.join(self.root, self.locked) if self.locked else None
+        with locked(folder), pipe_of(self.machine if self.is_piped else None) as pipe:
+            ran = subprocess.run(
+                [b"meson", *self.line(pipe)], executable=self.program, cwd=os.path.join(self.root, self.inside), env=environment,
+                stdin=subprocess.DEVNULL, stdout=subprocess.PIPE, stderr=subprocess.PIPE, timeout=MOST_SECONDS, pass_fds=pipe,
+                preexec_fn=stream_changer(self.streams["closed"], self.streams["full"]),
+            )
+        came = Came(ran.returncode, ran.stdout, ran.stderr, *self.outputs())
+        came.changes = changes(before, self.what_stays())
         if traced or faults:
             self.read_trace(came, trace, counts)
         return came
 
+    def what_stays(self):
+        """What stands at the paths at which nothing may change, and below them."""
+        return {path: it for top in self.expected.stays for path, it in states_below(os.path.join(self.root, top)).items()}
+
+    def build_folder(self):
+        return os.path.join(self.root, self.inside, self.build)
+
     def outputs(self):
-        """The files below the folder of the build, by their paths there."""
-        found, top = {}, os.path.join(self.root, self.inside, self.build)
-        for folder, _, names in os.walk(top):
-            for name in names:
-                path = os.path.join(folder, name)
-                with open(path, "rb") as file:
-                    found[os.path.relpath(path, top)] = file.read()
-        return found
+        """The files below the folder of the build, by their paths there; no looks; and what is none of these, nor a folder."""
+        found, others, top = {}, {}, self.build_folder()
+        for folder, folders, names in os.walk(top):
+            for path in (os.path.join(folder, name) for name in folders + names):
+                kind, name = kind_of(path), os.path.relpath(path, top)
+                if kind == "file":
+                    with open(path, "rb") as file:
+                        found[name] = file.read()
+                elif kind != "folder":
+                    others[name] = kind
+        return found, None, others
 
     def is_of_build(self, path):
         """Whether a path is the folder of the build, one above it, or something below it."""
@@ -157,27 +226,26 @@ class Room:
         came.looks = {path for path in looks if not path.startswith(("/", "../")) and not self.is_of_build(path)}
         made = [path.removeprefix(f"{self.build}/") for (word, _), path in zip(lines, below) if word == "make"]
         came.begun = tuple(dict.fromkeys(path.removesuffix(UNENDED) for path in made))
-        words = [word for word, _ in lines]
-        if "fail" in words:
-            at = words.index("fail")
-            came.failed = lines[at][1]
-            came.may_go_on = self.may_go_on(came.failed, list(zip(words, below)), at)
+        failed = [path for word, path in lines if word == "fail"]
+        if failed:
+            came.failed, _, path = failed[0].partition(" ")
+            came.may_go_on = self.may_go_on(came.failed, path, came.begun)
         with open(counts, "rb") as file:
-            came.counts = struct.unpack("=2Q", file.read(16))
+            came.counts = dict(zip(KINDS, struct.unpack("=3Q", file.read(24))))
 
-    def may_go_on(self, failed, steps, at):
-        """Whether a run may end as if the call of this name, the step at this place, had not failed."""
-        # Nobody is told that a file could not be closed, since what it holds was written before, nor that a folder could not be made
-        # which is there.
-        if failed in ("close", "mkdir"):
+    def may_go_on(self, failed, path, begun):
+        """Whether a run may end as if the call of this name on this path had not failed."""
+        # Nobody is told that a file could not be closed, since what it holds is known as written before, nor that a folder could not be
+        # made which is there, nor that what stood beside an output could not be removed where nothing stood there.
+        if failed in ("close", "mkdir", "unlink", "unlinkat"):
             return True
         # A list that is collected is given room by a guess first, and where that is refused, by what comes: a run that came to just what
         # it comes to with all memory has lost nothing.
         if failed in ("malloc", "realloc", "aligned_alloc", "posix_memalign"):
             return True
-        # An output that can't be compared with the old one takes its place.
-        near = steps[at - 1 : at] if failed in ("open", "statx") else []
-        return any(word == "end" or (word == "look" and self.is_of_build(path)) for word, path in near)
+        # An output that can't be compared with the old one takes its place. Whatever else can't be looked at may be what it must not be.
+        below = os.path.join(self.root, self.inside, path).removeprefix(os.path.normpath(self.build_folder()) + "/")
+        return failed in ("open", "statx", "lseek", "read", "pread") and below.removesuffix(UNENDED) in begun
 
 
 def parts_of(case, jobs):
@@ -189,12 +257,20 @@ def parts_of(case, jobs):
         elif it.word == "pieces":
             parts += [(f"in pieces of {piece}", piece, 0, 1) for piece in it.text.split()]
         elif it.word == "fail":
-            kinds, begun, output = it.text.partition(" begun ")
-            # What only one of the runs shows is looked for in all of them.
-            shares = 1 if begun else jobs
-            for kind in kinds.split() or ["memory", "device"]:
-                parts += [(f"each call of {kind} fails", kind + begun + output, share, shares) for share in range(shares)]
+            parts += failing_parts(it.text, jobs)
     return parts
+
+
+def failing_parts(text, jobs):
+    """The parts of a directive 'fail': its kinds of calls, and behind them what is looked for in these runs, or that they are over old outputs."""
+    text, begun, output = text.partition(" begun ")
+    kinds = (" " + text).removesuffix(OVER_OLD)
+    over = (" " + text)[len(kinds) :]
+    # What only one of the runs shows is looked for in all of them.
+    shares = 1 if begun else jobs
+    for kind in kinds.split() or USUAL_KINDS:
+        for share in range(shares):
+            yield f"each call of {kind} fails{over}", kind + over + begun + output, share, shares
 
 
 def run_case(case, part, program, library):
@@ -210,7 +286,10 @@ def run_case(case, part, program, library):
             whole = room.run(traced=True)
             if room.expected.differences(whole):
                 return label, ["the case itself is not right"]
-            return label, in_pieces(room, whole, int(text)) if label.startswith("in") else each_fails(room, whole, text, share, shares)
+            if label.startswith("in"):
+                return label, in_pieces(room, whole, int(text))
+            failing = each_fails_over_old if text.endswith(OVER_OLD) else each_fails
+            return label, failing(room, whole, text.removesuffix(OVER_OLD), share, shares)
         except (FormError, ValueError) as error:
             return label, [f"the form of the case: {error}"]
         except subprocess.TimeoutExpired:
@@ -260,7 +339,7 @@ def each_fails(room, whole, kind, share, shares):
     """Whichever call of a kind fails, a beginning of the whole run comes, with the status of that kind; one of them where 'begun' says so."""
     kind, _, begun = kind.partition(" begun ")
     is_seen = not begun
-    calls = whole.counts[kind == "device"]
+    calls = whole.counts[kind]
     if not 0 < calls <= MOST_CALLS:
         return [f"the run makes {calls} calls of {kind}"]
     for number in range(1 + share, calls + 1, shares):
