@@ -233,7 +233,7 @@ def environment_edits(project: Project, name: str) -> list | None:
             return None
         value = arguments[1]
         if len(arguments) > 2 or separator:
-            value = f"{site.file.source(separator.value) if separator else escaped(':')}.join({', '.join(arguments[1:])})"
+            value = f"{site.file.source(separator.value) if separator else escaped(':')}.join([{', '.join(arguments[1:])}])"
         edits += site.change("", replaced(site, site.call, f"{name} += {{{arguments[0]}: {value}}}")).edits
     return edits
 

@@ -4,12 +4,12 @@ from __future__ import annotations
 from collections.abc import Iterator
 
 from porting import tree
-from porting.edits import Change
+from porting.edits import Change, indent_at, without_item
 from porting.lexer import escaped
+from porting.parser import parse
 from porting.project import Project, Site
 from porting.rule import (LIBRARIES, TARGETS, added_to_list, compiler_text, drop_keyword, in_place_of_statement,
                           is_whole_statement, assigned_name, replaced, text_of, texts_at)
-from porting.edits import without_item
 from porting.values import Item, Many, kind_of, texts_of
 
 OF_TARGETS = {"native", "link_depends", "link_language", "vs_module_defs", "darwin_versions", "extra_files", "pic", "pie", "install_tag",
@@ -73,14 +73,15 @@ def visibility(project: Project) -> Iterator[Change]:
         yield moved(site, "gnu_symbol_visibility", "c_args", supported)
 
 
-def moved(site: Site, dropped: str, keyword: str, item: str, *others: tuple[int, int, str]) -> Change:
+def moved(site: Site, dropped: str, keyword: str, item: str, is_several: bool = False) -> Change:
     """A keyword whose meaning becomes an item of another keyword, in its own place where that one is missing."""
     word = site.call.keywords[dropped]
     what = f"{site.call.name}: `{dropped}:` becomes `{keyword}:`"
     if keyword not in site.call.keywords:
-        return site.change(what, (word.start, word.end, f"{keyword}: {item}"), *others)
+        value = f"[{item}]" if is_several else item
+        return site.change(what, (word.start, word.end, f"{keyword}: {value}"))
     start, end = without_item(site.file.text, site.call, word)
-    return site.change(what, added_to_list(site, keyword, item), (start, end, ""), *others)
+    return site.change(what, added_to_list(site, keyword, item), (start, end, ""))
 
 
 def export_dynamic(project: Project) -> Iterator[Change]:
@@ -117,7 +118,7 @@ def override_options(project: Project) -> Iterator[Change]:
             flags += OVERRIDDEN.get(text, [] if text == "c_std=none" else ["-std=" + text.removeprefix("c_std=")])
         else:
             if flags:
-                yield moved(site, "override_options", "c_args", ", ".join(map(escaped, flags)))
+                yield moved(site, "override_options", "c_args", ", ".join(map(escaped, flags)), len(flags) > 1)
             else:
                 yield drop_keyword(site, "override_options")
 
@@ -135,35 +136,27 @@ def configure_install(project: Project) -> Iterator[Change]:
         elif known is False:
             yield drop_keyword(site, "install_dir", "configure_file: `install_dir:` of a file that isn't installed is dropped")
         elif is_whole_statement(site) or assigned_name(site):
-            yield in_two(site, word, folder)
+            yield in_two(site, word)
 
 
-def in_two(site: Site, word: tree.Keyword, folder: tree.Keyword) -> Change:
+def in_two(site: Site, word: tree.Keyword) -> Change:
     """One call for each side of a condition that is decided while configuring."""
-    text, statement, call = site.file.text, site.statement, site.call
-    both = sorted([without_item(text, call, word), without_item(text, call, folder)])
-    with_folder = cut(text, statement, [without_item(text, call, word)])
-    without = cut(text, statement, merged(both))
-    lines = [f"if {site.file.source(word.value)}", *shifted(with_folder), "else", *shifted(without), "endif"]
-    return site.change("configure_file: `install:` becomes two calls", in_place_of_statement(site.file, statement, lines))
+    statement = site.file.source(site.statement)
+    indent = indent_at(site.file.text, site.statement.start)
+    sides = [without_keywords(statement, names).split("\n") for names in (("install",), ("install", "install_dir"))]
+    both = [["  " + first, *("  " + it.removeprefix(indent) for it in rest)] for first, *rest in sides]
+    lines = [f"if {site.file.source(word.value)}", *both[0], "else", *both[1], "endif"]
+    return site.change("configure_file: `install:` becomes two calls", in_place_of_statement(site.file, site.statement, lines))
 
 
-def merged(places: list[tuple[int, int]]) -> list[tuple[int, int]]:
-    return places if places[0][1] <= places[1][0] else [(places[0][0], max(places[0][1], places[1][1]))]
-
-
-def cut(text: str, statement: tree.Statement, places: list[tuple[int, int]]) -> str:
-    """A statement's text without some places of it."""
-    parts, at = [], statement.start
-    for start, end in places:
-        parts.append(text[at:start])
-        at = end
-    return "".join([*parts, text[at:statement.end]])
-
-
-def shifted(text: str) -> list[str]:
-    first, *rest = text.split("\n")
-    return ["  " + first, *("  " + it.strip() if it.strip() else "" for it in rest)]
+def without_keywords(text: str, names: tuple[str, ...]) -> str:
+    """The text of a statement that is a call, without some of its keywords."""
+    for name in names:
+        call = next(it for it in tree.inside(tree.expressions_of(parse(text)[0])[0])
+                    if isinstance(it, tree.Call) and it.name == "configure_file")
+        start, end = without_item(text, call, call.keywords[name])
+        text = text[:start] + text[end:]
+    return text
 
 
 def test_protocol(project: Project) -> Iterator[Change]:
