@@ -10,7 +10,7 @@ from porting.parser import parse
 from porting.project import Project, Site
 from porting.rule import (LIBRARIES, TARGETS, added_to_list, compiler_text, drop_keyword, in_place_of_statement,
                           is_whole_statement, assigned_name, replaced, text_of, texts_at)
-from porting.values import Item, Many, kind_of, texts_of
+from porting.values import Item, Many, Table, flat, kind_of, texts_of
 
 OF_TARGETS = {"native", "link_depends", "link_language", "vs_module_defs", "darwin_versions", "extra_files", "pic", "pie", "install_tag",
               "implicit_include_directories", "win_subsystem", "gui_app", "cpp_args", "cpp_pch", "objc_args", "objcpp_args",
@@ -82,6 +82,48 @@ def moved(site: Site, dropped: str, keyword: str, item: str, is_several: bool = 
         return site.change(what, (word.start, word.end, f"{keyword}: {value}"))
     start, end = without_item(site.file.text, site.call, word)
     return site.change(what, added_to_list(site, keyword, item), (start, end, ""))
+
+
+def given_keywords(project: Project) -> Iterator[Change]:
+    """`kwargs:` of a dictionary whose keys are known: the keywords themselves."""
+    for site in project.sites():
+        word = site.call.keywords.get("kwargs")
+        table = project.known.value(word.value) if word else None
+        if word is None or not isinstance(table, Table) or not table.is_whole or set(table.pairs) & set(site.call.keywords):
+            continue
+        value = tree.plain(word.value)
+        if isinstance(value, tree.Dictionary):
+            shown = [f"{text_of(project, key)}: {site.file.source(held)}" for key, held in value.pairs]
+        else:
+            shown = [f"{key}: {grouped(site, value)}[{escaped(key)}]" for key in table.pairs]
+        edit = (word.start, word.end, ", ".join(shown)) if shown else (*without_item(site.file.text, site.call, word), "")
+        yield site.change(f"{site.call.name}: `kwargs:` becomes its keywords", edit)
+
+
+USUAL_MODES = {"install_data": ("rw-r--r--",), "install_headers": ("rw-r--r--",), "install_man": ("rw-r--r--",),
+               "configure_file": ("rw-r--r--",), "executable": ("rwxr-xr-x",), "shared_library": ("rwxr-xr-x", "rw-r--r--"),
+               "static_library": ("rw-r--r--",), "custom_target": ("rw-r--r--",)}
+
+
+def usual_modes(project: Project) -> Iterator[Change]:
+    """`install_mode:` of a mode that is given anyway."""
+    for site in project.functions(*USUAL_MODES):
+        word = site.call.keywords.get("install_mode")
+        value = project.known.value(word.value) if word else None
+        first = flat(value)[0].value if word and flat(value) else None
+        if word is not None and first in USUAL_MODES[site.call.name] and (texts_of(value) or [first])[:1] == [first]:
+            owners = [it.value for it in flat(value)[1:]]
+            if all(it in ("root", 0) for it in owners):
+                yield drop_keyword(site, "install_mode", f"{site.call.name}: `install_mode:` is the usual one")
+
+
+def other_modes(project: Project) -> Iterator[Change]:
+    """A mode that only the package can give."""
+    for site in project.functions(*USUAL_MODES, "install_subdir"):
+        if "install_mode" in site.call.keywords:
+            change = drop_keyword(site, "install_mode")
+            change.notes = ["the mode of what is installed is a step of the package"]
+            yield change
 
 
 def export_dynamic(project: Project) -> Iterator[Change]:

@@ -204,12 +204,29 @@ class Writer:
     def condition_of_one(self, thing: Thing) -> str | None:
         """When a dependency is the one that a variable has, of several that it may have."""
         for name, held in self.names.items():
-            if isinstance(held, Either) and any(it is thing for it in held.choices):
-                others = [it for it in held.choices if it is not thing]
-                if all(isinstance(it, Thing) and it.kind == "dependency" for it in others):
-                    are_none = all(isinstance(it, Thing) and it.name == "" for it in others)
-                    return f"{name}.found()" + ("" if are_none else f" and {name}.name() == {escaped(thing.name or '')}")
+            if not isinstance(held, Either) or not any(it is thing for it in held.choices):
+                continue
+            others = [it for it in held.choices if it is not thing and not is_nothing(it)]
+            lists = [it for it in held.choices if isinstance(it, Many)]
+            if not others and not lists:
+                return f"{name}.found()"
+            if not others:
+                is_found = thing.keywords.get("required", True) is True
+                return f"([] + {name}).length() > 0" + ("" if is_found else f" and {name}.found()")
+            if not lists and all(isinstance(it, Thing) and it.kind == "dependency" for it in [thing, *others]):
+                return f"{name}.found() and {name}.name() == {escaped(thing.name or '')}"
+            return None if lists else self.condition_of_two(name, thing, others)
         return None
+
+    @staticmethod
+    def condition_of_two(name: str, thing: Thing, others: list) -> str | None:
+        """A package, and a library where there is no such package: asked for once more, which changes nothing."""
+        both = [thing, *others]
+        packages = [it for it in both if isinstance(it, Thing) and it.kind == "dependency" and it.name]
+        if len(both) != 2 or len(packages) != 1 or "version" in packages[0].keywords:
+            return None
+        found = f"dependency({escaped(packages[0].name or '')}, required: false).found()"
+        return f"{name}.found() and {'' if packages[0] is thing else 'not '}{found}"
 
     def needs_of_item(self, value: object, is_sure: bool, is_public: bool = False) -> list[Need]:
         """What one item of a list of libraries and dependencies stands for."""
@@ -222,6 +239,8 @@ class Writer:
         if value.kind == "internal":
             return self.needs_of_internal(value)
         if value.kind not in ("dependency", "library"):
+            if is_nothing(value):
+                return []
             raise NotSure(f"it names {value.kind or 'an object'}, which is no library")
         return self.needs_of_dependency(value, is_sure, is_public)
 
@@ -392,6 +411,12 @@ class Writer:
         if isinstance(table, Table) and table.is_whole and all(isinstance(it, str) for it in table.pairs.values()):
             return [Part(f"{key}={value}") for key, value in table.pairs.items()]
         raise NotSure("its variables are not known")
+
+
+def is_nothing(value: object) -> bool:
+    """An empty list, or a dependency that is never found."""
+    return (isinstance(value, Many) and value.is_whole and not value.items) or (
+        isinstance(value, Thing) and value.kind == "dependency" and value.name == "")
 
 
 def thing_items(thing: Thing) -> list:

@@ -165,12 +165,12 @@ def processed(project: Project, site: Site, maker: Thing) -> Change | None:
     if maker.call is None or not maker.call.arguments or set(site.call.keywords) - {"extra_args"}:
         return None
     made, file = maker.call.keywords, project.files[maker.path]
-    output = text_of(project, made["output"].value) if "output" in made else None
+    outputs = texts_at(project, made["output"].value) if "output" in made else None
     words = made["arguments"].value if "arguments" in made else None
     texts = texts_at(project, words)
     inputs = flat(Many([item for it in site.call.arguments for item in flat(project.known.value(it))]))
     names = [input_name(it.value) for it in inputs if it.is_sure]
-    if output is None or texts is None or not names or None in names or len(names) != len(inputs):
+    if outputs is None or texts is None or not names or None in names or len(names) != len(inputs):
         return None
     extra = site.call.keywords.get("extra_args")
     variable = assigned_name(site) or free_name(project, "generated")
@@ -181,9 +181,10 @@ def processed(project: Project, site: Site, maker: Thing) -> Change | None:
     lines = [] if is_added else [f"{list_name} = []"]
     lines.append(f"foreach input : [{', '.join(escaped(os.path.relpath(it, folder)) for it in map(lambda n: os.path.join(project.root, n), relative(site, names)))}]")
     kept = "".join(f", {file.source(made[it])}" for it in ("depfile", "capture", "depends") if it in made)
-    shown_output = re.sub("@BUILD_DIR@/?", "", output)
+    shown = [escaped(re.sub("@BUILD_DIR@/?", "", it)) for it in outputs]
+    shown_output = shown[0] if len(shown) == 1 else f"[{', '.join(shown)}]"
     lines += [f"  {list_name} += custom_target({escaped(identifier(list_name) + '-')} + input.underscorify(), input: input, "
-              f"output: {escaped(shown_output)}, command: {command}{kept})", "endforeach"]
+              f"output: {shown_output}, command: {command}{kept})", "endforeach"]
     what = "generator: a custom_target for each input"
     if is_added or assigned_name(site):
         return site.change(what, in_place_of_statement(site.file, site.statement, lines))

@@ -10,6 +10,7 @@ RULES = (
     Rule("fs-asked", "fs.exists, is_file, is_dir, size, hash: the answer, written down (with --run alone)", commands.asked_files),
     Rule("fs-paths", "fs.name, stem, parent and their like: the text", commands.path_methods),
     Rule("variables", "get_variable of a dependency: an option with the value of now (with --run alone)", commands.variables),
+    Rule("kwargs", "`kwargs:` of a dictionary whose keys are known: the keywords", keywords.given_keywords),
     Rule("lists", "lists of texts where a call takes texts one by one", calls.lists_in_calls),
     Rule("files", "files() of files: the files", calls.files_of_files),
     Rule("python", "import('python').find_installation(): find_program", calls.python),
@@ -55,12 +56,14 @@ RULES = (
     Rule("data-sources", "`sources:` of install_data: its arguments", keywords.data_sources),
     Rule("link-whole", "`link_whole:` of declare_dependency: `link_with:`", calls.dependency_link_whole),
     Rule("prefixes", "`name_prefix: 'lib'`, `name_suffix: 'so'`: dropped", keywords.name_prefix),
+    Rule("usual-modes", "`install_mode:` of the usual mode: dropped", keywords.usual_modes),
     Rule("keywords", "keywords that change nothing on Linux: dropped", keywords.drop_keywords),
     Rule("pkgconfig", "pkg.generate: one template, and configure_file with a dictionary", pkgconfig.generate),
     Rule("overrides", "override_dependency, override_find_program: behind is_subproject()", calls.overrides),
     Rule("steps", "add_install_script, install_symlink and their like: left to the real Meson", calls.steps),
     Rule("summary", "summary, debug: message", calls.summary),
     Rule("imports", "a module that nothing uses: dropped", calls.unused_imports),
+    Rule("install-modes", "`install_mode:` of another mode: dropped; a step of the package", keywords.other_modes, is_sure=False),
     Rule("test-protocol", "`protocol: 'tap'` of a test: dropped, so that its status alone decides", keywords.test_protocol, is_sure=False),
 )
 BY_NAME = {it.name: it for it in RULES}
