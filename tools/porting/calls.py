@@ -225,7 +225,8 @@ def environment_edits(project: Project, name: str) -> list | None:
     """The edits of all `NAME.set(..)`, or none where it is changed in another way."""
     edits = []
     for site in project.methods("set", "append", "prepend", "unset"):
-        if not isinstance(site.call.receiver, tree.Name) or site.call.receiver.text != name:
+        receiver = site.call.receiver
+        if not isinstance(receiver, tree.Name) or receiver.text != name or kind_of(project.known.value(receiver)) != "environment":
             continue
         arguments = [site.file.source(it) for it in site.call.arguments]
         separator = site.call.keywords.get("separator")

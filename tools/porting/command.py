@@ -7,6 +7,7 @@ import os
 import sys
 import tempfile
 
+from porting.edits import Change
 from porting.left import Left, left_in
 from porting.project import Project, Unreadable
 from porting.rule import Rule
@@ -17,7 +18,7 @@ from porting.trial import first_fault, program_of
 MOST_PASSES = 200
 
 
-def arguments(doc: str | None) -> argparse.Namespace:
+def arguments(doc: str | None, given: list[str] | None) -> argparse.Namespace:
     parser = argparse.ArgumentParser(prog="meson port", description=doc, formatter_class=argparse.RawDescriptionHelpFormatter)
     parser.error = lambda message: parser.exit(2, f"meson port: {message} (--help says more)\n")
     parser.add_argument("source", metavar="SOURCE-DIR", nargs="?", help="the folder of the project's meson.build")
@@ -29,7 +30,7 @@ def arguments(doc: str | None) -> argparse.Namespace:
     parser.add_argument("--program", metavar="PATH", help="the program that is asked at the end; without it the one of this checkout")
     parser.add_argument("--no-trial", action="store_true", help="don't ask the program at the end")
     parser.add_argument("-D", metavar="NAME=VALUE", action="append", default=[], dest="options", help="a word for `meson setup` at the end")
-    words = parser.parse_args()
+    words = parser.parse_args(given)
     for name in words.only + words.also:
         if name not in BY_NAME:
             parser.error(f"there is no rule {name!r}; --list-rules lists them")
@@ -58,10 +59,23 @@ def carry_out(project: Project, rules: list[Rule]) -> None:
         before = len(project.done)
         for rule in rules:
             for _ in range(MOST_PASSES):
-                if not project.make(rule.name, list(rule.change(project))):
+                if not project.make(rule.name, found_by(rule, project)):
                     break
         if len(project.done) == before:
             return
+
+
+def found_by(rule: Rule, project: Project) -> list[Change]:
+    """The changes of a rule. One that comes to something that it doesn't foresee changes nothing, and that is told."""
+    try:
+        return list(rule.change(project))
+    except (AttributeError, IndexError, KeyError, TypeError, ValueError) as error:
+        if os.environ.get("PORT_DEBUG"):
+            raise
+        note = f"the rule {rule.name} was left out: {type(error).__name__}: {error}"
+        if note not in project.said:
+            project.said.append(note)
+        return []
 
 
 def show_changes(project: Project, is_dry: bool) -> None:
@@ -88,19 +102,23 @@ def show_left(project: Project) -> list[Left]:
 
 
 def write(project: Project) -> None:
-    """Each changed file is written beside its place and renamed to it, with the mode that it had."""
-    for path, (before, text) in project.results().items():
-        place = os.path.realpath(os.path.join(project.root, path))
-        mode = os.stat(place).st_mode & 0o7777 if before is not None else 0o666 & ~current_umask()
-        handle, beside = tempfile.mkstemp(prefix=os.path.basename(place) + ".", suffix=".new~", dir=os.path.dirname(place))
-        try:
+    """All changed files are written beside their places, and renamed to them once all are whole."""
+    beside: list[tuple[str, str]] = []
+    try:
+        for path, (before, text) in project.results().items():
+            place = os.path.realpath(os.path.join(project.root, path))
+            mode = os.stat(place).st_mode & 0o7777 if before is not None else 0o666 & ~current_umask()
+            handle, name = tempfile.mkstemp(prefix=os.path.basename(place) + ".", suffix=".new~", dir=os.path.dirname(place))
+            beside.append((name, place))
             with os.fdopen(handle, "w", encoding="utf-8", newline="") as it:
                 it.write(text)
-            os.chmod(beside, mode)
-            os.replace(beside, place)
-        except OSError:
-            os.unlink(beside)
-            raise
+            os.chmod(name, mode)
+        while beside:
+            os.replace(*beside[0])
+            beside.pop(0)
+    finally:
+        for name, _ in beside:
+            os.unlink(name)
 
 
 def current_umask() -> int:
@@ -120,8 +138,19 @@ def try_out(project: Project, words: argparse.Namespace) -> int:
     return 0 if fault is None else 1
 
 
-def main(doc: str | None) -> int:
-    words = arguments(doc)
+def main(doc: str | None, given: list[str] | None = None) -> int:
+    """The command over these words, else over those of the program; its status."""
+    try:
+        return carried_out(arguments(doc, given))
+    except BrokenPipeError:
+        os.dup2(os.open(os.devnull, os.O_WRONLY), sys.stdout.fileno())
+        return 1
+    except KeyboardInterrupt:
+        print("meson port: interrupted", file=sys.stderr)
+        return 130
+
+
+def carried_out(words: argparse.Namespace) -> int:
     if words.list_rules:
         list_rules()
         return 0

@@ -11,7 +11,7 @@ from collections.abc import Iterator
 from porting import tree
 from porting.edits import Change
 from porting.lexer import escaped
-from porting.options import declared, with_option
+from porting.options import declared, option_name, with_option
 from porting.project import Project, Site
 from porting.rule import identifier, replaced, text_of, texts_at
 from porting.values import ROOT, Item, Thing, flat, kind_of
@@ -77,10 +77,14 @@ def run_command(project: Project) -> Iterator[Change]:
         if not project.is_asked_to_run:
             project.doubt(site, f"run_command {NOT_ASKED}")
             continue
-        words = command_words(project, site)
+        words = None if "env" in site.call.keywords else command_words(project, site)
         done = run(project, words, os.path.join(project.root, site.folder)) if words else None
         if done is None or len(done.stdout) + len(done.stderr) > LARGEST:
             project.doubt(site, "run_command: its words can't be followed" if words is None else "run_command: it can't be run here")
+            continue
+        check = site.call.keywords.get("check")
+        if done.returncode != 0 and check is not None and project.known.value(check.value) is True:
+            project.doubt(site, f"run_command: it fails here, with status {done.returncode}: {done.stderr.strip()[:200]!r}")
             continue
         answers = {"returncode": str(done.returncode), "stdout": escaped(done.stdout), "stderr": escaped(done.stderr)}
         change = answered(project, site, answers)
@@ -235,14 +239,15 @@ def variables(project: Project) -> Iterator[Change]:
         if not project.is_asked_to_run or name is None or package is None:
             project.doubt(site, f"{site.call.name} of a dependency {NOT_ASKED if not project.is_asked_to_run else 'can not be followed'}")
             continue
-        option = f"{identifier(package)}_{identifier(name)}"
+        description = f"The variable {name} of {package}"
+        option = option_name(project, f"{identifier(package)}_{identifier(name)}", description)
         change = site.change(f"{site.call.name} becomes the option {option}", replaced(site, site.call, f"get_option('{option}')"))
-        if not declared(project, option):
+        if declared(project, option) is None:
             value = variable_value(project, site, package, name)
             if value is None:
                 project.doubt(site, f"pkg-config has no variable {name} of {package}")
                 continue
-            text = f"option('{option}', type: 'string', value: {escaped(value)}, description: 'The variable {name} of {package}')\n"
+            text = f"option('{option}', type: 'string', value: {escaped(value)}, description: {escaped(description)})\n"
             change.edits.append(with_option(project, text))
         yield change
 

@@ -102,6 +102,8 @@ def changed(text: str, origins: list[int], edits: list[Edit]) -> tuple[str, list
     parts: list[str] = []
     lines = [origins[0]]
     at = line = 0
+    if "\r\n" in text:
+        edits = [dataclasses.replace(it, text=it.text.replace("\r\n", "\n").replace("\n", "\r\n")) for it in edits]
     for edit in sorted(edits, key=lambda it: (it.start, it.end)):
         for newline in range(text.count("\n", at, edit.start)):
             lines.append(origins[line + newline + 1])

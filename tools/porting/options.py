@@ -28,11 +28,27 @@ def option_file(project: Project) -> tuple[str, str]:
     return (file.path, file.text) if file else ("meson_options.txt", "")
 
 
-def declared(project: Project, name: str) -> bool:
+def declared(project: Project, name: str) -> tree.Call | None:
+    """The declaration of an option."""
     file = project.option_file()
-    return file is not None and any(isinstance(it, tree.Expression) and isinstance(it.value, tree.Call) and it.value.arguments
-                                    and isinstance(it.value.arguments[0], tree.Text) and it.value.arguments[0].value == name
-                                    for it in file.body)
+    for statement in file.body if file else []:
+        call = statement.value if isinstance(statement, tree.Expression) else None
+        first = call.arguments[0] if isinstance(call, tree.Call) and call.arguments else None
+        if isinstance(call, tree.Call) and isinstance(first, tree.Text) and first.value == name:
+            return call
+    return None
+
+
+def option_name(project: Project, wanted: str, description: str) -> str:
+    """The option with this description, or a name that none has."""
+    number, name = 1, wanted
+    while (call := declared(project, name)) is not None:
+        word = call.keywords.get("description")
+        if word is not None and isinstance(word.value, tree.Text) and word.value.value == description:
+            break
+        number += 1
+        name = f"{wanted}_{number}"
+    return name
 
 
 def with_option(project: Project, text: str) -> Edit:
@@ -46,10 +62,12 @@ def folders(project: Project) -> Iterator[Change]:
         name = text_of(project, site.call.arguments[0]) if site.call.arguments else None
         if name not in FOLDERS or not isinstance(tree.plain(site.call.arguments[0]), tree.Text) or name in project.known.options:
             continue
-        option, value = FOLDERS[name]
+        wanted, value = FOLDERS[name]
+        description = f"What {name} is elsewhere"
+        option = option_name(project, wanted, description)
         change = site.change(f"get_option('{name}') becomes the option {option}", replaced(site, site.call.arguments[0], escaped(option)))
-        if not declared(project, option):
-            text = f"option('{option}', type: 'string', value: {escaped(value)}, description: 'What {name} is elsewhere')\n"
+        if declared(project, option) is None:
+            text = f"option('{option}', type: 'string', value: {escaped(value)}, description: {escaped(description)})\n"
             change.edits.append(with_option(project, text))
         yield change
 

@@ -1,9 +1,13 @@
 """Reads the tokens of a definition file as the tree that they spell."""
 from __future__ import annotations
 
+from collections.abc import Callable
+from typing import TypeVar
+
 from porting import tree
 from porting.lexer import Lines, SyntaxFault, Token, tokens_of, value_of_number, value_of_text
 
+T = TypeVar("T")
 COMPARISONS = {"==", "!=", "<", "<=", ">", ">="}
 # How deep brackets and blocks may stand in one another.
 DEEPEST = 64
@@ -241,9 +245,9 @@ class Parser:
             return tree.Dictionary(token.start, self.last_end, pairs)
         raise self.fault(f"no expression begins with {token.text.strip() or 'the end of the line'!r}")
 
-    def items(self, closing: str, one: "callable") -> list:
+    def items(self, closing: str, one: Callable[[], T]) -> list[T]:
         self.take()
-        found = []
+        found: list[T] = []
         while not self.is_word(closing):
             found.append(one())
             if not self.is_word(closing):

@@ -70,6 +70,7 @@ class Project:
         self.new_files: dict[str, str] = {}
         self.done: list[Done] = []
         self.notes: list[Done] = []  # what to look at, by the lines of the file before
+        self.refused: set[tuple[str, str, int, str]] = set()  # changes that would break a file
         self.doubts: dict[tree.Call, str] = {}  # why a rule left a call alone
         self.is_asked_to_run = False
         self.runs: dict[tuple[str, ...], subprocess.CompletedProcess[str] | None] = {}
@@ -153,25 +154,41 @@ class Project:
         chosen: list[Change] = []
         for change in changes:
             before = [edit for it in chosen for edit in it.edits]
-            if not do_overlap(change.edits, before) and not do_overlap(change.edits[:1], change.edits[1:]):
+            is_free = not do_overlap(change.edits, before) and not do_overlap(change.edits[:1], change.edits[1:])
+            if is_free and (rule, change.path, change.place, change.what) not in self.refused:
                 chosen.append(change)
-        if not chosen:
+        made = self.made(chosen)
+        if made is None and len(chosen) > 1:  # one of them makes no file of the language
+            return any([self.make(rule, [it]) for it in chosen[:1]])
+        if made is None:
+            self.refused.update((rule, it.path, it.place, it.what) for it in chosen)
+            self.notes += [Done(it.path, self.files[it.path].line_before(it.place), rule, f"{it.what}: can't be done here") for it in chosen]
             return False
         for change in chosen:
             line = self.files[change.path].line_before(change.place)
             self.done.append(Done(change.path, line, rule, change.what))
             self.notes += [Done(change.path, line, rule, it) for it in change.notes]
             self.new_files.update(change.files)
+        self.files.update(made)
+        if chosen:
+            self.look()
+        return bool(chosen)
+
+    def made(self, changes: list[Change]) -> dict[str, File] | None:
+        """The files after some changes, or none where one is no file of the language any more."""
         by_path: dict[str, list[Edit]] = {}
-        for change in chosen:
+        for change in changes:
             for edit in change.edits:
                 by_path.setdefault(edit.path, []).append(edit)
+        made: dict[str, File] = {}
         for path, edits in by_path.items():
             file = self.files.get(path) or File(path, None, "", [1], [])
             text, origins = changed(file.text, file.origins, edits)
-            self.files[path] = self.parsed(path, file.before, text, origins)
-        self.look()
-        return True
+            try:
+                made[path] = self.parsed(path, file.before, text, origins)
+            except Unreadable:
+                return None
+        return made
 
     def doubt(self, site: Site, why: str) -> None:
         self.doubts[site.call] = why

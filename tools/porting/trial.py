@@ -25,8 +25,8 @@ def program_of(given: str | None) -> str | None:
 
 def machine_file(folder: str, scratch: str) -> list[str]:
     """The words that give the program a machine file of the result, where one can be made."""
-    made = next((it for it in (os.path.join(CHECKOUT, "machine-file"), os.path.join(CHECKOUT, "tools", "machine-file"),
-                               shutil.which("hawkottoman-machine-file") or "") if it and os.path.isfile(it)), None)
+    beside = (os.path.join(CHECKOUT, "tools", "machine-file"), os.path.join(CHECKOUT, "machine-file"))
+    made = next((it for it in beside if os.path.isfile(it)), None)
     if made is None:
         return []
     path = os.path.join(scratch, "native.ini")
