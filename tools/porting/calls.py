@@ -265,7 +265,8 @@ def test_programs(project: Project) -> Iterator[Change]:
             continue
         node = tree.plain(site.call.arguments[1])
         items = flat(project.known.value(node))
-        if isinstance(project.known.value(node), Many) and len(items) == 1 and items[0].is_sure and kind_of(items[0].value) in ("file", "target"):
+        is_one = len(items) == 1 and items[0].is_sure and kind_of(items[0].value) in ("file", "target")
+        if is_one and isinstance(project.known.value(node), Many):
             text = site.file.source(node.items[0]) if isinstance(node, tree.List) else site.file.source(node) + "[0]"
             yield site.change("test: takes one program", replaced(site, node, text))
 
@@ -340,8 +341,9 @@ def files_to_install(project: Project, site: Site) -> list[str] | None:
         inner[:] = sorted(it for it in inner if os.path.normpath(os.path.join(below, it)) not in (left[1] or []))
         named = sorted(it for it in files if os.path.normpath(os.path.join(below, it)) not in (left[0] or []))
         if named:
-            shown = ["", *(f"  {escaped(os.path.normpath(os.path.join(name, below, it)))}," for it in named)]
-            lines += ["install_data(" + shown[0], *shown[1:], f"  install_dir: {target if below == '.' else f'{target} / {escaped(below)}'})"]
+            shown = [f"  {escaped(os.path.normpath(os.path.join(name, below, it)))}," for it in named]
+            place = target if below == "." else f"{target} / {escaped(below)}"
+            lines += ["install_data(", *shown, f"  install_dir: {place})"]
     return lines or None
 
 
@@ -363,7 +365,8 @@ def names_of_types(project: Project) -> Iterator[Change]:
         found = f"{site.file.source(receiver)}.found()"
         name = kinds.pop() or ""
         outer = comparison_of(site)
-        if outer is not None and outer.operator in ("==", "!=") and isinstance(outer.right, tree.Text) and outer.right.value == name != "internal":
+        is_asked = isinstance(outer, tree.Binary) and isinstance(outer.right, tree.Text) and outer.right.value == name != "internal"
+        if outer is not None and is_asked and outer.operator in ("==", "!="):
             yield site.change(f"type_name: is {name}, where it is found",
                               replaced(site, outer, found if outer.operator == "==" else f"(not {found})"))
             continue
@@ -413,4 +416,5 @@ def dependency_link_whole(project: Project) -> Iterator[Change]:
     for site in project.functions("declare_dependency"):
         word = site.call.keywords.get("link_whole")
         if word is not None and "link_with" not in site.call.keywords:
-            yield site.change("declare_dependency: `link_whole:` becomes `link_with:`", (word.start, word.start + len("link_whole"), "link_with"))
+            edit = (word.start, word.start + len("link_whole"), "link_with")
+            yield site.change("declare_dependency: `link_whole:` becomes `link_with:`", edit)

@@ -24,7 +24,7 @@ def arguments(doc: str | None, given: list[str] | None) -> argparse.Namespace:
     parser.add_argument("source", metavar="SOURCE-DIR", nargs="?", help="the folder of the project's meson.build")
     parser.add_argument("--dry-run", action="store_true", help="show the changes as a unified diff, and write nothing")
     parser.add_argument("--run", action="store_true", help="run what the project runs while configuring, and write down what it says")
-    parser.add_argument("--only", metavar="RULE", action="append", default=[], help="carry out this rule alone; may be given more than once")
+    parser.add_argument("--only", metavar="RULE", action="append", default=[], help="carry out this rule alone; may be given again")
     parser.add_argument("--also", metavar="RULE", action="append", default=[], help="carry out a rule that has to be asked for, too")
     parser.add_argument("--list-rules", action="store_true", help="list the rules, and do nothing")
     parser.add_argument("--program", metavar="PATH", help="the program that is asked at the end; without it the one of this checkout")

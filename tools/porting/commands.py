@@ -94,7 +94,7 @@ def run_command(project: Project) -> Iterator[Change]:
 
 def answered(project: Project, site: Site, answers: dict[str, str]) -> Change | None:
     """The call, and the methods of its result, as what they come to."""
-    outer = next((it for it in project.methods(*answers) if it.call.receiver is not None and tree.plain(it.call.receiver) is site.call), None)
+    outer = next((it for it in project.methods(*answers) if it.call.receiver and tree.plain(it.call.receiver) is site.call), None)
     what = "run_command becomes what it said"
     if outer is not None:
         return site.change(what, replaced(site, outer.call, answers[outer.call.name]))

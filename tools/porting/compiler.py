@@ -18,7 +18,8 @@ ATTRIBUTES = {
     "aligned": "int check_attribute(void) __attribute__((aligned(32)));",
     "alloc_size": "void *check_attribute(int a) __attribute__((alloc_size(1)));",
     "const": "int check_attribute(void) __attribute__((const));",
-    "error": "int check_attribute(void) __attribute__((error(\"\")));", "warning": "int check_attribute(void) __attribute__((warning(\"\")));",
+    "error": "int check_attribute(void) __attribute__((error(\"\")));",
+    "warning": "int check_attribute(void) __attribute__((warning(\"\")));",
     "fallthrough": "int check_attribute(int a) { switch (a) { case 1: a = 2; __attribute__((fallthrough)); case 2: a = 3; } return a; }",
     "format": "int check_attribute(const char *a, ...) __attribute__((format(printf, 1, 2)));",
     "format_arg": "char *check_attribute(const char *a) __attribute__((format_arg(1)));",
@@ -211,7 +212,8 @@ def first_argument(project: Project) -> Iterator[Change]:
         is_link = "link" in site.call.name
         compiler = site.file.source(site.call.receiver)
         arguments = [site.file.source(it) for it in site.call.arguments]
-        items = arguments[0] if len(arguments) == 1 and kind_of(project.known.value(site.call.arguments[0])) == "list" else f"[{', '.join(arguments)}]"
+        is_list = len(arguments) == 1 and kind_of(project.known.value(site.call.arguments[0])) == "list"
+        items = arguments[0] if is_list else f"[{', '.join(arguments)}]"
         name = assigned_name(site) or free_name(project, "first_supported")
         test = "has_link_argument" if is_link else "has_argument"
         lines = [f"{name} = []", f"foreach argument : {items}", f"  if {name}.length() == 0 and {compiler}.{test}(argument)",
@@ -237,7 +239,8 @@ def several(project: Project) -> Iterator[Change]:
         kept = [site.file.source(it) for it in site.call.items if isinstance(it, tree.Keyword)]
         receiver = site.file.source(site.call.receiver)
         calls = [f"{receiver}.{single[name]}({', '.join([*first, site.file.source(it), *kept])})" for it in rest]
-        yield site.change(f"{name} becomes {single[name]}", replaced(site, site.call, f"({' and '.join(calls)})" if len(calls) > 1 else calls[0]))
+        text = f"({' and '.join(calls)})" if len(calls) > 1 else calls[0]
+        yield site.change(f"{name} becomes {single[name]}", replaced(site, site.call, text))
 
 
 def plain_answers(project: Project) -> Iterator[Change]:

@@ -11,7 +11,8 @@ from collections.abc import Callable
 from porting import tree
 from porting.operators import binary, indexed, truth_of
 from porting.text_methods import method_of_value
-from porting.values import ROOT, UNKNOWN, Either, Item, Many, Table, Thing, Unknown, choices_of, either, flat, kind_of, texts_of, without_root
+from porting.values import (ROOT, UNKNOWN, Either, Item, Many, Table, Thing, Unknown, choices_of, either, flat, kind_of, texts_of,
+                            without_root)
 
 PREDEFINED = ("meson", "host_machine", "build_machine", "target_machine")
 # Beyond this many steps all is taken as reached, and nothing as known.

@@ -41,7 +41,8 @@ WHY = {"native": "; a cross build would need it", "fallback": "; what it stands 
 OVERRIDDEN = {"werror=false": ["-Wno-error"], "werror=true": ["-Werror"], "warning_level=0": ["-w"], "warning_level=1": ["-Wall"],
               "warning_level=2": ["-Wall", "-Wextra"], "warning_level=3": ["-Wall", "-Wextra", "-Wpedantic"],
               "optimization=0": ["-O0"], "optimization=1": ["-O1"], "optimization=2": ["-O2"], "optimization=3": ["-O3"],
-              "optimization=s": ["-Os"], "optimization=g": ["-Og"], "unity=off": [], "unity=on": [], "b_pch=false": [], "debug=true": ["-g"]}
+              "optimization=s": ["-Os"], "optimization=g": ["-Og"], "unity=off": [], "unity=on": [],
+              "b_pch=false": [], "debug=true": ["-g"]}
 
 
 def drop_keywords(project: Project) -> Iterator[Change]:
@@ -276,8 +277,8 @@ def env_of_custom_target(project: Project) -> Iterator[Change]:
         if words is not None:
             start, end = without_item(site.file.text, site.call, word)
             first = command.value.items[0].start
-            yield site.change("custom_target: `env:` becomes words of `env`", (first, first, "'env', " + "".join(f"{it}, " for it in words)),
-                              (start, end, ""))
+            added = (first, first, "".join(f"{it}, " for it in ["'env'", *words]))
+            yield site.change("custom_target: `env:` becomes words of `env`", added, (start, end, ""))
 
 
 def env_words(site: Site, project: Project, node: tree.Node) -> list[str] | None:
@@ -318,4 +319,5 @@ def data_sources(project: Project) -> Iterator[Change]:
         elif word is not None:
             start, end = without_item(site.file.text, site.call, word)
             first = site.call.items[0].start
-            yield site.change("install_data: `sources:` are its arguments", (first, first, site.file.source(word.value) + ", "), (start, end, ""))
+            added = (first, first, site.file.source(word.value) + ", ")
+            yield site.change("install_data: `sources:` are its arguments", added, (start, end, ""))

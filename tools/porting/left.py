@@ -20,7 +20,8 @@ FUNCTIONS = {
     "both_libraries": "shared_library and static_library of one name", "shared_module": "shared_library",
     "build_target": "the function of the kind that is wanted", "add_languages": "C alone is built here",
     "add_global_arguments": "add_project_arguments", "add_global_link_arguments": "add_project_link_arguments",
-    "add_test_setup": "the words of `meson test`", "add_project_dependencies": "`dependencies:` of each target", "jar": "C alone is built here",
+    "add_test_setup": "the words of `meson test`", "add_project_dependencies": "`dependencies:` of each target",
+    "jar": "C alone is built here",
     "structured_sources": "C alone is built here",
 }
 METHODS = {
@@ -38,7 +39,8 @@ METHODS = {
         "partial_dependency": "the dependency itself", "as_system": "the dependency itself", "type_name": "found, or an option",
         "as_link_whole": "the dependency itself", "as_static": "the dependency itself", "as_shared": "the dependency itself",
         "include_type": "nothing"},
-    "target": {"extract_objects": "a static library that both targets link", "extract_all_objects": "a static library that both targets link",
+    "target": {"extract_objects": "a static library that both targets link",
+               "extract_all_objects": "a static library that both targets link",
                "private_dir_include": "include_directories", "outdir": "a text", "get_static_lib": "the static library itself",
                "get_shared_lib": "the shared library itself", "found": "nothing", "path": "full_path"},
     "meson": {
@@ -59,14 +61,16 @@ KEYWORDS = {
                 "export_dynamic": "`link_args: '-rdynamic'`", "c_static_args": "`c_args:`", "c_shared_args": "`c_args:`"},
     "custom_target": {"feed": "a script that does it", "env": "a script that does it", "build_always_stale": "a script that does it",
                       "install_mode": "a step of the package"},
-    "configure_file": {"command": "a custom_target", "copy": "`configuration: {}`, or a custom_target with cp", "capture": "a custom_target",
+    "configure_file": {"command": "a custom_target", "copy": "`configuration: {}`, or a custom_target with cp",
+                       "capture": "a custom_target",
                        "depfile": "a custom_target", "install_mode": "a step of the package", "install": "`install_dir:` alone"},
     "install_headers": {"install_mode": "a step of the package", "preserve_path": "a call for each folder"},
     "install_data": {"install_mode": "a step of the package", "rename": "configure_file with the other name",
                      "preserve_path": "a call for each folder"},
     "install_man": {"install_mode": "a step of the package", "locale": "`install_dir:`"},
     "test": {"protocol": "a program that ends with 0, 77 or another status"},
-    "dependency": {"fallback": "install what it stands on first", "modules": "the dependency of each part", "components": "the dependency of each part"},
+    "dependency": {"fallback": "install what it stands on first", "modules": "the dependency of each part",
+                   "components": "the dependency of each part"},
     "find_program": {"dirs": "the machine file"}, "declare_dependency": {"link_whole": "`link_with:`", "objects": "a static library"},
     "find_library": {"has_headers": "has_header", "header_include_directories": "has_header", "disabler": "an `if`"},
 }

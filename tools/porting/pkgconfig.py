@@ -143,18 +143,26 @@ class Writer:
         return found
 
     def as_parts(self, name: str, needs: list[Need]) -> list[Part]:
-        """Texts that are always there, and one list for those that may be."""
-        parts = list(dict.fromkeys(Part(it.text) for it in needs if not it.condition))
-        maybe = [it for it in dict.fromkeys(needs) if it.condition and Part(it.text) not in parts]
-        if maybe:
-            variable = free_name(self.project, f"{identifier(self.base_text())}_{name}")
-            while any(it.startswith(f"{variable} = ") for it in self.before):
-                variable += "_2"
+        """Texts that are always there up to the first that may be missing; from that on one list, which statements before the call fill."""
+        needs = list(dict.fromkeys(needs))
+        always = {it.text for it in needs if not it.condition}
+        needs = [it for it in needs if not (it.condition and it.text in always)]
+        first = next((i for i, it in enumerate(needs) if it.condition), len(needs))
+        parts = [Part(it.text) for it in needs[:first]]
+        if needs[first:]:
+            variable = self.free_variable(f"{identifier(self.base_text())}_{name}")
             self.before.append(f"{variable} = []")
-            for need in maybe:
-                self.before += [f"if {need.condition}", f"  {variable} += {escaped(need.text)}", "endif"]
+            for need in needs[first:]:
+                added = f"{variable} += {escaped(need.text)}"
+                self.before += [f"if {need.condition}", f"  {added}", "endif"] if need.condition else [added]
             parts.append(Part(None, variable, True))
         return parts
+
+    def free_variable(self, wanted: str) -> str:
+        name = free_name(self.project, wanted)
+        while f"{name} = []" in self.before:
+            name += "_2"
+        return name
 
     def base_text(self) -> str:
         known = self.value(self.words["filebase"].value) if "filebase" in self.words else None
@@ -405,7 +413,8 @@ class Writer:
                 name, held = self.value(key), self.value(value)
                 if not isinstance(name, str):
                     raise NotSure("a variable's name is not known")
-                found.append(Part(f"{name}={held}") if isinstance(held, str) else Part(None, f"{escaped(name + '=')} + {self.source(value)}"))
+                source = f"{escaped(name + '=')} + {self.source(value)}"
+                found.append(Part(f"{name}={held}") if isinstance(held, str) else Part(None, source))
             return found
         table = self.value(node)
         if isinstance(table, Table) and table.is_whole and all(isinstance(it, str) for it in table.pairs.values()):

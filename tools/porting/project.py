@@ -162,17 +162,19 @@ class Project:
             return any([self.make(rule, [it]) for it in chosen[:1]])
         if made is None:
             self.refused.update((rule, it.path, it.place, it.what) for it in chosen)
-            self.notes += [Done(it.path, self.files[it.path].line_before(it.place), rule, f"{it.what}: can't be done here") for it in chosen]
+            self.notes += [self.told(it, rule, f"{it.what}: can't be done here") for it in chosen]
             return False
         for change in chosen:
-            line = self.files[change.path].line_before(change.place)
-            self.done.append(Done(change.path, line, rule, change.what))
-            self.notes += [Done(change.path, line, rule, it) for it in change.notes]
+            self.done.append(self.told(change, rule, change.what))
+            self.notes += [self.told(change, rule, it) for it in change.notes]
             self.new_files.update(change.files)
         self.files.update(made)
         if chosen:
             self.look()
         return bool(chosen)
+
+    def told(self, change: Change, rule: str, what: str) -> Done:
+        return Done(change.path, self.files[change.path].line_before(change.place), rule, what)
 
     def made(self, changes: list[Change]) -> dict[str, File] | None:
         """The files after some changes, or none where one is no file of the language any more."""

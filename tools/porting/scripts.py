@@ -137,7 +137,8 @@ def copied_by_module(project: Project, site: Site) -> Change:
     arguments = [site.file.source(it) for it in site.call.arguments]
     source = text_of(project, site.call.arguments[0])
     output = arguments[1] if len(arguments) > 1 else escaped(os.path.basename(source)) if source else "'@PLAINNAME@'"
-    kept = "".join(f", {site.file.source(it)}" for it in site.call.items if isinstance(it, tree.Keyword) and it.name in ("install", "install_dir"))
+    words = [site.call.keywords[it] for it in ("install", "install_dir") if it in site.call.keywords]
+    kept = "".join(f", {site.file.source(it)}" for it in words)
     name = f"'copy-of-' + {output}" if "@" not in output else f"'copy-of-' + {arguments[0]}"
     text = (f"custom_target({name}, input: {arguments[0]}, output: {output}, command: ['cp', '@INPUT@', '@OUTPUT@'], "
             f"build_by_default: true{kept})")
@@ -164,42 +165,45 @@ def generators(project: Project) -> Iterator[Change]:
 def processed(project: Project, site: Site, maker: Thing) -> Change | None:
     if maker.call is None or not maker.call.arguments or set(site.call.keywords) - {"extra_args"}:
         return None
-    made, file = maker.call.keywords, project.files[maker.path]
-    outputs = texts_at(project, made["output"].value) if "output" in made else None
-    words = made["arguments"].value if "arguments" in made else None
-    texts = texts_at(project, words)
-    inputs = flat(Many([item for it in site.call.arguments for item in flat(project.known.value(it))]))
-    names = [input_name(it.value) for it in inputs if it.is_sure]
-    if outputs is None or texts is None or not names or None in names or len(names) != len(inputs):
+    made = maker.call.keywords
+    outputs, texts = (texts_at(project, made[it].value) if it in made else None for it in ("output", "arguments"))
+    inputs = inputs_of(project, site)
+    if outputs is None or texts is None or not inputs:
         return None
-    extra = site.call.keywords.get("extra_args")
-    variable = assigned_name(site) or free_name(project, "generated")
-    is_added = isinstance(site.statement, tree.Assignment) and site.statement.operator == "+=" and tree.plain(site.statement.value) is site.call
-    list_name = site.statement.name if is_added else variable
-    command = command_of(site, file.source(maker.call.arguments[0]), texts, extra)
-    folder = os.path.join(project.root, site.folder)
-    lines = [] if is_added else [f"{list_name} = []"]
-    lines.append(f"foreach input : [{', '.join(escaped(os.path.relpath(it, folder)) for it in map(lambda n: os.path.join(project.root, n), relative(site, names)))}]")
-    kept = "".join(f", {file.source(made[it])}" for it in ("depfile", "capture", "depends") if it in made)
-    shown = [escaped(re.sub("@BUILD_DIR@/?", "", it)) for it in outputs]
-    shown_output = shown[0] if len(shown) == 1 else f"[{', '.join(shown)}]"
-    lines += [f"  {list_name} += custom_target({escaped(identifier(list_name) + '-')} + input.underscorify(), input: input, "
-              f"output: {shown_output}, command: {command}{kept})", "endforeach"]
+    statement = site.statement
+    is_all = isinstance(statement, tree.Assignment) and tree.plain(statement.value) is site.call
+    name = statement.name if is_all else free_name(project, "generated")
+    lines = [*([] if is_all and statement.operator == "+=" else [f"{name} = []"]),
+             f"foreach input : [{', '.join(map(escaped, inputs))}]", f"  {name} += {one_target(project, site, maker, name, outputs, texts)}",
+             "endforeach"]
     what = "generator: a custom_target for each input"
-    if is_added or assigned_name(site):
-        return site.change(what, in_place_of_statement(site.file, site.statement, lines))
-    return site.change(what, before_statement(site, lines), replaced(site, site.call, variable))
+    if is_all:
+        return site.change(what, in_place_of_statement(site.file, statement, lines))
+    return site.change(what, before_statement(site, lines), replaced(site, site.call, name))
 
 
-def input_name(value: object) -> str | None:
+def one_target(project: Project, site: Site, maker: Thing, name: str, outputs: list[str], texts: list[str]) -> str:
+    """The target of one input, which the variable `input` names."""
+    file, made = project.files[maker.path], maker.call.keywords
+    shown = [escaped(re.sub("@BUILD_DIR@/?", "", it)) for it in outputs]
+    output = shown[0] if len(shown) == 1 else f"[{', '.join(shown)}]"
+    command = command_of(site, file.source(maker.call.arguments[0]), texts, site.call.keywords.get("extra_args"))
+    kept = "".join(f", {file.source(made[it])}" for it in ("depfile", "capture", "depends") if it in made)
+    return f"custom_target({escaped(identifier(name) + '-')} + input.underscorify(), input: input, output: {output}, command: {command}{kept})"
+
+
+def inputs_of(project: Project, site: Site) -> list[str] | None:
+    """The paths that a generator is given, from the folder of the call; none where one is not known."""
+    items = [item for it in site.call.arguments for item in flat(project.known.value(it))]
+    names = [input_name(site, it.value) if it.is_sure else None for it in items]
+    return None if None in names else [os.path.relpath(str(it), site.folder or ".") for it in names]
+
+
+def input_name(site: Site, value: object) -> str | None:
+    """The path of an input from the project's folder."""
     if isinstance(value, str):
-        return value
-    return "/" + value.path if isinstance(value, Thing) and value.kind == "file" and value.function == "files" else None
-
-
-def relative(site: Site, names: list[str]) -> list[str]:
-    """The paths of inputs from the project's folder: files have it before them, texts are of the present folder."""
-    return [it[1:] if it.startswith("/") else os.path.join(site.folder, it) for it in names]
+        return os.path.join(site.folder, value)
+    return value.path if isinstance(value, Thing) and value.kind == "file" and value.function == "files" else None
 
 
 def command_of(site: Site, program: str, texts: list[str], extra: tree.Keyword | None) -> str:
@@ -208,6 +212,6 @@ def command_of(site: Site, program: str, texts: list[str], extra: tree.Keyword |
         if text == "@EXTRA_ARGS@":
             parts += [site.file.source(extra.value)] if extra else []
         else:
-            text = text.replace("@BUILD_DIR@", "@OUTDIR@").replace("@CURRENT_SOURCE_DIR@", "@CURRENT_SOURCE_DIR@")
+            text = text.replace("@BUILD_DIR@", "@OUTDIR@")
             parts.append(escaped(text.replace("@SOURCE_DIR@", "@SOURCE_ROOT@")))
     return f"[{', '.join(parts)}]"
