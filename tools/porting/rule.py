@@ -11,6 +11,8 @@ from porting.project import File, Project, Site
 from porting.values import texts_of
 
 TARGETS = ("executable", "static_library", "shared_library", "library", "both_libraries", "shared_module", "build_target")
+# What only the real Meson does. `meson` is a variable of this program and none of the real one.
+REAL_ALONE = "if not is_variable('meson')"
 LIBRARIES = ("static_library", "shared_library", "library", "both_libraries")
 
 
@@ -161,3 +163,13 @@ def comparison_of(site: Site) -> tree.Binary | None:
             if isinstance(node, tree.Binary) and node.left is site.call:
                 return node
     return None
+
+
+def guarded(site: Site, condition: str, what: str, notes: list[str] | None = None) -> Change:
+    """A statement behind a condition; what stands in brackets over several lines is moved with it."""
+    text, statement = site.file.text, site.statement
+    lines = text[statement.start:statement.end].split("\n")
+    body = ["  " + lines[0], *("  " + line.removeprefix(indent_at(text, statement.start)) if line.strip() else "" for line in lines[1:])]
+    change = site.change(what, in_place_of_statement(site.file, statement, [condition, *body, "endif"]))
+    change.notes = notes or []
+    return change

@@ -11,7 +11,7 @@ from porting.lexer import escaped
 from porting.project import Project, Site
 from porting.rule import (assigned_name, before_statement, can_hoist, free_name, identifier, in_place_of_statement,
                           renamed, replaced, text_of, texts_at)
-from porting.values import Many, Thing, choices_of, flat
+from porting.values import Thing, choices_of, flat
 
 INTERPRETERS = {"python": "python3", "python3": "python3", "sh": "sh", "bash": "bash", "perl": "perl", "awk": "awk", "ruby": "ruby"}
 PLACEHOLDER = re.compile(r"@[-A-Za-z0-9_]+@|^\s*#mesondefine", re.MULTILINE)
@@ -174,8 +174,8 @@ def processed(project: Project, site: Site, maker: Thing) -> Change | None:
     is_all = isinstance(statement, tree.Assignment) and tree.plain(statement.value) is site.call
     name = statement.name if is_all else free_name(project, "generated")
     lines = [*([] if is_all and statement.operator == "+=" else [f"{name} = []"]),
-             f"foreach input : [{', '.join(map(escaped, inputs))}]", f"  {name} += {one_target(project, site, maker, name, outputs, texts)}",
-             "endforeach"]
+             f"foreach input : [{', '.join(map(escaped, inputs))}]",
+             f"  {name} += {one_target(project, site, maker, name, outputs, texts)}", "endforeach"]
     what = "generator: a custom_target for each input"
     if is_all:
         return site.change(what, in_place_of_statement(site.file, statement, lines))
@@ -189,7 +189,8 @@ def one_target(project: Project, site: Site, maker: Thing, name: str, outputs: l
     output = shown[0] if len(shown) == 1 else f"[{', '.join(shown)}]"
     command = command_of(site, file.source(maker.call.arguments[0]), texts, site.call.keywords.get("extra_args"))
     kept = "".join(f", {file.source(made[it])}" for it in ("depfile", "capture", "depends") if it in made)
-    return f"custom_target({escaped(identifier(name) + '-')} + input.underscorify(), input: input, output: {output}, command: {command}{kept})"
+    title = f"{escaped(identifier(name) + '-')} + input.underscorify()"
+    return f"custom_target({title}, input: input, output: {output}, command: {command}{kept})"
 
 
 def inputs_of(project: Project, site: Site) -> list[str] | None:
