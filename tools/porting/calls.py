@@ -1,6 +1,7 @@
 """Functions and methods that are left out here, where another call does the same."""
 from __future__ import annotations
 
+import os
 from collections.abc import Iterator
 
 from porting import tree
@@ -9,7 +10,7 @@ from porting.lexer import escaped
 from porting.project import Project, Site
 from porting.rule import (REAL_ALONE, assigned_name, before_statement, can_hoist, free_name, guarded, in_place_of_statement,
                           is_whole_statement, renamed, replaced, text_of, uses_of)
-from porting.values import Many, Thing, flat, kind_of
+from porting.values import Many, Table, Thing, flat, kind_of
 
 OBJECTS_FOUND = ("dependency", "library", "internal", "program")
 RENAMED = {"add_global_arguments": "add_project_arguments", "add_global_link_arguments": "add_project_link_arguments",
@@ -27,35 +28,35 @@ def summary(project: Project) -> Iterator[Change]:
     for site in project.functions("summary", "debug"):
         if not is_whole_statement(site):
             continue
-        if site.call.name == "debug":
-            yield site.change("debug becomes message", renamed(site, "message"))
-            continue
-        text = summary_text(project, site)
-        if text is not None:
-            yield site.change("summary becomes message", replaced(site, site.call, text))
+        edits = [] if site.call.name == "debug" else summary_edits(project, site)
+        if edits is not None:
+            yield site.change(f"{site.call.name} becomes message", renamed(site, "message"), *edits)
 
 
-def summary_text(project: Project, site: Site) -> str | None:
-    """The same as a message: a section before it, objects by whether they are found."""
-    section = site.call.keywords.get("section")
-    first = [f"{site.file.source(section.value)} + ':'"] if section else []
+def summary_edits(project: Project, site: Site) -> list[tuple[int, int, str]] | None:
+    """A section before the values, objects by whether they are found, no other keywords; none where a value can't be printed."""
     arguments = [tree.plain(it) for it in site.call.arguments]
-    if len(arguments) == 2:
-        shown = [shown_value(project, site, it) for it in arguments]
-        return None if None in shown else f"message({', '.join([*first, *map(str, shown)])})"
-    if len(arguments) != 1:
-        return None
-    if not isinstance(arguments[0], tree.Dictionary):
+    values = arguments
+    if len(arguments) == 1 and isinstance(arguments[0], tree.Dictionary):
+        values = [value for _, value in arguments[0].pairs]
+    elif len(arguments) == 1:
         pairs = project.known.value(arguments[0])
-        is_plain = kind_of(pairs) == "dictionary" and all(is_printed(it) for it in pairs.pairs.values())
-        return f"message({', '.join([*first, site.file.source(arguments[0])])})" if is_plain else None
-    values = [shown_value(project, site, value) for _, value in arguments[0].pairs]
-    if None in values:
+        if not isinstance(pairs, Table) or not all(is_printed(it) for it in pairs.pairs.values()):
+            return None
+        values = []
+    elif len(arguments) != 2:
         return None
-    text = site.file.text[arguments[0].start:arguments[0].end]
-    for (_, value), shown in reversed(list(zip(arguments[0].pairs, values))):
-        text = text[:value.start - arguments[0].start] + str(shown) + text[value.end - arguments[0].start:]
-    return f"message({', '.join([*first, text])})"
+    shown = [shown_value(project, site, it) for it in values]
+    if None in shown:
+        return None
+    edits = [replaced(site, node, str(text)) for node, text in zip(values, shown) if text != site.file.source(node)]
+    if site.call.keywords:
+        edits.append((site.call.arguments[-1].end, site.call.items[-1].end, ""))
+    section = site.call.keywords.get("section")
+    if section is not None:
+        start = site.call.arguments[0].start
+        edits.append((start, start, f"{site.file.source(section.value)} + ':', "))
+    return edits
 
 
 def is_printed(value: object) -> bool:
@@ -178,3 +179,24 @@ def methods_of_meson(project: Project) -> Iterator[Change]:
             name = site.call.name
             text = f"meson.project_{name.removeprefix('global_')}()" if name.startswith("global") else "(not meson.is_cross_build())"
             yield site.change(f"{name} becomes {text}", replaced(site, site.call, text))
+
+
+def files_in_texts(project: Project) -> Iterator[Change]:
+    """A file that `format` puts into a text is its path."""
+    for site in project.methods("format"):
+        for node in site.call.arguments:
+            value = project.known.value(node)
+            path = path_of(site, value) if isinstance(value, Thing) and value.kind == "file" else None
+            if path is not None:
+                yield site.change("format: a file is its path", replaced(site, node, path))
+
+
+def path_of(site: Site, value: Thing) -> str | None:
+    """The path of a file that a call gives, as an expression in the same folder."""
+    output = value.keywords.get("output")
+    if os.path.dirname(value.path) != site.folder:
+        return None
+    if value.function == "configure_file":
+        return f"(meson.current_build_dir() / {escaped(output)})" if isinstance(output, str) and "@" not in output else None
+    name = os.path.basename(value.path)
+    return f"(meson.current_source_dir() / {escaped(name)})" if value.function == "files" else None

@@ -88,8 +88,9 @@ def show_changes(project: Project, is_dry: bool) -> None:
         return
     for it in sorted(project.done, key=lambda it: (it.path, it.line)):
         print(f"{it.path}:{it.line}: {it.rule}: {it.what}")
-    for path in project.new_files:
-        print(f"{path}: new")
+    for path, (before, _) in results.items():
+        if before is None:
+            print(f"{path}: new")
 
 
 def show_left(project: Project) -> list[Left]:

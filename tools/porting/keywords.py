@@ -10,7 +10,7 @@ from porting.parser import parse
 from porting.project import Project, Site
 from porting.rule import (LIBRARIES, TARGETS, added_to_list, compiler_text, drop_keyword, in_place_of_statement,
                           is_whole_statement, assigned_name, replaced, text_of, texts_at)
-from porting.values import Item, Many, Table, flat, kind_of, texts_of
+from porting.values import Either, Item, Many, Table, flat, kind_of, texts_of
 
 OF_TARGETS = {"native", "link_depends", "link_language", "vs_module_defs", "darwin_versions", "extra_files", "pic", "pie", "install_tag",
               "implicit_include_directories", "win_subsystem", "gui_app", "cpp_args", "cpp_pch", "objc_args", "objcpp_args",
@@ -90,6 +90,8 @@ def given_keywords(project: Project) -> Iterator[Change]:
     for site in project.sites():
         word = site.call.keywords.get("kwargs")
         table = project.known.value(word.value) if word else None
+        if word is not None and isinstance(table, Either):
+            yield from one_of_two(site, word, list(table.choices))
         if word is None or not isinstance(table, Table) or not table.is_whole or set(table.pairs) & set(site.call.keywords):
             continue
         value = tree.plain(word.value)
@@ -99,6 +101,30 @@ def given_keywords(project: Project) -> Iterator[Change]:
             shown = [f"{key}: {grouped(site, value)}[{escaped(key)}]" for key in table.pairs]
         edit = (word.start, word.end, ", ".join(shown)) if shown else (*without_item(site.file.text, site.call, word), "")
         yield site.change(f"{site.call.name}: `kwargs:` becomes its keywords", edit)
+
+
+def one_of_two(site: Site, word: tree.Keyword, tables: list) -> Iterator[Change]:
+    """`kwargs:` of one of two dictionaries: a call for each, by a key that only one has."""
+    is_known = len(tables) == 2 and all(isinstance(it, Table) and it.is_whole for it in tables)
+    is_alone = is_whole_statement(site) or assigned_name(site) is not None
+    if not is_known or not is_alone or set(site.call.keywords) & {key for it in tables for key in it.pairs}:
+        return
+    first, second = sorted((list(it.pairs) for it in tables), key=len, reverse=True)
+    key = next((it for it in first if it not in second), None)
+    name = grouped(site, word.value)
+    if key is None:
+        return
+    statement, start = site.file.source(site.statement), site.statement.start
+    indent = indent_at(site.file.text, start)
+    both = []
+    for keys in (first, second):
+        cut = (word.start, word.end) if keys else without_item(site.file.text, site.call, word)
+        shown = ", ".join(f"{it}: {name}[{escaped(it)}]" for it in keys)
+        begun, *rest = (statement[:cut[0] - start] + shown + statement[cut[1] - start:]).split("\n")
+        both.append(["  " + begun, *("  " + it.removeprefix(indent) if it.strip() else "" for it in rest)])
+    lines = [f"if {name}.has_key({escaped(key)})", *both[0], "else", *both[1], "endif"]
+    what = f"{site.call.name}: `kwargs:` becomes a call for each of two"
+    yield site.change(what, in_place_of_statement(site.file, site.statement, lines))
 
 
 USUAL_MODES = {"install_data": ("rw-r--r--",), "install_headers": ("rw-r--r--",), "install_man": ("rw-r--r--",),

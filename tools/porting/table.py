@@ -13,6 +13,7 @@ RULES = (
     Rule("kwargs", "`kwargs:` of a dictionary whose keys are known: the keywords", keywords.given_keywords),
     Rule("lists", "lists of texts where a call takes texts one by one", calls.lists_in_calls),
     Rule("files", "files() of files: the files", calls.files_of_files),
+    Rule("formatted", "a file that format puts into a text: its path", calls.files_in_texts),
     Rule("python", "import('python').find_installation(): find_program", calls.python),
     Rule("default-options", "values of default_options that no option has here: the nearest", keywords.default_options),
     Rule("folders", "libexecdir, localedir and other folders: options of the project", options.folders),
