@@ -93,9 +93,10 @@ def left_in(project: Project) -> list[Left]:
     """All places that this program refuses where it comes to them."""
     found: list[Left] = []
     for site in project.sites():
-        for text in refused(project, site):
+        doubt = project.doubts.get(site.call)
+        for text in refused(project, site) or ([doubt] if doubt else []):
             is_sure = site.call not in project.known.called_maybe
-            found.append(Left(site.file.path, site.file.line(site.call.start), project.doubts.get(site.call, "") or text, is_sure))
+            found.append(Left(site.file.path, site.file.line(site.call.start), doubt or text, is_sure))
     return list(dict.fromkeys(found))
 
 

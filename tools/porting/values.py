@@ -103,6 +103,9 @@ def choices_of(value: object) -> tuple:
 
 
 def is_same(a: object, b: object) -> bool:
+    """Whether two values count as one; targets of one name, that are made in two branches, do."""
+    if isinstance(a, Thing) and isinstance(b, Thing) and a.kind == b.kind == "target" and a.name is not None:
+        return a.name == b.name and a.function == b.function and a.path == b.path
     return a is b or (type(a) is type(b) and isinstance(a, (str, int, bool, Unknown)) and a == b)
 
 
