@@ -1,0 +1,1 @@
+"""What `meson port` is made of."""

@@ -1,0 +1,202 @@
+"""Functions and methods that are left out here, where another call does the same."""
+from __future__ import annotations
+
+import os
+from collections.abc import Iterator
+
+from porting import tree
+from porting.edits import Change, indent_at, without_item
+from porting.lexer import escaped
+from porting.project import Project, Site
+from porting.rule import (REAL_ALONE, assigned_name, before_statement, can_hoist, free_name, guarded, in_place_of_statement,
+                          is_whole_statement, renamed, replaced, text_of, uses_of)
+from porting.values import Many, Table, Thing, flat, kind_of
+
+OBJECTS_FOUND = ("dependency", "library", "internal", "program")
+RENAMED = {"add_global_arguments": "add_project_arguments", "add_global_link_arguments": "add_project_link_arguments",
+           "shared_module": "shared_library"}
+
+
+def overrides(project: Project) -> Iterator[Change]:
+    """What a project says to those that have it as a subproject stands behind `if meson.is_subproject()`."""
+    for site in project.methods("override_dependency", "override_find_program"):
+        if is_whole_statement(site):
+            yield guarded(site, "if meson.is_subproject()", f"meson.{site.call.name} stands behind is_subproject()")
+
+
+def summary(project: Project) -> Iterator[Change]:
+    for site in project.functions("summary", "debug"):
+        if not is_whole_statement(site):
+            continue
+        edits = [] if site.call.name == "debug" else summary_edits(project, site)
+        if edits is not None:
+            yield site.change(f"{site.call.name} becomes message", renamed(site, "message"), *edits)
+
+
+def summary_edits(project: Project, site: Site) -> list[tuple[int, int, str]] | None:
+    """A section before the values, objects by whether they are found, no other keywords; none where a value can't be printed."""
+    arguments = [tree.plain(it) for it in site.call.arguments]
+    values = arguments
+    if len(arguments) == 1 and isinstance(arguments[0], tree.Dictionary):
+        values = [value for _, value in arguments[0].pairs]
+    elif len(arguments) == 1:
+        pairs = project.known.value(arguments[0])
+        if not isinstance(pairs, Table) or not all(is_printed(it) for it in pairs.pairs.values()):
+            return None
+        values = []
+    elif len(arguments) != 2:
+        return None
+    shown = [shown_value(project, site, it) for it in values]
+    if None in shown:
+        return None
+    edits = [replaced(site, node, str(text)) for node, text in zip(values, shown) if text != site.file.source(node)]
+    if site.call.keywords:
+        edits.append((site.call.arguments[-1].end, site.call.items[-1].end, ""))
+    section = site.call.keywords.get("section")
+    if section is not None:
+        start = site.call.arguments[0].start
+        edits.append((start, start, f"{site.file.source(section.value)} + ':', "))
+    return edits
+
+
+def is_printed(value: object) -> bool:
+    return all(kind_of(it.value) in ("text", "integer", "truth", "dictionary") for it in flat(value))
+
+
+def shown_value(project: Project, site: Site, node: tree.Node) -> str | None:
+    value, text = project.known.value(node), site.file.source(node)
+    if is_printed(value):
+        return text
+    is_one = isinstance(tree.plain(node), (tree.Name, tree.Call, tree.Index))
+    if is_one and not isinstance(value, Many) and all(kind_of(it.value) in OBJECTS_FOUND for it in flat(value)):
+        return f"{text}.found()"
+    return f"{text}.enabled()" if is_one and kind_of(value) == "feature" else None
+
+
+def python(project: Project) -> Iterator[Change]:
+    """`import('python').find_installation()` is a program here."""
+    for site in project.methods("find_installation", "find_python"):
+        receiver = tree.plain(site.call.receiver) if site.call.receiver else None
+        module = project.known.value(receiver) if receiver else None
+        if not isinstance(module, Thing) or module.name not in ("python", "python3") or set(site.call.keywords) - {"required", "disabler"}:
+            continue
+        name = text_of(project, site.call.arguments[0]) if site.call.arguments else "python3"
+        if name is None or name.startswith("/"):
+            continue
+        inner = "".join(f", {site.file.source(it)}" for it in site.call.items if isinstance(it, tree.Keyword))
+        yield site.change("the Python of a module becomes find_program",
+                          replaced(site, site.call, f"find_program({escaped(name or 'python3')}{inner})"))
+
+
+def unused_imports(project: Project) -> Iterator[Change]:
+    for site in project.functions("import"):
+        name = site.statement.name if isinstance(site.statement, tree.Assignment) else None
+        uses = [it for _, it in uses_of(project, name)] if name else []
+        if is_whole_statement(site) or (name is not None and not any(it in project.known.reached for it in uses)):
+            what = f"import({escaped(project.known.things[site.call][0].name or '')})"
+            if uses:
+                yield guarded(site, REAL_ALONE, f"{what} is left to the real Meson: what uses it is never reached here")
+            else:
+                yield site.change(f"{what} of no use is dropped", in_place_of_statement(site.file, site.statement, []))
+
+
+def renamed_functions(project: Project) -> Iterator[Change]:
+    for site in project.functions(*RENAMED):
+        yield site.change(f"{site.call.name} becomes {RENAMED[site.call.name]}", renamed(site, RENAMED[site.call.name]))
+
+
+def build_target(project: Project) -> Iterator[Change]:
+    for site in project.functions("build_target"):
+        word = site.call.keywords.get("target_type")
+        kind = text_of(project, word.value) if word else None
+        if word is not None and kind in ("executable", "static_library", "shared_library", "library"):
+            start, end = without_item(site.file.text, site.call, word)
+            yield site.change(f"build_target becomes {kind}", renamed(site, kind), (start, end, ""))
+
+
+def both_libraries(project: Project) -> Iterator[Change]:
+    """A shared and a static library of one name; the static one is asked for by its own variable."""
+    for site in project.functions("both_libraries"):
+        name = assigned_name(site)
+        if not can_hoist(site) or (name is None and not is_whole_statement(site)):
+            continue
+        edits = [renamed(site, "shared_library")]
+        static = free_name(project, f"{name}_static") if name else ""
+        call = site.file.source(site.call).replace("both_libraries", "static_library", 1)
+        for keyword in ("version", "soversion"):
+            word = site.call.keywords.get(keyword)
+            call = call.replace(site.file.text[word.start:word.end], "", 1) if word else call
+        lines = "\n".join(line for line in call.split("\n") if line.strip() not in ("", ",")).replace(", ,", ",").split("\n")
+        indent = indent_at(site.file.text, site.statement.start)
+        first = f"{static} = " if name else ""
+        edits.append(before_statement(site, [first + lines[0], *(it.removeprefix(indent) for it in lines[1:])]))
+        for other in project.methods("get_static_lib", "get_shared_lib"):
+            if other.file is site.file and isinstance(other.call.receiver, tree.Name) and other.call.receiver.text == name:
+                edits.append(replaced(other, other.call, static if other.call.name == "get_static_lib" else str(name)))
+        yield site.change("both_libraries becomes a shared and a static library", *edits)
+
+
+def run_target(project: Project) -> Iterator[Change]:
+    """A target that makes nothing: a custom target that is built where its name is asked for."""
+    for site in project.functions("run_target", "alias_target"):
+        name = text_of(project, site.call.arguments[0]) if site.call.arguments else None
+        if name is None or "/" in name:
+            continue
+        first = site.call.arguments[0]
+        added = f", output: {escaped(name)}, build_by_default: false"
+        if site.call.name == "run_target":
+            yield site.change("run_target becomes a custom_target that isn't built by default", renamed(site, "custom_target"),
+                              (first.end, first.end, added))
+        elif len(site.call.arguments) > 1:
+            rest = site.file.text[site.call.arguments[1].start:site.call.arguments[-1].end]
+            yield site.change("alias_target becomes a custom_target that isn't built by default", renamed(site, "custom_target"),
+                              (first.end, site.call.arguments[-1].end, f"{added}, command: ['true'], depends: [{rest}]"))
+
+
+def lists_in_calls(project: Project) -> Iterator[Change]:
+    """A list of texts where a call takes texts one by one."""
+    for site in project.functions("join_paths", "dependency", "find_program"):
+        arguments = [tree.plain(it) for it in site.call.arguments]
+        if len(arguments) == 1 and isinstance(arguments[0], tree.List) and arguments[0].items:
+            items = arguments[0].items
+            yield site.change(f"{site.call.name}: takes its texts one by one",
+                              replaced(site, arguments[0], site.file.text[items[0].start:items[-1].end]))
+
+
+def files_of_files(project: Project) -> Iterator[Change]:
+    """`files` takes texts alone; what is a file is one already."""
+    for site in project.functions("files"):
+        if len(site.call.arguments) == 1:
+            items = flat(project.known.value(site.call.arguments[0]))
+            if items and all(isinstance(it.value, Thing) and it.value.kind == "file" for it in items):
+                yield site.change("files: of files is dropped", replaced(site, site.call, site.file.source(site.call.arguments[0])))
+
+
+def methods_of_meson(project: Project) -> Iterator[Change]:
+    """Questions to `meson` that have another name or one answer here."""
+    for site in project.methods("can_run_host_binaries", "has_exe_wrapper", "global_source_root", "global_build_root"):
+        if site.call.receiver and kind_of(project.known.value(site.call.receiver)) == "meson":
+            name = site.call.name
+            text = f"meson.project_{name.removeprefix('global_')}()" if name.startswith("global") else "(not meson.is_cross_build())"
+            yield site.change(f"{name} becomes {text}", replaced(site, site.call, text))
+
+
+def files_in_texts(project: Project) -> Iterator[Change]:
+    """A file that `format` puts into a text is its path."""
+    for site in project.methods("format"):
+        for node in site.call.arguments:
+            value = project.known.value(node)
+            path = path_of(site, value) if isinstance(value, Thing) and value.kind == "file" else None
+            if path is not None:
+                yield site.change("format: a file is its path", replaced(site, node, path))
+
+
+def path_of(site: Site, value: Thing) -> str | None:
+    """The path of a file that a call gives, as an expression in the same folder."""
+    output = value.keywords.get("output")
+    if os.path.dirname(value.path) != site.folder:
+        return None
+    if value.function == "configure_file":
+        return f"(meson.current_build_dir() / {escaped(output)})" if isinstance(output, str) and "@" not in output else None
+    name = os.path.basename(value.path)
+    return f"(meson.current_source_dir() / {escaped(name)})" if value.function == "files" else None

@@ -1,0 +1,269 @@
+"""What is asked of the machine while configuring: run once, where that is asked for, and written down."""
+from __future__ import annotations
+
+import hashlib
+import os
+import shlex
+import shutil
+import subprocess
+from collections.abc import Iterator
+
+from porting import tree
+from porting.edits import Change
+from porting.lexer import escaped
+from porting.options import declared, option_name, with_option
+from porting.project import Project, Site
+from porting.rule import identifier, replaced, text_of, texts_at
+from porting.values import ROOT, Item, Thing, flat, kind_of
+
+# How long a command may run, in seconds.
+LONGEST = 60
+# A text of more bytes than this is not written into a definition file.
+LARGEST = 1 << 20
+NOT_ASKED = "needs to be run once: --run does that, and writes what it says"
+
+
+def spoken(project: Project, text: str) -> None:
+    project.said.append(text)
+
+
+def command_words(project: Project, site: Site) -> list[str] | None:
+    """The words of a run_command, or none where one is not known here."""
+    words: list[str] = []
+    for number, node in enumerate(site.call.arguments):
+        for item in flat(project.known.placed(node)):
+            word = word_of(project, site, item, number == 0 and not words)
+            if word is None:
+                return None
+            words.append(word)
+    return words or None
+
+
+def word_of(project: Project, site: Site, item: Item, is_first: bool) -> str | None:
+    value = item.value
+    if not item.is_sure:
+        return None
+    if isinstance(value, str):
+        value = value.replace(ROOT, os.path.abspath(project.root))
+        beside = os.path.join(project.root, site.folder, value)
+        return os.path.abspath(beside) if is_first and os.path.isfile(beside) else value
+    if isinstance(value, Thing) and value.kind == "file":
+        return os.path.abspath(os.path.join(project.root, value.path))
+    if isinstance(value, Thing) and value.kind == "program":
+        name = value.name or ("python3" if value.function.startswith("find_") else None)
+        beside = os.path.join(project.root, os.path.dirname(value.path), name) if name else ""
+        return os.path.abspath(beside) if name and os.path.isfile(beside) else shutil.which(name) if name else None
+    return None
+
+
+def run(project: Project, words: list[str], folder: str) -> subprocess.CompletedProcess[str] | None:
+    """What a command comes to, kept for when it is asked again."""
+    key = tuple(words)
+    if key not in project.runs:
+        spoken(project, f"ran: {shlex.join(words)}")
+        variables = dict(os.environ, MESON_SOURCE_ROOT=os.path.abspath(project.root), MESON_SUBDIR=os.path.relpath(folder, project.root))
+        try:
+            project.runs[key] = subprocess.run(words, cwd=folder, env=variables, stdin=subprocess.DEVNULL, capture_output=True,
+                                               encoding="utf-8", errors="strict", timeout=LONGEST)
+        except (OSError, subprocess.TimeoutExpired, UnicodeDecodeError) as error:
+            spoken(project, f"ran: {words[0]}: {error}")
+            project.runs[key] = None
+    return project.runs[key]
+
+
+def run_command(project: Project) -> Iterator[Change]:
+    """A result becomes a dictionary with its status and its texts, or the one of these that is asked for."""
+    for site in project.functions("run_command"):
+        if not project.is_asked_to_run:
+            project.doubt(site, f"run_command {NOT_ASKED}")
+            continue
+        words = None if "env" in site.call.keywords else command_words(project, site)
+        done = run(project, words, os.path.join(project.root, site.folder)) if words else None
+        if done is None or len(done.stdout) + len(done.stderr) > LARGEST:
+            project.doubt(site, "run_command: its words can't be followed" if words is None else "run_command: it can't be run here")
+            continue
+        check = site.call.keywords.get("check")
+        if done.returncode != 0 and check is not None and project.known.value(check.value) is True:
+            project.doubt(site, f"run_command: it fails here, with status {done.returncode}: {done.stderr.strip()[:200]!r}")
+            continue
+        answers = {"returncode": str(done.returncode), "stdout": escaped(done.stdout), "stderr": escaped(done.stderr)}
+        change = answered(project, site, answers)
+        if change is not None:
+            yield change
+
+
+def answered(project: Project, site: Site, answers: dict[str, str]) -> Change | None:
+    """The call, and the methods of its result, as what they come to."""
+    outer = next((it for it in project.methods(*answers) if it.call.receiver and tree.plain(it.call.receiver) is site.call), None)
+    what = "run_command becomes what it said"
+    if outer is not None:
+        return site.change(what, replaced(site, outer.call, answers[outer.call.name]))
+    if not isinstance(site.statement, tree.Assignment) or tree.plain(site.statement.value) is not site.call:
+        project.doubt(site, "run_command: its result is used in a way that can't be followed")
+        return None
+    name = site.statement.name
+    edits = []
+    for other in project.methods(*answers):
+        receiver = tree.plain(other.call.receiver) if other.call.receiver else None
+        things = [it.value for it in flat(project.known.value(receiver))] if receiver else []
+        if isinstance(receiver, tree.Name) and receiver.text == name and any(getattr(it, "call", None) is site.call for it in things):
+            edits += other.change("", replaced(other, other.call, f"{name}['{other.call.name}']")).edits
+    used = {it.text.rsplit("'", 2)[1] for it in edits}
+    shown = ", ".join(f"'{key}': {value}" for key, value in answers.items() if key in used or key == "returncode")
+    change = site.change(what, replaced(site, site.call, f"{{{shown}}}"))
+    change.edits += edits
+    return change
+
+
+def module_sites(project: Project, module: str, *names: str) -> Iterator[Site]:
+    for site in project.methods(*names):
+        known = project.known.value(site.call.receiver) if site.call.receiver else None
+        if isinstance(known, Thing) and known.kind == "module" and known.name == module:
+            yield site
+
+
+def path_at(project: Project, site: Site, node: tree.Node) -> str | None:
+    """The place on the disk of a path that a call is given."""
+    items = flat(project.known.placed(node))
+    if len(items) != 1 or not items[0].is_sure:
+        return None
+    value = items[0].value
+    if isinstance(value, str) and value.startswith(ROOT):
+        return os.path.join(project.root, value.removeprefix(ROOT).lstrip("/"))
+    if isinstance(value, Thing) and value.kind == "file" and value.function == "files":
+        return os.path.join(project.root, value.path)
+    return os.path.join(project.root, site.folder, value) if isinstance(value, str) else None
+
+
+def read_files(project: Project) -> Iterator[Change]:
+    """`fs.read` becomes the text of the file, and `version: files()` too."""
+    for site in module_sites(project, "fs", "read"):
+        text = read_text(project, site, site.call.arguments[0]) if site.call.arguments else None
+        if text is not None:
+            yield site.change("fs.read becomes the text that it reads", replaced(site, site.call, escaped(text)))
+    for site in project.functions("project"):
+        word = site.call.keywords.get("version")
+        value = tree.plain(word.value) if word else None
+        if isinstance(value, tree.Call) and value.name == "files" and value.arguments:
+            text = read_text(project, site, value)
+            if text is not None:
+                yield site.change("project: the version is the text of its file", replaced(site, value, escaped(text.strip())))
+
+
+def read_text(project: Project, site: Site, node: tree.Node) -> str | None:
+    path = path_at(project, site, node)
+    if not project.is_asked_to_run:
+        project.doubt(site, f"the text of a file is wanted here, which {NOT_ASKED}")
+        return None
+    try:
+        with open(path or "", encoding="utf-8", newline="") as it:
+            text = it.read(LARGEST + 1)
+    except (OSError, UnicodeDecodeError) as error:
+        project.doubt(site, f"the text of a file is wanted here, which can't be read: {error}")
+        return None
+    spoken(project, f"read: {os.path.relpath(path or '', project.root)}")
+    return text if len(text) <= LARGEST else None
+
+
+def asked_files(project: Project) -> Iterator[Change]:
+    """Whether a path is there, what it holds: the answers of now."""
+    for site in module_sites(project, "fs", "exists", "is_file", "is_dir", "is_symlink", "size", "hash"):
+        path = path_at(project, site, site.call.arguments[0]) if site.call.arguments else None
+        if not project.is_asked_to_run or path is None:
+            project.doubt(site, f"fs.{site.call.name} {NOT_ASKED}")
+            continue
+        answer = answer_of(project, site, path)
+        if answer is not None:
+            spoken(project, f"asked: {site.call.name} of {os.path.relpath(path, project.root)}: {answer}")
+            yield site.change(f"fs.{site.call.name} becomes its answer", replaced(site, site.call, answer))
+
+
+def answer_of(project: Project, site: Site, path: str) -> str | None:
+    questions = {"exists": os.path.exists, "is_file": os.path.isfile, "is_dir": os.path.isdir, "is_symlink": os.path.islink}
+    if site.call.name in questions:
+        return str(questions[site.call.name](path)).lower()
+    try:
+        if site.call.name == "size":
+            return str(os.path.getsize(path))
+        kind = text_of(project, site.call.arguments[1]) if len(site.call.arguments) > 1 else None
+        with open(path, "rb") as it:
+            return escaped(hashlib.new(kind or "", it.read()).hexdigest())
+    except (OSError, ValueError):
+        return None
+
+
+def path_methods(project: Project) -> Iterator[Change]:
+    """What the fs module makes of a path's text alone."""
+    for site in module_sites(project, "fs", "name", "stem", "parent", "replace_suffix", "is_absolute", "as_posix", "suffix"):
+        arguments = [project.known.value(it) for it in site.call.arguments]
+        name = site.call.name
+        if arguments and all(isinstance(it, str) for it in arguments):
+            yield site.change(f"fs.{name} becomes its text", replaced(site, site.call, text_answer(name, *arguments)))
+        elif name in ("name", "stem") and kind_of(arguments[0]) == "text":
+            text = grouped(site)
+            base = f"{text}.split('/')[-1]"
+            if name == "name":
+                yield site.change("fs.name becomes a part of a text", replaced(site, site.call, base))
+            elif all(isinstance(it, str) and os.path.basename(it).count(".") <= 1 for it in choices(arguments[0])):
+                yield site.change("fs.stem becomes a part of a text", replaced(site, site.call, f"{base}.split('.')[0]"))
+
+
+def choices(value: object) -> list:
+    return [it.value for it in flat(value)]
+
+
+def grouped(site: Site) -> str:
+    node = site.call.arguments[0]
+    text = site.file.source(node)
+    return text if isinstance(node, (tree.Name, tree.Call, tree.Index, tree.Text)) else f"({text})"
+
+
+def text_answer(name: str, path: str, suffix: str = "") -> str:
+    if name == "is_absolute":
+        return str(path.startswith("/")).lower()
+    answers = {"name": os.path.basename(path), "stem": os.path.splitext(os.path.basename(path))[0], "as_posix": path.replace("\\", "/"),
+               "parent": os.path.dirname(path) or ".", "replace_suffix": os.path.splitext(path)[0] + suffix,
+               "suffix": os.path.splitext(path)[1]}
+    return escaped(answers[name])
+
+
+def variables(project: Project) -> Iterator[Change]:
+    """A variable of a dependency's .pc file becomes an option with the value of now."""
+    for site in project.methods("get_variable", "get_pkgconfig_variable"):
+        receiver = project.known.value(site.call.receiver) if site.call.receiver else None
+        if kind_of(receiver) != "dependency":
+            continue
+        name = variable_name(project, site)
+        things = [it.value for it in flat(receiver)]
+        package = things[0].name if things and all(getattr(it, "name", None) == things[0].name for it in things) else None
+        if not project.is_asked_to_run or name is None or package is None:
+            project.doubt(site, f"{site.call.name} of a dependency {NOT_ASKED if not project.is_asked_to_run else 'can not be followed'}")
+            continue
+        description = f"The variable {name} of {package}"
+        option = option_name(project, f"{identifier(package)}_{identifier(name)}", description)
+        change = site.change(f"{site.call.name} becomes the option {option}", replaced(site, site.call, f"get_option('{option}')"))
+        if declared(project, option) is None:
+            value = variable_value(project, site, package, name)
+            if value is None:
+                project.doubt(site, f"pkg-config has no variable {name} of {package}")
+                continue
+            text = f"option('{option}', type: 'string', value: {escaped(value)}, description: {escaped(description)})\n"
+            change.edits.append(with_option(project, text))
+        yield change
+
+
+def variable_name(project: Project, site: Site) -> str | None:
+    word = site.call.keywords.get("pkgconfig")
+    node = word.value if word else site.call.arguments[0] if site.call.arguments else None
+    return text_of(project, node)
+
+
+def variable_value(project: Project, site: Site, package: str, name: str) -> str | None:
+    defined = site.call.keywords.get("pkgconfig_define") or site.call.keywords.get("define_variable")
+    pairs = texts_at(project, defined.value) if defined else []
+    words = [*shlex.split(os.environ.get("PKG_CONFIG") or "pkg-config"), f"--variable={name}"]
+    words += [f"--define-variable={key}={value}" for key, value in zip((pairs or [])[::2], (pairs or [])[1::2])]
+    done = run(project, [*words, package], project.root)
+    value = done.stdout.strip() if done is not None and done.returncode == 0 else ""
+    default = next((site.call.keywords[it] for it in ("default_value", "default") if it in site.call.keywords), None)
+    return value or (text_of(project, default.value) if default else None)

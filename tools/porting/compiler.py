@@ -1,0 +1,274 @@
+"""Checks of the compiler that are left out here, written as checks that are not."""
+from __future__ import annotations
+
+import re
+from collections.abc import Iterator
+
+from porting import tree
+from porting.edits import Change, without_item
+from porting.lexer import escaped
+from porting.project import Project, Site
+from porting.rule import (assigned_name, before_statement, can_hoist, comparison_of, free_name, identifier, in_place_of_statement,
+                          renamed, replaced, text_of, texts_at)
+from porting.values import kind_of
+
+# Attributes whose declaration is more than `int check_attribute(void) __attribute__((NAME));`.
+ATTRIBUTES = {
+    "alias": "int aliased(void) { return 0; } int check_attribute(void) __attribute__((alias(\"aliased\")));",
+    "aligned": "int check_attribute(void) __attribute__((aligned(32)));",
+    "alloc_size": "void *check_attribute(int a) __attribute__((alloc_size(1)));",
+    "const": "int check_attribute(void) __attribute__((const));",
+    "error": "int check_attribute(void) __attribute__((error(\"\")));",
+    "warning": "int check_attribute(void) __attribute__((warning(\"\")));",
+    "fallthrough": "int check_attribute(int a) { switch (a) { case 1: a = 2; __attribute__((fallthrough)); case 2: a = 3; } return a; }",
+    "format": "int check_attribute(const char *a, ...) __attribute__((format(printf, 1, 2)));",
+    "format_arg": "char *check_attribute(const char *a) __attribute__((format_arg(1)));",
+    "ifunc": "int one(void) { return 0; } static int (*resolve(void))(void) { return one; } "
+             "int check_attribute(void) __attribute__((ifunc(\"resolve\")));",
+    "malloc": "int *check_attribute(void) __attribute__((malloc));", "nonnull": "int check_attribute(char *a) __attribute__((nonnull(1)));",
+    "packed": "struct check_attribute { char a; int b; } __attribute__((packed));",
+    "returns_nonnull": "int *check_attribute(void) __attribute__((returns_nonnull));",
+    "section": "int check_attribute(void) __attribute__((section(\".check\")));",
+    "sentinel": "int check_attribute(const char *a, ...) __attribute__((sentinel));",
+    "vector_size": "__attribute__((vector_size(32))); int check_attribute(void) { return 0; }",
+    "weakref": "static int other(void) { return 0; } static int check_attribute(void) __attribute__((weakref(\"other\")));",
+    **{f"visibility:{it}": f"int check_attribute(void) __attribute__((visibility(\"{it}\")));"
+       for it in ("default", "hidden", "internal", "protected")},
+}
+ATTRIBUTES["visibility"] = " ".join(
+    f"int check_{it}(void) __attribute__((visibility(\"{it}\")));" for it in ("default", "hidden", "internal", "protected"))
+OF_WINDOWS = ("dllexport", "dllimport")
+KEPT = {"args", "dependencies", "include_directories", "required"}
+
+
+def of_compiler(project: Project, *names: str) -> Iterator[Site]:
+    for site in project.methods(*names):
+        if site.call.receiver and kind_of(project.known.value(site.call.receiver)) == "compiler":
+            yield site
+
+
+class Names:
+    """Names of checks that differ from one another and from what a project's checks name."""
+
+    def __init__(self, project: Project) -> None:
+        self.taken = {it.value for path in project.known.entered for statement in tree.statements_in(project.files[path].body)
+                      for expression in tree.expressions_of(statement) for it in tree.inside(expression) if isinstance(it, tree.Text)}
+
+    def free(self, wanted: str) -> str:
+        number, name = 1, wanted
+        while name in self.taken:
+            number += 1
+            name = f"{wanted}_{number}"
+        self.taken.add(name)
+        return name
+
+
+def wanted_name(project: Project, site: Site) -> str:
+    """A name for a check: what the project calls it, else the variable or the key that it decides."""
+    word = site.call.keywords.get("name")
+    said = text_of(project, word.value) if word else None
+    if said is None and isinstance(site.statement, tree.Assignment):
+        said = site.statement.name
+    if said is None and isinstance(site.statement, tree.If):
+        said = first_key(site.statement, site.call)
+    if said is None and isinstance(site.statement, tree.Expression) and isinstance(site.statement.value, tree.Call):
+        first = site.statement.value.arguments[:1]
+        said = first[0].value if first and isinstance(first[0], tree.Text) else None
+    return "check_" + identifier(said or "source").removeprefix("check_")
+
+
+def first_key(statement: tree.If, call: tree.Call) -> str | None:
+    """The first name that the branch of a condition sets."""
+    for branch in statement.branches:
+        if branch.condition is not None and call in set(tree.inside(branch.condition)):
+            for it in branch.body:
+                if isinstance(it, tree.Assignment):
+                    return it.name
+                if isinstance(it, tree.Expression) and isinstance(it.value, tree.Call) and it.value.arguments:
+                    first = it.value.arguments[0]
+                    return first.value if isinstance(first, tree.Text) else None
+    return None
+
+
+def sources(project: Project) -> Iterator[Change]:
+    """A source that has to compile or to link: the same source before a type or a function of its own, which is asked for."""
+    names = Names(project)
+    for site in of_compiler(project, "compiles", "links"):
+        code = site.call.arguments[0] if len(site.call.arguments) == 1 else None
+        kind = kind_of(project.known.value(code)) if code else ""
+        if code is None or kind != "text" or set(site.call.keywords) - KEPT - {"name"} or has_many(project, code):
+            project.doubt(site, f"{site.call.name}: its source is not one plain text")
+            continue
+        text = text_of(project, code)
+        is_link = site.call.name == "links"
+        if text is None or (not is_link and re.search(r"\b(bar|check)\b", text)):
+            project.doubt(site, f"{site.call.name}: its source can't be followed, or names what a check names")
+            continue
+        name = names.free(wanted_name(project, site))
+        prefix = linked(site, code, name) if is_link else compiled(site, code, name)
+        edits = [renamed(site, "has_function" if is_link else "has_type"), replaced(site, code, f"'{name}', prefix: {prefix}")]
+        if "name" in site.call.keywords:
+            start, end = without_item(site.file.text, site.call, site.call.keywords["name"])
+            edits.append((start, end, ""))
+        yield site.change(f"{site.call.name} becomes {'has_function' if is_link else 'has_type'} {name}, with the source before it", *edits)
+
+
+def has_many(project: Project, code: tree.Node) -> bool:
+    """Whether a source is another in another round of a loop, where one name would have two answers."""
+    return not isinstance(project.known.value(code), str)
+
+
+def compiled(site: Site, code: tree.Node, name: str) -> str:
+    return around(site, code, "", f"\ntypedef int {name};\n")
+
+
+def linked(site: Site, code: tree.Node, name: str) -> str:
+    """Its `main` gets the name of the check, so that the check's own `main` can name it."""
+    return around(site, code, f"#include <stddef.h>\n#define main {name}\n", "\n#undef main\n")
+
+
+def around(site: Site, code: tree.Node, before: str, after: str) -> str:
+    """A literal with text put round it, else a sum."""
+    source = site.file.source(code)
+    if isinstance(code, tree.Text) and not code.has_names:
+        if code.is_raw:
+            after = after.removeprefix("\n") if code.value.rpartition("\n")[2].strip() == "" and "\n" in code.value else after
+            return f"'''{before}{source[3:-3]}{after}'''"
+        return f"{escaped(before)[:-1]}{source[1:-1]}{escaped(after)[1:]}"
+    first = f"{escaped(before)} + " if before else ""
+    return f"{first}{source} + {escaped(after)}"
+
+
+def attributes(project: Project) -> Iterator[Change]:
+    names = Names(project)
+    for site in of_compiler(project, "has_function_attribute"):
+        attribute = text_of(project, site.call.arguments[0]) if site.call.arguments else None
+        if attribute is None:
+            project.doubt(site, "has_function_attribute: its name is not one plain text")
+            continue
+        if attribute in OF_WINDOWS:
+            yield site.change(f"has_function_attribute: {attribute} is there on Windows alone",
+                              replaced(site, site.call, "(host_machine.system() in ['windows', 'cygwin'])"))
+            continue
+        name = names.free("has_attribute_" + identifier(attribute))
+        declared = ATTRIBUTES.get(attribute, f"int check_attribute(void) __attribute__(({attribute}));")
+        required = site.call.keywords.get("required")
+        kept = f", {site.file.source(required)}" if required else ""
+        text = (f"{site.file.source(site.call.receiver)}.has_type('{name}', prefix: {escaped(declared + f' typedef int {name};')}, "
+                f"args: '-Werror=attributes'{kept})")
+        yield site.change(f"has_function_attribute becomes has_type {name}", replaced(site, site.call, text))
+
+
+def defines(project: Project) -> Iterator[Change]:
+    """`has_define` is a source that compiles where the name is defined."""
+    names = Names(project)
+    for site in of_compiler(project, "has_define"):
+        macro = text_of(project, site.call.arguments[0]) if site.call.arguments else None
+        prefix = site.call.keywords.get("prefix")
+        if macro is None:
+            continue
+        name = names.free("has_define_" + identifier(macro))
+        text = escaped(f"\n#ifndef {macro}\n#error it is not defined\n#endif\ntypedef int {name};\n")
+        edits = [renamed(site, "has_type"), replaced(site, site.call.arguments[0], escaped(name))]
+        if prefix is None:
+            edits[1] = replaced(site, site.call.arguments[0], f"{escaped(name)}, prefix: {text}")
+        else:
+            edits.append(replaced(site, prefix.value, prefix_text(site, prefix.value, text)))
+        yield site.change(f"has_define becomes has_type {name}", *edits)
+
+
+def prefix_text(site: Site, node: tree.Node, text: str) -> str:
+    if isinstance(tree.plain(node), tree.List):
+        return f"'\\n'.join({site.file.source(node)}) + {text}"
+    return f"{site.file.source(node)} + {text}"
+
+
+def link_arguments(project: Project) -> Iterator[Change]:
+    """Those of a list of arguments that the linker takes, one question for each."""
+    for site in of_compiler(project, "get_supported_link_arguments"):
+        if len(site.call.arguments) != 1 or set(site.call.keywords) - {"checked"} or not can_hoist(site):
+            continue
+        compiler, arguments = site.file.source(site.call.receiver), site.file.source(site.call.arguments[0])
+        loop = "link_argument"
+        statement = site.statement
+        is_own = isinstance(statement, tree.Assignment) and tree.plain(statement.value) is site.call
+        name = statement.name if is_own else free_name(project, "supported_link_arguments")
+        lines = [*([] if is_own and statement.operator == "+=" else [f"{name} = []"]), f"foreach {loop} : {arguments}",
+                 f"  if {compiler}.has_link_argument({loop})", f"    {name} += {loop}", "  endif", "endforeach"]
+        if kind_of(project.known.value(site.call.arguments[0])) != "list":
+            continue
+        what = "get_supported_link_arguments becomes has_link_argument in a loop"
+        if is_own and name not in tree.names_in(site.call.arguments[0]):
+            yield site.change(what, in_place_of_statement(site.file, statement, lines))
+        elif not is_own:
+            yield site.change(what, before_statement(site, lines), replaced(site, site.call, name))
+
+
+def first_argument(project: Project) -> Iterator[Change]:
+    """The first of a list that the compiler takes, as a list of one or none."""
+    for site in of_compiler(project, "first_supported_argument", "first_supported_link_argument"):
+        if not can_hoist(site) or site.call.keywords:
+            continue
+        is_link = "link" in site.call.name
+        compiler = site.file.source(site.call.receiver)
+        arguments = [site.file.source(it) for it in site.call.arguments]
+        is_list = len(arguments) == 1 and kind_of(project.known.value(site.call.arguments[0])) == "list"
+        items = arguments[0] if is_list else f"[{', '.join(arguments)}]"
+        name = assigned_name(site) or free_name(project, "first_supported")
+        test = "has_link_argument" if is_link else "has_argument"
+        lines = [f"{name} = []", f"foreach argument : {items}", f"  if {name}.length() == 0 and {compiler}.{test}(argument)",
+                 f"    {name} += argument", "  endif", "endforeach"]
+        what = f"{site.call.name} becomes {test} in a loop"
+        if assigned_name(site):
+            yield site.change(what, in_place_of_statement(site.file, site.statement, lines))
+        else:
+            yield site.change(what, before_statement(site, lines), replaced(site, site.call, name))
+
+
+def several(project: Project) -> Iterator[Change]:
+    """Questions of several arguments as several questions."""
+    single = {"has_multi_arguments": "has_argument", "has_multi_link_arguments": "has_link_argument", "has_members": "has_member"}
+    for site in of_compiler(project, *single):
+        name, arguments = site.call.name, site.call.arguments
+        first = [site.file.source(arguments[0])] if name == "has_members" else []
+        rest = arguments[len(first):]
+        if len(rest) == 1 and isinstance(tree.plain(rest[0]), tree.List):
+            rest = tree.plain(rest[0]).items
+        if not rest or texts_at(project, arguments[0]) is None or any(text_of(project, it) is None for it in rest):
+            continue
+        kept = [site.file.source(it) for it in site.call.items if isinstance(it, tree.Keyword)]
+        receiver = site.file.source(site.call.receiver)
+        calls = [f"{receiver}.{single[name]}({', '.join([*first, site.file.source(it), *kept])})" for it in rest]
+        text = f"({' and '.join(calls)})" if len(calls) > 1 else calls[0]
+        yield site.change(f"{name} becomes {single[name]}", replaced(site, site.call, text))
+
+
+def plain_answers(project: Project) -> Iterator[Change]:
+    for site in of_compiler(project, "get_argument_syntax", "symbols_have_underscore_prefix", "get_linker_id"):
+        compiler = site.file.source(site.call.receiver)
+        outer = comparison_of(site) if site.call.name == "get_argument_syntax" else None
+        if outer is not None and outer.operator == "==" and isinstance(outer.right, tree.Text) and outer.right.value in ("gcc", "msvc"):
+            is_in = "in" if outer.right.value == "msvc" else "not in"
+            text = f"{compiler}.get_id() {is_in} ['msvc', 'clang-cl', 'intel-cl']"
+            yield site.change(f"{site.call.name} becomes {text}", replaced(site, outer, text))
+            continue
+        text = {"get_argument_syntax": f"({compiler}.get_id() in ['msvc', 'clang-cl', 'intel-cl'] ? 'msvc' : 'gcc')",
+                "symbols_have_underscore_prefix": "(host_machine.system() in ['darwin', 'windows'])",
+                "get_linker_id": "'ld.bfd'"}[site.call.name]
+        yield site.change(f"{site.call.name} becomes {text}", replaced(site, site.call, text))
+
+
+def libraries_with_headers(project: Project) -> Iterator[Change]:
+    """`has_headers:` of find_library: a question of its own, and no library where the answer is no."""
+    for site in of_compiler(project, "find_library"):
+        word, name = site.call.keywords.get("has_headers"), assigned_name(site)
+        headers = texts_at(project, word.value) if word else None
+        required = site.call.keywords.get("required")
+        if word is None or headers is None or name is None or required is None:
+            continue
+        compiler = site.file.source(site.call.receiver)
+        start, end = without_item(site.file.text, site.call, word)
+        call = site.file.text[site.call.start:start] + site.file.text[end:site.call.end]
+        asked = " and ".join(f"{compiler}.has_header({escaped(it)})" for it in headers)
+        yield site.change("find_library: `has_headers:` becomes has_header",
+                          replaced(site, site.call, f"{asked} ? {call} : dependency('', required: false)"))

@@ -1,0 +1,402 @@
+"""Works out what may happen in a project's definition files, as far as that is the same on every machine.
+
+Of a condition that an option or the machine decides, both sides are looked at. What is never reached, as a branch for another system,
+may hold anything; so rules look only at what `reached` has.
+"""
+from __future__ import annotations
+
+import os
+from collections.abc import Callable
+
+from porting import tree
+from porting.operators import binary, indexed, truth_of
+from porting.text_methods import method_of_value
+from porting.values import (ROOT, UNKNOWN, Either, Item, Many, Table, Thing, Unknown, choices_of, either, flat, kind_of, texts_of,
+                            without_root)
+
+PREDEFINED = ("meson", "host_machine", "build_machine", "target_machine")
+# Beyond this many steps all is taken as reached, and nothing as known.
+MOST_STEPS = 400_000
+# What a call gives, by its function.
+THINGS = {
+    "dependency": "dependency", "declare_dependency": "internal", "find_program": "program", "executable": "target",
+    "static_library": "target", "shared_library": "target", "library": "target", "both_libraries": "target",
+    "shared_module": "target", "build_target": "target", "jar": "target", "custom_target": "custom", "vcs_tag": "custom",
+    "configure_file": "file", "include_directories": "include", "configuration_data": "configuration",
+    "environment": "environment", "generator": "generator", "run_command": "run", "subproject": "subproject",
+    "import": "module", "run_target": "custom", "alias_target": "custom",
+}
+# What the methods of an object give that isn't known before: by its kind and name.
+GIVES = {
+    ("compiler", "find_library"): "library", ("compiler", "run"): "run", ("compiler", "get_supported_arguments"): "texts",
+    ("compiler", "get_supported_link_arguments"): "texts", ("compiler", "first_supported_argument"): "texts",
+    ("compiler", "version"): "text", ("compiler", "sizeof"): "integer", ("compiler", "alignment"): "integer",
+    ("compiler", "compute_int"): "integer", ("compiler", "get_define"): "text", ("compiler", "get_argument_syntax"): "text",
+    ("dependency", "version"): "text", ("dependency", "name"): "text", ("dependency", "get_variable"): "text",
+    ("dependency", "get_pkgconfig_variable"): "text", ("dependency", "type_name"): "text", ("internal", "version"): "text",
+    ("program", "full_path"): "text", ("program", "path"): "text", ("program", "version"): "text", ("target", "full_path"): "text",
+    ("custom", "full_path"): "text", ("target", "name"): "text", ("run", "stdout"): "text", ("run", "stderr"): "text",
+    ("run", "returncode"): "integer", ("meson", "version"): "text", ("meson", "current_source_dir"): "text",
+    ("meson", "current_build_dir"): "text", ("meson", "project_source_root"): "text", ("meson", "project_build_root"): "text",
+    ("meson", "source_root"): "text", ("meson", "build_root"): "text", ("meson", "project_version"): "text",
+    ("meson", "project_name"): "text", ("machine", "cpu_family"): "text", ("machine", "cpu"): "text", ("machine", "endian"): "text",
+    ("generator", "process"): "generated",
+}
+# Answers that are the same on every machine that this is for.
+ANSWERS = {("meson", "is_subproject"): False, ("meson", "is_cross_build"): False, ("meson", "backend"): "ninja",
+           ("machine", "system"): "linux", ("machine", "kernel"): "linux", ("machine", "subsystem"): "linux"}
+SOURCE_FOLDERS = ("current_source_dir", "project_source_root", "source_root", "global_source_root")
+COMPILERS = Either(("gcc", "clang"))
+CHOICES = {"default_library": ("shared", "static"), "buildtype": ("plain", "debug", "debugoptimized", "release", "minsize"),
+           "warning_level": ("0", "1", "2", "3"), "optimization": ("plain", "0", "g", "1", "2", "3", "s")}
+
+
+class Left(Exception):
+    """A file is left by subdir_done, a round by break or continue, and all by `error` and by what a language else needs."""
+
+    def __init__(self, word: str) -> None:
+        super().__init__(word)
+        self.word = word
+
+
+class TooMuch(Exception):
+    pass
+
+
+class Evaluation:
+    """One pass over the files from meson.build on."""
+
+    def __init__(self, root: str, body_of: Callable[[str], list[tree.Statement] | None], options: list[tree.Call]) -> None:
+        self.root, self.body_of = root, body_of
+        self.entered: list[str] = []
+        self.reached: set[tree.Node] = set()
+        self.values: dict[tree.Node, object] = {}
+        self.things: dict[tree.Call, list[Thing]] = {}
+        self.folder, self.path, self.steps = "", "meson.build", 0
+        self.doubt = 0  # how many branches and rounds round this may not be taken
+        self.called_maybe: set[tree.Node] = set()
+        self.names: dict[str, object] = {"meson": Thing("meson")}
+        self.names.update((it, Thing("machine")) for it in PREDEFINED[1:])
+        self.version: object = "undefined"
+        self.options = {name: self.option_value(it) for it in options for name in choices_of(self.literal(it.arguments[:1]))}
+        self.enter("meson.build")
+
+    @staticmethod
+    def literal(nodes: list[tree.Node]) -> object:
+        return nodes[0].value if nodes and isinstance(nodes[0], tree.Text) else UNKNOWN
+
+    def option_value(self, call: tree.Call) -> object:
+        words = call.keywords
+        kind = self.literal([words["type"].value]) if "type" in words else ""
+        choices = words["choices"].value if "choices" in words else None
+        if kind == "combo" and isinstance(choices, tree.List) and all(isinstance(it, tree.Text) for it in choices.items):
+            return either(it.value for it in choices.items if isinstance(it, tree.Text))
+        kinds = {"string": "text", "combo": "text", "boolean": "truth", "integer": "integer", "array": "texts", "feature": "feature"}
+        return self.unknown(kinds.get(str(kind), ""))
+
+    @staticmethod
+    def unknown(kind: str) -> object:
+        return Many([Item(Unknown("text"), False)]) if kind == "texts" else Unknown(kind)
+
+    def value(self, node: tree.Node) -> object:
+        """What is known of a node's value, over all times that it is evaluated; nothing of a path from the root of a disk."""
+        return without_root(self.placed(node))
+
+    def placed(self, node: tree.Node) -> object:
+        """The same, with ROOT for the project's folder in texts."""
+        return self.values.get(node, UNKNOWN)
+
+    # Files and statements
+
+    def enter(self, path: str) -> None:
+        body = self.body_of(path)
+        if body is None or path in self.entered:
+            return
+        self.entered.append(path)
+        outer = self.folder, self.path
+        self.folder, self.path = os.path.dirname(path), path
+        try:
+            self.run(body)
+        except Left as left:
+            if left.word == "error" and path != "meson.build":
+                raise
+        except (TooMuch, RecursionError):
+            self.give_up(body)
+        finally:
+            self.folder, self.path = outer
+
+    def give_up(self, body: list[tree.Statement]) -> None:
+        """Takes all of a file, and of those that it names, as reached."""
+        self.doubt += 1
+        for statement in tree.statements_in(body):
+            self.reached.add(statement)
+            for expression in tree.expressions_of(statement):
+                self.reached.update(tree.inside(expression))
+                for node in tree.inside(expression):
+                    if isinstance(node, tree.Call) and node.name == "subdir" and isinstance(self.literal(node.arguments), str):
+                        self.enter(os.path.normpath(os.path.join(self.folder, str(self.literal(node.arguments)), "meson.build")))
+
+    def run(self, body: list[tree.Statement]) -> None:
+        for statement in body:
+            self.reached.add(statement)
+            match statement:
+                case tree.Assignment():
+                    self.assign(statement)
+                case tree.Expression():
+                    self.evaluate(statement.value)
+                case tree.If():
+                    self.run_if(statement)
+                case tree.Foreach():
+                    self.run_foreach(statement)
+                case tree.Jump():
+                    if not self.doubt:
+                        raise Left(statement.word)
+
+    def assign(self, statement: tree.Assignment) -> None:
+        value = self.evaluate(statement.value)
+        if statement.operator == "+=":
+            value = binary("+", self.names.get(statement.name, UNKNOWN), value)
+        self.names[statement.name] = value
+
+    def run_if(self, statement: tree.If) -> None:
+        ends: list[dict[str, object]] = []
+        before = dict(self.names)
+        doubt = self.doubt
+        is_open = True
+        for branch in statement.branches:
+            truth = True if branch.condition is None else truth_of(self.evaluate(branch.condition))
+            if truth is False:
+                continue
+            self.doubt = doubt + 1 if truth is None or ends or self.doubt > doubt else doubt
+            outer = dict(self.names)
+            if self.run_maybe(branch.body, truth is None or self.doubt > doubt):
+                ends.append(self.names)
+            self.names = outer
+            if truth:
+                is_open = False
+                break
+        self.doubt = doubt
+        if is_open:
+            ends.append(before)
+        self.names = self.merged(ends or [before])
+
+    def run_maybe(self, body: list[tree.Statement], is_doubtful: bool) -> bool:
+        """Whether what stands behind the branch may come after it."""
+        try:
+            self.run(body)
+        except Left as left:
+            if not is_doubtful:
+                raise
+            return left.word != "error"
+        return True
+
+    @staticmethod
+    def merged(ends: list[dict[str, object]]) -> dict[str, object]:
+        if len(ends) == 1:
+            return ends[0]
+        keys = dict.fromkeys(key for it in ends for key in it)
+        return {key: either(it.get(key, UNKNOWN) for it in ends if key in it) for key in keys}
+
+    def run_foreach(self, statement: tree.Foreach) -> None:
+        items = self.evaluate(statement.items)
+        rounds: list[tuple[tuple, bool]] = []
+        if isinstance(items, Many):
+            rounds = [((it.value,), it.is_sure) for it in items.items] + ([] if items.is_whole else [((UNKNOWN,), False)])
+        elif isinstance(items, Table):
+            rounds = [(pair, items.is_whole) for pair in items.pairs.items()] + ([] if items.is_whole else [((UNKNOWN,) * 2, False)])
+        else:
+            rounds = [((UNKNOWN, UNKNOWN), False)] * 2
+        for values, is_sure in rounds:
+            if not self.run_round(statement, values, is_sure):
+                break
+
+    def run_round(self, statement: tree.Foreach, values: tuple, is_sure: bool) -> bool:
+        """Whether there may be a next round."""
+        before = dict(self.names)
+        self.names.update(zip(statement.names, values))
+        self.doubt += not is_sure
+        goes_on = True
+        try:
+            self.run(statement.body)
+        except Left as left:
+            if left.word in ("subdir_done", "error") and is_sure:
+                raise
+            goes_on = left.word != "break" or not is_sure
+        finally:
+            self.doubt -= not is_sure
+        if not is_sure:
+            self.names = self.merged([self.names, before])
+        return goes_on
+
+    # Expressions
+
+    def evaluate(self, node: tree.Node) -> object:
+        self.steps += 1
+        if self.steps > MOST_STEPS:
+            raise TooMuch
+        value = self.evaluated(node)
+        known = self.values.get(node)
+        self.values[node] = value if known is None else either([known, value])
+        return value
+
+    def evaluated(self, node: tree.Node) -> object:
+        match node:
+            case tree.Text():
+                return Unknown("text") if node.has_names else node.value
+            case tree.Number() | tree.Truth():
+                return node.value
+            case tree.Name():
+                return self.names.get(node.text, UNKNOWN)
+            case tree.Group():
+                return self.evaluate(node.inner)
+            case tree.List():
+                return Many([Item(self.evaluate(it)) for it in node.items])
+            case tree.Dictionary():
+                return self.dictionary(node)
+            case tree.Index():
+                return indexed(self.evaluate(node.receiver), self.evaluate(node.index))
+            case tree.Unary():
+                return self.unary(node)
+            case tree.Binary():
+                return self.binary(node)
+            case tree.Ternary():
+                return self.ternary(node)
+            case tree.Call():
+                return self.call(node)
+        return UNKNOWN
+
+    def dictionary(self, node: tree.Dictionary) -> Table:
+        pairs, is_whole = {}, True
+        for key, value in node.pairs:
+            name, held = self.evaluate(key), self.evaluate(value)
+            if isinstance(name, str):
+                pairs[name] = held
+            else:
+                is_whole = False
+        return Table(pairs, is_whole)
+
+    def unary(self, node: tree.Unary) -> object:
+        value = self.evaluate(node.operand)
+        if node.operator == "not":
+            truth = truth_of(value)
+            return Unknown("truth") if truth is None else not truth
+        return -value if isinstance(value, int) and not isinstance(value, bool) else Unknown("integer")
+
+    def binary(self, node: tree.Binary) -> object:
+        if node.operator not in ("and", "or"):
+            return binary(node.operator, self.evaluate(node.left), self.evaluate(node.right))
+        left = truth_of(self.evaluate(node.left))
+        if left is (node.operator == "or"):
+            return left
+        right = truth_of(self.in_doubt(node.right, left is None))
+        if left is None:
+            return right if right is (node.operator == "or") else Unknown("truth")
+        return Unknown("truth") if right is None else right
+
+    def in_doubt(self, node: tree.Node, is_doubtful: bool) -> object:
+        self.doubt += is_doubtful
+        try:
+            return self.evaluate(node)
+        finally:
+            self.doubt -= is_doubtful
+
+    def ternary(self, node: tree.Ternary) -> object:
+        truth = truth_of(self.evaluate(node.condition))
+        sides = [side for side, wanted in ((node.yes, True), (node.no, False)) if truth in (None, wanted)]
+        return either(self.in_doubt(it, truth is None) for it in sides)
+
+    def call(self, node: tree.Call) -> object:
+        receiver = self.evaluate(node.receiver) if node.receiver else None
+        arguments = [self.evaluate(it) for it in node.arguments]
+        keywords = {it.name: self.evaluate(it.value) for it in node.keywords.values()}
+        self.reached.add(node)
+        if self.doubt:
+            self.called_maybe.add(node)
+        thing = Thing("", node, self.path, arguments, keywords, dict(self.names))
+        self.things.setdefault(node, []).append(thing)
+        if node.receiver:
+            return either(self.method(it, thing) for it in choices_of(receiver))
+        return self.function(thing)
+
+    def function(self, thing: Thing) -> object:
+        name, first = thing.function, thing.arguments[0] if thing.arguments else None
+        if name in THINGS:
+            thing.kind = THINGS[name]
+            return thing
+        if name == "subdir" and isinstance(first, str):
+            self.enter(os.path.normpath(os.path.join(self.folder, first, "meson.build")))
+        elif name == "subdir_done" and not self.doubt:
+            raise Left("subdir_done")
+        elif name == "error" or (name == "add_languages" and set(texts_of(first) or ["c"]) != {"c"}):
+            raise Left("error")
+        elif name == "project":
+            self.version = thing.keywords.get("version", "undefined")
+            self.names["meson"] = Thing("meson", None, "", thing.arguments)
+        elif name == "files":
+            return Many([Item(self.file(thing.call, it.value), it.is_sure) for it in flat(Many([Item(it) for it in thing.arguments]))])
+        elif name == "get_option":
+            return self.option(first)
+        elif name == "join_paths":
+            return self.joined(thing.arguments)
+        elif name == "is_variable":
+            return first in PREDEFINED or Unknown("truth")
+        elif name in ("set_variable", "get_variable") and isinstance(first, str):
+            if name == "get_variable":
+                return self.names.get(first, UNKNOWN)
+            self.names[first] = thing.arguments[1] if len(thing.arguments) > 1 else UNKNOWN
+        return UNKNOWN
+
+    def file(self, call: tree.Call | None, name: object) -> object:
+        if not isinstance(name, str):
+            return name if isinstance(name, Thing) else Thing("file")
+        return Thing("file", call, os.path.normpath(os.path.join(self.folder, name.removeprefix(ROOT + "/"))
+                                                    if not name.startswith(ROOT) else name.removeprefix(ROOT + "/")), [name])
+
+    @staticmethod
+    def joined(arguments: list) -> object:
+        items = flat(Many([Item(it) for it in arguments]))
+        result: object = items[0].value if items else UNKNOWN
+        for it in items[1:]:
+            result = binary("/", result, it.value)
+        return result
+
+    def option(self, name: object) -> object:
+        if not isinstance(name, str):
+            return UNKNOWN
+        if name in self.options:
+            return self.options[name]
+        if name in CHOICES:
+            return Either(CHOICES[name])
+        return Unknown("truth") if name in ("debug", "werror") else Unknown("text" if name.endswith("dir") or name == "prefix" else "")
+
+    def method(self, receiver: object, thing: Thing) -> object:
+        name, kind = thing.function, kind_of(receiver)
+        thing.kind = GIVES.get((kind, name), "")
+        if (kind, name) in ANSWERS:
+            return ANSWERS[kind, name]
+        if kind == "meson" and name == "get_compiler":
+            return Thing("compiler", thing.call, self.path, thing.arguments)
+        if kind == "meson" and name == "project_version" and isinstance(self.version, str):
+            return self.version
+        if kind == "meson" and name == "project_name" and isinstance(receiver, Thing) and receiver.name:
+            return receiver.name
+        if kind == "meson" and name in SOURCE_FOLDERS:
+            return ROOT + (f"/{self.folder}" if self.folder and name == "current_source_dir" else "")
+        if kind == "compiler" and name == "get_id":
+            return COMPILERS
+        if name == "partial_dependency":
+            return receiver
+        if name in ("library", "run", "generated") or thing.kind in ("library", "run", "generated"):
+            return thing
+        if kind == "module":
+            return self.of_module(receiver, thing)
+        if (kind, name) in GIVES:
+            return self.unknown(GIVES[kind, name])
+        return method_of_value(receiver, name, thing.arguments)
+
+    def of_module(self, module: object, thing: Thing) -> object:
+        name = module.name if isinstance(module, Thing) else None
+        if name in ("python", "python3") and thing.function in ("find_installation", "find_python"):
+            thing.kind = "program"
+            return thing
+        return UNKNOWN

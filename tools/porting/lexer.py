@@ -1,0 +1,91 @@
+"""The tokens of a definition file, each with its place, so that a change can keep all other bytes."""
+from __future__ import annotations
+
+import bisect
+import dataclasses
+import re
+
+TOKEN = re.compile(r"""
+    (?P<skip> [ \t\r]+ | \#[^\n]* | \\[ \t\r]*(?:\#[^\n]*)?\n )
+  | (?P<newline> \n )
+  | (?P<text> f?'''(?:.*?)''' | f?'(?:[^'\\]|\\.)*' )
+  | (?P<name> [A-Za-z_][A-Za-z0-9_]* )
+  | (?P<number> 0[xX][0-9a-fA-F]+ | 0[oO][0-7]+ | 0[bB][01]+ | [0-9]+ )
+  | (?P<mark> \+= | [=!<>]= | [][(){},:.?=<>+*/%-] )
+""", re.VERBOSE | re.DOTALL)
+ESCAPE = re.compile(r"\\(?:([\\'abfnrtv])|([0-7]{1,3})|x([0-9a-fA-F]{2})|u([0-9a-fA-F]{4})|U([0-9a-fA-F]{8}))")
+PLAIN_ESCAPES = dict(zip("\\'abfnrtv", "\\'\a\b\f\n\r\t\v"))
+KEYWORDS = {"true", "false", "if", "elif", "else", "endif", "and", "or", "not", "in", "foreach", "endforeach", "break", "continue"}
+
+
+class SyntaxFault(Exception):
+    """A text that is no definition file; `line` is where it stops to be one."""
+
+    def __init__(self, line: int, why: str) -> None:
+        super().__init__(f"line {line}: {why}")
+        self.line, self.why = line, why
+
+
+@dataclasses.dataclass(frozen=True)
+class Token:
+    kind: str  # newline, text, name, keyword, number, mark, end
+    text: str
+    start: int
+    end: int
+
+
+class Lines:
+    """The line of each place of a text."""
+
+    def __init__(self, text: str) -> None:
+        self.starts = [0, *(match.end() for match in re.finditer("\n", text))]
+
+    def at(self, place: int) -> int:
+        return bisect.bisect_right(self.starts, place)
+
+
+def unescaped(text: str) -> str:
+    """What stands for what between quotes of the plain kind."""
+    def character(match: re.Match[str]) -> str:
+        plain, octal, *codes = match.groups()
+        if plain:
+            return PLAIN_ESCAPES[plain]
+        number = int(octal, 8) if octal else int(next(filter(None, codes)), 16)
+        return chr(number) if number < 0x110000 else match.group()
+    return ESCAPE.sub(character, text)
+
+
+def escaped(text: str) -> str:
+    """A text as a literal between plain quotes."""
+    plain = text.replace("\\", "\\\\").replace("'", "\\'").replace("\n", "\\n").replace("\t", "\\t")
+    return "'" + "".join(it if it >= " " and it != "\x7f" else f"\\x{ord(it):02x}" for it in plain) + "'"
+
+
+def value_of_text(literal: str) -> str:
+    """The value of a literal text, without what an f-string puts in."""
+    body = literal.removeprefix("f")
+    return body[3:-3] if body.startswith("'''") else unescaped(body[1:-1])
+
+
+def value_of_number(literal: str) -> int:
+    return int(literal, 0) if literal[:1] == "0" and len(literal) > 1 and literal[1].isalpha() else int(literal)
+
+
+def tokens_of(text: str) -> list[Token]:
+    """All tokens but blanks and comments; newlines only where they end a statement."""
+    tokens: list[Token] = []
+    at = depth = 0
+    while at < len(text):
+        match = TOKEN.match(text, at)
+        if not match:
+            rest = text[at:at + 20].splitlines()[0]
+            raise SyntaxFault(Lines(text).at(at), f"no token begins here: {rest!r}")
+        kind, word = match.lastgroup or "", match.group()
+        if kind == "mark":
+            depth = depth + 1 if word in "([{" else max(depth - 1, 0) if word in ")]}" else depth
+        if kind == "name" and word in KEYWORDS:
+            kind = "keyword"
+        if kind != "skip" and (kind != "newline" or depth == 0):
+            tokens.append(Token(kind, word, at, match.end()))
+        at = match.end()
+    return [*tokens, Token("newline", "\n", at, at), Token("end", "", at, at)]

@@ -1,0 +1,98 @@
+"""Options that every project of the real Meson has, and this program's projects have not."""
+from __future__ import annotations
+
+from collections.abc import Iterator
+
+from porting import tree
+from porting.edits import Change, Edit
+from porting.lexer import escaped
+from porting.project import Project, Site
+from porting.rule import drop_keyword, replaced, text_of
+
+# Folders: the option of the project that stands for one, and its value.
+FOLDERS = {"libexecdir": ("libexec_dir", "libexec"), "localedir": ("locale_dir", "share/locale"), "sbindir": ("sbin_dir", "sbin"),
+           "infodir": ("info_dir", "share/info"), "localstatedir": ("localstate_dir", "/var/local"),
+           "sharedstatedir": ("sharedstate_dir", "/var/local/lib"), "licensedir": ("license_dir", "")}
+# Others: what the real Meson has where nobody says otherwise.
+VALUES = {"b_ndebug": "'false'", "b_lto": "false", "b_lto_mode": "'default'", "b_sanitize": "'none'", "b_coverage": "false",
+          "b_lundef": "true", "b_asneeded": "true", "b_pie": "false", "b_staticpic": "true", "b_pch": "true", "b_pgo": "'off'",
+          "b_colorout": "'always'", "unity": "'off'", "strip": "false", "layout": "'mirror'", "backend": "'ninja'",
+          "wrap_mode": "'default'", "stdsplit": "true", "errorlogs": "true", "default_both_libraries": "'shared'",
+          "prefer_static": "false", "c_winlibs": "[]", "cpp_std": "'none'", "pkg_config_path": "[]", "cmake_prefix_path": "[]"}
+REAL = "not is_variable('meson')"
+
+
+def option_file(project: Project) -> tuple[str, str]:
+    """The path and the text of the option file, which may not be there yet."""
+    file = project.option_file()
+    return (file.path, file.text) if file else ("meson_options.txt", "")
+
+
+def declared(project: Project, name: str) -> tree.Call | None:
+    """The declaration of an option."""
+    file = project.option_file()
+    for statement in file.body if file else []:
+        call = statement.value if isinstance(statement, tree.Expression) else None
+        first = call.arguments[0] if isinstance(call, tree.Call) and call.arguments else None
+        if isinstance(call, tree.Call) and isinstance(first, tree.Text) and first.value == name:
+            return call
+    return None
+
+
+def option_name(project: Project, wanted: str, description: str) -> str:
+    """The option with this description, or a name that none has."""
+    number, name = 1, wanted
+    while (call := declared(project, name)) is not None:
+        word = call.keywords.get("description")
+        if word is not None and isinstance(word.value, tree.Text) and word.value.value == description:
+            break
+        number += 1
+        name = f"{wanted}_{number}"
+    return name
+
+
+def with_option(project: Project, text: str) -> Edit:
+    """The edit that puts one declaration more at the end of the option file."""
+    path, before = option_file(project)
+    return Edit(path, len(before), len(before), ("" if not before or before.endswith("\n") else "\n") + text)
+
+
+def folders(project: Project) -> Iterator[Change]:
+    for site in project.functions("get_option"):
+        name = text_of(project, site.call.arguments[0]) if site.call.arguments else None
+        if name not in FOLDERS or not isinstance(tree.plain(site.call.arguments[0]), tree.Text) or name in project.known.options:
+            continue
+        wanted, value = FOLDERS[name]
+        description = f"What {name} is elsewhere"
+        option = option_name(project, wanted, description)
+        change = site.change(f"get_option('{name}') becomes the option {option}", replaced(site, site.call.arguments[0], escaped(option)))
+        if declared(project, option) is None:
+            text = f"option('{option}', type: 'string', value: {escaped(value)}, description: {escaped(description)})\n"
+            change.edits.append(with_option(project, text))
+        yield change
+
+
+def others(project: Project) -> Iterator[Change]:
+    """An option that this program has not keeps the value that the real Meson begins with; there it is asked for as before."""
+    for site in project.functions("get_option"):
+        name = text_of(project, site.call.arguments[0]) if site.call.arguments else None
+        if name in VALUES and name not in project.known.options:
+            text = f"({REAL} ? {site.file.source(site.call)} : {VALUES[name]})"
+            yield site.change(f"get_option('{name}') is {VALUES[name]} here", replaced(site, site.call, text))
+
+
+def deprecated_options(project: Project) -> Iterator[Change]:
+    """`deprecated:` of an option, which changes nothing for those who give the option its present values."""
+    file = project.option_file()
+    for statement in file.body if file else []:
+        call = statement.value if isinstance(statement, tree.Expression) else None
+        if not isinstance(call, tree.Call) or call.name != "option":
+            continue
+        site = Site(file, statement, call)
+        if "deprecated" in call.keywords:
+            yield drop_keyword(site, "deprecated")
+        kind = call.keywords.get("type")
+        if kind is not None and isinstance(kind.value, tree.Text) and kind.value.value == "integer" and "value" not in call.keywords:
+            low = call.keywords.get("min")
+            value = file.source(low.value) if low else "0"
+            yield site.change("option: an integer has a value", (call.items[-1].end, call.items[-1].end, f", value: {value}"))

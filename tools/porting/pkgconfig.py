@@ -1,0 +1,337 @@
+"""`pkg.generate`: one general template, and a `configure_file` with a dictionary for each call."""
+from __future__ import annotations
+
+import dataclasses
+import itertools
+from collections.abc import Iterator
+
+from porting import tree
+from porting.edits import Change
+from porting.lexer import escaped
+from porting.needs import Need, Needs, NotSure, with_blanks
+from porting.project import Project, Site
+from porting.rule import free_name, identifier, in_place_of_statement, is_whole_statement, path_from
+from porting.values import Table, Thing, flat, kind_of, texts_of
+
+TEMPLATE_NAME = "pkgconfig.pc.in"
+TEMPLATE = """prefix=@prefix@
+includedir=@includedir@
+libdir=@libdir@
+@variables@
+
+Name: @name@
+Description: @description@
+URL: @url@
+Version: @version@
+Requires: @requires@
+Requires.private: @requires_private@
+Conflicts: @conflicts@
+Libs: @libs@
+Libs.private: @libs_private@
+Cflags: @cflags@
+"""
+FOLDERS = ("bindir", "datadir", "mandir", "sysconfdir")
+STATIC = "get_option('default_library') == 'static'"
+
+
+@dataclasses.dataclass(frozen=True)
+class Part:
+    """A piece of a line: a known text, or an expression that is a text or, where it `is_list`, a list of texts."""
+    text: str | None
+    source: str = ""
+    is_list: bool = False
+
+
+def joined(separator: str, parts: list[Part]) -> str:
+    """The expression of all parts as one text."""
+    parts = [it for it in parts if it.text != ""]
+    if all(it.text is not None for it in parts):
+        return escaped(separator.join(it.text or "" for it in parts))
+    if len(parts) == 1 and parts[0].is_list:
+        return f"{escaped(separator)}.join({parts[0].source.removeprefix('(').removesuffix(')')})"
+    if len(parts) == 1:
+        return parts[0].source
+    pieces: list[str] = []
+    for is_list, group in itertools.groupby(parts, lambda it: it.is_list):
+        found = [it.source if it.text is None else escaped(it.text) for it in group]
+        pieces += found if is_list else ["[" + ", ".join(found) + "]"]
+    return f"{escaped(separator)}.join({' + '.join(pieces)})"
+
+
+class Writer(Needs):
+    """One call of `generate`, as it is written here."""
+
+    def __init__(self, project: Project, site: Site) -> None:
+        self.site, self.call = site, site.call
+        self.words = site.call.keywords
+        things = project.known.things[site.call]
+        super().__init__(project, things[-1].names if len(things) == 1 else {})
+        self.before: list[str] = []
+
+    def value(self, node: tree.Node) -> object:
+        return self.project.known.value(node)
+
+    def source(self, node: tree.Node) -> str:
+        text = self.site.file.source(node)
+        return f"({text})" if isinstance(node, (tree.Ternary, tree.Binary)) else text
+
+    def word(self, name: str, default: str) -> str:
+        """The expression of a keyword that is a text."""
+        if name not in self.words:
+            return default
+        node = self.words[name].value
+        known = self.value(node)
+        return escaped(known) if isinstance(known, str) and isinstance(tree.plain(node), tree.Text) else self.source(node)
+
+    def main(self) -> Thing | None:
+        if not self.call.arguments:
+            return None
+        value = self.value(self.call.arguments[0])
+        items = flat(value)
+        if len(items) != 1 or not isinstance(items[0].value, Thing) or items[0].value.kind != "target":
+            raise NotSure("its library is not known")
+        return items[0].value
+
+    def parts(self, name: str) -> list[Part]:
+        """The texts of a keyword."""
+        return self.parts_of(self.words[name].value) if name in self.words else []
+
+    def parts_of(self, node: tree.Node) -> list[Part]:
+        node = tree.plain(node)
+        if isinstance(node, tree.List):
+            return [part for it in node.items for part in self.parts_of(it)]
+        value = self.value(node)
+        texts = texts_of(value)
+        if texts is not None:
+            return [Part(it) for it in texts]
+        if all(kind_of(it.value) == "text" for it in flat(value)) and kind_of(value) in ("text", "list"):
+            return [Part(None, self.source(node), kind_of(value) == "list")]
+        raise NotSure("it has a list whose items are not known")
+
+    def requires(self, name: str) -> list[Part]:
+        if name not in self.words:
+            return []
+        node = tree.plain(self.words[name].value)
+        nodes = node.items if isinstance(node, tree.List) else [node]
+        found: list[Part] = []
+        for it in nodes:
+            things = [item.value for item in flat(self.value(it))]
+            if any(isinstance(thing, Thing) for thing in things):
+                needs = [need for item in flat(self.value(it)) for need in self.needs_of_item(item.value, item.is_sure, True)]
+                found += self.as_parts(name, [need for need in needs if need.where == "requires"])
+            else:
+                found += [Part(with_blanks(part.text)) if part.text is not None else part for part in self.parts_of(it)]
+        return found
+
+    def as_parts(self, name: str, needs: list[Need]) -> list[Part]:
+        """Texts that are always there up to the first that may be missing; from that on one list, which statements before the call fill."""
+        needs = list(dict.fromkeys(needs))
+        always = {it.text for it in needs if not it.condition}
+        needs = [it for it in needs if not (it.condition and it.text in always)]
+        first = next((i for i, it in enumerate(needs) if it.condition), len(needs))
+        parts = [Part(it.text) for it in needs[:first]]
+        if needs[first:]:
+            variable = self.free_variable(f"{identifier(self.base_text())}_{name}")
+            self.before.append(f"{variable} = []")
+            for need in needs[first:]:
+                added = f"{variable} += {escaped(need.text)}"
+                self.before += [f"if {need.condition}", f"  {added}", "endif"] if need.condition else [added]
+            parts.append(Part(None, variable, True))
+        return parts
+
+    def free_variable(self, wanted: str) -> str:
+        name = free_name(self.project, wanted)
+        while f"{name} = []" in self.before:
+            name += "_2"
+        return name
+
+    def base_text(self) -> str:
+        known = self.value(self.words["filebase"].value) if "filebase" in self.words else None
+        main = self.main()
+        known = known or (main.name if main else None) or (self.value(self.words["name"].value) if "name" in self.words else None)
+        return known if isinstance(known, str) else "library"
+
+    def keep_names(self, libraries: list) -> None:
+        """Notes that what links one of these libraries later names this .pc file."""
+        for library in libraries:
+            if isinstance(library, Thing) and library.kind == "target" and library.name:
+                self.project.pc_files.setdefault(library.name, self.base_text())
+
+    def dictionary(self) -> dict[str, str]:
+        main = self.main()
+        is_data = "dataonly" in self.words and self.value(self.words["dataonly"].value) is True
+        libraries = [main] if main else []
+        public: list[Need] = []
+        private: list[Need] = []
+        own: list[Part] = []
+        if "libraries" in self.words:
+            libraries += [it.value for it in flat(self.value(self.words["libraries"].value))]
+        for library in libraries:
+            is_target = isinstance(library, Thing) and library.kind == "target"
+            if is_target and self.generated_name(library) is None:
+                own += self.own_flags(library, own)
+                self.seen.add(id(library))
+                needs = [] if library.function == "shared_library" else self.needs_below(library)
+                (public if library.function == "static_library" else private).extend(needs)
+            else:
+                public += self.needs_of_item(library, True, True)
+        self.keep_names(libraries)
+        return self.lines(main, own, public, private, is_data)
+
+    def own_flags(self, library: Thing, before: list[Part]) -> list[Part]:
+        if library.name is None:
+            raise NotSure("a library's name is not known")
+        folder = "-L${libdir}"
+        if "install_dir" in library.keywords:
+            known = library.keywords["install_dir"]
+            if not isinstance(known, str):
+                node = library.call.keywords["install_dir"].value if library.call else None
+                text = self.project.files[library.path].source(node) if node else ""
+                if not node or not all(self.names.get(it) is library.names.get(it) for it in tree.names_in(node)):
+                    raise NotSure("the folder of its library is not known")
+                return [Part(None, f"'-L' + ('${{prefix}}' / ({text}))"), Part(f"-l{library.name}")]
+            folder = "-L${prefix}/" + known
+        return [*([] if Part(folder) in before else [Part(folder)]), Part(f"-l{library.name}")]
+
+    def lines(self, main: Thing | None, own: list[Part], public: list[Need], private: list[Need], is_data: bool) -> dict[str, str]:
+        requires = self.requires("requires") + self.as_parts("requires", [it for it in public if it.where == "requires"])
+        libs = own + self.as_parts("libs", [it for it in public if it.where == "libs"])
+        said = {part.text for part in requires + libs}
+        hidden = [it for it in private if it.text not in said and it.where != "cflags"]
+        requires_private = self.requires("requires_private")
+        below = self.as_parts("requires_private", [it for it in hidden if it.where == "requires"])
+        libs_below = self.as_parts("libs_private", [it for it in hidden if it.where == "libs"])
+        requires_private = below_shared(below) + requires_private
+        libs_private = self.private_libs() + below_shared(libs_below)
+        cflags = [] if is_data else self.include_flags() + self.parts("extra_cflags")
+        cflags += self.as_parts("cflags", [it for it in public if it.where == "cflags"])
+        return {
+            "prefix": "get_option('prefix')", "includedir": "'${prefix}' / get_option('includedir')",
+            "libdir": "'${prefix}' / get_option('libdir')", "variables": self.variables(),
+            "name": self.word("name", escaped(main.name or "") if main else "meson.project_name()"),
+            "description": self.word("description", f"meson.project_name() + {escaped(': ' + (main.name or ''))}" if main else "''"),
+            "url": self.word("url", "''"), "version": self.word("version", "meson.project_version()"),
+            "requires": joined(", ", requires + below_static(below)),
+            "requires_private": joined(", ", requires_private), "conflicts": joined(" ", self.parts("conflicts")),
+            "libs": joined(" ", libs + below_static(libs_below)), "libs_private": joined(" ", libs_private),
+            "cflags": joined(" ", cflags)}
+
+    def private_libs(self) -> list[Part]:
+        if "libraries_private" not in self.words:
+            return []
+        needs: list[Need] = []
+        for item in flat(self.value(self.words["libraries_private"].value)):
+            needs += self.needs_of_item(item.value, item.is_sure)
+        return self.as_parts("libs_private", [it for it in needs if it.where == "libs"])
+
+    def include_flags(self) -> list[Part]:
+        if "subdirs" not in self.words:
+            return [Part("-I${includedir}")]
+        found: list[Part] = []
+        for part in self.parts("subdirs"):
+            if part.text is not None:
+                found.append(Part("-I${includedir}" + ("" if part.text == "." else "/" + part.text)))
+            elif kind_of(self.value(self.words["subdirs"].value)) == "text":
+                found.append(Part(None, f"'-I${{includedir}}' / {part.source}"))
+            else:
+                raise NotSure("its folders of headers are not known")
+        return found
+
+    def variables(self) -> str:
+        parts: list[Part] = []
+        for name in ("variables", "unescaped_variables"):
+            if name not in self.words:
+                continue
+            node = tree.plain(self.words[name].value)
+            if isinstance(self.value(node), Table):
+                parts += self.table_parts(node)
+            else:
+                parts += self.parts_of(node)
+        text = " ".join(part.text or part.source for part in parts)
+        folders = [Part(None, f"'{it}=' + '${{prefix}}' / get_option('{it}')") for it in FOLDERS if f"${{{it}}}" in text]
+        return joined("\n", folders + parts)
+
+    def table_parts(self, node: tree.Node) -> list[Part]:
+        if isinstance(node, tree.Dictionary):
+            found = []
+            for key, value in node.pairs:
+                name, held = self.value(key), self.value(value)
+                if not isinstance(name, str):
+                    raise NotSure("a variable's name is not known")
+                source = f"{escaped(name + '=')} + {self.source(value)}"
+                found.append(Part(f"{name}={held}") if isinstance(held, str) else Part(None, source))
+            return found
+        table = self.value(node)
+        if isinstance(table, Table) and table.is_whole and all(isinstance(it, str) for it in table.pairs.values()):
+            return [Part(f"{key}={value}") for key, value in table.pairs.items()]
+        raise NotSure("its variables are not known")
+
+
+def below_static(parts: list[Part]) -> list[Part]:
+    """What a library needs below it, where it is static: that belongs to the public lines then."""
+    return [Part(None, f"({STATIC} ? {list_of(parts)} : [])", True)] if parts else []
+
+
+def below_shared(parts: list[Part]) -> list[Part]:
+    return [Part(None, f"({STATIC} ? [] : {list_of(parts)})", True)] if parts else []
+
+
+def list_of(parts: list[Part]) -> str:
+    known = [escaped(it.text) for it in parts if it.text is not None]
+    return " + ".join([*(["[" + ", ".join(known) + "]"] if known else []), *(it.source for it in parts if it.text is None)])
+
+
+def folder_of(writer: Writer, main: Thing | None) -> str:
+    if "install_dir" in writer.words:
+        return writer.source(writer.words["install_dir"].value)
+    if main is not None and main.call is not None and "install_dir" in main.keywords:
+        return f"({writer.project.files[main.path].source(main.call.keywords['install_dir'].value)}) / 'pkgconfig'"
+    is_data = "dataonly" in writer.words and writer.value(writer.words["dataonly"].value) is True
+    return f"get_option('{'datadir' if is_data else 'libdir'}') / 'pkgconfig'"
+
+
+def template_of(project: Project) -> tuple[str, dict[str, str]]:
+    """The path of the template, and the file where it is not there yet."""
+    number, path = 1, TEMPLATE_NAME
+    while project.exists(path):
+        if project.new_files.get(path) == TEMPLATE or content(project, path) == TEMPLATE:
+            return path, {}
+        number += 1
+        path = f"pkgconfig-{number}.pc.in"
+    return path, {path: TEMPLATE}
+
+
+def content(project: Project, path: str) -> str | None:
+    try:
+        with open(f"{project.root}/{path}", encoding="utf-8", newline="") as it:
+            return it.read()
+    except (OSError, UnicodeDecodeError):
+        return None
+
+
+def written(project: Project, site: Site) -> Change:
+    writer = Writer(project, site)
+    dictionary = writer.dictionary()
+    template, files = template_of(project)
+    known = writer.value(writer.words["filebase"].value) if "filebase" in writer.words else None
+    name = writer.word("filebase", dictionary["name"])
+    output = escaped(known + ".pc") if isinstance(known, str) else f"{name[:-1]}.pc'" if name.endswith("'") else f"{name} + '.pc'"
+    lines = [*writer.before, "configure_file(", f"  input: {escaped(path_from(site.folder, template))},", f"  output: {output},",
+             "  configuration: {", *(f"    '{key}': {value}," for key, value in dictionary.items()), "  },",
+             f"  install_dir: {folder_of(writer, writer.main())})"]
+    change = site.change(f"pkg.generate becomes a configure_file of {template}",
+                         in_place_of_statement(site.file, site.statement, lines), files=files)
+    change.notes = list(dict.fromkeys(writer.notes))
+    return change
+
+
+def generate(project: Project) -> Iterator[Change]:
+    for site in project.methods("generate"):
+        receiver = project.known.value(site.call.receiver) if site.call.receiver else None
+        if not isinstance(receiver, Thing) or receiver.name != "pkgconfig" or not is_whole_statement(site):
+            continue
+        try:
+            yield written(project, site)
+        except NotSure as why:
+            project.doubt(site, f"pkg.generate: {why}")
+        return  # what the next one may name is known once this one is written

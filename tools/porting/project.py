@@ -1,0 +1,202 @@
+"""A project's definition files as they stand and as they become."""
+from __future__ import annotations
+
+import dataclasses
+import os
+import subprocess
+from collections.abc import Iterable, Iterator
+
+from porting import evaluate, tree
+from porting.edits import Change, Edit, changed, do_overlap
+from porting.lexer import Lines, SyntaxFault
+from porting.parser import parse
+
+OPTION_FILES = ("meson.options", "meson_options.txt")
+
+
+class Unreadable(Exception):
+    """A definition file that can't be read; the text says which, where and why."""
+
+
+@dataclasses.dataclass
+class File:
+    """One definition file: `origins` has for each line that of the file before."""
+    path: str
+    before: str | None
+    text: str
+    origins: list[int]
+    body: list[tree.Statement]
+
+    def source(self, node: tree.Node) -> str:
+        return self.text[node.start:node.end]
+
+    def line(self, place: int) -> int:
+        return Lines(self.text).at(place)
+
+    def line_before(self, place: int) -> int:
+        return self.origins[self.line(place) - 1]
+
+
+@dataclasses.dataclass(frozen=True)
+class Site:
+    """A call that may be carried out, with the statement that it stands in."""
+    file: File
+    statement: tree.Statement
+    call: tree.Call
+
+    @property
+    def folder(self) -> str:
+        return os.path.dirname(self.file.path)
+
+    def change(self, what: str, *edits: tuple[int, int, str], files: dict[str, str] | None = None) -> Change:
+        path = self.file.path
+        return Change(path, self.call.start, what, [Edit(path, *edit) for edit in edits], files or {})
+
+
+@dataclasses.dataclass(frozen=True)
+class Done:
+    path: str
+    line: int
+    rule: str
+    what: str
+
+
+class Project:
+    """The files of a project that `meson.build` leads to, and what is known of them."""
+
+    def __init__(self, root: str) -> None:
+        self.root = root
+        self.files: dict[str, File] = {}
+        self.new_files: dict[str, str] = {}
+        self.done: list[Done] = []
+        self.notes: list[Done] = []  # what to look at, by the lines of the file before
+        self.refused: set[tuple[str, str, int, str]] = set()  # changes that would break a file
+        self.doubts: dict[tree.Call, str] = {}  # why a rule left a call alone
+        self.is_asked_to_run = False
+        self.runs: dict[tuple[str, ...], subprocess.CompletedProcess[str] | None] = {}
+        self.said: list[str] = []  # what was run and read, a line each
+        self.pc_files: dict[str, str] = {}  # by the name of a library: its .pc file, without its ending
+        self.known = self.look()
+
+    def exists(self, path: str) -> bool:
+        return path in self.files or path in self.new_files or os.path.exists(os.path.join(self.root, path))
+
+    def read(self, path: str) -> File | None:
+        """A definition file of the project, or none where there is no such file."""
+        if path not in self.files:
+            full = os.path.join(self.root, path)
+            if not os.path.isfile(full):
+                return None
+            try:
+                with open(full, encoding="utf-8", newline="") as it:
+                    text = it.read()
+            except OSError as error:
+                raise Unreadable(f"{path}: {error.strerror}") from error
+            except UnicodeDecodeError as error:
+                raise Unreadable(f"{path}: not UTF-8") from error
+            self.files[path] = self.parsed(path, text, text, list(range(1, text.count("\n") + 2)))
+        return self.files[path]
+
+    @staticmethod
+    def parsed(path: str, before: str | None, text: str, origins: list[int]) -> File:
+        try:
+            return File(path, before, text, origins, parse(text))
+        except SyntaxFault as fault:
+            raise Unreadable(f"{path}:{fault.line}: {fault.why}") from fault
+        except RecursionError as error:
+            raise Unreadable(f"{path}: expressions stand too deep in one another") from error
+
+    def option_file(self) -> File | None:
+        return next(filter(None, map(self.read, OPTION_FILES)), None)
+
+    def look(self) -> evaluate.Evaluation:
+        """Reads the files that are reached, and works out what may happen in them."""
+        if self.read("meson.build") is None:
+            raise Unreadable(f"{os.path.join(self.root, 'meson.build')}: there is no such file")
+        self.known = evaluate.Evaluation(self.root, lambda path: self.body_of(path), self.options())
+        return self.known
+
+    def body_of(self, path: str) -> list[tree.Statement] | None:
+        file = self.read(path)
+        return file.body if file else None
+
+    def options(self) -> list[tree.Call]:
+        file = self.option_file()
+        return [] if file is None else [it.value for it in file.body if isinstance(it, tree.Expression)
+                                        and isinstance(it.value, tree.Call) and it.value.name == "option"]
+
+    def sites(self, *names: str, method: bool | None = None) -> Iterator[Site]:
+        """The calls of these functions or methods that may be carried out; of all where no name is given."""
+        for path in self.known.entered:
+            file = self.files[path]
+            for statement in tree.statements_in(file.body):
+                for expression in tree.expressions_of(statement):
+                    for node in tree.inside(expression):
+                        if (isinstance(node, tree.Call) and (not names or node.name in names) and node in self.known.reached
+                                and method in (None, node.receiver is not None)):
+                            yield Site(file, statement, node)
+
+    def functions(self, *names: str) -> Iterator[Site]:
+        return self.sites(*names, method=False)
+
+    def methods(self, *names: str) -> Iterator[Site]:
+        return self.sites(*names, method=True)
+
+    def statements(self) -> Iterator[tuple[File, tree.Statement]]:
+        """The statements that may be carried out."""
+        for path in self.known.entered:
+            for statement in tree.statements_in(self.files[path].body):
+                if statement in self.known.reached:
+                    yield self.files[path], statement
+
+    def make(self, rule: str, changes: Iterable[Change]) -> bool:
+        """Makes the changes that don't get in each other's way; whether there were any."""
+        chosen: list[Change] = []
+        for change in changes:
+            before = [edit for it in chosen for edit in it.edits]
+            is_free = not do_overlap(change.edits, before) and not do_overlap(change.edits[:1], change.edits[1:])
+            if is_free and (rule, change.path, change.place, change.what) not in self.refused:
+                chosen.append(change)
+        made = self.made(chosen)
+        if made is None and len(chosen) > 1:  # one of them makes no file of the language
+            return any([self.make(rule, [it]) for it in chosen[:1]])
+        if made is None:
+            self.refused.update((rule, it.path, it.place, it.what) for it in chosen)
+            self.notes += [self.told(it, rule, f"{it.what}: can't be done here") for it in chosen]
+            return False
+        for change in chosen:
+            self.done.append(self.told(change, rule, change.what))
+            self.notes += [self.told(change, rule, it) for it in change.notes]
+            self.new_files.update(change.files)
+        self.files.update(made)
+        if chosen:
+            self.look()
+        return bool(chosen)
+
+    def told(self, change: Change, rule: str, what: str) -> Done:
+        return Done(change.path, self.files[change.path].line_before(change.place), rule, what)
+
+    def made(self, changes: list[Change]) -> dict[str, File] | None:
+        """The files after some changes, or none where one is no file of the language any more."""
+        by_path: dict[str, list[Edit]] = {}
+        for change in changes:
+            for edit in change.edits:
+                by_path.setdefault(edit.path, []).append(edit)
+        made: dict[str, File] = {}
+        for path, edits in by_path.items():
+            file = self.files.get(path) or File(path, None, "", [1], [])
+            text, origins = changed(file.text, file.origins, edits)
+            try:
+                made[path] = self.parsed(path, file.before, text, origins)
+            except Unreadable:
+                return None
+        return made
+
+    def doubt(self, site: Site, why: str) -> None:
+        self.doubts[site.call] = why
+
+    def results(self) -> dict[str, tuple[str | None, str]]:
+        """The files that change: what each was, none where it wasn't, and what it becomes."""
+        written: dict[str, tuple[str | None, str]] = {path: (None, text) for path, text in self.new_files.items()}
+        written.update((path, (it.before, it.text)) for path, it in self.files.items() if it.text != it.before)
+        return dict(sorted(written.items()))

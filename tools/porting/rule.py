@@ -1,0 +1,175 @@
+"""What a rule is, and what the rules are written with."""
+from __future__ import annotations
+
+import dataclasses
+import os
+from collections.abc import Callable, Iterable, Iterator
+
+from porting import tree
+from porting.edits import Change, indent_at, indented, line_start, whole_lines, with_item, without_item
+from porting.project import File, Project, Site
+from porting.values import texts_of
+
+TARGETS = ("executable", "static_library", "shared_library", "library", "both_libraries", "shared_module", "build_target")
+# What only the real Meson does. `meson` is a variable of this program and none of the real one.
+REAL_ALONE = "if not is_variable('meson')"
+LIBRARIES = ("static_library", "shared_library", "library", "both_libraries")
+
+
+@dataclasses.dataclass(frozen=True)
+class Rule:
+    """`is_sure` where what is built and installed stays what it was; else the rule is carried out where it is asked for."""
+    name: str
+    does: str
+    change: Callable[[Project], Iterable[Change]]
+    is_sure: bool = True
+
+
+def drop_keyword(site: Site, name: str, what: str = "") -> Change:
+    """The call without a keyword."""
+    start, end = without_item(site.file.text, site.call, site.call.keywords[name])
+    return site.change(what or f"{site.call.name}: `{name}:` is dropped", (start, end, ""))
+
+
+def add_argument(site: Site, text: str) -> tuple[int, int, str]:
+    edit = with_item(site.file.text, site.call, text)
+    return edit.start, edit.end, edit.text
+
+
+def replaced(site: Site, node: tree.Node, text: str) -> tuple[int, int, str]:
+    return node.start, node.end, text
+
+
+def renamed(site: Site, name: str) -> tuple[int, int, str]:
+    """The edit that gives a call another name."""
+    start = site.call.name_start
+    return start, start + len(site.call.name), name
+
+
+def added_to_list(site: Site, keyword: str, item: str) -> tuple[int, int, str]:
+    """The edit that puts one item more in front of a keyword's list, which may be missing."""
+    found = site.call.keywords.get(keyword)
+    if found is None:
+        return add_argument(site, f"{keyword}: {item}")
+    value = found.value
+    if isinstance(value, tree.List) and value.items:
+        return value.items[0].start, value.items[0].start, f"{item}, "
+    if isinstance(value, tree.List):
+        return value.start, value.end, f"[{item}]"
+    return value.start, value.end, f"[{item}, {site.file.source(value)}]"
+
+
+def can_hoist(site: Site) -> bool:
+    """Whether statements may be put before that of a call: its condition may stand behind `elif`."""
+    statement = site.statement
+    if isinstance(statement, tree.If):
+        first = statement.branches[0].condition
+        if first is None or site.call not in set(tree.inside(first)):
+            return False
+    return site.file.text[line_start(site.file.text, statement.start):statement.start].strip() == ""
+
+
+def before_statement(site: Site, lines: list[str]) -> tuple[int, int, str]:
+    """The edit that puts lines before the statement of a call."""
+    text, statement = site.file.text, site.statement
+    start = line_start(text, statement.start)
+    return start, start, indented(lines, indent_at(text, statement.start))
+
+
+def in_place_of_statement(file: File, statement: tree.Statement, lines: list[str]) -> tuple[int, int, str]:
+    indent = indent_at(file.text, statement.start)
+    whole = whole_lines(file.text, statement)
+    if whole is None:
+        return statement.start, statement.end, ("\n" + indent).join(lines)
+    text = indented(lines, indent)
+    return *whole, text if file.text[:whole[1]].endswith("\n") else text[:-1]
+
+
+def is_whole_statement(site: Site) -> bool:
+    """Whether a call is all of its statement."""
+    return isinstance(site.statement, tree.Expression) and tree.plain(site.statement.value) is site.call
+
+
+def assigned_name(site: Site) -> str | None:
+    """The variable that a call is assigned to by `=`, where it is all of the right side."""
+    statement = site.statement
+    if isinstance(statement, tree.Assignment) and statement.operator == "=" and tree.plain(statement.value) is site.call:
+        return statement.name
+    return None
+
+
+def text_of(project: Project, node: tree.Node | None) -> str | None:
+    """The text that a node surely is."""
+    value = project.known.value(node) if node else None
+    return value if isinstance(value, str) else None
+
+
+def texts_at(project: Project, node: tree.Node | None) -> list[str] | None:
+    return texts_of(project.known.value(node)) if node else None
+
+
+def is_in_block(file: File, statement: tree.Statement) -> bool:
+    return not any(it is statement for it in file.body)
+
+
+def uses_of(project: Project, name: str) -> Iterator[tuple[File, tree.Statement]]:
+    """The statements that use a variable's value, reached or not."""
+    for path in project.known.entered:
+        for statement in tree.statements_in(project.files[path].body):
+            if any(name in tree.names_in(it) for it in tree.expressions_of(statement)):
+                yield project.files[path], statement
+
+
+def free_name(project: Project, wanted: str) -> str:
+    """A variable's name that no file has."""
+    taken = {it.text for path in project.known.entered for statement in tree.statements_in(project.files[path].body)
+             for expression in tree.expressions_of(statement) for it in tree.inside(expression) if isinstance(it, tree.Name)}
+    taken |= {it.name for path in project.known.entered for it in tree.statements_in(project.files[path].body)
+              if isinstance(it, tree.Assignment)}
+    number, name = 1, wanted
+    while name in taken:
+        number += 1
+        name = f"{wanted}_{number}"
+    return name
+
+
+def identifier(text: str) -> str:
+    """A text as a name of the language and of C."""
+    name = "".join(it if it.isascii() and it.isalnum() else "_" for it in text.strip().lower())
+    while "__" in name:
+        name = name.replace("__", "_")
+    name = name.strip("_") or "check"
+    return name if not name[0].isdigit() else "is_" + name
+
+
+def path_from(folder: str, path: str) -> str:
+    """How a file of the project is named in a definition file of a folder."""
+    return os.path.relpath(path, folder or ".")
+
+
+def compiler_text(project: Project, site: Site) -> str:
+    """How the C compiler is named at a call: by a variable that surely has it, else by the call that gives it."""
+    for thing in project.known.things.get(site.call, []):
+        for name, value in thing.names.items():
+            if getattr(value, "kind", "") == "compiler" and getattr(value, "name", "") == "c":
+                return name
+    return "meson.get_compiler('c')"
+
+
+def comparison_of(site: Site) -> tree.Binary | None:
+    """The comparison whose left side is a call."""
+    for expression in tree.expressions_of(site.statement):
+        for node in tree.inside(expression):
+            if isinstance(node, tree.Binary) and node.left is site.call:
+                return node
+    return None
+
+
+def guarded(site: Site, condition: str, what: str, notes: list[str] | None = None) -> Change:
+    """A statement behind a condition; what stands in brackets over several lines is moved with it."""
+    text, statement = site.file.text, site.statement
+    lines = text[statement.start:statement.end].split("\n")
+    body = ["  " + lines[0], *("  " + line.removeprefix(indent_at(text, statement.start)) if line.strip() else "" for line in lines[1:])]
+    change = site.change(what, in_place_of_statement(site.file, statement, [condition, *body, "endif"]))
+    change.notes = notes or []
+    return change

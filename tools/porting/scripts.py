@@ -1,0 +1,218 @@
+"""Scripts, files that are copied, and commands that are made for each input."""
+from __future__ import annotations
+
+import os
+import re
+from collections.abc import Iterator
+
+from porting import tree
+from porting.edits import Change
+from porting.lexer import escaped
+from porting.project import Project, Site
+from porting.rule import (assigned_name, before_statement, can_hoist, free_name, identifier, in_place_of_statement,
+                          renamed, replaced, text_of, texts_at)
+from porting.values import Thing, choices_of, flat
+
+INTERPRETERS = {"python": "python3", "python3": "python3", "sh": "sh", "bash": "bash", "perl": "perl", "awk": "awk", "ruby": "ruby"}
+PLACEHOLDER = re.compile(r"@[-A-Za-z0-9_]+@|^\s*#mesondefine", re.MULTILINE)
+
+
+def interpreter_of(path: str) -> str | None:
+    """What a script is run by, by its first line."""
+    try:
+        with open(path, "rb") as it:
+            first = it.readline(200).decode("utf-8", "replace")
+    except OSError:
+        return None
+    words = first[2:].split() if first.startswith("#!") else []
+    names = [os.path.basename(it) for it in words if os.path.basename(it) != "env" and not it.startswith("-")]
+    found = INTERPRETERS.get(names[0]) if names else None
+    return found or ("python3" if path.endswith(".py") else "sh" if path.endswith(".sh") else None)
+
+
+def unmarked_scripts(project: Project) -> Iterator[Change]:
+    """A script without its exec bit in a command is run by its interpreter."""
+    for site in project.functions("custom_target", "run_target"):
+        word = site.call.keywords.get("command")
+        command = tree.plain(word.value) if word else None
+        if not isinstance(command, tree.List) or not command.items:
+            continue
+        first = command.items[0]
+        path = script_at(project, site, first)
+        program = interpreter_of(path) if path else None
+        if path and program and not os.access(path, os.X_OK):
+            script = f"files({escaped(os.path.relpath(path, os.path.join(project.root, site.folder)))})"
+            yield site.change(f"{site.call.name}: a script without its exec bit is run by {program}",
+                              replaced(site, first, f"find_program('{program}'), {script}"))
+    for site in project.functions("test"):
+        yield from unmarked_test(project, site)
+
+
+def unmarked_test(project: Project, site: Site) -> Iterator[Change]:
+    if len(site.call.arguments) < 2:
+        return
+    node = site.call.arguments[1]
+    path = script_at(project, site, node)
+    program = interpreter_of(path) if path else None
+    if not path or not program or os.access(path, os.X_OK):
+        return
+    script = f"files({escaped(os.path.relpath(path, os.path.join(project.root, site.folder)))})"
+    word = site.call.keywords.get("args")
+    args = f"args: [{script}, {site.file.source(word.value)}]" if word else f"args: {script}"
+    edit = (word.start, word.end, args) if word else (node.end, node.end, f", {args}")
+    yield site.change(f"test: a script without its exec bit is run by {program}", replaced(site, node, f"find_program('{program}')"), edit)
+
+
+def script_at(project: Project, site: Site, node: tree.Node) -> str | None:
+    """The file of the sources that a program is, where it is one."""
+    items = flat(project.known.value(node))
+    value = items[0].value if len(items) == 1 and items[0].is_sure else None
+    if not isinstance(value, Thing):
+        return None
+    if value.kind == "file" and value.function == "files":
+        path = os.path.join(project.root, value.path)
+    elif value.kind == "program" and value.function == "find_program" and value.name:
+        path = os.path.join(project.root, os.path.dirname(value.path), value.name)
+    else:
+        return None
+    return os.path.normpath(path) if os.path.isfile(path) else None
+
+
+def copied_files(project: Project) -> Iterator[Change]:
+    """`configure_file(copy: true)`: a template without names, or `cp` for a script and for what a template would change."""
+    for site in project.functions("configure_file"):
+        word, source = site.call.keywords.get("copy"), site.call.keywords.get("input")
+        if word is None or source is None or project.known.value(word.value) is not True:
+            continue
+        paths = [it for it in source_paths(project, site, source.value)]
+        if paths and all(is_plain_text(it) for it in paths):
+            yield site.change("configure_file: `copy: true` becomes an empty configuration", (word.start, word.end, "configuration: {}"))
+        else:
+            yield copied_by_command(project, site, word)
+    for site in project.methods("copyfile"):
+        module = project.known.value(site.call.receiver) if site.call.receiver else None
+        if isinstance(module, Thing) and module.kind == "module" and module.name == "fs" and site.call.arguments:
+            yield copied_by_module(project, site)
+
+
+def source_paths(project: Project, site: Site, node: tree.Node) -> list[str]:
+    found = []
+    for item in flat(project.known.value(node)):
+        for value in choices_of(item.value):
+            if isinstance(value, str):
+                found.append(os.path.join(project.root, site.folder, value))
+            elif isinstance(value, Thing) and value.kind == "file" and value.function == "files":
+                found.append(os.path.join(project.root, value.path))
+            else:
+                return []
+    return found
+
+
+def is_plain_text(path: str) -> bool:
+    """Whether a template comes out of configure_file as it went in, mode and all."""
+    try:
+        with open(path, "rb") as it:
+            text = it.read().decode("utf-8")
+    except (OSError, UnicodeDecodeError):
+        return False
+    return not os.access(path, os.X_OK) and not PLACEHOLDER.search(text) and "\\@" not in text and all(
+        len(line) < 60000 for line in text.split("\n"))
+
+
+def copied_by_command(project: Project, site: Site, word: tree.Keyword) -> Change:
+    output = site.call.keywords.get("output")
+    name = site.file.source(output.value) if output else "'copy'"
+    known = text_of(project, output.value) if output else None
+    unsure = known is None or "@" in known
+    first = f"'copy-of-' + {name}" if unsure else escaped(f"copy-of-{known}")
+    start = site.call.items[0].start
+    edits = [renamed(site, "custom_target"), (start, start, f"{first}, "),
+             (word.start, word.end, "command: ['cp', '@INPUT@', '@OUTPUT@'], build_by_default: true")]
+    if "install_dir" in site.call.keywords and "install" not in site.call.keywords:
+        edits.append((word.end, word.end, ", install: true"))
+    return site.change("configure_file: `copy: true` becomes a custom_target with `cp`", *edits)
+
+
+def copied_by_module(project: Project, site: Site) -> Change:
+    arguments = [site.file.source(it) for it in site.call.arguments]
+    source = text_of(project, site.call.arguments[0])
+    output = arguments[1] if len(arguments) > 1 else escaped(os.path.basename(source)) if source else "'@PLAINNAME@'"
+    words = [site.call.keywords[it] for it in ("install", "install_dir") if it in site.call.keywords]
+    kept = "".join(f", {site.file.source(it)}" for it in words)
+    name = f"'copy-of-' + {output}" if "@" not in output else f"'copy-of-' + {arguments[0]}"
+    text = (f"custom_target({name}, input: {arguments[0]}, output: {output}, command: ['cp', '@INPUT@', '@OUTPUT@'], "
+            f"build_by_default: true{kept})")
+    return site.change("fs.copyfile becomes a custom_target with `cp`", replaced(site, site.call, text))
+
+
+def generators(project: Project) -> Iterator[Change]:
+    """`gen.process(files)`: a custom target for each file."""
+    for site in project.methods("process"):
+        receiver = tree.plain(site.call.receiver) if site.call.receiver else None
+        maker = project.known.value(receiver) if receiver else None
+        if not isinstance(maker, Thing) or maker.kind != "generator" or not can_hoist(site):
+            continue
+        change = processed(project, site, maker)
+        if change is not None:
+            yield change
+    for site in project.functions("generator"):
+        name = assigned_name(site)
+        if name and not any(name in tree.names_in(it) for path in project.known.entered
+                            for statement in tree.statements_in(project.files[path].body) for it in tree.expressions_of(statement)):
+            yield site.change("a generator of no use is dropped", in_place_of_statement(site.file, site.statement, []))
+
+
+def processed(project: Project, site: Site, maker: Thing) -> Change | None:
+    if maker.call is None or not maker.call.arguments or set(site.call.keywords) - {"extra_args"}:
+        return None
+    made = maker.call.keywords
+    outputs, texts = (texts_at(project, made[it].value) if it in made else None for it in ("output", "arguments"))
+    inputs = inputs_of(project, site)
+    if outputs is None or texts is None or not inputs:
+        return None
+    statement = site.statement
+    is_all = isinstance(statement, tree.Assignment) and tree.plain(statement.value) is site.call
+    name = statement.name if is_all else free_name(project, "generated")
+    lines = [*([] if is_all and statement.operator == "+=" else [f"{name} = []"]),
+             f"foreach input : [{', '.join(map(escaped, inputs))}]",
+             f"  {name} += {one_target(project, site, maker, name, outputs, texts)}", "endforeach"]
+    what = "generator: a custom_target for each input"
+    if is_all:
+        return site.change(what, in_place_of_statement(site.file, statement, lines))
+    return site.change(what, before_statement(site, lines), replaced(site, site.call, name))
+
+
+def one_target(project: Project, site: Site, maker: Thing, name: str, outputs: list[str], texts: list[str]) -> str:
+    """The target of one input, which the variable `input` names."""
+    file, made = project.files[maker.path], maker.call.keywords
+    shown = [escaped(re.sub("@BUILD_DIR@/?", "", it)) for it in outputs]
+    output = shown[0] if len(shown) == 1 else f"[{', '.join(shown)}]"
+    command = command_of(site, file.source(maker.call.arguments[0]), texts, site.call.keywords.get("extra_args"))
+    kept = "".join(f", {file.source(made[it])}" for it in ("depfile", "capture", "depends") if it in made)
+    title = f"{escaped(identifier(name) + '-')} + input.underscorify()"
+    return f"custom_target({title}, input: input, output: {output}, command: {command}{kept})"
+
+
+def inputs_of(project: Project, site: Site) -> list[str] | None:
+    """The paths that a generator is given, from the folder of the call; none where one is not known."""
+    items = [item for it in site.call.arguments for item in flat(project.known.value(it))]
+    names = [input_name(site, it.value) if it.is_sure else None for it in items]
+    return None if None in names else [os.path.relpath(str(it), site.folder or ".") for it in names]
+
+
+def input_name(site: Site, value: object) -> str | None:
+    """The path of an input from the project's folder."""
+    if isinstance(value, str):
+        return os.path.join(site.folder, value)
+    return value.path if isinstance(value, Thing) and value.kind == "file" and value.function == "files" else None
+
+
+def command_of(site: Site, program: str, texts: list[str], extra: tree.Keyword | None) -> str:
+    parts = [program]
+    for text in texts:
+        if text == "@EXTRA_ARGS@":
+            parts += [site.file.source(extra.value)] if extra else []
+        else:
+            text = text.replace("@BUILD_DIR@", "@OUTDIR@")
+            parts.append(escaped(text.replace("@SOURCE_DIR@", "@SOURCE_ROOT@")))
+    return f"[{', '.join(parts)}]"

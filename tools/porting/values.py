@@ -1,0 +1,160 @@
+"""What is known of a value while no machine, no option and no file of the sources has been asked.
+
+Texts, integers and truth values are Python's. All else stands below; `Unknown` is a value of which at most the kind is known.
+"""
+from __future__ import annotations
+
+import dataclasses
+from collections.abc import Iterable
+
+from porting import tree
+
+# More possible values than these are one unknown value.
+MOST_CHOICES = 24
+
+
+@dataclasses.dataclass(frozen=True)
+class Unknown:
+    kind: str = ""
+
+
+@dataclasses.dataclass(frozen=True)
+class Either:
+    """One of these values."""
+    choices: tuple
+
+
+@dataclasses.dataclass(eq=False)
+class Item:
+    """An item of a list, which `is_sure` or may be there."""
+    value: object
+    is_sure: bool = True
+
+
+@dataclasses.dataclass(eq=False)
+class Many:
+    """A list; where it isn't `is_whole` it may have other items too."""
+    items: list[Item]
+    is_whole: bool = True
+
+    @property
+    def is_exact(self) -> bool:
+        return self.is_whole and all(it.is_sure for it in self.items)
+
+
+@dataclasses.dataclass(eq=False)
+class Table:
+    """A dictionary by its keys; where it isn't `is_whole` it may have other keys too, and not all of these."""
+    pairs: dict[str, object]
+    is_whole: bool = True
+
+
+@dataclasses.dataclass(eq=False)
+class Thing:
+    """An object that a call gives: what kind, which call, and with which arguments."""
+    kind: str
+    call: tree.Call | None = None
+    path: str = ""
+    arguments: list = dataclasses.field(default_factory=list)
+    keywords: dict = dataclasses.field(default_factory=dict)
+    names: dict = dataclasses.field(default_factory=dict)  # the variables at that call
+
+    @property
+    def function(self) -> str:
+        return self.call.name if self.call else ""
+
+    @property
+    def name(self) -> str | None:
+        """The first argument, where it is a known text."""
+        first = self.arguments[0] if self.arguments else None
+        return first if isinstance(first, str) else None
+
+
+UNKNOWN = Unknown()
+# Stands for the project's folder in what is known of a text: that folder is another one on each machine.
+ROOT = "\0root"
+
+
+def without_root(value: object) -> object:
+    """A value of which a definition file may be given the text."""
+    if isinstance(value, str):
+        return Unknown("text") if ROOT in value else value
+    if isinstance(value, Either) and any(isinstance(it, str) and ROOT in it for it in value.choices):
+        return Unknown(kind_of(value))
+    if isinstance(value, Many) and any(isinstance(it.value, str) and ROOT in it.value for it in value.items):
+        return Many([Item(without_root(it.value), it.is_sure) for it in value.items], value.is_whole)
+    return value
+
+
+def kind_of(value: object) -> str:
+    """The kind that a value surely has, or none."""
+    if isinstance(value, Unknown):
+        return value.kind
+    if isinstance(value, Either):
+        kinds = {kind_of(it) for it in value.choices}
+        return kinds.pop() if len(kinds) == 1 else ""
+    if isinstance(value, Thing):
+        return value.kind
+    return {str: "text", bool: "truth", int: "integer", Many: "list", Table: "dictionary"}.get(type(value), "")
+
+
+def choices_of(value: object) -> tuple:
+    return value.choices if isinstance(value, Either) else (value,)
+
+
+def is_same(a: object, b: object) -> bool:
+    """Whether two values count as one; targets of one name, that are made in two branches, do."""
+    if isinstance(a, Thing) and isinstance(b, Thing) and a.kind == b.kind == "target" and a.name is not None:
+        return a.name == b.name and a.function == b.function and a.path == b.path
+    return a is b or (type(a) is type(b) and isinstance(a, (str, int, bool, Unknown)) and a == b)
+
+
+def either(values: Iterable[object]) -> object:
+    """What is known of one of several values."""
+    found: list[object] = []
+    for value in values:
+        for choice in choices_of(value):
+            if not any(is_same(choice, it) for it in found):
+                found.append(choice)
+    if len(found) == 1:
+        return found[0]
+    if all(isinstance(it, Many) for it in found) and found:
+        result = found[0]
+        for it in found[1:]:
+            result = joined_lists(result, it)
+        return result
+    kinds = {kind_of(it) for it in found}
+    kind = kinds.pop() if len(kinds) == 1 else ""
+    return Unknown(kind) if len(found) > MOST_CHOICES or not found or Unknown(kind) in found else Either(tuple(found))
+
+
+def joined_lists(a: Many, b: Many) -> Many:
+    """A list that is one of two: what both begin with stays, the rest may be there."""
+    same = 0
+    while same < min(len(a.items), len(b.items)) and is_same(a.items[same].value, b.items[same].value):
+        same += 1
+    first = [Item(x.value, x.is_sure and y.is_sure) for x, y in zip(a.items[:same], b.items[:same])]
+    rest = [Item(it.value, False) for it in [*a.items[same:], *b.items[same:]]]
+    kept: list[Item] = []
+    for it in rest:
+        if not any(is_same(it.value, other.value) for other in kept):
+            kept.append(it)
+    return Many([*first, *kept], a.is_whole and b.is_whole)
+
+
+def flat(value: object, is_sure: bool = True) -> list[Item]:
+    """The items of a value at every depth of lists, of what it may be too; an Unknown item where there may be others."""
+    if isinstance(value, Many):
+        found = [inner for it in value.items for inner in flat(it.value, is_sure and it.is_sure)]
+        return found if value.is_whole else [*found, Item(UNKNOWN, False)]
+    if isinstance(value, Either):
+        return [inner for it in value.choices for inner in flat(it, False)]
+    return [Item(value, is_sure)]
+
+
+def texts_of(value: object) -> list[str] | None:
+    """The texts of a value that is surely these, at every depth of lists; none where it isn't."""
+    items = flat(value)
+    if all(it.is_sure and isinstance(it.value, str) for it in items):
+        return [str(it.value) for it in items]
+    return None
