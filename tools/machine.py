@@ -17,7 +17,7 @@ import tempfile
 from tools.ending import Stop
 from tools.variables import words_in, words_of
 
-SECONDS = 60  # that a command may take
+SECONDS = 300  # that a command may take
 MAIN = "int main(void) { return 0; }"
 # For each check the compiler's words, and a source that it takes where the answer is true.
 SOURCES = {
@@ -54,13 +54,17 @@ FORBIDDEN = re.compile(r"--?(?:wrapper|run)\b.*|-X.*|(?:.*,)?@.*", re.DOTALL)
 GUARD = "-Wl,-O0"
 
 
+class NoAnswer(Stop):
+    """A command didn't end in time. That is no answer: neither true nor false."""
+
+
 def can_ask(word: str) -> bool:
     """Whether a word of a project can be given to the compiler: with it nothing is written elsewhere, and no other program runs."""
     return not FORBIDDEN.fullmatch(word) and ("/" not in word or READING.fullmatch(word) is not None)
 
 
 def attempt(words: list[str], folder: str | None = None, hears: bool = True) -> tuple[str | None, str]:
-    """What a command prints, or none where it fails, and what it says of that; it ends with all that it has started."""
+    """What a command prints, or none where it fails, and what it says of that. One that is late is ended with all that it has started."""
     to = subprocess.PIPE if hears else subprocess.DEVNULL
     try:
         process = subprocess.Popen(words, cwd=folder, stdin=subprocess.DEVNULL, stdout=to, stderr=to, encoding="utf-8",
@@ -70,13 +74,20 @@ def attempt(words: list[str], folder: str | None = None, hears: bool = True) -> 
     try:
         printed, said = process.communicate(timeout=SECONDS)
     except BaseException as error:
-        os.killpg(process.pid, signal.SIGKILL)
+        kill(process.pid)
         process.wait()
         if isinstance(error, subprocess.TimeoutExpired):
-            return None, f"it didn't end within {SECONDS} seconds"
+            raise NoAnswer(f"{words[0]} didn't end within {SECONDS} seconds") from error
         raise
     said = "; ".join(it.strip() for it in (said or "").splitlines() if it.strip())
     return ((printed or "").strip(), said) if process.returncode == 0 else (None, said or f"it ended with status {process.returncode}")
+
+
+def kill(group: int) -> None:
+    try:
+        os.killpg(group, signal.SIGKILL)
+    except ProcessLookupError:
+        pass  # it has ended meanwhile
 
 
 def run(words: list[str]) -> str | None:
