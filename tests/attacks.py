@@ -2,7 +2,6 @@
 
 What must not be touched lies in a folder `outside`, beside what a script is given.
 """
-import json
 import os
 import re
 import shutil
@@ -11,7 +10,7 @@ import subprocess
 import time
 from collections.abc import Iterator
 
-from workshop import CHECKOUT, WORK, check, configured, document, environment, put, read, refuses, run, shell, words_of
+from workshop import CHECKOUT, WORK, check, configured, environment, put, read, refuses, run, shell, words_of
 
 ROOT = os.path.realpath(WORK)
 
@@ -74,14 +73,11 @@ def test_destinations() -> None:
 
 
 def test_links_on_the_way() -> None:
-    outside = {"an absolute link": f"{WORK}/outside", "a relative link": "../outside", "a link to the root": "/", "a link to a link": "there"}
-    for name, target in outside.items():
+    for name, target, place in (("an absolute link", f"{WORK}/outside", "d/usr"), ("a relative link", "../../outside", "d/usr/lib"),
+                                ("a link to the root", "/", "d/usr"), ("a link to a link", "there", "d/usr")):
         fresh("d", "outside")
-        link(target, "d/usr/lib" if name == "a relative link" else "d/usr")
+        link(target, place)
         link(f"{WORK}/outside", "d/there")
-        if name == "a relative link":
-            os.remove(f"{WORK}/d/usr/lib")
-            link("../../outside", "d/usr/lib")
         leaves(name, "/usr/lib/a.h", "/usr/lib/a.h: has a link on its way that leads ")
     fresh("d", "outside")
     link("usr", "d/usr")
@@ -103,7 +99,8 @@ def test_links_that_stay() -> None:
     came = {name for name in files_below("d") if name.endswith(".h")}
     wanted = {"d/usr/lib64/a.h", "d/usr/share/b.h", "d/usr/bin/c.h", "d/usr/sbin/d.h", "d/usr/share/last.h"}
     check("install: links that stay in DESTDIR are followed", done.returncode == 0 and came == wanted, f"{done} {came ^ wanted}")
-    check("install: a link in the place of a file is replaced", read("outside/kept") == "kept" and not os.path.islink(f"{WORK}/d/usr/share/last.h"))
+    is_replaced = read("outside/kept") == "kept" and not os.path.islink(f"{WORK}/d/usr/share/last.h")
+    check("install: a link in the place of a file is replaced", is_replaced)
     fresh("d", "outside")
     link(f"{WORK}/outside", "d/link")
     to_install(f"{ROOT}/d/link/sub/a.h")
@@ -168,15 +165,16 @@ def of_machine_file(text: str, env: dict[str, str] | None = None) -> subprocess.
 def test_broken_compilers() -> None:
     put("m/meson.build", "project('p', 'c')\n")
     for name, env, text in (
-            ("CFLAGS", {"CFLAGS": "-nonsense"}, "can't compile an empty program: `cc -nonsense`: cc: error: unrecognized"),
+            ("CFLAGS", {"CFLAGS": "-nonsense"}, "can't compile an empty program: `cc -nonsense`: "),
             ("CC", {"CC": "false"}, "can't compile an empty program: `false`: it ended with status 1"),
             ("LDFLAGS", {"LDFLAGS": "-Wl,--no-such-word"}, "can't link an empty program: `cc -Wl,--no-such-word`: "),
-            ("a word of LDFLAGS", {"LDFLAGS": "-nonsense"}, "can't link an empty program: `cc -nonsense`: cc: error: unrecognized"),
-            ("a library", {"LDFLAGS": "-lno-such"}, "cannot find -lno-such"), ("quotes", {"CFLAGS": "'"}, "CFLAGS: No closing quotation"),
+            ("a word of LDFLAGS", {"LDFLAGS": "-nonsense"}, "can't link an empty program: `cc -nonsense`: "),
+            ("a library", {"LDFLAGS": "-lno-such"}, "can't link an empty program: `cc -lno-such`: "),
+            ("quotes", {"CFLAGS": "'"}, "CFLAGS: No closing quotation"),
             ("bytes", {"CFLAGS": "-D\udcff"}, "CFLAGS: not UTF-8")):
         refuses(f"a compiler that doesn't work: {name}", ["machine-file", "m"], 1, text, env=env)
     put("m/meson.build", "project('p', 'c', default_options: ['c_std=c77'])\n")
-    refuses("a compiler that doesn't work: c_std", ["machine-file", "m"], 1, "`cc -std=c77`: cc: error: unrecognized")
+    refuses("a compiler that doesn't work: c_std", ["machine-file", "m"], 1, "`cc -std=c77`: ")
 
 
 def test_values_of_a_name() -> None:
@@ -186,7 +184,8 @@ def test_values_of_a_name() -> None:
     line = done.stderr.splitlines()[:1]
     # The tenth block has 1,024 values, and the next one more: its statement is in line 3 + 3 * 10 + 2.
     wanted = ["machine-file: meson.build:35: is not followed: the text may have more than 1024 values, or more than 65536 characters"]
-    check("machine-file: 2 to the power of 16 values", done.returncode == 0 and line == wanted and len(done.stderr.splitlines()) < 8, f"{done}")
+    is_told = line == wanted and len(done.stderr.splitlines()) < 8
+    check("machine-file: 2 to the power of 16 values", done.returncode == 0 and is_told, f"{done}")
     check("machine-file: 2 to the power of 16 values: the rest is answered", "sizeof char = 1\n" in done.stdout and
           "TO FILL IN: meson.build:52: has_header:" in done.stdout, done.stdout)
     done = of_machine_file("a = 'x'\n" + "a += a\n" * 60)
@@ -318,6 +317,8 @@ def test_odd_files() -> None:
     with open(f"{WORK}/i/build.ninja", "wb") as it:
         it.write(b"build \xff: phony\n")
     refuses("a build.ninja that is not UTF-8", ["install", "i", "d"], 1, "i/build.ninja: not UTF-8")
+    configured("t", tests=[])
+    put("t/build.ninja", "")
     refuses("an open quotation in NINJA", ["install", "t", "d"], 1, "NINJA: No closing quotation", env={"NINJA": "'"})
     refuses("an open quotation in NINJA", ["run-tests", "t"], 125, "NINJA: No closing quotation", env={"NINJA": "'"})
     for name, text, wanted in (
@@ -345,15 +346,16 @@ def test_odd_files() -> None:
 
 def test_broken_elf() -> None:
     """Bytes that only begin as a program does."""
-    target = {"build_by_default": True, "defined_in": "meson.build", "filename": ["t"], "installed": True, "name": "t", "type": "executable"}
+    target = {"build_by_default": True, "defined_in": "meson.build", "filename": ["t"], "installed": True, "name": "t"}
     with open(shutil.which("true"), "rb") as it:
         whole = it.read()
     for name, data in {"cut": whole[:5], "a header alone": whole[:64], "its half": whole[:len(whole) // 2],
-                       "places beyond its end": whole[:32] + b"\xff" * 24 + whole[56:], "no segment": whole[:64] + bytes(len(whole) - 64)}.items():
+                       "places beyond its end": whole[:32] + b"\xff" * 24 + whole[56:],
+                       "no segment": whole[:64] + bytes(len(whole) - 64)}.items():
         put("e/t", "")
         with open(f"{WORK}/e/t", "wb") as it:
             it.write(data)
-        configured("e", targets=[target], installed={f"{ROOT}/e/t": "/bin/t"})
+        configured("e", targets=[{**target, "type": "executable"}], installed={f"{ROOT}/e/t": "/bin/t"})
         done = run(["install", "e", "d", "--no-rebuild", "-q"])
         check(f"install: a program that is {name}", (done.returncode, done.stderr.count("\n")) in ((0, 0), (1, 1)), f"{done}")
 
@@ -369,7 +371,8 @@ def test_signals() -> None:
         pids = wait_for_pids(["s/pid0", "s/pid1"])
         process.send_signal(number)
         errors = process.communicate(timeout=300)[1]
-        check(f"run-tests: {number.name}", (process.returncode, errors) == (130, "run-tests: interrupted\n"), f"{process.returncode} {errors}")
+        is_told = (process.returncode, errors) == (130, "run-tests: interrupted\n")
+        check(f"run-tests: {number.name}", is_told, f"{process.returncode} {errors}")
         check(f"run-tests: {number.name} ends its tests", len(pids) == 2 and not any(map(is_running, pids)), pids)
 
 

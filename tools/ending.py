@@ -111,6 +111,9 @@ def run_script(script: str, main: Callable[[], int], failed: int) -> NoReturn:
         name = error.filename2 or error.filename
         say(script, f"{os.fsdecode(name)}: {error.strerror}" if isinstance(name, (str, bytes)) else str(error))
         status = failed
+    except UnicodeEncodeError as error:
+        say(script, f"no file can have this name in the present locale: {error.object!r}")
+        status = failed
     except MemoryError:
         say(script, "out of memory")
         status = failed
