@@ -53,7 +53,7 @@ def build(folder: str, outputs: list[str], otherwise: str) -> None:
             names = "".join(" " + escaped(output) for output in outputs)
             it.write(f"include build.ninja\n\nbuild {WANTED}: phony all{names}\n")
         try:
-            status = call([*ninja, "-C", folder, "-f", path, "--", WANTED])
+            status = call([*ninja, "-C", folder, "-f", path, WANTED])
         except OSError as error:
             raise Stop(f"{ninja[0]}: {error.strerror}") from error
     if status != 0:
