@@ -376,6 +376,23 @@ def test_signals() -> None:
         check(f"run-tests: {number.name} ends its tests", len(pids) == 2 and not any(map(is_running, pids)), pids)
 
 
+def test_interrupted_checks() -> None:
+    """A compiler that hangs is ended with machine-file, at once, and no folder is left."""
+    fresh("s", "scratch")
+    hangs = put("hangs", f"#!/bin/sh\ncase $* in *-Wslow*) echo $$ >{WORK}/s/pid; exec sleep 300 ;; esac\nexec cc \"$@\"\n", 0o755)
+    put("m/meson.build", "project('p', 'c')\nmeson.get_compiler('c').has_argument('-Wslow')\n")
+    process = subprocess.Popen(words_of(["machine-file", "m"]), cwd=WORK, env=environment({"CC": hangs, "TMPDIR": f"{WORK}/scratch"}),
+                               stdout=subprocess.PIPE, stderr=subprocess.PIPE, text=True)
+    pids = wait_for_pids(["s/pid"])
+    process.send_signal(signal.SIGTERM)
+    process.send_signal(signal.SIGHUP)
+    printed, errors = process.communicate(timeout=200)
+    is_told = (process.returncode, printed, errors) == (130, "", "machine-file: interrupted\n")
+    check("machine-file: interrupted", is_told, f"{process.returncode} {errors}")
+    check("machine-file: interrupted: ends the compiler", len(pids) == 1 and not is_running(pids[0]), pids)
+    check("machine-file: interrupted: leaves nothing", os.listdir(f"{WORK}/scratch") == [], os.listdir(f"{WORK}/scratch"))
+
+
 def wait_for_pids(names: list[str]) -> list[int]:
     for _ in range(1000):
         if all(os.path.exists(os.path.join(WORK, it)) and read(it).endswith("\n") for it in names):
@@ -443,4 +460,4 @@ def test_much_output() -> None:
 
 TESTS = (test_destinations, test_links_on_the_way, test_links_that_stay, test_links_that_come_late, test_names_for_ninja,
          test_broken_compilers, test_values_of_a_name, test_what_checks_may_do, test_sizes, test_streams, test_odd_documents,
-         test_odd_files, test_broken_elf, test_signals, test_logs, test_much_output)
+         test_odd_files, test_broken_elf, test_signals, test_interrupted_checks, test_logs, test_much_output)

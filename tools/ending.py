@@ -8,6 +8,7 @@ import os
 import signal
 import sys
 from collections.abc import Callable
+from types import FrameType
 from typing import NoReturn
 
 INTERRUPTED = 130
@@ -82,17 +83,21 @@ def take_closed_streams() -> None:
             setattr(sys, name, open(number, "w" if number else "r", encoding="utf-8", errors="backslashreplace", closefd=False))
 
 
+SIGNALS = (signal.SIGINT, signal.SIGTERM, signal.SIGHUP)
+
+
+def interrupt(number: int, frame: FrameType | None) -> NoReturn:
+    """Ends the script; from here on no signal interrupts what is being cleaned up."""
+    for other in SIGNALS:
+        signal.signal(other, signal.SIG_IGN)
+    raise KeyboardInterrupt
+
+
 def heed_signals() -> None:
-    """SIGTERM and SIGHUP interrupt the script as Ctrl-C does, but where they are ignored, as `nohup` has it."""
-    for number in (signal.SIGTERM, signal.SIGHUP):
+    """Ctrl-C, SIGTERM and SIGHUP interrupt the script, but where they are ignored, as `nohup` has it."""
+    for number in SIGNALS:
         if signal.getsignal(number) != signal.SIG_IGN:
-            signal.signal(number, signal.default_int_handler)
-
-
-def ignore_signals() -> None:
-    """From here on no signal interrupts what is being cleaned up."""
-    for number in (signal.SIGINT, signal.SIGTERM, signal.SIGHUP):
-        signal.signal(number, signal.SIG_IGN)
+            signal.signal(number, interrupt)
 
 
 def run_script(script: str, main: Callable[[], int], failed: int) -> NoReturn:

@@ -13,11 +13,14 @@ import shutil
 import signal
 import subprocess
 import tempfile
+import threading
 
 from tools.ending import Stop
 from tools.variables import words_in, words_of
 
 SECONDS = 300  # that a command may take
+AT_WORK: set[int] = set()  # the groups of processes of the commands that run
+ENDED = threading.Event()  # no further command is begun
 MAIN = "int main(void) { return 0; }"
 # For each check the compiler's words, and a source that it takes where the answer is true.
 SOURCES = {
@@ -65,12 +68,15 @@ def can_ask(word: str) -> bool:
 
 def attempt(words: list[str], folder: str | None = None, hears: bool = True) -> tuple[str | None, str]:
     """What a command prints, or none where it fails, and what it says of that. One that is late is ended with all that it has started."""
+    if ENDED.is_set():
+        raise NoAnswer(f"{words[0]} was not begun")
     to = subprocess.PIPE if hears else subprocess.DEVNULL
     try:
         process = subprocess.Popen(words, cwd=folder, stdin=subprocess.DEVNULL, stdout=to, stderr=to, encoding="utf-8",
                                    errors="replace", start_new_session=True)
     except (OSError, ValueError) as error:  # a ValueError where a word has a NUL
         return None, f"{words[0]}: {getattr(error, 'strerror', error)}"
+    AT_WORK.add(process.pid)
     try:
         printed, said = process.communicate(timeout=SECONDS)
     except BaseException as error:
@@ -79,8 +85,17 @@ def attempt(words: list[str], folder: str | None = None, hears: bool = True) -> 
         if isinstance(error, subprocess.TimeoutExpired):
             raise NoAnswer(f"{words[0]} didn't end within {SECONDS} seconds") from error
         raise
+    finally:
+        AT_WORK.discard(process.pid)
     said = "; ".join(it.strip() for it in (said or "").splitlines() if it.strip())
     return ((printed or "").strip(), said) if process.returncode == 0 else (None, said or f"it ended with status {process.returncode}")
+
+
+def end_all() -> None:
+    """Ends the commands that run, which others wait for."""
+    ENDED.set()
+    for group in list(AT_WORK):
+        kill(group)
 
 
 def kill(group: int) -> None:
