@@ -11,10 +11,9 @@ ghost use Rattle.data.specs.Flat.{flat_all};
 ghost use Rattle.arguments.specs.Row.{value_named};
 
 use crate::arguments::{Arguments, Named};
-use data::{Feature, Object, Text, Value};
-use data::{flat, flat_all};
-use std::alloc::{AllocError, Global};
 use basics::text_lists::strings;
+use data::{Feature, Object, Text, Value, flat, flat_all};
+use std::alloc::{AllocError, Global};
 
 /// What the keyword `required` says of a thing that is looked up.
 #[derive(Clone, Copy)]

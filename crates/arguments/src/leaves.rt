@@ -6,8 +6,7 @@ ghost use Rattle.arguments.specs.Leaves.{leaves_from, leaves_named};
 
 use crate::arguments::Arguments;
 use crate::given::behind;
-use data::Value;
-use data::{opened, opened_all};
+use data::{Value, opened, opened_all};
 use std::alloc::{AllocError, Global};
 
 impl Arguments {

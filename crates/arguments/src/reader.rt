@@ -14,12 +14,11 @@ use crate::dependencies::are_dependencies;
 use crate::given::value_named;
 use crate::pieces::{are_pieces, is_command, is_configuration, is_feature, is_file};
 use crate::row::{Keyword, Kind, Row};
-use data::Value;
 use basics::faults::Refusal;
-use data::is_texts;
-use std::alloc::{AllocError, Global};
 use basics::tables::{SipSet, new_set};
 use basics::text_lists::is_among;
+use data::{Value, is_texts};
+use std::alloc::{AllocError, Global};
 
 fn is_file_value(value: &Value) -> bool
     ensures { result ≡ is_object is_file (data_of value.now) }

@@ -4,7 +4,7 @@ ghost use Rattle.std.specs.Prelude.{◌≡◌, length, IfOk};
 
 use crate::measured::Measured;
 use crate::stop::Stop;
-use ports::{DeviceFault, DiskOutputs, DiskTree, Outputs};
+use ports::{DeviceFault, DiskOutputs, DiskTree, OutputPlace, Outputs};
 use std::alloc::{AllocError, Global};
 use std::time::Instant;
 use template::{ConfigData, ConfigValue, LINE_LIMIT, PassStop, SetStop, pass};
@@ -52,8 +52,11 @@ pub fn measured(rt: &HostRuntime, template: &str, settings: &str) -> Result<Meas
     let output = format!(in alloc; "{template}.out")?;
     let mut line = zeros(alloc, LINE_LIMIT)?;
     let mut tree = DiskTree::new(rt, alloc, String::from_str(alloc, ".")?);
-    let folder = String::from_str(alloc, ".")?;
-    let mut out = DiskOutputs::new(rt, alloc, folder, rt.stdout(), rt.stderr())?;
+    let place = OutputPlace {
+        root: String::from_str(alloc, ".")?,
+        folder: String::from_str(alloc, ".")?,
+    };
+    let mut out = DiskOutputs::new(rt, alloc, place, rt.stdout(), rt.stderr())?;
     let start = Instant::now(rt)?;
     out.open(output.as_str())?;
     pass(&mut tree, template, &config, line.as_mut_slice(), &mut out)?;

@@ -7,11 +7,11 @@
 
 use crate::measured::{Measured, count_of};
 use crate::stop::Stop;
-use std::alloc::Global;
-use std::time::Instant;
 use data::{List, Refusal, Value};
 use methods::method;
 use operators::{Binary, binary, dictionary, index};
+use std::alloc::Global;
+use std::time::Instant;
 
 /// Carries out the operations of this measure, and what they need, so many times.
 pub fn measured(rt: &HostRuntime, measure: &str, of: &str) -> Result<Measured, Stop> {

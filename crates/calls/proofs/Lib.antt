@@ -1,4 +1,0 @@
-pub mod Counting
-pub mod Gaps
-pub mod Joining
-pub mod Values

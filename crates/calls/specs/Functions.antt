@@ -1,23 +1,22 @@
 -- The functions of the page "Reference manual", on evaluated arguments.
-use Rattle.std.specs.Prelude.{Bool, true, false, not, ◌&&◌, [], Option, None, if◌then◌else◌}
+use Rattle.std.specs.Prelude.{Bool, not, ◌&&◌, Option, None, if◌then◌else◌}
 use Rattle.data.specs.Data.{Data}
 use Rattle.arguments.specs.Arguments.{ArgumentsData}
-use Rattle.arguments.specs.Disablers.{gives_disabler}
 use Rattle.arguments.specs.Row.{RowData, checked}
 use Rattle.configuration_calls.specs.ConfigureFile.{has_meson_format}
 use Rattle.configuration_calls.specs.Rows.{other_format_row}
 use Rattle.world.specs.Deed.{Deed, give, ◌>>=◌, fitting}
-use Rattle.calls.specs.Disablers.{give_disabler, tell_disabler}
-use Rattle.calls.specs.JoinPaths.{join_paths}
-use Rattle.calls.specs.Messages.{message, warning, error, assert}
+use Rattle.language_calls.specs.Disablers.{give_disabler, tell_disabler}
+use Rattle.language_calls.specs.JoinPaths.{join_paths}
+use Rattle.language_calls.specs.Messages.{message, warning, error, assert}
 use Rattle.calls.specs.ProjectFunctions.{project_function}
 use Rattle.project_calls.specs.Project.{project}
-use Rattle.calls.specs.Range.{range}
+use Rattle.language_calls.specs.Range.{range}
 use Rattle.calls.specs.Rows.{row_of}
-use Rattle.calls.specs.Variables.{set_variable, get_variable, is_variable, unset_variable}
-use Rattle.calls.specs.declared.function.Function.{Function}
-use Rattle.calls.specs.declared.function.Function.TheVariants as functions
-use Rattle.calls.specs.declared.function.ProjectFunction.TheVariants as of_project
+use Rattle.language_calls.specs.Variables.{set_variable, get_variable, is_variable, unset_variable}
+use Rattle.language_calls.specs.declared.function.Function.{Function}
+use Rattle.language_calls.specs.declared.function.Function.TheVariants as functions
+use Rattle.language_calls.specs.Turning.{makes_file}
 
 -- what a function does with arguments that its row has let through: a value, or none
 abbrev pub does : Function → ArgumentsData → Deed (Option Data)
@@ -39,24 +38,6 @@ does functions.Subdir a = give None
 does functions.SubdirDone a = give None
 does functions.UnsetVariable a = unset_variable a
 does functions.Warning a = warning a
-
--- the functions that take a disabler as they take any value
-abbrev pub takes_disablers : Function → Bool
-takes_disablers functions.GetVariable = true
-takes_disablers functions.IsDisabler = true
-takes_disablers functions.IsVariable = true
-takes_disablers functions.Project = true
-takes_disablers functions.SetVariable = true
-takes_disablers functions.UnsetVariable = true
-takes_disablers f = false
-
--- a disabler among the arguments of another turns the call off: it is answered by a disabler, does nothing and refuses nothing
-abbrev pub is_turned_off : Function → ArgumentsData → Bool
-is_turned_off f a = not (takes_disablers f) && gives_disabler a
-
-abbrev pub makes_file : Function → Bool
-makes_file (functions.OfProject of_project.ConfigureFile) = true
-makes_file f = false
 
 -- `configure_file` with another format than `'meson'`, which is left out
 abbrev pub has_other_format : Function → ArgumentsData → Bool

@@ -1,9 +1,3 @@
-pub mod Disablers
 pub mod Functions
-pub mod JoinPaths
-pub mod Messages
-pub mod Names
 pub mod ProjectFunctions
-pub mod Range
 pub mod Rows
-pub mod Variables

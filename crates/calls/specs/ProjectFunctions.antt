@@ -21,8 +21,8 @@ use Rattle.target_calls.specs.Rows.{custom_target_row, files_row, include_direct
 use Rattle.target_calls.specs.Targets.{declare, library}
 use Rattle.targets.specs.declared.target.Kind.TheVariants as kinds
 use Rattle.world.specs.Deed.{Deed}
-use Rattle.calls.specs.declared.function.ProjectFunction.{ProjectFunction}
-use Rattle.calls.specs.declared.function.ProjectFunction.TheVariants as functions
+use Rattle.language_calls.specs.declared.function.ProjectFunction.{ProjectFunction}
+use Rattle.language_calls.specs.declared.function.ProjectFunction.TheVariants as functions
 
 -- what a function takes
 abbrev pub project_function_row : ProjectFunction → RowData

@@ -7,52 +7,21 @@ ghost use Rattle.arguments.specs.RowView.{row_data};
 ghost use Rattle.world.specs.Answering.{Carries, HasRoom};
 ghost use Rattle.world.specs.Caller.{state_of};
 ghost use Rattle.world.specs.Deed.{fitting};
-ghost use Rattle.calls.specs.Functions.{call, does, has_other_format, is_turned_off, makes_file, row_for, takes_disablers};
+ghost use Rattle.calls.specs.Functions.{call, does, has_other_format, row_for};
+ghost use Rattle.language_calls.specs.Turning.{makes_file};
 
-use crate::disablers::{disabler, is_disabler};
-use crate::function::{Function, ProjectFunction};
-use crate::join_paths::join_paths;
-use crate::messages::{assert, error, message, warning};
 use crate::project_functions::project_function;
-use crate::range::range;
 use crate::rows::row;
-use crate::variables::{get_variable, is_variable, set_variable, unset_variable};
-use arguments::{Arguments, Row, check, gives_disabler};
+use arguments::{Arguments, Row, check};
 use configuration_calls::{has_meson_format, other_format_row};
 use data::Value;
+use language_calls::{
+    Function, assert, disabler, error, get_variable, is_disabler, is_variable, join_paths,
+    makes_file, message, range, set_variable, unset_variable, warning,
+};
 use ports::{Outputs, Tree};
 use project_calls::project;
 use world::{Caller, Stop};
-
-fn takes_disablers(function: Function) -> bool
-    ensures { result ≡ takes_disablers function }
-{
-    matches!(
-        function,
-        Function::GetVariable
-            | Function::IsDisabler
-            | Function::IsVariable
-            | Function::Project
-            | Function::SetVariable
-            | Function::UnsetVariable
-    )
-}
-
-/// Whether a disabler among the arguments turns the call off.
-pub fn is_turned_off(function: Function, arguments: &Arguments) -> bool
-    ensures { result ≡ is_turned_off function (arguments_data arguments.now) }
-{
-    !takes_disablers(function) && gives_disabler(arguments)
-}
-
-fn makes_file(function: Function) -> bool
-    ensures { result ≡ makes_file function }
-{
-    matches!(
-        function,
-        Function::OfProject(ProjectFunction::ConfigureFile)
-    )
-}
 
 // `configure_file` with another format than `'meson'`.
 fn has_other_format(function: Function, arguments: &Arguments) -> bool

@@ -7,12 +7,12 @@ ghost use Rattle.world.specs.Answering.{Carries, HasRoom};
 ghost use Rattle.world.specs.Caller.{state_of};
 ghost use Rattle.calls.specs.ProjectFunctions.{project_function, project_function_row};
 
-use crate::function::ProjectFunction;
 use arguments::{Arguments, Row};
 use configuration_calls::{
     configuration_data, configuration_data_row, configure_file, configure_file_row,
 };
 use data::Value;
+use language_calls::ProjectFunction;
 use ports::{Outputs, Tree};
 use project_calls::{get_option, get_option_row};
 use resource_calls::{

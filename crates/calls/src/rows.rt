@@ -1,18 +1,12 @@
 //! The rows of the functions: what each takes.
 ghost use Rattle.std.specs.Prelude.{◌≡◌};
 ghost use Rattle.arguments.specs.RowView.{row_data};
-ghost use Rattle.calls.specs.Rows.{row_of, some_texts, subdir_row, values};
+ghost use Rattle.calls.specs.Rows.{row_of};
 
-use crate::function::Function;
 use crate::project_functions::project_function_row;
-use arguments::{Keyword, Kind, Row};
+use arguments::{Kind, Row};
+use language_calls::{Function, any_values, some_texts, subdir_row, values};
 use project_calls::project_row;
-
-static SUBDIR: [Keyword; 1] = [Keyword {
-    name: "if_found",
-    kind: Kind::Dependencies,
-    is_needed: false,
-}];
 
 /// What a function takes.
 pub fn row(function: Function) -> Row
@@ -31,59 +25,5 @@ pub fn row(function: Function) -> Row
         Function::Range => values(&[Kind::Integer, Kind::Integer, Kind::Integer], 1),
         Function::SetVariable => values(&[Kind::Text, Kind::Any], 2),
         Function::Subdir => subdir_row(),
-    }
-}
-
-/// Values of any type, and no keyword.
-pub fn any_values() -> Row
-    ensures { row_data result ≡ Rattle.calls.specs.Rows.any_values }
-{
-    Row {
-        positional: &[],
-        needed: 0,
-        others: Some(Kind::Any),
-        keywords: &[],
-        left_out: &["kwargs", "fallback", "deprecated"],
-    }
-}
-
-// Values of these kinds, of which so many are needed, and no keyword.
-fn values(positional: &'static [Kind], needed: usize) -> Row
-    ensures { row_data result ≡ values positional.now needed }
-{
-    Row {
-        positional,
-        needed,
-        others: None,
-        keywords: &[],
-        left_out: &["kwargs", "fallback", "deprecated"],
-    }
-}
-
-// One text at least, and no keyword.
-fn some_texts() -> Row
-    ensures { row_data result ≡ some_texts }
-{
-    Row {
-        positional: &[],
-        needed: 1,
-        others: Some(Kind::Text),
-        keywords: &[],
-        left_out: &["kwargs", "fallback", "deprecated"],
-    }
-}
-
-// ---- folders
-
-// A folder, and the dependencies without which it is passed over.
-fn subdir_row() -> Row
-    ensures { row_data result ≡ subdir_row }
-{
-    Row {
-        positional: &[Kind::Text],
-        needed: 1,
-        others: None,
-        keywords: &SUBDIR,
-        left_out: &["kwargs", "fallback", "deprecated"],
     }
 }

@@ -90,6 +90,12 @@ Gives rows (Err (Help text)) = ⊥
 Gives rows (Err (Usage text)) = given_in rows ≡ None
 Gives rows (Err (Memory error)) = ⊤
 
+-- a fault of the words, or want of memory for its text
+abbrev pub IsRefusal : LineFault → Type 0
+IsRefusal (Help text) = ⊥
+IsRefusal (Usage text) = ⊤
+IsRefusal (Memory error) = ⊤
+
 -- what an error of clap's of this kind becomes: help, a refusal, or want of memory
 abbrev pub FaultOfKind : ErrorKind → LineFault → Type 0
 FaultOfKind found (Help text) = found ≡ kind.DisplayHelp

@@ -1,13 +1,14 @@
 //! From words to a line.
 ghost use Rattle.std.specs.Prelude.{◌≡◌, [], Err, IfOk, MatchResult, codes, map, option_map, string_bytes, unwrap_or};
 ghost use Rattle.clap.specs.Words.{all_of, first_of, found_of, kind_of, rows_of, subcommand_of, subcommand_rows_of};
-ghost use Rattle.command.specs.CommandLine.{Answers, FaultOfKind, Gives, faults_of, meson_app};
+ghost use Rattle.command.specs.CommandLine.{Answers, FaultOfKind, Gives, IsRefusal, faults_of, meson_app};
 
 use crate::definition::command;
 use crate::folder::build_folder;
 use crate::{Line, LineFault};
 use clap::error::ErrorKind;
 use clap::{ArgMatches, Error};
+use option_values::is_built_in;
 use std::alloc::{AllocError, Global};
 
 // What a parse answers in place of matches, as this crate tells it.
@@ -20,9 +21,38 @@ fn fault_of(alloc: Global, error: &Error) -> LineFault
     }
     match error.to_string(alloc) {
         Ok(text) if kind == ErrorKind::DisplayHelp => LineFault::Help(text),
+        Ok(text) => refusal_of(alloc, text),
+        Err(error) => LineFault::Memory(error),
+    }
+}
+
+// A refusal with this text, which says how an option is given where one of Meson's was tried as a flag.
+fn refusal_of(alloc: Global, text: String) -> LineFault
+    ensures { IsRefusal result }
+{
+    match with_tip(alloc, text) {
         Ok(text) => LineFault::Usage(text),
         Err(error) => LineFault::Memory(error),
     }
+}
+
+fn with_tip(alloc: Global, text: String) -> Result<String, AllocError> {
+    let Some(name) = option_tried(text.as_str()) else {
+        return Ok(text);
+    };
+    let Some((_, usage)) = text.as_str().split_once("\n\nUsage") else {
+        return Ok(text);
+    };
+    format!(in alloc;
+        "error: unexpected argument '--{name}' found\n\n  tip: an option is given as '-D{name}=..'\n\nUsage{usage}"
+    )
+}
+
+// The option that every project has and that was tried as a flag, as `clap` tells it.
+fn option_tried(text: &str) -> Option<&str> {
+    let rest = text.strip_prefix("error: unexpected argument '--")?;
+    let (name, _) = rest.split_once('\'')?;
+    is_built_in(name).then_some(name)
 }
 
 // The text for a folder in which nothing can be built.

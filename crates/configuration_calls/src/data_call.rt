@@ -12,8 +12,8 @@ ghost use Rattle.configuration_calls.specs.Given.{data_given, data_with};
 
 use crate::contents::entries_in;
 use arguments::Arguments;
-use data::{Object, Value};
 use basics::faults::Refusal;
+use data::{Object, Value};
 use ports::{Outputs, Tree};
 use std::alloc::{AllocError, Global};
 use template::ConfigData;

@@ -16,12 +16,12 @@ mod builder;
 use crate::object::Object;
 use crate::refusal::Refusal;
 use crate::text::Text;
-pub use builder::DictionaryBuilder;
 use basics::limits::{ITEMS, LEVELS, WEIGHT};
+use basics::tables::{SipSet, new_set};
+pub use builder::DictionaryBuilder;
 use std::alloc::{AllocError, Global};
 use std::marker::Model;
 use std::rc::Rc;
-use basics::tables::{SipSet, new_set};
 
 /// A value.
 #[cycle(value)]

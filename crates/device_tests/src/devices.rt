@@ -7,8 +7,8 @@ ghost use Rattle.ports.specs.Tree.{TreeState};
 
 use crate::given::strings;
 use ports::{
-    DeviceFault, DiskOutputs, DiskTree, Event, MemOutputs, MemTree, OutputCall, Outputs, Tree,
-    TreeCall, fault_all, log_all, put_all,
+    DeviceFault, DiskOutputs, DiskTree, Event, MemOutputs, MemTree, OutputCall, OutputPlace,
+    Outputs, Tree, TreeCall, fault_all, log_all, put_all,
 };
 use std::alloc::{AllocError, Global};
 use std::test::Fail;
@@ -169,9 +169,13 @@ fn a_folder_is_written_and_read(rt: HostRuntime) -> Result<(), Fail> {
     let alloc = rt.alloc();
     let base = env::temp_dir(&rt)?.into_string();
     let id = process::id(rt.process());
-    let folder = format!(in alloc; "{base}/devices-{id}")?;
-    let name = folder.clone()?;
-    let mut out = DiskOutputs::new(&rt, alloc, name, Vec::new(alloc), Vec::new(alloc))?;
+    let name = format!(in alloc; "devices-{id}")?;
+    let folder = format!(in alloc; "{base}/{name}")?;
+    let place = OutputPlace {
+        root: base,
+        folder: name,
+    };
+    let mut out = DiskOutputs::new(&rt, alloc, place, Vec::new(alloc), Vec::new(alloc))?;
     assert!(rt; write_sample(&mut out).is_ok());
     let mut tree = DiskTree::new(&rt, alloc, folder.clone()?);
     let expected = [
@@ -207,11 +211,15 @@ fn after_output(
     is_whole: bool,
 ) -> Result<(String, SystemTime, bool), Fail> {
     let alloc = rt.alloc();
-    let name = String::from_str(alloc, folder)?;
-    let mut out = DiskOutputs::new(rt, alloc, name, Vec::new(alloc), Vec::new(alloc))?;
+    let (root, name) = folder.rsplit_once('/').ok_or("a whole path")?;
+    let place = OutputPlace {
+        root: String::from_str(alloc, root)?,
+        folder: String::from_str(alloc, name)?,
+    };
+    let mut out = DiskOutputs::new(rt, alloc, place, Vec::new(alloc), Vec::new(alloc))?;
     write_output(&mut out, bytes, is_whole)?;
     let place = format!(in alloc; "{folder}/a")?;
-    let beside = format!(in alloc; "{folder}/a.new~")?;
+    let beside = format!(in alloc; "{folder}/a|new")?;
     let text = fs::read_to_string(rt, place.as_str())?;
     let time = fs::metadata(rt, place.as_str())?.modified()?;
     Ok((text, time, fs::exists(rt, beside.as_str())?))

@@ -24,6 +24,16 @@ pub struct Edge {
 
 impl Drop for Edge {
     fn drop(self) {
-        let Edge { rule: _, outputs: _, inputs: _, implicit: _, order_only: _, words: _, redirect: _, description: _, depfile: _ } = self;
+        let Edge {
+            rule: _,
+            outputs: _,
+            inputs: _,
+            implicit: _,
+            order_only: _,
+            words: _,
+            redirect: _,
+            description: _,
+            depfile: _,
+        } = self;
     }
 }

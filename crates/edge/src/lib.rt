@@ -7,9 +7,9 @@ mod paths;
 mod rule;
 mod texts;
 
+pub use basics::text_lists::{copies, strings};
 pub use edge::Edge;
 pub use holding::{are_writable, can_hold_path, can_hold_value, can_hold_values};
 pub use paths::{is_upward, object_path, source_path, source_root};
 pub use rule::Rule;
-pub use basics::text_lists::{copies, strings};
 pub use texts::{first_kept, holds, push_all, push_copies};

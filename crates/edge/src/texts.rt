@@ -2,9 +2,9 @@
 ghost use Rattle.std.specs.Prelude.{◌≡◌, ◌++◌, map, IfOk};
 ghost use Rattle.edge.specs.Texts.{texts, first_kept, holds};
 
-use std::alloc::{AllocError, Global};
 use basics::tables::{SipSet, new_set};
 use basics::text_lists::copies;
+use std::alloc::{AllocError, Global};
 
 /// Appends each of these texts.
 pub fn push_all(to: &mut Vec<String>, alloc: Global, parts: &[&str]) -> Result<(), AllocError>

@@ -28,11 +28,11 @@ use Rattle.objects.specs.Methods.{has_method as has_object_method}
 use Rattle.texts.specs.Segments.{Segment, text as between, place}
 use Rattle.arguments.specs.Arguments.{ArgumentsData, no_arguments, with_argument}
 use Rattle.arguments.specs.Disablers.{gives_disabler}
-use Rattle.calls.specs.Functions.{is_turned_off}
-use Rattle.calls.specs.Names.{function_named, is_left_out, is_predefined}
+use Rattle.language_calls.specs.Turning.{is_turned_off}
+use Rattle.language_calls.specs.Names.{function_named, is_left_out, is_predefined}
 use Rattle.paths.specs.Paths.{folder_below}
-use Rattle.calls.specs.declared.function.Function.{Function}
-use Rattle.calls.specs.declared.function.Function.TheVariants as functions
+use Rattle.language_calls.specs.declared.function.Function.{Function}
+use Rattle.language_calls.specs.declared.function.Function.TheVariants as functions
 use Rattle.ports.specs.Tree.{file_at}
 use Rattle.world.specs.World.{World, Facts, looking, entering, with_facts, with_machine, with_place}
 use Rattle.world.specs.Run.{Run, ran, follow, after, Done, Faulted}

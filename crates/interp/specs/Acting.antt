@@ -5,8 +5,8 @@ use Rattle.arguments.specs.Arguments.{ArgumentsData, no_arguments}
 use Rattle.arguments.specs.Disablers.{gives_disabler}
 use Rattle.arguments.specs.Row.{checked}
 use Rattle.calls.specs.Rows.{row_of}
-use Rattle.calls.specs.declared.function.Function.{Function}
-use Rattle.calls.specs.declared.function.Function.TheVariants as functions
+use Rattle.language_calls.specs.declared.function.Function.{Function}
+use Rattle.language_calls.specs.declared.function.Function.TheVariants as functions
 use Rattle.world.specs.Plan.{Plan, ◌>>=◌, give}
 use Rattle.interp.specs.declared.acting.Action.{Action}
 use Rattle.interp.specs.declared.acting.Action.TheVariants.{Call, Enter, Leave}

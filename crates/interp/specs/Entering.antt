@@ -8,8 +8,8 @@ use Rattle.arguments.specs.Disablers.{gives_disabler}
 use Rattle.arguments.specs.Given.{keyword, text_at}
 use Rattle.arguments.specs.Row.{checked}
 use Rattle.calls.specs.Rows.{row_of}
-use Rattle.calls.specs.declared.function.Function.{Function}
-use Rattle.calls.specs.declared.function.Function.TheVariants as functions
+use Rattle.language_calls.specs.declared.function.Function.{Function}
+use Rattle.language_calls.specs.declared.function.Function.TheVariants as functions
 use Rattle.world.specs.Plan.{Plan, ◌>>=◌, give, at, refuse}
 use Rattle.interp.specs.declared.acting.Action.{Action}
 use Rattle.interp.specs.declared.acting.Action.TheVariants.{Call, Enter, Leave}

@@ -32,11 +32,12 @@ use Rattle.methods.specs.Methods.{answer as method_answer, has_name}
 use Rattle.arguments.specs.Arguments.{ArgumentsData, no_arguments, with_argument}
 use Rattle.arguments.specs.Disablers.{gives_disabler}
 use Rattle.arguments.specs.Row.{checked}
-use Rattle.calls.specs.Functions.{call, is_turned_off}
-use Rattle.calls.specs.Names.{function_named, is_left_out, is_predefined, predefined}
-use Rattle.calls.specs.Rows.{any_values}
-use Rattle.calls.specs.declared.function.Function.{Function}
-use Rattle.calls.specs.declared.function.Function.TheVariants as functions
+use Rattle.calls.specs.Functions.{call}
+use Rattle.language_calls.specs.Turning.{is_turned_off}
+use Rattle.language_calls.specs.Names.{function_named, is_left_out, is_predefined, predefined}
+use Rattle.language_calls.specs.Rows.{any_values}
+use Rattle.language_calls.specs.declared.function.Function.{Function}
+use Rattle.language_calls.specs.declared.function.Function.TheVariants as functions
 use Rattle.objects.specs.Left.{is_left_out as is_left_out_method}
 use Rattle.objects.specs.Methods.{has_method as has_object_method, object_method}
 use Rattle.world.specs.Deed.{read}

@@ -10,7 +10,7 @@ use Rattle.basics.specs.declared.faults.refusal.Refusal.{Refusal}
 use Rattle.basics.specs.declared.faults.refusal.Refusal.TheVariants as refusals
 use Rattle.operators.specs.declared.operator.Binary.TheVariants.{Add}
 use Rattle.operators.specs.Operations.{binary_answer}
-use Rattle.calls.specs.Names.{is_predefined}
+use Rattle.language_calls.specs.Names.{is_predefined}
 use Rattle.configuration_calls.specs.ConfigurationData.{copy_configuration}
 use Rattle.world.specs.World.{with_variable}
 use Rattle.world.specs.Deed.{change}

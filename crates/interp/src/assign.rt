@@ -12,11 +12,11 @@ ghost use Rattle.interp.specs.Statements.{added, appended, assigned, bound, conf
 use crate::evaluator::Evaluator;
 use crate::halt::Halt;
 use crate::loops::Round;
+use basics::faults::Refusal;
 use calls::is_predefined;
 use code::Code;
 use configuration_calls::copied;
 use data::{Object, Value};
-use basics::faults::Refusal;
 use operators::{Binary, binary};
 use ports::{Outputs, Tree};
 use std::sync::ledger::Ledger;

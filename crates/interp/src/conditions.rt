@@ -6,8 +6,8 @@ ghost use Rattle.world.specs.Gives.{failures_after};
 ghost use Rattle.interp.specs.Conditions.{choice_of};
 
 use crate::evaluator::Evaluator;
-use data::Value;
 use basics::faults::Refusal;
+use data::Value;
 use ports::{Outputs, Tree};
 use std::sync::ledger::Ledger;
 use world::Stop;

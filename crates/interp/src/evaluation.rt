@@ -16,8 +16,8 @@ ghost use Rattle.interp.specs.Evaluation.{IsSaid, MachineSaid, evaluation, root}
 use crate::beginning::line_before_project;
 use crate::evaluator::Evaluator;
 use crate::flow::Flow;
-use code::Code;
 use basics::faults::Refusal;
+use code::Code;
 use machine_file::Machine;
 use ports::{Outputs, Tree};
 use std::alloc::Global;

@@ -11,8 +11,8 @@ ghost use Rattle.world.specs.Plan.{answered};
 ghost use Rattle.interp.specs.Entering.{fitted};
 ghost use Rattle.interp.specs.Expressions.{needed, unchosen};
 
-use data::Value;
 use basics::faults::{Fault, Refusal};
+use data::Value;
 use ports::{Outputs, Tree};
 use std::alloc::{AllocError, Global};
 use std::sync::ledger::Ledger;

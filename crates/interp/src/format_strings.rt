@@ -10,8 +10,8 @@ ghost use Rattle.world.specs.Gives.{failures_after};
 ghost use Rattle.interp.specs.Expressions.{at_place, filled, format_string, is_plain, part_text, printed_plain};
 
 use crate::evaluator::Evaluator;
-use data::{Value, append};
 use basics::faults::Refusal;
+use data::{Value, append};
 use lexer::text_of_slice;
 use lexer::token::Kind;
 use ports::{Outputs, Tree};

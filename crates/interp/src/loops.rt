@@ -5,9 +5,9 @@ ghost use Rattle.data.specs.View.{data_of, items_of};
 ghost use Rattle.interp.specs.Rounds.{Loops, RoundAt, rounds_in};
 ghost use Rattle.interp.specs.Statements.{entry_rounds, item_rounds};
 
-use data::{Dictionary, Value};
 use basics::faults::Refusal;
 use basics::limits::ITEMS;
+use data::{Dictionary, Value};
 use std::alloc::{AllocError, Global};
 
 /// The values of a round's variables: of the first, and of the second where there is one.

@@ -1,7 +1,7 @@
 //! Names: of variables, of functions and of methods.
 ghost use Rattle.std.specs.Prelude.{◌≡◌, ◌<◌, ◌||◌, ◌&&◌, ℕ, IfOk, [], false, length, option_map, slice_index_or};
 ghost use Rattle.arguments.specs.Arguments.{arguments_data};
-ghost use Rattle.calls.specs.Functions.{is_turned_off};
+ghost use Rattle.language_calls.specs.Turning.{is_turned_off};
 ghost use Rattle.data.specs.Data.{object_in};
 ghost use Rattle.data.specs.View.{data_of};
 ghost use Rattle.methods.specs.Methods.{has_name};
@@ -10,12 +10,12 @@ ghost use Rattle.interp.specs.Expressions.{asked_of, called, called_by, disabler
 
 use crate::evaluator::Evaluator;
 use arguments::{Arguments, check, gives_disabler};
+use basics::faults::Refusal;
 use calls::{
     Function, any_values, call, function_named, is_left_out, is_predefined, is_turned_off,
     predefined,
 };
 use data::{Object, Value};
-use basics::faults::Refusal;
 use methods::{has_method, method};
 use objects::{has_object_method, is_left_out_method, object_method};
 use ports::{Outputs, Tree};

@@ -14,13 +14,13 @@ ghost use Rattle.definition_files.specs.Files.{spelled, spelled_by, tree_or_faul
 ghost use Rattle.interp.specs.Folders.{fresh, fresh_by, opened, opened_by};
 
 use crate::evaluator::Evaluator;
+use basics::faults::Refusal;
+use basics::limits::FOLDERS;
 use code::Code;
 use definition_files::{MOST_BYTES, line_at, read_file, refusal_of};
-use basics::faults::Refusal;
 use grammar::fault::SyntaxError;
 use grammar::parse;
 use grammar::tree::File;
-use basics::limits::FOLDERS;
 use paths::{folder_below, path_in};
 use ports::{Outputs, Tree};
 use std::str;

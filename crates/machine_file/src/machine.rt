@@ -8,9 +8,9 @@ use crate::fault::MachineFault;
 use crate::reading::read_lines;
 use crate::value::MachineValue;
 use basics::faults::Refusal;
+use basics::tables::{SipMap, new_map};
 use lexer::newlines;
 use std::alloc::{AllocError, Global};
-use basics::tables::{SipMap, new_map};
 
 /// What a key has: a value, and the line, from 1, that gives it.
 #[derive(Drop)]

@@ -15,8 +15,8 @@ use crate::section::SectionKind;
 use crate::state::{OpenSection, Reading};
 use crate::text::{Blanks, trimmed};
 use crate::value::{MachineValue, read_value};
-use std::alloc::{AllocError, Global};
 use basics::tables::{SipMap, new_map};
+use std::alloc::{AllocError, Global};
 
 // Puts a value at a key that is new.
 fn put<V: Drop>(map: &mut SipMap<String, V>, key: String, value: V) -> Result<(), AllocError>

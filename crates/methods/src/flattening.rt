@@ -5,8 +5,7 @@ ghost use Rattle.data.specs.View.{data_of};
 ghost use Rattle.methods.specs.FlatTexts.{flat_texts};
 ghost use Rattle.texts.specs.Answers.{pieces_in};
 
-use data::{Refusal, Value};
-use data::{are_texts, flat_all};
+use data::{Refusal, Value, are_texts, flat_all};
 use std::alloc::{AllocError, Global};
 
 /// The texts in the arguments, with all lists opened. `Refusal::Arguments` where anything else stands in them.

@@ -17,10 +17,10 @@ use crate::given::given;
 use crate::keyword::{Keyword, Keywords, is_left_out};
 use crate::names::is_name;
 use basics::faults::Refusal;
+use basics::tables::{SipSet, new_set};
 use grammar::tree::Argument;
 use option_values::is_built_in;
 use std::alloc::{AllocError, Global};
-use basics::tables::{SipSet, new_set};
 
 // Puts a key behind the others; false where it stands among them.
 fn put_new(keys: &mut SipSet<String>, key: String) -> Result<bool, AllocError>

@@ -9,9 +9,9 @@ ghost use Rattle.option_file.specs.View.{given_in};
 ghost use Rattle.option_values.specs.View.{kind_in, texts_of};
 
 use crate::declaration::Given;
+use basics::text_lists::is_among;
 use option_values::{Choices, OptionKind, OptionType};
 use std::alloc::{AllocError, Global};
-use basics::text_lists::is_among;
 
 /// A keyword of `option`, by what it gives.
 #[derive(Clone, Copy, PartialEq, Eq)]

@@ -4,8 +4,8 @@ ghost use Rattle.std.specs.Prelude.{◌≡◌, ℕ, List, IfOk};
 ghost use Rattle.basics.specs.Among.{is_among};
 ghost use Rattle.machine_file.specs.View.{strings_in};
 
-use std::alloc::{AllocError, Global};
 use basics::tables::{SipSet, new_set};
+use std::alloc::{AllocError, Global};
 
 /// The texts that an option takes, in their order; one may stand there twice. A look-up takes the same time however many they
 /// are.

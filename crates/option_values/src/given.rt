@@ -9,10 +9,10 @@ ghost use Rattle.option_values.specs.View.{kind_in, strings_in, value_in};
 
 use crate::kind::{OptionKind, OptionValue};
 use crate::text::{array_of, value_of_text};
+use basics::text_lists::copies;
 use itoa::Buffer;
 use machine_file::MachineValue;
 use std::alloc::{AllocError, Global};
-use basics::text_lists::copies;
 
 // A list as it is printed: texts in single quotes, in which nothing is escaped, with a comma and a space between each two.
 fn printed(alloc: Global, items: &[String]) -> Result<String, AllocError>

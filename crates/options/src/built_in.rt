@@ -7,9 +7,9 @@ ghost use Rattle.options.specs.View.{settings_in};
 
 use crate::settings::Setting;
 use crate::state::put;
+use basics::tables::{SipMap, new_map};
 use option_values::{BuiltIn, built_in_value, built_ins};
 use std::alloc::{AllocError, Global};
-use basics::tables::{SipMap, new_map};
 
 // The option of a row of the table has the value that stands there.
 fn put_value_of(

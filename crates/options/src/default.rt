@@ -7,12 +7,12 @@ ghost use Rattle.option_values.specs.View.{kind_in, strings_in, texts_of, value_
 ghost use Rattle.options.specs.Defaults.{first_of, value_of_kind, boolean_of, integer_of, items_of};
 ghost use Rattle.options.specs.Defaults.{declared_value, value_or_kind, default_of};
 
+use basics::text_lists::copies;
 use option_file::{Declaration, Given};
 use option_values::{
     Choices, FeatureState, OptionKind, OptionValue, is_within, value_of_items, value_of_text,
 };
 use std::alloc::{AllocError, Global};
-use basics::text_lists::copies;
 
 // A combo's first choice.
 fn first_of(alloc: Global, choices: &Choices) -> Result<Option<OptionValue>, AllocError>

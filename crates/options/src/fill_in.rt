@@ -9,9 +9,9 @@ ghost use Rattle.options.specs.Settings.{or_given, fill, change_at};
 ghost use Rattle.options.specs.View.{Becomes, settings_in, type_in};
 
 use crate::settings::Setting;
+use basics::tables::SipMap;
 use option_values::{FeatureState, OptionValue};
 use std::alloc::{AllocError, Global};
-use basics::tables::SipMap;
 
 /// What a type of build says of the options `debug` and `optimization`.
 #[derive(Clone, Copy)]

@@ -3,8 +3,8 @@
 ghost use Rattle.std.specs.Prelude.{◌≡◌, ◌==◌, length, slice_get};
 ghost use Rattle.std.specs.Option.{option_map};
 
-use option_values::OptionValue;
 use basics::tables::SipMap;
+use option_values::OptionValue;
 
 /// The value of an option.
 #[derive(Drop)]

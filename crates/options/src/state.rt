@@ -9,8 +9,8 @@ ghost use Rattle.options.specs.View.{setting_in, settings_in, verdict_in, state_
 use crate::fault::OptionFault;
 use crate::settings::Setting;
 use crate::verdict::Verdict;
-use std::alloc::{AllocError, Global};
 use basics::tables::SipMap;
+use std::alloc::{AllocError, Global};
 
 /// The names of no option so far, the options with their values, and the first fault.
 #[derive(Drop)]

@@ -1,7 +1,7 @@
 -- What outputs on a disk are seen as: they tell nothing.
 use Rattle.std.specs.Prelude.{ℕ, false, List, [], Option, option_map, string_bytes}
 use Rattle.ports.specs.Outputs.{OutputState}
-use Rattle.ports.specs.declared.disk_outputs.DiskOutput.{DiskOutput}
+use Rattle.ports.specs.declared.disk_file.DiskOutput.{DiskOutput}
 
 module _ {W : Type 0} where
   abbrev pub name_of : DiskOutput W → List ℕ

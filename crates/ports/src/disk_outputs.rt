@@ -3,71 +3,46 @@ ghost use Rattle.std.specs.Option.{option_map};
 ghost use Rattle.ports.specs.DiskOutputs.{name_of, untold_state};
 ghost use Rattle.ports.specs.Outputs.{OutputState};
 
-use crate::disk_tree::joined;
+use crate::disk_file::{DiskOutput, begin_output, finish_output};
+use crate::disk_folder::DiskFolder;
 use crate::{DeviceFault, Outputs};
 use std::alloc::{AllocError, Global};
-use std::io::{BufWriter, Read, Write};
+use std::fs::File;
+use std::io;
+use std::io::{BufWriter, Write};
 use std::rt::Files;
-use std::{fs, io};
 
 // How many bytes of the log or of fault lines wait for the end of their line at most.
 const LINE_BUFFER: usize = 1024;
 
 /// Outputs as files below a folder, with a log and a place for fault lines. Nothing is said of what they hold.
 ///
-/// An output is written beside its place, as `NAME.new~`, and `close` renames it to its place. So an old file of that name stays as it
-/// was until the new one is whole, also where a device fails or the program is killed. Where the old file has the same bytes it stays,
-/// with its time. What an earlier run left beside is written over.
+/// An output is written beside its place, as `NAME|new`, which no output can be named, and `close` renames it to its place once the
+/// disk has taken its bytes. So an old file of that name stays as it was until the new one is whole, also where a device fails or the
+/// program is killed. Where the old file has the same bytes it stays, with its time. What stands beside is taken away, and no link is
+/// followed: where a folder on the way from the root is a link, that is a device fault.
+///
+/// The first `open` makes the folder and locks it for as long as the outputs are there. Where another run has it, that is said among the
+/// fault lines, and is a device fault.
 ///
 /// `open` makes the folders that an output needs, and gives up one that was open. What is put waits in a buffer, which is written out as
 /// it fills, at `close`, and before another output is begun or a fault's bytes are taken: where that fails, the call answers a device
 /// fault. A line of the log or of a fault is written out at its end, and the one before anything of the other, so a user sees both in
 /// their order. Want of memory in a call is a device fault.
 #[derive(Drop)]
-pub struct DiskOutputs<'a, R: Files, L: Write + Drop, F: Write + Drop> {
-    files: &'a R,
-    alloc: Global,
-    folder: String,
-    current: Option<DiskOutput<R::File>>,
+pub struct DiskOutputs<'a, R: Files<File = File>, L: Write + Drop, F: Write + Drop> {
+    disk: DiskFolder<'a, R>,
+    current: Option<DiskOutput<File>>,
     log: BufWriter<L>,
     faults: BufWriter<F>,
     failures: u64,
 }
 
-// An output that is being written.
+/// Where outputs go: a folder that is trusted, by its whole path, and the folder below it, by its parts.
 #[derive(Drop)]
-struct DiskOutput<W: Write + Drop> {
-    paths: Paths,
-    file: BufWriter<W>,
-}
-
-// An output's name, its whole path, and that of the file that is written until it is whole.
-#[derive(Drop)]
-struct Paths {
-    name: String,
-    place: String,
-    beside: String,
-}
-
-fn paths_of(alloc: Global, folder: &str, name: &str) -> Result<Paths, AllocError>
-    ensures { IfOk result (λ made. string_bytes made.name ≡ name.now) }
-{
-    let place = joined(alloc, folder, name)?;
-    let mut beside = String::from_str(alloc, place.as_str())?;
-    beside.push_str(".new~")?;
-    Ok(Paths {
-        name: String::from_str(alloc, name)?,
-        place,
-        beside,
-    })
-}
-
-// Makes the folders that the file needs, and the file beside its place.
-fn make_file<R: Files>(files: &R, place: &str, beside: &str) -> io::Result<R::File> {
-    if let Some((parent, _)) = place.rsplit_once('/') {
-        fs::create_dir_all(files, parent)?;
-    }
-    fs::create(files, beside)
+pub struct OutputPlace {
+    pub root: String,
+    pub folder: String,
 }
 
 // Writes out what waits for the open output, if one is open.
@@ -81,73 +56,29 @@ fn flush_output<W: Write + Drop>(current: &mut Option<DiskOutput<W>>) -> io::Res
 }
 
 // Begins the output of this name, after what waits for the open one is written out.
-fn make_output<R: Files>(
-    files: &R,
-    alloc: Global,
-    folder: &str,
-    current: &mut Option<DiskOutput<R::File>>,
+fn make_output<R: Files<File = File>, F: Write>(
+    disk: &mut DiskFolder<'_, R>,
+    faults: &mut F,
+    current: &mut Option<DiskOutput<File>>,
     name: &str,
-) -> io::Result<DiskOutput<R::File>>
+) -> io::Result<DiskOutput<File>>
     ensures made { IfOk result (λ made. string_bytes made.paths.name ≡ name.now) }
     ensures name { option_map name_of current.new ≡ option_map name_of current.old }
 {
     flush_output(current)?;
-    let paths = paths_of(alloc, folder, name)?;
-    let file = make_file(files, paths.place.as_str(), paths.beside.as_str())?;
-    let file = BufWriter::new(alloc, file)?;
-    Ok(DiskOutput { paths, file })
+    disk.take(faults)?;
+    begin_output(disk, name)
 }
 
-// Whether two readers have the same bytes left.
-fn have_same_bytes<A: Read, B: Read>(left: &mut A, right: &mut B) -> io::Result<bool> {
-    let mut here = [0; 4096];
-    let mut there = [0; 4096];
-    for _ in 0..u64::MAX {
-        let count = left.read(&mut here)?;
-        if count == 0 {
-            return Ok(right.read(&mut there)? == 0);
-        }
-        right.read_exact(&mut there[..count])?;
-        if here[..count] != there[..count] {
-            return Ok(false);
-        }
-    }
-    Ok(false)
-}
-
-// Whether both paths are files with the same bytes.
-fn are_same_files<R: Files>(files: &R, left: &str, right: &str) -> io::Result<bool> {
-    let old = fs::metadata(files, left)?;
-    if !old.is_file() || old.len() != fs::metadata(files, right)?.len() {
-        return Ok(false);
-    }
-    let mut left = fs::open(files, left)?;
-    let mut right = fs::open(files, right)?;
-    have_same_bytes(&mut left, &mut right)
-}
-
-// Puts a whole file into its place, or lets the old one stay where it has the same bytes.
-fn replace_file<R: Files>(files: &R, place: &str, beside: &str) -> io::Result<()> {
-    if are_same_files(files, place, beside).unwrap_or(false) {
-        fs::remove_file(files, beside)
-    } else {
-        fs::rename(files, beside, place)
-    }
-}
-
-// Writes out what waits for the open output, if one is open, and puts it into its place.
-fn finish_output<R: Files>(files: &R, current: &mut Option<DiskOutput<R::File>>) -> io::Result<()>
+// Ends the open output, if one is open.
+fn end_output<R: Files<File = File>>(
+    disk: &DiskFolder<'_, R>,
+    current: &mut Option<DiskOutput<File>>,
+) -> io::Result<()>
     ensures { option_map name_of current.new ≡ option_map name_of current.old }
 {
     match current {
-        Some(output) => {
-            output.file.flush()?;
-            replace_file(
-                files,
-                output.paths.place.as_str(),
-                output.paths.beside.as_str(),
-            )
-        }
+        Some(output) => finish_output(disk, output),
         None => Ok(()),
     }
 }
@@ -217,12 +148,12 @@ fn write_fault<W: Write + Drop, L: Write, F: Write>(
     }
 }
 
-impl<'a, R: Files, L: Write + Drop, F: Write + Drop> DiskOutputs<'a, R, L, F> {
-    /// Outputs as files below this folder, with this log and this place for fault lines.
+impl<'a, R: Files<File = File>, L: Write + Drop, F: Write + Drop> DiskOutputs<'a, R, L, F> {
+    /// Outputs as files below this place, with this log and this place for fault lines. Nothing is made before the first is begun.
     pub fn new(
         files: &'a R,
         alloc: Global,
-        folder: String,
+        place: OutputPlace,
         log: L,
         faults: F,
     ) -> Result<Self, AllocError>
@@ -235,10 +166,9 @@ impl<'a, R: Files, L: Write + Drop, F: Write + Drop> DiskOutputs<'a, R, L, F> {
         let Ok(faults) = BufWriter::with_capacity(alloc, LINE_BUFFER, faults) else {
             return Err(AllocError);
         };
+        let OutputPlace { root, folder } = place;
         Ok(DiskOutputs {
-            files,
-            alloc,
-            folder,
+            disk: DiskFolder::new(files, alloc, root, folder),
             current: None,
             log,
             faults,
@@ -247,7 +177,8 @@ impl<'a, R: Files, L: Write + Drop, F: Write + Drop> DiskOutputs<'a, R, L, F> {
     }
 }
 
-impl<'a, R: Files, L: Write + Drop, F: Write + Drop> Outputs for DiskOutputs<'a, R, L, F> {
+impl<'a, R: Files<File = File>, L: Write + Drop, F: Write + Drop> Outputs
+    for DiskOutputs<'a, R, L, F> {
     ghost seen = { λ d. untold_state d.current d.failures };
 
     fn failures(&self) -> u64 {
@@ -255,8 +186,7 @@ impl<'a, R: Files, L: Write + Drop, F: Write + Drop> Outputs for DiskOutputs<'a,
     }
 
     fn open(&mut self, name: &str) -> Result<(), DeviceFault> {
-        let folder = self.folder.as_str();
-        match make_output(self.files, self.alloc, folder, &mut self.current, name) {
+        match make_output(&mut self.disk, &mut self.faults, &mut self.current, name) {
             Ok(output) => {
                 self.current = Some(output);
                 Ok(())
@@ -269,7 +199,7 @@ impl<'a, R: Files, L: Write + Drop, F: Write + Drop> Outputs for DiskOutputs<'a,
     }
 
     fn close(&mut self) -> Result<(), DeviceFault> {
-        if finish_output(self.files, &mut self.current).is_err() {
+        if end_output(&self.disk, &mut self.current).is_err() {
             self.failures += 1;
             return Err(DeviceFault);
         }

@@ -30,6 +30,8 @@
 //! [`put_all`], [`log_all`] and [`fault_all`] are the calls to write with. Their run is one step a byte.
 #![tactic(auto)]
 
+mod disk_file;
+mod disk_folder;
 mod disk_outputs;
 mod disk_tree;
 mod event;
@@ -41,7 +43,7 @@ mod plan;
 mod send;
 mod tree;
 
-pub use disk_outputs::DiskOutputs;
+pub use disk_outputs::{DiskOutputs, OutputPlace};
 pub use disk_tree::DiskTree;
 pub use event::Event;
 pub use fault::DeviceFault;

@@ -10,8 +10,8 @@ ghost use Rattle.ports.specs.declared.plan.TreeCall.TheVariants.{Any};
 
 use crate::plan::{Plan, TreeCall, tree_call_fails};
 use crate::{DeviceFault, Tree};
-use std::alloc::{AllocError, Global};
 use basics::tables::{SipMap, SipSet, map_with_capacity, set_with_capacity};
+use std::alloc::{AllocError, Global};
 
 /// A tree of files in memory.
 #[derive(Drop)]

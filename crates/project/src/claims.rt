@@ -5,9 +5,9 @@ ghost use Rattle.edge.specs.View.{edge_view};
 ghost use Rattle.project.specs.Laws.{outputs_of, all_new};
 ghost use Rattle.project.specs.Whole.{IsFront};
 
+use basics::tables::SipSet;
 use edge::{Edge, push_copies};
 use std::alloc::{AllocError, Global};
-use basics::tables::SipSet;
 
 /// What the edges make, in their order.
 pub fn outputs_of(alloc: Global, edges: &[Edge]) -> Result<Vec<String>, AllocError>

@@ -11,9 +11,9 @@ ghost use Rattle.project.specs.Adding.{has_slash, is_file_name, begins_with_dash
 ghost use Rattle.project.specs.Adding.{has_c_in, has_c, names_fit, optional_file_name, build_fits, custom_fits, length_in, length_of};
 ghost use Rattle.project.specs.Adding.{is_short, is_within, is_build};
 
+use basics::tables::SipSet;
 use edge::{holds, is_upward};
 use std::alloc::{AllocError, Global};
-use basics::tables::SipSet;
 use targets::{
     BuildTarget, CustomTarget, Linked, Lists, Source, Target, file_name, has_foreign_source, is_c,
     link_names, links_libraries,

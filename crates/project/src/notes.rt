@@ -30,6 +30,13 @@ pub struct Test {
 
 impl Drop for Test {
     fn drop(self) {
-        let Test { name: _, command: _, environment: _, suites: _, should_fail: _, timeout: _ } = self;
+        let Test {
+            name: _,
+            command: _,
+            environment: _,
+            suites: _,
+            should_fail: _,
+            timeout: _,
+        } = self;
     }
 }

@@ -26,11 +26,11 @@ use crate::fitting::{
 };
 use crate::notes::{Answer, Install, Test};
 use crate::refusal::Refusal;
+use basics::tables::{SipSet, new_set};
 use edge::{Edge, are_writable, can_hold_path, can_hold_values, copies, strings};
-use target_edges::{Context, target_edges};
 use std::alloc::{AllocError, Global};
 use std::marker::Model;
-use basics::tables::{SipSet, new_set};
+use target_edges::{Context, target_edges};
 use targets::{Facts, Linked, Surroundings, Target, default_paths, libraries, path_in};
 
 // What was looked at, and what was noted.
@@ -44,7 +44,13 @@ struct Notes {
 
 impl Drop for Notes {
     fn drop(self) {
-        let Notes { present: _, absent: _, dependencies: _, installs: _, tests: _ } = self;
+        let Notes {
+            present: _,
+            absent: _,
+            dependencies: _,
+            installs: _,
+            tests: _,
+        } = self;
     }
 }
 
@@ -64,7 +70,14 @@ pub struct Project {
 
 impl Drop for Project {
     fn drop(self) {
-        let Project { alloc: _, surroundings: _, linked: _, outputs: _, taken: _, notes: _ } = self;
+        let Project {
+            alloc: _,
+            surroundings: _,
+            linked: _,
+            outputs: _,
+            taken: _,
+            notes: _,
+        } = self;
     }
 }
 

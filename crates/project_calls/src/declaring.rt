@@ -12,8 +12,8 @@ ghost use Rattle.project_calls.specs.OptionFile.{declared_at, declared_in, decla
 ghost use Rattle.project_calls.specs.OptionFile.{bytes_declare};
 ghost use Rattle.project_calls.specs.OptionFileView.{file_in};
 
-use definition_files::{Found, find, line_at, refusal_of};
 use basics::faults::Refusal;
+use definition_files::{Found, find, line_at, refusal_of};
 use grammar::fault::SyntaxError;
 use grammar::parse;
 use grammar::tree::File;

@@ -3,12 +3,12 @@
 
 mod declaring;
 mod defaults;
-mod entries;
 mod flags;
 mod option_call;
 mod programs;
 mod project_call;
 mod rows;
+mod shown_options;
 mod values;
 
 pub use option_call::get_option;

@@ -8,8 +8,8 @@ ghost use Rattle.project_calls.specs.GetOption.{get_option};
 
 use crate::values::as_data;
 use arguments::Arguments;
-use data::Value;
 use basics::faults::Refusal;
+use data::Value;
 use ports::{Outputs, Tree};
 use world::{Caller, Stop};
 

@@ -19,12 +19,12 @@ ghost use Rattle.project_calls.specs.Project.{settled, texts_behind, version_of,
 
 use crate::declaring::option_file;
 use crate::defaults::{defaults, keys_given, printed_all, values_given};
-use crate::entries::option_entries;
 use crate::flags::flags_of;
 use crate::programs::program;
+use crate::shown_options::option_entries;
 use arguments::Arguments;
-use data::Value;
 use basics::faults::Refusal;
+use data::Value;
 use options::{Declared, OptionFault, Options, Resolved, resolve};
 use ports::{Outputs, Tree};
 use std::alloc::{AllocError, Global};

@@ -14,10 +14,10 @@ ghost use Rattle.resource_calls.specs.TestCommandsView.{run_view};
 use crate::place::Place;
 use arguments::Arguments;
 use data::{Object, Program, Value};
+use named_sources::{output_at, outputs_at, strings};
 use operators::path_below;
 use resources::environment;
 use std::alloc::{AllocError, Global};
-use named_sources::{output_at, outputs_at, strings};
 use targets::{BuildTarget, build_target_at, file_path};
 
 /// What a test runs.

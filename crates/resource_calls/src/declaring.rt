@@ -12,8 +12,8 @@ use crate::named_files::require_files;
 use crate::own_lists::{Own, own_lists};
 use crate::place::place_of;
 use arguments::Arguments;
-use data::{Dependency, Object, Value};
 use basics::faults::Refusal;
+use data::{Dependency, Object, Value};
 use ports::{Outputs, Tree};
 use world::{Caller, Stop};
 

@@ -13,8 +13,8 @@ ghost use Rattle.resource_calls.specs.Required.{required_by};
 
 use crate::required::{missing_object, required_by};
 use arguments::{Arguments, Requirement};
-use data::{Dependency, Object, Value};
 use basics::faults::Refusal;
+use data::{Dependency, Object, Value};
 use machine_file::Machine;
 use ports::{Outputs, Tree};
 use project::Answer;

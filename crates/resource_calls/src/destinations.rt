@@ -10,13 +10,13 @@ ghost use Rattle.resource_calls.specs.Destinations.{usual_folder};
 ghost use Rattle.resource_calls.specs.DestinationsView.{folders_view, said_view};
 
 use arguments::Arguments;
+use named_sources::{NamedSource, sources_of};
 use operators::path_below;
 use placeholders::plain_name;
 use ports::{Outputs, Tree};
 use project::Install;
 use resources::{destination, headers_folder, man_folder};
 use std::alloc::{AllocError, Global};
-use named_sources::{NamedSource, sources_of};
 use world::Caller;
 
 /// What sort of file is installed.

@@ -12,8 +12,8 @@ ghost use Rattle.resource_calls.specs.Installs.{all_installed, install, install_
 use crate::destinations::{Said, Sort, folders_in, said_of};
 use crate::named_files::require_files;
 use arguments::Arguments;
-use data::Value;
 use basics::faults::Refusal;
+use data::Value;
 use ports::{Outputs, Tree};
 use project::Install;
 use std::alloc::{AllocError, Global};

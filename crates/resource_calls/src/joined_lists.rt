@@ -13,9 +13,9 @@ use crate::own_lists::Own;
 use crate::place::Place;
 use arguments::Arguments;
 use data::{Dependency, Refusal, Source, Sources, Text, Texts};
+use named_sources::NamedSource;
 use resources::{dependencies_in, found_dependency, joined, within_texts};
 use std::alloc::{AllocError, Global};
-use named_sources::NamedSource;
 use targets::Linked;
 
 // ---- sources

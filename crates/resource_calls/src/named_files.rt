@@ -5,8 +5,8 @@ ghost use Rattle.world.specs.Answering.{Carries, HasRoom};
 ghost use Rattle.world.specs.Caller.{state_of};
 ghost use Rattle.resource_calls.specs.NamedFiles.{file_required, files_required};
 
-use ports::{Outputs, Tree};
 use named_sources::NamedSource;
+use ports::{Outputs, Tree};
 use world::{Caller, Stop};
 
 fn require_file<T: Tree, O: Outputs>(

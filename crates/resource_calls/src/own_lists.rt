@@ -10,8 +10,8 @@ ghost use Rattle.resource_calls.specs.PlaceView.{place_view};
 use crate::place::Place;
 use arguments::Arguments;
 use data::Value;
-use std::alloc::{AllocError, Global};
 use named_sources::{NamedSource, folders_of, numbers_of, sources_of};
+use std::alloc::{AllocError, Global};
 use targets::{Linked, are_libraries};
 
 /// What a call lists of its own.

@@ -12,8 +12,8 @@ ghost use Rattle.resource_calls.specs.Required.{required_by};
 
 use crate::required::{missing_object, required_by};
 use arguments::{Arguments, Requirement};
-use data::{Object, Program, Text, Texts, Value};
 use basics::faults::Refusal;
+use data::{Object, Program, Text, Texts, Value};
 use paths::tree_path;
 use ports::{Outputs, Tree};
 use resources::program_words;

@@ -11,8 +11,8 @@ ghost use Rattle.resource_calls.specs.Tests.{said_run, seconds_given, test, test
 use crate::commands::{Run, run_of};
 use crate::place::place_of;
 use arguments::Arguments;
-use data::Value;
 use basics::faults::Refusal;
+use data::Value;
 use ports::{Outputs, Tree};
 use project::Test;
 use resources::seconds_of;

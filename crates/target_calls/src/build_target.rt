@@ -15,9 +15,9 @@ use crate::here::Here;
 use crate::sources::{files_among, sources_in};
 use arguments::Arguments;
 use data::Value;
+use named_sources::{NamedSource, folders_of, is_library_version, numbers_of, sources_of};
 use std::alloc::{AllocError, Global};
 use std::rc::Rc;
-use named_sources::{NamedSource, folders_of, is_library_version, numbers_of, sources_of};
 use targets::{BuildTarget, Kind, Lists, Source, Target};
 
 /// What a call declares.

@@ -14,10 +14,10 @@ use crate::here::Here;
 use crate::sources::{made_of, one_made_of};
 use data::{Object, Program, Value};
 use edge::{copies, source_path};
+use named_sources::{output_at, outputs_at, strings};
 use placeholders::{Place, words_of};
 use project::has_slash;
 use std::alloc::{AllocError, Global};
-use named_sources::{output_at, outputs_at, strings};
 use targets::{BuildTarget, Kind, Source, build_target_at, file_path};
 
 /// The words of a part of the command, and what has to be there for it.

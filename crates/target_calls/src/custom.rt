@@ -22,12 +22,11 @@ use crate::command::{Part, command_of};
 use crate::here::Here;
 use crate::sources::{files_among, sources_in};
 use arguments::{Arguments, Named};
-use data::Value;
+use data::{Value, opened};
 use edge::{copies, source_path, source_root};
-use data::opened;
+use named_sources::sources_of;
 use placeholders::{Place, Scope, filled};
 use std::alloc::{AllocError, Global};
-use named_sources::sources_of;
 use targets::{CustomTarget, Source, Target, path_in, source_paths};
 
 /// Names of files of the folder.

@@ -14,8 +14,8 @@ use crate::declaring::require_fit;
 use crate::here::here_of;
 use crate::tree::require_all;
 use arguments::Arguments;
-use data::{Object, Value};
 use basics::faults::Refusal;
+use data::{Object, Value};
 use ports::{Outputs, Tree};
 use world::{Caller, Stop};
 

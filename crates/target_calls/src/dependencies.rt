@@ -7,9 +7,9 @@ ghost use Rattle.target_calls.specs.Dependencies.{dependencies_of, found_in, lis
 
 use crate::sources::sources_in;
 use data::{Dependency, Object, Value};
+use named_sources::{NamedSource, strings};
 use std::alloc::{AllocError, Global};
 use std::rc::Rc;
-use named_sources::{NamedSource, strings};
 use targets::{Linked, Lists};
 
 fn named_of(alloc: Global, source: &data::Source) -> Result<NamedSource, AllocError>

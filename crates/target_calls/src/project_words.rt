@@ -10,9 +10,9 @@ ghost use Rattle.world.specs.Caller.{state_of};
 ghost use Rattle.target_calls.specs.ProjectWords.{add_project_arguments, add_project_link_arguments, are_c, is_c, required_c};
 
 use arguments::Arguments;
+use basics::faults::Refusal;
 use data::Value;
 use edge::strings;
-use basics::faults::Refusal;
 use ports::{Outputs, Tree};
 use std::alloc::{AllocError, Global};
 use world::{Caller, Stop};

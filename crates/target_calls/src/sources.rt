@@ -8,9 +8,9 @@ ghost use Rattle.named_sources.specs.SourcesView.{named_view};
 ghost use Rattle.target_calls.specs.Sources.{file_in, one_made, source_in, sources_in};
 
 use edge::copies;
+use named_sources::{NamedSource, output_at, outputs_at};
 use std::alloc::{AllocError, Global};
 use std::rc::Rc;
-use named_sources::{NamedSource, output_at, outputs_at};
 use targets::{Linked, Source};
 
 /// Outputs of one target.

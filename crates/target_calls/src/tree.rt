@@ -8,11 +8,11 @@ ghost use Rattle.world.specs.Caller.{state_of};
 ghost use Rattle.target_calls.specs.Files.{all_required, files, include_directories, named_files, named_folders};
 
 use arguments::Arguments;
-use data::Value;
 use basics::faults::Refusal;
+use data::Value;
+use named_sources::{directories_at, files_at};
 use paths::{folder_paths, tree_paths};
 use ports::{Outputs, Tree};
-use named_sources::{directories_at, files_at};
 use world::{Caller, Stop};
 
 // The paths of the files that texts name.

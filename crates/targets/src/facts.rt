@@ -16,7 +16,15 @@ pub struct Flags {
 
 impl Drop for Flags {
     fn drop(self) {
-        let Flags { warning_level: _, is_werror: _, c_std: _, optimization: _, is_debug: _, c_args: _, c_link_args: _ } = self;
+        let Flags {
+            warning_level: _,
+            is_werror: _,
+            c_std: _,
+            optimization: _,
+            is_debug: _,
+            c_args: _,
+            c_link_args: _,
+        } = self;
     }
 }
 
@@ -49,7 +57,11 @@ pub struct OptionEntry {
 
 impl Drop for OptionEntry {
     fn drop(self) {
-        let OptionEntry { name: _, kind: _, value: _ } = self;
+        let OptionEntry {
+            name: _,
+            kind: _,
+            value: _,
+        } = self;
     }
 }
 
@@ -75,7 +87,18 @@ pub struct Facts {
 
 impl Drop for Facts {
     fn drop(self) {
-        let Facts { name: _, version: _, license: _, depth: _, source_root: _, build_root: _, compiler: _, archiver: _, flags: _, options: _ } = self;
+        let Facts {
+            name: _,
+            version: _,
+            license: _,
+            depth: _,
+            source_root: _,
+            build_root: _,
+            compiler: _,
+            archiver: _,
+            flags: _,
+            options: _,
+        } = self;
     }
 }
 
@@ -88,6 +111,10 @@ pub struct Surroundings {
 
 impl Drop for Surroundings {
     fn drop(self) {
-        let Surroundings { facts: _, arguments: _, link_arguments: _ } = self;
+        let Surroundings {
+            facts: _,
+            arguments: _,
+            link_arguments: _,
+        } = self;
     }
 }

@@ -6,8 +6,8 @@ ghost use Rattle.targets.specs.Libraries.{is_static_target, links_libraries};
 ghost use Rattle.targets.specs.View.{linked_view, target_view, build_view};
 
 use crate::target::{BuildTarget, Target};
-use std::alloc::{AllocError, Global};
 use basics::tables::new_set;
+use std::alloc::{AllocError, Global};
 
 /// A target with what is made of it once.
 pub struct Linked {
@@ -21,7 +21,11 @@ pub struct Linked {
 
 impl Drop for Linked {
     fn drop(self) {
-        let Linked { target: _, libraries: _, paths: _ } = self;
+        let Linked {
+            target: _,
+            libraries: _,
+            paths: _,
+        } = self;
     }
 }
 

@@ -8,9 +8,9 @@ ghost use Rattle.targets.specs.View.{source_view, lists_view, build_view};
 ghost use Rattle.targets.specs.Inputs.{input_view};
 
 use crate::target::{BuildTarget, Lists, Source};
+use basics::tables::new_set;
 use edge::{first_kept, push_copies, source_path};
 use std::alloc::{AllocError, Global};
-use basics::tables::new_set;
 
 /// A source that is compiled.
 #[derive(Drop)]

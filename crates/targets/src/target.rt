@@ -67,7 +67,13 @@ pub struct Lists {
 
 impl Drop for Lists {
     fn drop(self) {
-        let Lists { sources: _, include_folders: _, compile_args: _, link_args: _, link_with: _ } = self;
+        let Lists {
+            sources: _,
+            include_folders: _,
+            compile_args: _,
+            link_args: _,
+            link_with: _,
+        } = self;
     }
 }
 
@@ -89,7 +95,17 @@ pub struct BuildTarget {
 
 impl Drop for BuildTarget {
     fn drop(self) {
-        let BuildTarget { kind: _, folder: _, name: _, own: _, dependencies: _, version: _, soversion: _, is_default: _, is_installed: _ } = self;
+        let BuildTarget {
+            kind: _,
+            folder: _,
+            name: _,
+            own: _,
+            dependencies: _,
+            version: _,
+            soversion: _,
+            is_default: _,
+            is_installed: _,
+        } = self;
     }
 }
 
@@ -117,7 +133,19 @@ pub struct CustomTarget {
 
 impl Drop for CustomTarget {
     fn drop(self) {
-        let CustomTarget { name: _, folder: _, outputs: _, inputs: _, needs: _, words: _, captures: _, depfile: _, longest: _, is_default: _, is_installed: _ } = self;
+        let CustomTarget {
+            name: _,
+            folder: _,
+            outputs: _,
+            inputs: _,
+            needs: _,
+            words: _,
+            captures: _,
+            depfile: _,
+            longest: _,
+            is_default: _,
+            is_installed: _,
+        } = self;
     }
 }
 

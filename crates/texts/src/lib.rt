@@ -13,7 +13,6 @@ mod placed;
 mod search;
 mod split;
 mod versions;
-pub use versions::version_compare;
 
 pub use ends::{strip, strip_of};
 pub use joining::{join, replace};
@@ -23,3 +22,4 @@ pub use part::substring;
 pub use placed::{Places, Segment, digit_count, number_of, segments};
 pub use search::{contains, ends_with, starts_with};
 pub use split::{split_at, split_blank, split_lines};
+pub use versions::version_compare;

@@ -8,8 +8,8 @@ ghost use Rattle.texts.specs.Joined.{joined};
 ghost use Rattle.texts.specs.Answers.{pieces_in};
 
 use crate::cut::Cut;
-use data::Refusal;
 use basics::limits::ITEMS;
+use data::Refusal;
 use std::alloc::{AllocError, Global};
 
 /// The parts of `text` between the places where `separator` stands: the method `split` with an argument.

@@ -8,8 +8,8 @@ ghost use Rattle.texts.specs.Version.{runs, spelled, run_order, version_order};
 ghost use Rattle.texts.specs.Condition.{relation_of, sign_length, allows, meets};
 ghost use Rattle.texts.specs.Code.{run_in, IsWellFormed};
 
-use std::cmp::Ordering;
 use crate::digit_count;
+use std::cmp::Ordering;
 
 /// What a condition asks of a version, beside the one that it names.
 #[derive(Clone, Copy)]

@@ -62,7 +62,17 @@ pub struct Store {
 impl Drop for Store {
     fn drop(self) {
         let Store {
-            place: _, settings: _, names: _, slots: _, machine: _, options: _, configurations: _, is_begun: _, project: _, entered: _, looked: _,
+            place: _,
+            settings: _,
+            names: _,
+            slots: _,
+            machine: _,
+            options: _,
+            configurations: _,
+            is_begun: _,
+            project: _,
+            entered: _,
+            looked: _,
         } = self;
     }
 }

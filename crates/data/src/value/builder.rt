@@ -12,9 +12,9 @@ ghost use Rattle.data.specs.declared.refusal.Refusal.TheVariants as refusal;
 use super::{Dictionary, Value, deepest, is_within};
 use crate::refusal::Refusal;
 use crate::text::Text;
+use basics::tables::{SipSet, new_set};
 use std::alloc::{AllocError, Global};
 use std::marker::Model;
-use basics::tables::{SipSet, new_set};
 
 /// A dictionary that may pass the limits while it is made; `finish` looks at them once.
 #[derive(Drop)]

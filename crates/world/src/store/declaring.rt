@@ -58,7 +58,17 @@ impl Store {
         ensures { result ≡ self.project }
     {
         let Store {
-            place: _, settings: _, names: _, slots: _, machine: _, options: _, configurations: _, is_begun: _, project, entered: _, looked: _,
+            place: _,
+            settings: _,
+            names: _,
+            slots: _,
+            machine: _,
+            options: _,
+            configurations: _,
+            is_begun: _,
+            project,
+            entered: _,
+            looked: _,
         } = self;
         project
     }

@@ -1,9 +1,0 @@
-use Rattle.std.proofs.Common.{◌-◌, ◌+◌, arith}
-use Rattle.calls.specs.Range.{how_many}
-use Rattle.calls.proofs.Counting.{too_many}
-use Rattle.calls.proofs.range.stepped.Goals as goal
-
-pub returns-then-how_many-gt-MOST_ITEMS : goal.returns-then-how_many-gt-MOST_ITEMS
-returns-then-how_many-gt-MOST_ITEMS c =
-    too_many (how_many c.args.start c.args.stop (c.args.step - 1)) c.args.start (c.args.step - 1 + 1)
-    (omega (arith, c.how_many.ensures, c.if-how_many-gt-MOST_ITEMS.true))

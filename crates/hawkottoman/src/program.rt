@@ -1,0 +1,165 @@
+//! A run of the program, over a folder of a disk.
+ghost use Rattle.std.specs.Prelude.{◌≡◌, ◌<◌, ◌≤◌, map, string_bytes};
+ghost use Rattle.command.specs.CommandLine.{IsRefused, IsTaken};
+ghost use Rattle.build_file.specs.Concluding.{exit_status};
+
+use crate::running::setup;
+use build_file::Status;
+use command::{Line, LineFault, command_line};
+use operators::path_below;
+use ports::{DiskOutputs, DiskTree, OutputPlace};
+use std::alloc::{AllocError, Global};
+use std::fs::File;
+use std::io::{ErrorKind, Read, Write};
+use std::rt::Files;
+use std::{fs, io};
+use world::Settings;
+
+// The exit status for words that are no command line.
+const BAD_LINE: u8 = 4;
+
+// The most bytes that are read of a machine file, which may be a pipe or a device.
+const MACHINE_FILE_BYTES: usize = 16_777_216;
+
+/// Configures the project in the folder `root` as the words say, of which the first is the program's
+/// name. The log goes to `log`, fault lines and the program's own texts to `faults`, outputs to the
+/// folder that the words name, below `root`.
+///
+/// Answers the exit status: 0 done, 1 a fault of the sources, 2 a device failed, 3 memory ran out,
+/// 4 the words are no command line.
+pub fn run<R: Files<File = File> + AllocGlobal, L: Write + Drop, F: Write + Drop>(
+    rt: &R,
+    words: &[String],
+    root: &str,
+    mut log: L,
+    mut faults: F,
+) -> u8
+    ensures known { result ≤ 4 }
+    ensures taken { result < 3 → IsTaken (map string_bytes words.now) }
+    ensures bad_line { result ≡ 4 → IsRefused (map string_bytes words.now) }
+{
+    match command_line(rt.alloc(), words) {
+        Ok(line) => {
+            let status = match configure(rt, line, root, &mut log, &mut faults) {
+                Ok(status) => status,
+                Err(error) => status_of(&error),
+            };
+            ended(status, &mut faults)
+        }
+        Err(LineFault::Help(text)) => match log.write_all(text.as_str().as_bytes()) {
+            Ok(()) => ended(Status::Done, &mut faults),
+            Err(_) => ended(Status::Device, &mut faults),
+        },
+        Err(LineFault::Usage(text)) => {
+            let _ = faults.write_all(text.as_str().as_bytes());
+            BAD_LINE
+        }
+        Err(LineFault::Memory(_)) => ended(Status::Memory, &mut faults),
+    }
+}
+
+// Configures as the line says. A folder that holds a `meson.build` is one of sources, and none to build in.
+fn configure<R: Files<File = File> + AllocGlobal, L: Write + Drop, F: Write + Drop>(
+    rt: &R,
+    line: Line,
+    root: &str,
+    log: L,
+    mut faults: F,
+) -> io::Result<Status> {
+    if holds_sources(rt, root, line.folder.as_str())? {
+        tell_of_sources(line.folder.as_str(), &mut faults)?;
+        return Ok(Status::Device);
+    }
+    let machine = machine_bytes(rt, root, &line.machine_file)?;
+    let place = OutputPlace {
+        root: String::from_str(rt.alloc(), root)?,
+        folder: line.folder.clone()?,
+    };
+    let mut out = DiskOutputs::new(rt, rt.alloc(), place, log, faults)?;
+    let settings = settings_of(rt.alloc(), line, root)?;
+    let mut tree = DiskTree::new(rt, rt.alloc(), String::from_str(rt.alloc(), root)?);
+    Ok(setup(
+        rt.alloc(),
+        &mut tree,
+        &settings,
+        machine.as_slice(),
+        &mut out,
+    ))
+}
+
+// Whether there is a `meson.build` in the folder below this root.
+fn holds_sources<R: Files + AllocGlobal>(rt: &R, root: &str, folder: &str) -> io::Result<bool> {
+    let path = format!(in rt.alloc(); "{root}/{folder}/meson.build")?;
+    match fs::symlink_metadata(rt, path.as_str()) {
+        Ok(_) => Ok(true),
+        Err(error) if matches!(error.kind(), ErrorKind::NotFound | ErrorKind::NotADirectory) => {
+            Ok(false)
+        }
+        Err(error) => Err(error),
+    }
+}
+
+// Says why nothing is built in the folder.
+fn tell_of_sources<F: Write>(folder: &str, faults: &mut F) -> io::Result<()> {
+    faults.write_all(b"meson: ")?;
+    faults.write_all(folder.as_bytes())?;
+    faults.write_all(b" holds a meson.build: it is a folder of sources\n")
+}
+
+// What the line says of a run over the sources in this folder.
+fn settings_of(alloc: Global, line: Line, root: &str) -> Result<Settings, AllocError> {
+    let depth = line.depth();
+    let build_root = path_below(alloc, root, line.folder.as_str())?;
+    Ok(Settings {
+        source_root: String::from_str(alloc, root)?,
+        build_root,
+        depth,
+        words: line.words,
+    })
+}
+
+// The bytes of the machine file; none where none is named.
+fn machine_bytes<R: Files<File = File> + AllocGlobal>(
+    rt: &R,
+    root: &str,
+    machine_file: &Option<String>,
+) -> io::Result<Vec<u8>> {
+    let mut bytes = Vec::new(rt.alloc());
+    let Some(name) = machine_file else {
+        return Ok(bytes);
+    };
+    let path = path_below(rt.alloc(), root, name.as_str())?;
+    let file = fs::open(rt, path.as_str())?;
+    file.take(MACHINE_FILE_BYTES as u64 + 1)
+        .read_to_end(&mut bytes)?;
+    if bytes.len() > MACHINE_FILE_BYTES {
+        return Err(io::Error::from(ErrorKind::FileTooLarge));
+    }
+    Ok(bytes)
+}
+
+fn status_of(error: &io::Error) -> Status {
+    if error.kind() == ErrorKind::OutOfMemory {
+        Status::Memory
+    } else {
+        Status::Device
+    }
+}
+
+// Says why a run ended early, and gives its exit status.
+fn ended<F: Write>(status: Status, faults: &mut F) -> u8
+    ensures { result ≡ exit_status status }
+{
+    match status {
+        Status::Done => 0,
+        Status::Fault => 1,
+        Status::Device => {
+            let _ = faults.write_all(b"meson: device fault\n");
+            2
+        }
+        Status::Memory => {
+            let _ = faults.write_all(b"meson: out of memory\n");
+            3
+        }
+    }
+}

@@ -1,0 +1,90 @@
+//! One run, from the bytes of a tree to the events of the outputs.
+ghost use Rattle.std.specs.Prelude.{◌≡◌, ◌<◌};
+ghost use Rattle.ports.specs.Endings.{HasRoom};
+ghost use Rattle.build_file.specs.Means.{Means};
+ghost use Rattle.build_file.specs.Concluding.{Agrees};
+ghost use Rattle.interp.specs.Evaluation.{IsSaid, MachineSaid};
+ghost use Rattle.world.specs.Deed.{Files};
+ghost use Rattle.world.specs.Gives.{Holds};
+ghost use Rattle.world.specs.SettingsView.{settings_view};
+ghost use Rattle.hawkottoman.specs.Setup.{FailsOnce, OnDone, OnEnd, OnProject, Settles, project_of, run_of};
+
+use build_file::{Status, conclude, refuse};
+use interp::{Inputs, evaluate};
+use ports::{Outputs, Tree};
+use std::alloc::Global;
+use std::marker::Brand;
+use std::sync::ledger::{Blank, Ledger};
+use world::{Settings, Stop, Store, new_steps};
+
+// What is done after an evaluation: all outputs of its project are written, or the line of its fault.
+fn settle<O: Outputs>(alloc: Global, answer: Result<Store, Stop>, out: &mut O) -> Status
+    requires { OnEnd answer (HasRoom (O.seen out.old).failures) }
+    ensures settles { Settles answer result (O.seen out.old) (O.seen out.new) }
+    ensures meaning { OnProject answer Means }
+{
+    match answer {
+        Ok(store) => conclude(alloc, store.project(), out),
+        Err(Stop::Refused(fault)) => refuse(&fault, out),
+        Err(Stop::Device) => Status::Device,
+        Err(Stop::Memory) => Status::Memory,
+    }
+}
+
+// A run whose rules are counted on this ledger.
+fn run_with<T: Tree, O: Outputs, L: Ledger>(
+    alloc: Global,
+    tree: &mut T,
+    inputs: &Inputs<'_>,
+    out: &mut O,
+    blank: Blank,
+) -> Status
+    requires tree { HasRoom (T.seen tree.old).failures }
+    requires out { HasRoom (O.seen out.old).failures }
+    requires name { blank.name ≡ L.name }
+    requires parts { blank.parts ≡ L.parts }
+    requires some { 0 < blank.parts }
+    ensures run { (files : Files) (said : MachineSaid) → Holds (T.seen tree.old) files → IsSaid inputs.now.machine.now said
+        → Agrees (run_of files (settings_view inputs.now.settings.now) said) result (O.seen out.old) (O.seen out.new) }
+    ensures meaning { (files : Files) (said : MachineSaid) → Holds (T.seen tree.old) files → IsSaid inputs.now.machine.now said
+        → OnDone result (Means (project_of files (settings_view inputs.now.settings.now) said)) }
+    ensures device { FailsOnce result (T.seen tree.old).failures (O.seen out.old).failures (T.seen tree.new).failures
+        (O.seen out.new).failures }
+{
+    let mut steps = new_steps::<L>(blank);
+    let answer = evaluate(alloc, tree, inputs, out, &mut steps);
+    settle(alloc, answer, out)
+}
+
+/// Configures a build folder: reads the definitions of the tree and writes `build.ninja` and
+/// `meson-info/introspect.json` to the outputs.
+///
+/// The files, the settings and the bytes of the machine file determine a run: what the outputs are asked to take, in order and
+/// byte for byte, and the status.
+pub fn setup<T: Tree, O: Outputs>(
+    alloc: Global,
+    tree: &mut T,
+    settings: &Settings,
+    machine: &[u8],
+    out: &mut O,
+) -> Status
+    requires tree { HasRoom (T.seen tree.old).failures }
+    requires out { HasRoom (O.seen out.old).failures }
+
+    // Over a steady tree, status `Done` or `Fault` is that of the run, and outputs that tell took all of its steps. With status
+    // `Device` or `Memory` they took a beginning. The bytes of a machine file are read as one that says one thing: `machine_files_say`.
+    ensures run { (files : Files) (said : MachineSaid) → Holds (T.seen tree.old) files → IsSaid machine.now said
+        → Agrees (run_of files (settings_view settings.now) said) result (O.seen out.old) (O.seen out.new) }
+
+    // With status `Done` the Ninja manual reads `build.ninja` as just what the definitions declare, and a shell each command as its
+    // words. No path is made twice, each that is needed is made before or there, and no edge reaches itself.
+    ensures meaning { (files : Files) (said : MachineSaid) → Holds (T.seen tree.old) files → IsSaid machine.now said
+        → OnDone result (Means (project_of files (settings_view settings.now) said)) }
+
+    // Of any devices: one of them has failed once where the status is `Device`, and else none has.
+    ensures device { FailsOnce result (T.seen tree.old).failures (O.seen out.old).failures (T.seen tree.new).failures
+        (O.seen out.new).failures }
+{
+    let inputs = Inputs { settings, machine };
+    run_with::<T, O, Brand>(alloc, tree, &inputs, out, Blank::new(1))
+}

@@ -1,0 +1,4 @@
+pub mod Counting
+pub mod Gaps
+pub mod Joining
+mod Carried

@@ -1,0 +1,24 @@
+//! The functions of the page "Reference manual" that say nothing of the project, and the names of all.
+//!
+//! What a function does is a deed of `specs/`, and its code carries it out on a [`world::Caller`].
+#![tactic(auto)]
+
+mod disablers;
+mod function;
+mod messages;
+mod names;
+mod path_joining;
+mod ranges;
+mod rows;
+mod turning;
+mod variables;
+
+pub use disablers::{disabler, is_disabler};
+pub use function::{Function, ProjectFunction};
+pub use messages::{assert, error, message, warning};
+pub use names::{function_named, is_left_out, is_name, is_predefined, predefined};
+pub use path_joining::join_paths;
+pub use ranges::range;
+pub use rows::{any_values, some_texts, subdir_row, values};
+pub use turning::{is_turned_off, makes_file};
+pub use variables::{get_variable, is_variable, set_variable, unset_variable};

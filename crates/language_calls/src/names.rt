@@ -1,0 +1,179 @@
+//! The names that the language gives a meaning to.
+ghost use Rattle.std.specs.Prelude.{◌≡◌, IfOk, option_map};
+ghost use Rattle.std.specs.List.{list_all};
+ghost use Rattle.language_calls.specs.Names.{begins_name, function_named, is_left_out, is_name, is_name_byte, is_predefined, predefined, project_function_named};
+ghost use Rattle.language_calls.specs.Names.{resource_function_named};
+ghost use Rattle.data.specs.View.{data_of};
+ghost use Rattle.language_calls.specs.declared.function.Function.TheVariants as functions;
+
+use crate::function::{Function, ProjectFunction};
+use basics::text_lists::is_among;
+use data::{Object, Value};
+use std::alloc::{AllocError, Global};
+
+/// The words that are no names.
+const KEYWORDS: [&str; 14] = [
+    "true",
+    "false",
+    "if",
+    "elif",
+    "else",
+    "endif",
+    "and",
+    "or",
+    "not",
+    "in",
+    "foreach",
+    "endforeach",
+    "break",
+    "continue",
+];
+
+/// The variables that stand for things of the run.
+const PREDEFINED: [&str; 4] = ["meson", "host_machine", "build_machine", "target_machine"];
+
+/// The functions of Meson that are left out for good, in the order of the alphabet.
+const LEFT_OUT: [&str; 21] = [
+    "add_global_arguments",
+    "add_global_link_arguments",
+    "add_languages",
+    "add_test_setup",
+    "alias_target",
+    "benchmark",
+    "both_libraries",
+    "build_target",
+    "debug",
+    "environment",
+    "generator",
+    "import",
+    "install_emptydir",
+    "install_subdir",
+    "install_symlink",
+    "run_command",
+    "run_target",
+    "shared_module",
+    "subproject",
+    "summary",
+    "vcs_tag",
+];
+
+/// Whether a name is a variable that stands for a thing of the run, as `meson`.
+pub fn is_predefined(name: &str) -> bool
+    ensures { result ≡ is_predefined name.now }
+{
+    is_among(&PREDEFINED, name)
+}
+
+/// What such a name stands for: the object `meson`, or the machine. What the machine file says of the machine is asked by the methods of
+/// that object, so nothing of it is looked at here.
+pub fn predefined(alloc: Global, name: &str) -> Result<Value, AllocError>
+    ensures { IfOk result (λ value. data_of value ≡ predefined name.now) }
+{
+    if name == "meson" {
+        Value::of_object(alloc, Object::Meson)
+    } else {
+        Value::of_object(alloc, Object::Machine)
+    }
+}
+
+/// Whether a function of this name is left out, so far or for good.
+pub fn is_left_out(name: &str) -> bool
+    ensures { result ≡ is_left_out name.now }
+{
+    is_among(&LEFT_OUT, name)
+}
+
+fn begins_name(text: &[u8]) -> bool
+    ensures { result ≡ begins_name text.now }
+{
+    match text.first() {
+        Some(byte) => byte.is_ascii_alphabetic() || *byte == b'_',
+        None => false,
+    }
+}
+
+fn is_name_byte(byte: u8) -> bool
+    ensures { result ≡ is_name_byte byte }
+{
+    byte.is_ascii_alphanumeric() || byte == b'_'
+}
+
+fn are_name_bytes(text: &[u8]) -> bool
+    ensures { result ≡ list_all is_name_byte text.now }
+{
+    text.iter().all(|byte| is_name_byte(*byte))
+}
+
+/// Whether a text is a name: letters, digits and underscores of which a digit is not the first, and no keyword.
+pub fn is_name(text: &str) -> bool
+    ensures { result ≡ is_name text.now }
+{
+    begins_name(text.as_bytes()) && are_name_bytes(text.as_bytes()) && !is_among(&KEYWORDS, text)
+}
+
+/// The function of a name.
+pub fn function_named(name: &str) -> Option<Function>
+    ensures { result ≡ function_named name.now }
+{
+    match name {
+        "assert" => Some(Function::Assert),
+        "disabler" => Some(Function::Disabler),
+        "error" => Some(Function::Error),
+        "get_variable" => Some(Function::GetVariable),
+        "is_disabler" => Some(Function::IsDisabler),
+        "is_variable" => Some(Function::IsVariable),
+        "join_paths" => Some(Function::JoinPaths),
+        "message" => Some(Function::Message),
+        "project" => Some(Function::Project),
+        "range" => Some(Function::Range),
+        "set_variable" => Some(Function::SetVariable),
+        "subdir" => Some(Function::Subdir),
+        "subdir_done" => Some(Function::SubdirDone),
+        "unset_variable" => Some(Function::UnsetVariable),
+        "warning" => Some(Function::Warning),
+        _ => of_project(project_function_named(name)),
+    }
+}
+
+fn of_project(function: Option<ProjectFunction>) -> Option<Function>
+    ensures { result ≡ option_map functions.OfProject function }
+{
+    Some(Function::OfProject(function?))
+}
+
+// The function of a name that says something of the project.
+fn project_function_named(name: &str) -> Option<ProjectFunction>
+    ensures { result ≡ project_function_named name.now }
+{
+    match name {
+        "add_project_arguments" => Some(ProjectFunction::AddProjectArguments),
+        "add_project_link_arguments" => Some(ProjectFunction::AddProjectLinkArguments),
+        "custom_target" => Some(ProjectFunction::CustomTarget),
+        "executable" => Some(ProjectFunction::Executable),
+        "files" => Some(ProjectFunction::Files),
+        "include_directories" => Some(ProjectFunction::IncludeDirectories),
+        "library" => Some(ProjectFunction::Library),
+        "shared_library" => Some(ProjectFunction::SharedLibrary),
+        "static_library" => Some(ProjectFunction::StaticLibrary),
+        _ => resource_function_named(name),
+    }
+}
+
+// The function of a name that says what targets are made with, and what is installed and tested.
+fn resource_function_named(name: &str) -> Option<ProjectFunction>
+    ensures { result ≡ resource_function_named name.now }
+{
+    match name {
+        "configuration_data" => Some(ProjectFunction::ConfigurationData),
+        "configure_file" => Some(ProjectFunction::ConfigureFile),
+        "declare_dependency" => Some(ProjectFunction::DeclareDependency),
+        "dependency" => Some(ProjectFunction::Dependency),
+        "find_program" => Some(ProjectFunction::FindProgram),
+        "get_option" => Some(ProjectFunction::GetOption),
+        "install_data" => Some(ProjectFunction::InstallData),
+        "install_headers" => Some(ProjectFunction::InstallHeaders),
+        "install_man" => Some(ProjectFunction::InstallMan),
+        "test" => Some(ProjectFunction::Test),
+        _ => None,
+    }
+}

@@ -1,0 +1,126 @@
+//! A file of a disk that is written beside its place, and put there when it is whole.
+ghost use Rattle.std.specs.Prelude.{◌≡◌, IfOk, string_bytes};
+
+use crate::disk_folder::DiskFolder;
+use std::alloc::{AllocError, Global};
+use std::fs::{File, OpenFile};
+use std::io::{BufWriter, ErrorKind, Read, Write};
+use std::rt::Files;
+use std::{fs, io};
+
+// How many bytes of an output wait at most, and how many of two files are compared at once.
+const BUFFER: usize = 65_536;
+
+/// An output that is being written.
+#[derive(Drop)]
+pub(crate) struct DiskOutput<W: Write + Drop> {
+    pub(crate) paths: Paths,
+    pub(crate) file: BufWriter<W>,
+}
+
+/// An output's name, its whole path, and that of the file that is written until it is whole.
+#[derive(Drop)]
+pub(crate) struct Paths {
+    pub(crate) name: String,
+    place: String,
+    beside: String,
+}
+
+// The file beside ends in what no output's name can have: `|` means something else in a `build.ninja`.
+fn paths_of<R: Files<File = File>>(
+    disk: &DiskFolder<'_, R>,
+    name: &str,
+) -> Result<Paths, AllocError>
+    ensures { IfOk result (λ made. string_bytes made.name ≡ name.now) }
+{
+    let place = disk.whole(name)?;
+    let mut beside = place.clone()?;
+    beside.push_str("|new")?;
+    Ok(Paths {
+        name: String::from_str(disk.alloc, name)?,
+        place,
+        beside,
+    })
+}
+
+// Makes the file anew. What stands there, as what an earlier run left or a link, is taken away and not followed.
+fn make_file<R: Files>(files: &R, path: &str) -> io::Result<R::File> {
+    match fs::remove_file(files, path) {
+        Err(error) if error.kind() != ErrorKind::NotFound => return Err(error),
+        _ => {}
+    }
+    File::create_new(files, path)
+}
+
+/// Begins the output of this name.
+pub(crate) fn begin_output<R: Files<File = File>>(
+    disk: &DiskFolder<'_, R>,
+    name: &str,
+) -> io::Result<DiskOutput<File>>
+    ensures { IfOk result (λ made. string_bytes made.paths.name ≡ name.now) }
+{
+    let paths = paths_of(disk, name)?;
+    disk.make_folders_of(name)?;
+    let file = make_file(disk.files, paths.beside.as_str())?;
+    let file = BufWriter::with_capacity(disk.alloc, BUFFER, file)?;
+    Ok(DiskOutput { paths, file })
+}
+
+// Whether two readers have the same bytes left, read into these buffers of one length.
+fn have_same_bytes<A: Read, B: Read>(
+    left: &mut A,
+    right: &mut B,
+    here: &mut [u8],
+    there: &mut [u8],
+) -> io::Result<bool> {
+    for _ in 0..u64::MAX {
+        let count = left.read(here)?;
+        if count == 0 {
+            return Ok(right.read(there)? == 0);
+        }
+        if count > there.len() {
+            return Ok(false);
+        }
+        right.read_exact(&mut there[..count])?;
+        if here[..count] != there[..count] {
+            return Ok(false);
+        }
+    }
+    Ok(false)
+}
+
+// Whether two files have the same bytes.
+fn are_equal<A: Read, B: Read>(alloc: Global, left: &mut A, right: &mut B) -> io::Result<bool> {
+    let mut here = vec![in alloc; 0; BUFFER]?;
+    let mut there = vec![in alloc; 0; BUFFER]?;
+    have_same_bytes(left, right, &mut here, &mut there)
+}
+
+// Whether both paths are files, and no links, with the same bytes.
+fn are_same_files<R: Files>(files: &R, alloc: Global, left: &str, right: &str) -> io::Result<bool> {
+    let old = fs::symlink_metadata(files, left)?;
+    if !old.is_file() || old.len() != fs::metadata(files, right)?.len() {
+        return Ok(false);
+    }
+    let mut left = fs::open(files, left)?;
+    let mut right = fs::open(files, right)?;
+    are_equal(alloc, &mut left, &mut right)
+}
+
+/// Writes out what waits for the output, and puts it into its place, once the disk has taken its bytes; or lets the old file stay where
+/// it has the same bytes.
+pub(crate) fn finish_output<R: Files<File = File>>(
+    disk: &DiskFolder<'_, R>,
+    output: &mut DiskOutput<File>,
+) -> io::Result<()>
+    ensures { string_bytes output.new.paths.name ≡ string_bytes output.old.paths.name }
+{
+    output.file.flush()?;
+    let place = output.paths.place.as_str();
+    let beside = output.paths.beside.as_str();
+    if are_same_files(disk.files, disk.alloc, place, beside).unwrap_or(false) {
+        return fs::remove_file(disk.files, beside);
+    }
+    output.file.get_ref().sync_data()?;
+    fs::rename(disk.files, beside, place)
+}

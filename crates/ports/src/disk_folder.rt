@@ -1,0 +1,140 @@
+//! The folder of a disk that outputs go to.
+
+use crate::disk_tree::joined;
+use std::alloc::{AllocError, Global};
+use std::fs::{File, TryLockError};
+use std::io::{ErrorKind, Write};
+use std::rt::Files;
+use std::{fs, io};
+
+/// The folder that outputs go to, and the runs at work in it.
+///
+/// What stands below the root may come from a stranger, so no link there is followed: a folder on the way to an output that is none, as
+/// a link to one, is refused.
+#[derive(Drop)]
+pub(crate) struct DiskFolder<'a, R: Files<File = File>> {
+    pub(crate) files: &'a R,
+    pub(crate) alloc: Global,
+    // the folder that is trusted, and the one below it, by its parts
+    root: String,
+    folder: String,
+    // the folder, opened and locked, from the first output on
+    lock: Option<File>,
+}
+
+// Whether this is a folder, and no link to one.
+fn is_folder<R: Files>(files: &R, path: &str) -> io::Result<bool> {
+    Ok(fs::symlink_metadata(files, path)?.is_dir())
+}
+
+// Makes this folder, where it isn't there. What else is there is refused.
+fn make_folder<R: Files>(files: &R, path: &str) -> io::Result<()> {
+    match fs::create_dir(files, path) {
+        Err(error) if error.kind() == ErrorKind::AlreadyExists => {
+            if is_folder(files, path)? {
+                return Ok(());
+            }
+            Err(error)
+        }
+        made => made,
+    }
+}
+
+// Makes the folders that these parts name, one below the other, below this one.
+fn make_folders<R: Files>(files: &R, alloc: Global, root: &str, parts: &str) -> io::Result<()> {
+    let mut path = String::from_str(alloc, root)?;
+    for part in parts.split('/') {
+        path.push_str("/")?;
+        path.push_str(part)?;
+        make_folder(files, path.as_str())?;
+    }
+    Ok(())
+}
+
+// Opens the folder and locks it, or answers none where another run has.
+fn lock_folder<R: Files<File = File>>(files: &R, path: &str) -> io::Result<Option<File>> {
+    let opened = fs::open(files, path)?;
+    match opened.try_lock() {
+        Ok(()) => Ok(Some(opened)),
+        Err(TryLockError::WouldBlock) => Ok(None),
+        Err(TryLockError::Error(error)) => Err(error),
+    }
+}
+
+// Says something of the folder, in a line of its own.
+fn tell<F: Write>(faults: &mut F, before: &str, folder: &str, behind: &str) -> io::Result<()> {
+    faults.write_all(b"meson: ")?;
+    faults.write_all(before.as_bytes())?;
+    faults.write_all(folder.as_bytes())?;
+    faults.write_all(behind.as_bytes())?;
+    faults.write_all(b"\n")?;
+    faults.flush()
+}
+
+impl<'a, R: Files<File = File>> DiskFolder<'a, R> {
+    /// The folder of these parts below this root. Nothing is made yet.
+    pub(crate) fn new(files: &'a R, alloc: Global, root: String, folder: String) -> Self {
+        DiskFolder {
+            files,
+            alloc,
+            root,
+            folder,
+            lock: None,
+        }
+    }
+
+    /// The whole path of what has this path below the folder.
+    pub(crate) fn whole(&self, path: &str) -> Result<String, AllocError> {
+        let folder = joined(self.alloc, self.root.as_str(), self.folder.as_str())?;
+        joined(self.alloc, folder.as_str(), path)
+    }
+
+    /// Makes the folder and has it for this run alone, where it hasn't yet. Where it is a link, or another run has it, that is said, and is
+    /// an error.
+    pub(crate) fn take<F: Write>(&mut self, faults: &mut F) -> io::Result<()> {
+        if self.lock.is_some() {
+            return Ok(());
+        }
+        self.make(faults)?;
+        let path = joined(self.alloc, self.root.as_str(), self.folder.as_str())?;
+        self.lock = lock_folder(self.files, path.as_str())?;
+        if self.lock.is_none() {
+            tell(
+                faults,
+                "another run is at work in ",
+                self.folder.as_str(),
+                "",
+            )?;
+            return Err(io::Error::from(ErrorKind::WouldBlock));
+        }
+        Ok(())
+    }
+
+    // Makes the folder.
+    fn make<F: Write>(&self, faults: &mut F) -> io::Result<()> {
+        let folder = self.folder.as_str();
+        match make_folders(self.files, self.alloc, self.root.as_str(), folder) {
+            Err(error) if error.kind() == ErrorKind::AlreadyExists => {
+                tell(
+                    faults,
+                    "",
+                    folder,
+                    " is not a folder, or is behind a link: no link is followed",
+                )?;
+                Err(error)
+            }
+            made => made,
+        }
+    }
+
+    /// Makes the folders that the output of this name needs.
+    pub(crate) fn make_folders_of(&self, name: &str) -> io::Result<()> {
+        match name.rsplit_once('/') {
+            Some((folders, _)) => {
+                let folder = joined(self.alloc, self.root.as_str(), self.folder.as_str())?;
+                make_folders(self.files, self.alloc, folder.as_str(), folders)
+            }
+            None => Ok(()),
+        }
+    }
+}

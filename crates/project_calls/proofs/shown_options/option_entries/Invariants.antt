@@ -1,0 +1,10 @@
+use Rattle.std.proofs.Common.{◌≡◌, map, take}
+use Rattle.options.specs.Resolves.{named_value}
+use Rattle.options.specs.View.{options_in}
+use Rattle.targets.specs.View.{option_entry_view}
+use Rattle.project_calls.specs.Entries.{entry_of}
+use Rattle.project_calls.proofs.shown_options.option_entries.Given as goal
+
+-- so many are listed
+abbrev pub invariant-loop-i : goal.invariant-loop-i
+invariant-loop-i l = map option_entry_view l.entries.items ≡ map entry_of (map named_value (take l.i (options_in l.options)))
