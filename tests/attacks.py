@@ -1,0 +1,463 @@
+"""What was seen to harm those who use the scripts, each tried again: tests/scripts runs these too.
+
+What must not be touched lies in a folder `outside`, beside what a script is given.
+"""
+import os
+import re
+import shutil
+import signal
+import subprocess
+import time
+from collections.abc import Iterator
+
+from workshop import CHECKOUT, WORK, check, configured, environment, put, read, refuses, run, shell, words_of
+
+ROOT = os.path.realpath(WORK)
+
+
+def files_below(folder: str) -> dict[str, bytes]:
+    """The files and links below a folder of WORK, each with its bytes or with where it leads."""
+    found = {}
+    for place, folders, names in os.walk(os.path.join(WORK, folder)):
+        for path in (os.path.join(place, name) for name in folders + names):
+            if os.path.islink(path):
+                found[os.path.relpath(path, WORK)] = os.fsencode(os.readlink(path))
+            elif os.path.isfile(path):
+                with open(path, "rb") as it:
+                    found[os.path.relpath(path, WORK)] = it.read()
+    return found
+
+
+def fresh(*folders: str) -> None:
+    for folder in folders:
+        shutil.rmtree(os.path.join(WORK, folder), ignore_errors=True)
+        os.makedirs(os.path.join(WORK, folder))
+
+
+def link(target: str, place: str) -> None:
+    os.makedirs(os.path.dirname(os.path.join(WORK, place)), exist_ok=True)
+    os.symlink(target, os.path.join(WORK, place))
+
+
+# install: destinations
+
+def to_install(*destinations: str) -> None:
+    """A configured folder `i` that installs a header to each of these places."""
+    configured("i", installed={put(f"i{n}/a.h", f"{n}\n"): place for n, place in enumerate(destinations)})
+    put("i/build.ninja", "")
+
+
+def leaves(name: str, destination: str, text: str, status: int = 2) -> None:
+    """Refused at once: neither the place before nor anything outside is written, and nothing is built."""
+    to_install("/first/before.h", destination)
+    before = files_below("d"), files_below("outside")
+    refuses(f"{name}: is refused", ["install", "i", "d"], status, text, env={"NINJA": put("no-ninja", "#!/bin/sh\ntouch built\n", 0o755)})
+    check(f"install: {name}: writes nothing", before == (files_below("d"), files_below("outside")) and
+          not os.path.exists(f"{WORK}/built"), files_below("d"))
+
+
+def test_destinations() -> None:
+    fresh("d", "outside")
+    for place in ("/usr/local/../../../outside/a.h", "/usr/local/include/../../../../outside/a.h", "/..", "/../a.h", "/usr/./..//../a.h"):
+        leaves(f"a destination {place}", place, f"{place}: climbs above the root; {WORK}/i1/a.h can't be installed there")
+    leaves("a relative prefix", "usr/include/a.h", "usr/include/a.h: is a relative path; the option prefix has to be an absolute one")
+    leaves("the root itself", "/usr/..", "is the root itself")
+    to_install("/usr/include/before.h", f"{ROOT}/.." + "/.." * ROOT.count("/") + f"{ROOT}/outside/a.h")
+    refuses("climbs above /", ["install", "i", "--no-rebuild"], 2, "climbs above the root", env={"DESTDIR": ""})
+    check("install: climbs above /: writes nothing", not files_below("outside") and not os.path.exists("/usr/include/before.h"))
+    refuses("a dry run", ["install", "i", "d", "-n"], 2, "climbs above the root")
+    to_install("/usr/local/../lib/a.h", "/usr//./include/a.h")
+    done = run(["install", "i", "d", "--no-rebuild"])
+    check("install: parts are carried out", set(files_below("d")) == {"d/usr/lib/a.h", "d/usr/include/a.h"}, f"{done}")
+    check("install: and shown so", f"Installing {WORK}/i0/a.h to {WORK}/d/usr/lib\n" in done.stdout, done.stdout)
+
+
+def test_links_on_the_way() -> None:
+    for name, target, place in (("an absolute link", f"{WORK}/outside", "d/usr"), ("a relative link", "../../outside", "d/usr/lib"),
+                                ("a link to the root", "/", "d/usr"), ("a link to a link", "there", "d/usr")):
+        fresh("d", "outside")
+        link(target, place)
+        link(f"{WORK}/outside", "d/there")
+        leaves(name, "/usr/lib/a.h", "/usr/lib/a.h: has a link on its way that leads ")
+    fresh("d", "outside")
+    link("usr", "d/usr")
+    leaves("a circle of links", "/usr/lib/a.h", "d/usr/lib/a.h: Too many levels of symbolic links", 1)
+    fresh("d", "outside")
+    link("gone/../../outside", "d/usr")
+    leaves("a link over a folder that is absent", "/usr/lib/a.h", "has a link on its way that leads out of")
+
+
+def test_links_that_stay() -> None:
+    fresh("d", "outside")
+    for target, place in {"lib64": "d/usr/lib", "../usr/share": "d/usr/doc", f"{WORK}/d/usr/bin": "d/bin", "usr/sbin": "d/sbin"}.items():
+        link(target, place)
+    os.makedirs(f"{WORK}/d/usr/bin")
+    put("outside/kept", "kept")
+    link(f"{WORK}/outside/kept", "d/usr/share/last.h")
+    to_install("/usr/lib/a.h", "/usr/doc/b.h", "/bin/c.h", "/sbin/d.h", "/usr/share/last.h")
+    done = run(["install", "i", "d", "--no-rebuild"])
+    came = {name for name in files_below("d") if name.endswith(".h")}
+    wanted = {"d/usr/lib64/a.h", "d/usr/share/b.h", "d/usr/bin/c.h", "d/usr/sbin/d.h", "d/usr/share/last.h"}
+    check("install: links that stay in DESTDIR are followed", done.returncode == 0 and came == wanted, f"{done} {came ^ wanted}")
+    is_replaced = read("outside/kept") == "kept" and not os.path.islink(f"{WORK}/d/usr/share/last.h")
+    check("install: a link in the place of a file is replaced", is_replaced)
+    fresh("d", "outside")
+    link(f"{WORK}/outside", "d/link")
+    to_install(f"{ROOT}/d/link/sub/a.h")
+    done = run(["install", "i", "--no-rebuild"])
+    check("install: without DESTDIR links are followed", list(files_below("outside")) == ["outside/sub/a.h"], f"{done}")
+
+
+def test_links_that_come_late() -> None:
+    """A link that the build makes, and a folder that is replaced by a link while a file is put into it."""
+    fresh("d", "outside")
+    to_install("/usr/lib/a.h")
+    ninja = put("late-ninja", f"#!/bin/sh\nln -s {WORK}/outside {WORK}/d/usr\n", 0o755)
+    refuses("a link that comes with the build", ["install", "i", "d"], 2, "has a link on its way", env={"NINJA": ninja})
+    check("install: a link that comes with the build: nothing is written", not files_below("outside"))
+    fresh("d", "outside")
+    swap = f"""import os, sys
+sys.path.insert(0, {CHECKOUT!r})
+sys.dont_write_bytecode = True
+from tools.root import Root, write_file
+def make(folder, name):
+    os.rename({WORK + '/d/usr'!r}, {WORK + '/d/moved'!r})
+    os.symlink({WORK + '/outside'!r}, {WORK + '/d/usr'!r})
+    write_file(b'x', 0o644, (0, 0))(folder, name)
+Root({WORK + '/d'!r}).put('/usr/a.h', make)
+"""
+    done = run(["python3", "-c", swap])
+    check("install: a folder that becomes a link under way", not files_below("outside") and "d/moved/a.h" in files_below("d"), done.stderr)
+
+
+# Names that Ninja's command line reads otherwise
+
+NAMES = ["-n", "x^", "x", "a b", "c$d", "e:f", "-t", "all^", "wanted"]
+
+
+def test_names_for_ninja() -> None:
+    fresh("n", "d")
+    spelled = lambda name: re.sub(r"([$ :])", r"$\1", name)
+    edges = [f"build {spelled(name)}: make\n OUT = {spelled(name) if ' ' not in name else name.replace('$', '$$')}\n" for name in NAMES]
+    put("n/build.ninja", "rule make\n command = printf made >'./$OUT'\n\n" + "\n".join(edges) + "\nbuild user: make x^\n OUT = user\n"
+        "\nbuild all: phony\n\ndefault all\n")
+    target = {"build_by_default": False, "defined_in": "meson.build", "installed": True, "name": "t", "type": "custom"}
+    targets = [{**target, "filename": [name]} for name in NAMES]
+    for script, wanted in (("run-tests", ["x^", "-n", "a b", "c$d"]), ("install", ["-n", "x^", "e:f", "-t", "all^", "wanted"])):
+        for name in (*NAMES, "user"):
+            if os.path.exists(f"{WORK}/n/{name}"):
+                os.remove(f"{WORK}/n/{name}")
+        configured("n", targets=targets, tests=[{**shell("t", ":"), "cmd": ["true", *(f"{ROOT}/n/{it}" for it in wanted)]}],
+                   installed={f"{ROOT}/n/{it}": f"/opt/{it}" for it in wanted} if script == "install" else {})
+        done = run([script, "n", *(["d"] if script == "install" else [])])
+        made = {it for it in os.listdir(f"{WORK}/n") if it in (*NAMES, "user")}
+        check(f"{script}: builds just the outputs of these names", done.returncode == 0 and made == set(wanted), f"{made} {done}")
+    check("install: installs them", {os.path.basename(it) for it in files_below("d")} == set(wanted), files_below("d"))
+
+
+# machine-file: compilers that don't work, and what a project's definitions can make it do
+
+def of_machine_file(text: str, env: dict[str, str] | None = None) -> subprocess.CompletedProcess:
+    put("m/meson.build", text if text.startswith("project") else f"project('p', 'c')\ncc = meson.get_compiler('c')\n{text}\n")
+    return run(["machine-file", "m"], env)
+
+
+def test_broken_compilers() -> None:
+    put("m/meson.build", "project('p', 'c')\n")
+    for name, env, text in (
+            ("CFLAGS", {"CFLAGS": "-nonsense"}, "can't compile an empty program: `cc -nonsense`: "),
+            ("CC", {"CC": "false"}, "can't compile an empty program: `false`: it ended with status 1"),
+            ("LDFLAGS", {"LDFLAGS": "-Wl,--no-such-word"}, "can't link an empty program: `cc -Wl,--no-such-word`: "),
+            ("a word of LDFLAGS", {"LDFLAGS": "-nonsense"}, "can't link an empty program: `cc -nonsense`: "),
+            ("a library", {"LDFLAGS": "-lno-such"}, "can't link an empty program: `cc -lno-such`: "),
+            ("quotes", {"CFLAGS": "'"}, "CFLAGS: No closing quotation"),
+            ("bytes", {"CFLAGS": "-D\udcff"}, "CFLAGS: not UTF-8")):
+        refuses(f"a compiler that doesn't work: {name}", ["machine-file", "m"], 1, text, env=env)
+    put("m/meson.build", "project('p', 'c', default_options: ['c_std=c77'])\n")
+    refuses("a compiler that doesn't work: c_std", ["machine-file", "m"], 1, "`cc -std=c77`: ")
+
+
+def test_values_of_a_name() -> None:
+    """Their number doubles with each block; what is given up is said with its place, and all else is answered."""
+    blocks = "".join(f"if x\n  c0 += '{i:x}'\nendif\n" for i in range(16))
+    done = of_machine_file(f"c0 = ''\n{blocks}cc.has_header(c0)\ncc.sizeof('char')")
+    line = done.stderr.splitlines()[:1]
+    # The tenth block has 1,024 values, and the next one more: its statement is in line 3 + 3 * 10 + 2.
+    wanted = ["machine-file: meson.build:35: is not followed: the text may have more than 1024 values, or more than 65536 characters"]
+    is_told = line == wanted and len(done.stderr.splitlines()) < 8
+    check("machine-file: 2 to the power of 16 values", done.returncode == 0 and is_told, f"{done}")
+    check("machine-file: 2 to the power of 16 values: the rest is answered", "sizeof char = 1\n" in done.stdout and
+          "TO FILL IN: meson.build:52: has_header:" in done.stdout, done.stdout)
+    done = of_machine_file("a = 'x'\n" + "a += a\n" * 60)
+    check("machine-file: a text that doubles", done.returncode == 0 and "meson.build:20: is not followed" in done.stderr, done.stderr)
+    ten = "".join(f"if x\n  a += '{i:x}'\nendif\n" for i in range(9))
+    done = of_machine_file(f"a = ''\n{ten}cc.has_member(a, a)")
+    check("machine-file: pairs", done.returncode == 0 and "the call may ask for more than 1024 checks" in done.stderr, done.stderr)
+    names = ", ".join(f"'-W{i}'" for i in range(1500))
+    done = of_machine_file(f"l = [{names}]\nmessage(l)")
+    check("machine-file: a list that is written out is followed", done.returncode == 0 and done.stderr == "", done.stderr)
+
+
+def test_what_checks_may_do() -> None:
+    """No word of a check writes elsewhere or runs a program; prefixes are compiled and not run."""
+    fresh("outside")
+    place, tool = f"{WORK}/outside/it", put("tool", f"#!/bin/sh\ntouch {WORK}/outside/ran\n", 0o755)
+    words = [f"-o{place}", f"-Wl,-o,{place}", f"-Wl,-o{place}", f"-Wl,-Map={place}", f"-MF{place}", f"-B{WORK}/", f"-fplugin={tool}",
+             f"-specs={tool}", f"-fuse-ld={tool}", "@words", "-Wl,@words", f"-save-temps={WORK}/outside", f"-wrapper,{tool}", "-wrapper"]
+    texts = ", ".join(f"'{it}'" for it in words)
+    done = of_machine_file(f"""foreach w : [{texts}]
+  cc.has_argument(w)
+  cc.has_link_argument(w)
+endforeach
+cc.has_function('puts', args: ['-wrapper', '{tool}'])
+cc.has_function('gets', args: ['-wrapper', 'touch,ran'])
+cc.has_header('stdio.h', args: '-MF{place}')
+cc.has_argument('-o')
+cc.has_link_argument('-Wl,-o')
+cc.has_link_argument('-Wl,-rpath,/opt/lib')
+cc.has_argument('-fdebug-prefix-map=/a=b')""")
+    told = re.findall(r"^# TO FILL IN: .* is not asked: with", done.stdout, re.M)
+    check("machine-file: words that write are not asked", done.returncode == 0 and len(told) == 2 * len(words) + 3, f"{len(told)} {done}")
+    check("machine-file: words that write: nothing is written", not files_below("outside"), files_below("outside"))
+    check("machine-file: words that read are asked", "has_link_argument -Wl,-rpath,/opt/lib = true\n" in done.stdout and
+          "has_argument -fdebug-prefix-map=/a=b = true\n" in done.stdout, done.stdout)
+    run(["sh", "-c", "echo 'int f(void) { return 0; }' | cc -c -x c - -o outside/f.o"])
+    before = files_below("outside")
+    of_machine_file("cc.has_link_argument('-Wl,-o')\ncc.has_link_argument('-Wl,-Map')", {"LDFLAGS": f"{WORK}/outside/f.o"})
+    check("machine-file: an output without its name takes none of the linker's files", before and before == files_below("outside"))
+
+
+def test_sizes() -> None:
+    """They are asked of the compiler; a program that is made would write a file as it begins."""
+    fresh("outside")
+    begins = f"#include <fcntl.h>\n__attribute__((constructor)) static void f(void) {{ creat(\"{WORK}/outside/ran\", 0600); }}"
+    sizes = {"char": 1, "char [16]": 16, "char [17]": 17, "char [100000]": 100000, "struct { char a[3]; }": 3, "struct {}": 0,
+             "char [3000000000]": 3000000000, "no_such_type": -1}
+    asked = "\n".join(f"cc.sizeof('{name}', prefix: '''{begins}''')" for name in sizes)
+    done = of_machine_file(f"{asked}\ncc.alignment('char', prefix: '''{begins}''')\ncc.alignment('struct {{ _Alignas(64) char c; }}')")
+    wanted = [f"sizeof {name} = {size}\n" for name, size in sizes.items()] + ["alignment char = 1\n"]
+    check("machine-file: sizes", all(it in done.stdout for it in wanted), f"{[it for it in wanted if it not in done.stdout]} {done.stderr}")
+    check("machine-file: an alignment", "_Alignas(64) char c; } = 64\n" in done.stdout, done.stdout)
+    check("machine-file: no program is run", not files_below("outside"))
+
+
+# Streams that can't be written, and texts that no system takes
+
+STATUS = {"run-tests": 126, "install": 1, "machine-file": 1}
+
+
+def of_each_script() -> Iterator[tuple[str, list[str]]]:
+    to_install("/usr/include/a.h")
+    configured("t", tests=[shell(f"t{n}", ":") for n in range(20)])
+    put("m/meson.build", "project('p', 'c')\n")
+    yield "run-tests", ["run-tests", "t", "--no-rebuild"]
+    yield "install", ["install", "i", "d", "--no-rebuild"]
+    yield "machine-file", ["machine-file", "m"]
+
+
+def test_streams() -> None:
+    for script, words in of_each_script():
+        for given in (words, [script, "--help"]):
+            name = " ".join(given[::len(given) - 1])
+            with open("/dev/full", "w") as full:
+                refuses(f"{name}: a full output", given, STATUS[script], "standard output: No space left on device", stdout=full)
+            ends = os.pipe()
+            os.close(ends[0])
+            refuses(f"{name}: a closed pipe", given, STATUS[script], "standard output: Broken pipe", stdout=ends[1])
+            os.close(ends[1])
+        shell_of = lambda tail: run(["sh", "-c", f'"$@" {tail}', "sh", *words_of(words)])
+        done = shell_of(">&-")
+        is_told = done.stderr == f"{script}: standard output: Bad file descriptor\n"
+        check(f"{script}: a closed output", done.returncode == STATUS[script] and is_told, f"{done}")
+        with open("/dev/full", "w") as full:
+            done = run([script, "nowhere"], stderr=full)
+            check(f"{script}: a full error stream", done.returncode == STATUS[script] and done.stdout == "", f"{done}")
+        done = run(["sh", "-c", '"$@" 2>&-', "sh", *words_of([script, "nowhere"])])
+        check(f"{script}: a closed error stream", done.returncode == STATUS[script] and done.stdout == done.stderr == "", f"{done}")
+    done = run(["bash", "-c", '"$@" | head -1; echo ${PIPESTATUS[0]}', "bash", *words_of(["run-tests", "t", "--no-rebuild"])])
+    lines = done.stdout.splitlines()
+    # Where all was said before head went away, the run is a good one.
+    is_good = len(lines) == 2 and lines[1] in ("0", "126") and "Traceback" not in done.stderr and done.stderr.count("\n") <= 1
+    check("run-tests: | head -1", is_good, f"{done}")
+
+
+ODD = {"a NUL": "\0", "half a pair": "\ud800"}
+
+
+def test_odd_documents() -> None:
+    target = {"build_by_default": True, "defined_in": "meson.build", "filename": ["t"], "installed": False, "name": "t", "type": "custom"}
+    for script in ("run-tests", "install"):
+        bad = lambda name, text: refuses(name, [script, "c", "--no-rebuild"], STATUS[script], text)
+        for name, odd in ODD.items():
+            for part in ({"installed": {f"/a{odd}": "/b"}}, {"installed": {"/a": f"/b{odd}"}}, {"tests": [shell("t", odd)]},
+                         {"tests": [shell("t", ":", env=[f"A={odd}"])]}, {"targets": [{**target, "filename": [odd]}]}):
+                configured("c", **part)
+                bad(f"{name} in {next(iter(part))}", "introspect.json: has a text that is no name")
+        configured("c", targets=[{**target, "filename": []}])
+        bad("a target without files", "is no introspection document")
+        configured("c", targets=[{**target, "filename": [], "type": "shared library"}])
+        bad("a library without files", "is no introspection document")
+        put("c/meson-info/introspect.json", "[" * 5000 + "]" * 5000)
+        bad("5,000 lists in one another", "is nested too deeply")
+        put("c/meson-info/introspect.json", '{"tests":' + "9" * 5000 + "}")
+        bad("a number of 5,000 digits", "is no JSON: Exceeds the limit")
+        os.remove(f"{WORK}/c/meson-info/introspect.json")
+        os.mkfifo(f"{WORK}/c/meson-info/introspect.json")
+        bad("a pipe in its place", "is no file, but a pipe or a device")
+        os.remove(f"{WORK}/c/meson-info/introspect.json")
+    configured("c", tests=[shell("t", ":", timeout=10**400)])
+    refuses("a timeout of 400 digits", ["run-tests", "c"], 126, "its tests are not of the form")
+    configured("c", tests=[shell("t", ":")])
+    refuses("a factor that is no number", ["run-tests", "c", "-t", "nan"], 126, "--timeout-multiplier takes a number")
+    check("run-tests: an endless timeout", run(["run-tests", "c", "-t", "inf", "--no-rebuild"]).returncode == 0)
+
+
+def test_odd_files() -> None:
+    to_install("/usr/a.h")
+    with open(f"{WORK}/i/build.ninja", "wb") as it:
+        it.write(b"build \xff: phony\n")
+    refuses("a build.ninja that is not UTF-8", ["install", "i", "d"], 1, "i/build.ninja: not UTF-8")
+    configured("t", tests=[])
+    put("t/build.ninja", "")
+    refuses("an open quotation in NINJA", ["install", "t", "d"], 1, "NINJA: No closing quotation", env={"NINJA": "'"})
+    refuses("an open quotation in NINJA", ["run-tests", "t"], 125, "NINJA: No closing quotation", env={"NINJA": "'"})
+    for name, text, wanted in (
+            ("5,000 lists in one another", "x = " + "[" * 5000 + "]" * 5000, "m/meson.build:3: brackets are nested more than 64 deep"),
+            ("an escape past the last character", r"x = '\U00110000'", r"m/meson.build:3: \\U00110000 names no character"),
+            ("half a pair of surrogates", r"x = '\ud800'", r"m/meson.build:3: \\ud800 names no character")):
+        put("m/meson.build", f"project('p', 'c')\n\n{text}\n")
+        refuses(name, ["machine-file", "m"], 1, wanted.removeprefix("m/").replace("\\\\", "\\"))
+    done = of_machine_file(r"subdir('a\0b')" + "\ncc.has_header('a\\0b')\ndependency('a\\0b')\nfind_program('a\\0b')\n"
+                           "cc.has_type('int', args: '-D\\0')")
+    check("machine-file: names with NUL", done.returncode == 0 and done.stderr == "", f"{done}")
+    stub = put("broken-pkg-config", "#!/bin/sh\necho \"'\"\n", 0o755)
+    put("m/meson.build", "project('p', 'c')\ndependency('one')\n")
+    refuses("an open quotation of pkg-config", ["machine-file", "m"], 1, "dependency one: --cflags: No closing quotation",
+            env={"PKG_CONFIG": stub})
+    for n in range(70):
+        put("m/" + "d/" * n + "meson.build", "project('p', 'c')\nsubdir('d')\n")
+    refuses("folders in one another", ["machine-file", "m"], 1, "more than 64 folders are entered")
+    shutil.rmtree(f"{WORK}/m")
+    os.makedirs(f"{WORK}/m")
+    os.mkfifo(f"{WORK}/m/meson.build")
+    refuses("a pipe as definition file", ["machine-file", "m"], 1, "m/meson.build: is no file, but a pipe or a device")
+    os.remove(f"{WORK}/m/meson.build")
+
+
+def test_broken_elf() -> None:
+    """Bytes that only begin as a program does."""
+    target = {"build_by_default": True, "defined_in": "meson.build", "filename": ["t"], "installed": True, "name": "t"}
+    with open(shutil.which("true"), "rb") as it:
+        whole = it.read()
+    for name, data in {"cut": whole[:5], "a header alone": whole[:64], "its half": whole[:len(whole) // 2],
+                       "places beyond its end": whole[:32] + b"\xff" * 24 + whole[56:],
+                       "no segment": whole[:64] + bytes(len(whole) - 64)}.items():
+        put("e/t", "")
+        with open(f"{WORK}/e/t", "wb") as it:
+            it.write(data)
+        configured("e", targets=[{**target, "type": "executable"}], installed={f"{ROOT}/e/t": "/bin/t"})
+        done = run(["install", "e", "d", "--no-rebuild", "-q"])
+        check(f"install: a program that is {name}", (done.returncode, done.stderr.count("\n")) in ((0, 0), (1, 1)), f"{done}")
+
+
+# run-tests: signals, logs, much output
+
+def test_signals() -> None:
+    for number in (signal.SIGHUP, signal.SIGTERM):
+        fresh("s")
+        configured("s", tests=[shell(f"hangs {n}", f"echo $$ >pid{n}; exec sleep 300") for n in range(2)])
+        process = subprocess.Popen(words_of(["run-tests", "s", "--no-rebuild", "-j2"]), cwd=WORK, env=environment(),
+                                   stdout=subprocess.DEVNULL, stderr=subprocess.PIPE, text=True)
+        pids = wait_for_pids(["s/pid0", "s/pid1"])
+        process.send_signal(number)
+        errors = process.communicate(timeout=300)[1]
+        is_told = (process.returncode, errors) == (130, "run-tests: interrupted\n")
+        check(f"run-tests: {number.name}", is_told, f"{process.returncode} {errors}")
+        check(f"run-tests: {number.name} ends its tests", len(pids) == 2 and not any(map(is_running, pids)), pids)
+
+
+def test_interrupted_checks() -> None:
+    """A compiler that hangs is ended with machine-file, at once, and no folder is left."""
+    fresh("s", "scratch")
+    hangs = put("hangs", f"#!/bin/sh\ncase $* in *-Wslow*) echo $$ >{WORK}/s/pid; exec sleep 300 ;; esac\nexec cc \"$@\"\n", 0o755)
+    put("m/meson.build", "project('p', 'c')\nmeson.get_compiler('c').has_argument('-Wslow')\n")
+    process = subprocess.Popen(words_of(["machine-file", "m"]), cwd=WORK, env=environment({"CC": hangs, "TMPDIR": f"{WORK}/scratch"}),
+                               stdout=subprocess.PIPE, stderr=subprocess.PIPE, text=True)
+    pids = wait_for_pids(["s/pid"])
+    process.send_signal(signal.SIGTERM)
+    process.send_signal(signal.SIGHUP)
+    printed, errors = process.communicate(timeout=200)
+    is_told = (process.returncode, printed, errors) == (130, "", "machine-file: interrupted\n")
+    check("machine-file: interrupted", is_told, f"{process.returncode} {errors}")
+    check("machine-file: interrupted: ends the compiler", len(pids) == 1 and not is_running(pids[0]), pids)
+    check("machine-file: interrupted: leaves nothing", os.listdir(f"{WORK}/scratch") == [], os.listdir(f"{WORK}/scratch"))
+
+
+def wait_for_pids(names: list[str]) -> list[int]:
+    for _ in range(1000):
+        if all(os.path.exists(os.path.join(WORK, it)) and read(it).endswith("\n") for it in names):
+            return [int(read(it)) for it in names]
+        time.sleep(0.1)
+    return []
+
+
+def is_running(number: int) -> bool:
+    """Whether a process is still there after a while, and no mere entry of one that has ended."""
+    for _ in range(100):
+        try:
+            with open(f"/proc/{number}/stat", encoding="utf-8") as it:
+                if it.read().rpartition(")")[2].split()[0] == "Z":
+                    return False
+        except (FileNotFoundError, ProcessLookupError):
+            return False
+        time.sleep(0.05)
+    return True
+
+
+def test_logs() -> None:
+    for script, log, words in (("run-tests", "testlog.txt", ["run-tests", "l", "--no-rebuild"]),
+                               ("install", "install-log.txt", ["install", "l", "d", "--no-rebuild"])):
+        fresh("l", "outside", "d")
+        configured("l", tests=[shell("t", "echo said")], installed={put("i0/a.h", ""): "/opt/a.h"})
+        kept, path = put("outside/kept", "kept"), f"{WORK}/l/meson-logs/{log}"
+        for name, make in {"a link": lambda: os.symlink(kept, path), "a hard link": lambda: os.link(kept, path),
+                           "a pipe": lambda: os.mkfifo(path), "a link to nothing": lambda: os.symlink(f"{WORK}/outside/new", path)}.items():
+            shutil.rmtree(f"{WORK}/l/meson-logs", ignore_errors=True)
+            os.mkdir(f"{WORK}/l/meson-logs")
+            make()
+            done = run(words)
+            is_new = os.path.isfile(path) and not os.path.islink(path) and ("said" in read(path) or "/d/opt/a.h" in read(path))
+            check(f"{script}: a log that is {name} is made new", done.returncode == 0 and is_new, f"{done}")
+            check(f"{script}: a log that is {name}: nothing else is touched", files_below("outside") == {"outside/kept": b"kept"})
+        shutil.rmtree(f"{WORK}/l/meson-logs")
+        os.symlink(f"{WORK}/outside", f"{WORK}/l/meson-logs")
+        refuses("logs in a link", words, STATUS[script], "l/meson-logs: is a link")
+        check(f"{script}: logs in a link: nothing is written", set(files_below("outside")) == {"outside/kept"})
+
+
+def test_much_output() -> None:
+    """48 MiB of each of two tests: in the log they are whole, in memory they are not."""
+    fresh("o")
+    count = 48 << 20
+    configured("o", tests=[shell(f"t{n}", f"head -c {count} /dev/zero | tr '\\0' {n}; echo; echo the end; exit 1") for n in range(2)])
+    with open(f"{WORK}/shown", "wb") as shown:
+        process = subprocess.Popen(words_of(["run-tests", "o", "--no-rebuild", "-j2", "--print-errorlogs"]), cwd=WORK, env=environment(),
+                                   stdout=shown, stderr=subprocess.DEVNULL)
+        _, status, used = os.wait4(process.pid, 0)
+        process.returncode = os.waitstatus_to_exitcode(status)
+    check("run-tests: much output: status", process.returncode == 2, process.returncode)
+    size = os.path.getsize(f"{WORK}/o/meson-logs/testlog.txt")
+    check("run-tests: much output is whole in the log", 2 * count < size < 2 * count + 4096, size)
+    check("run-tests: much output is not kept", used.ru_maxrss < 40 << 10, f"{used.ru_maxrss} KiB")
+    size = os.path.getsize(f"{WORK}/shown")
+    check("run-tests: of much output the end is shown", 2 << 20 < size < (2 << 20) + 4096, size)
+    with open(f"{WORK}/shown", "rb") as it:
+        text = it.read()
+    check("run-tests: and what is left out is said", text.count(b"the end\n") == 2 and text.count(b"[the first ") == 2, text[:500])
+    shutil.rmtree(f"{WORK}/o")
+    os.remove(f"{WORK}/shown")
+
+
+TESTS = (test_destinations, test_links_on_the_way, test_links_that_stay, test_links_that_come_late, test_names_for_ninja,
+         test_broken_compilers, test_values_of_a_name, test_what_checks_may_do, test_sizes, test_streams, test_odd_documents,
+         test_odd_files, test_broken_elf, test_signals, test_interrupted_checks, test_logs, test_much_output)

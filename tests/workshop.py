@@ -1,0 +1,67 @@
+"""Where the scripts are tried: a temporary folder, what is put there and run there, and the checks that are counted."""
+import json
+import os
+import subprocess
+import tempfile
+
+CHECKOUT = os.path.dirname(os.path.dirname(os.path.realpath(__file__)))
+WORK = tempfile.mkdtemp()
+CLEARED = ("CC", "AR", "CFLAGS", "CPPFLAGS", "LDFLAGS", "DESTDIR", "NINJA", "PKG_CONFIG", "STRIP")
+counts = {True: 0, False: 0}
+
+
+def check(name: str, holds: object, shown: object = "") -> None:
+    counts[bool(holds)] += 1
+    print(f"scripts: {name}: {'passed' if holds else 'FAILED'}", flush=True)
+    if not holds and shown:
+        print("    " + str(shown).replace("\n", "\n    "))
+
+
+def words_of(words: list[str]) -> list[str]:
+    """A command whose first word may be a script of the checkout."""
+    return [os.path.join(CHECKOUT, words[0]), *words[1:]] if words[0] in os.listdir(CHECKOUT) else words
+
+
+def environment(env: dict[str, str] | None = None) -> dict[str, str]:
+    return {**{key: it for key, it in os.environ.items() if key not in CLEARED}, **(env or {})}
+
+
+def run(words: list[str], env: dict[str, str] | None = None, cwd: str = WORK, **how: object) -> subprocess.CompletedProcess:
+    """What a script answers: its status, output and errors."""
+    how = {"stdout": subprocess.PIPE, "stderr": subprocess.PIPE, **how}
+    return subprocess.run(words_of(words), env=environment(env), cwd=cwd, text=True, timeout=600, **how)
+
+
+def put(path: str, text: str, mode: int = 0o644) -> str:
+    path = os.path.join(WORK, path)
+    os.makedirs(os.path.dirname(path), exist_ok=True)
+    with open(path, "w", encoding="utf-8") as it:
+        it.write(text)
+    os.chmod(path, mode)
+    return path
+
+
+def read(path: str) -> str:
+    with open(os.path.join(WORK, path), encoding="utf-8") as it:
+        return it.read()
+
+
+def refuses(name: str, words: list[str], status: int, text: str, **how: object) -> None:
+    """A bad input: a status, and one clear line on the standard error."""
+    done = run(words, **how)
+    is_one_line = done.stderr.endswith("\n") and done.stderr.count("\n") == 1
+    check(f"{words[0]}: {name}", done.returncode == status and text in done.stderr and is_one_line, f"{done.returncode} {done.stderr}")
+
+
+def document(**parts: object) -> dict[str, object]:
+    return {"buildoptions": [], "buildsystem_files": {"absent": [], "present": ["meson.build"]}, "dependencies": [], "installed": {},
+            "projectinfo": {"license": [], "name": "p", "version": "1"}, "targets": [], "tests": [], **parts}
+
+
+def configured(folder: str, **parts: object) -> None:
+    put(f"{folder}/meson-info/introspect.json", json.dumps(document(**parts), separators=(",", ":"), sort_keys=True))
+
+
+def shell(name: str, script: str, suite: tuple[str, ...] = (), **parts: object) -> dict[str, object]:
+    """A test of the document, which runs a script."""
+    return {"cmd": ["sh", "-c", script], "env": [], "name": name, "should_fail": False, "suite": list(suite), "timeout": 30, **parts}

@@ -1,0 +1,21 @@
+"""Variables of the environment that name commands and their words."""
+import os
+import shlex
+
+from tools.ending import Stop
+
+
+def words_in(text: str, named: str) -> list[str]:
+    """The words of a text as a shell cuts them."""
+    try:
+        text.encode()
+        return shlex.split(text)
+    except UnicodeEncodeError:
+        raise Stop(f"{named}: not UTF-8: {text!r}") from None
+    except ValueError as error:
+        raise Stop(f"{named}: {error}: {text!r}") from error
+
+
+def words_of(variable: str) -> list[str]:
+    """The words that a variable of the environment holds."""
+    return words_in(os.environ.get(variable, ""), variable)
