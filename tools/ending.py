@@ -89,7 +89,8 @@ SIGNALS = (signal.SIGINT, signal.SIGTERM, signal.SIGHUP)
 def interrupt(number: int, frame: FrameType | None) -> NoReturn:
     """Ends the script; from here on no signal interrupts what is being cleaned up."""
     for other in SIGNALS:
-        signal.signal(other, signal.SIG_IGN)
+        # Not SIG_IGN: Python complains where one that came meanwhile is to be ignored.
+        signal.signal(other, lambda number, frame: None)
     raise KeyboardInterrupt
 
 

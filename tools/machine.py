@@ -21,6 +21,7 @@ from tools.variables import words_in, words_of
 SECONDS = 300  # that a command may take
 AT_WORK: set[int] = set()  # the groups of processes of the commands that run
 ENDED = threading.Event()  # no further command is begun
+BEGINS = threading.Lock()  # so that one that is being begun is among those that are ended
 MAIN = "int main(void) { return 0; }"
 # For each check the compiler's words, and a source that it takes where the answer is true.
 SOURCES = {
@@ -68,15 +69,16 @@ def can_ask(word: str) -> bool:
 
 def attempt(words: list[str], folder: str | None = None, hears: bool = True) -> tuple[str | None, str]:
     """What a command prints, or none where it fails, and what it says of that. One that is late is ended with all that it has started."""
-    if ENDED.is_set():
-        raise NoAnswer(f"{words[0]} was not begun")
     to = subprocess.PIPE if hears else subprocess.DEVNULL
     try:
-        process = subprocess.Popen(words, cwd=folder, stdin=subprocess.DEVNULL, stdout=to, stderr=to, encoding="utf-8",
-                                   errors="replace", start_new_session=True)
+        with BEGINS:
+            if ENDED.is_set():
+                raise NoAnswer(f"{words[0]} was not begun")
+            process = subprocess.Popen(words, cwd=folder, stdin=subprocess.DEVNULL, stdout=to, stderr=to, encoding="utf-8",
+                                       errors="replace", start_new_session=True)
+            AT_WORK.add(process.pid)
     except (OSError, ValueError) as error:  # a ValueError where a word has a NUL
         return None, f"{words[0]}: {getattr(error, 'strerror', error)}"
-    AT_WORK.add(process.pid)
     try:
         printed, said = process.communicate(timeout=SECONDS)
     except BaseException as error:
@@ -93,9 +95,10 @@ def attempt(words: list[str], folder: str | None = None, hears: bool = True) -> 
 
 def end_all() -> None:
     """Ends the commands that run, which others wait for."""
-    ENDED.set()
-    for group in list(AT_WORK):
-        kill(group)
+    with BEGINS:
+        ENDED.set()
+        for group in list(AT_WORK):
+            kill(group)
 
 
 def kill(group: int) -> None:
