@@ -67,7 +67,8 @@ class Parser(argparse.ArgumentParser):
         self.status = status
 
     def add_folder(self) -> None:
-        self.add_argument("-C", dest="folder", metavar="BUILDDIR", default=".", help="the folder that `meson setup` configured (default: the present one)")
+        self.add_argument("-C", dest="folder", metavar="BUILDDIR", default=".",
+                          help="the folder that `meson setup` configured (default: the present one)")
 
     def error(self, message: str) -> NoReturn:
         raise Stop(f"{message} (--help says more)", self.status)
