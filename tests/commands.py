@@ -196,9 +196,18 @@ def test_compile() -> None:
     compiles("a target by its folder", ["-C", "sources/b", "sub/run"], "sub/run")
     compiles("a target by its kind, with its links", ["-C", "sources/b", "x:shared_library"], "libx.so.1 libx.so")
     compiles("an output", ["-C", "sources/b", "a.h"], "a.h")
-    in_b = ["compile", "-C", "sources/b"]
-    fails = lambda name, given, status, text: (refuses(name, [MESON, *given], status, text, env=with_tools()), taken("built"))
+
+
+def fails(name: str, given: list[str], status: int, text: str) -> None:
+    """A `meson compile` that says in one line what is wrong, where `meson setup` says nothing."""
     put("instead", "exec >/dev/null")
+    refuses(name, [MESON, "compile", *given], status, text, env=with_tools())
+    os.remove(f"{WORK}/instead")
+    taken("built")
+
+
+def test_compile_that_fails() -> None:
+    sources, in_b = os.path.realpath(f"{WORK}/sources"), ["-C", "sources/b"]
     fails("a name of two targets", [*in_b, "x"], 1, "the name 'x' has more than one target: say libx.a or libx.so.1")
     fails("no such target", [*in_b, "y"], 1, "there is no target 'y'")
     fails("no number", [*in_b, "-j0"], 4, "--jobs takes a number above 0")
@@ -208,19 +217,19 @@ def test_compile() -> None:
     os.remove(f"{WORK}/ninja-fails")
     for status in (1, 2, 4):
         put("instead", f"exit {status}")
-        done = meson(*in_b)
+        done = meson("compile", *in_b)
         is_told = done.stderr == f"meson compile: `meson setup` ended with status {status}, so nothing was built\n"
         check(f"meson compile: where setup ends with {status}", done.returncode == status and is_told and not taken("built"), f"{done}")
     os.remove(f"{WORK}/instead")
-    fails("no configured folder", ["compile"], 1, ".: is no configured folder")
+    fails("no configured folder", [], 1, ".: is no configured folder")
     os.rename(f"{sources}/b", f"{sources}/moved")
-    fails("a folder that was moved", ["compile", "-C", "sources/moved"], 1, f"was configured as {sources}/b: run `meson setup` once more")
+    fails("a folder that was moved", ["-C", "sources/moved"], 1, f"was configured as {sources}/b: run `meson setup` once more")
     kept = "sources/moved/meson-private/words.json"
     for text in ("", "[]", "{}", '{"sources": 1, "words": []}', '{"sources": "/", "words": [1]}', "[" * 5000):
         put(kept, text)
-        fails(f"words that are {text[:20]!r}", ["compile", "-C", "sources/moved"], 1, "doesn't have the words of a `meson setup`")
+        fails(f"words that are {text[:20]!r}", ["-C", "sources/moved"], 1, "doesn't have the words of a `meson setup`")
     os.remove(f"{WORK}/{kept}")
-    fails("a folder without words", ["compile", "-C", "sources/moved"], 1, "has no words of a `meson setup`: run that once more")
+    fails("a folder without words", ["-C", "sources/moved"], 1, "has no words of a `meson setup`: run that once more")
 
 
 def test_introspect() -> None:
@@ -291,5 +300,5 @@ def test_self_install() -> None:
     check("meson setup: a build that fails", done.returncode == 127 and "low was not built" in done.stderr and done.stdout == "", f"{done}")
 
 
-TESTS = (test_without_the_program, test_building, test_commands, test_setup, test_compile, test_introspect, test_progress,
-         test_self_install)
+TESTS = (test_without_the_program, test_building, test_commands, test_setup, test_compile, test_compile_that_fails,
+         test_introspect, test_progress, test_self_install)
