@@ -28,7 +28,7 @@ esac
 """
 NINJA = f"""#!/bin/sh
 test ! -f {WORK}/ninja-fails || exit 1
-while test $# -gt 1; do case $1 in -f) cat "$2" >>{WORK}/built ; shift ;; *) echo "$1" >>{WORK}/built ;; esac; shift; done
+while test $# -gt 1; do case $1 in -f) cat "$2" >>{WORK}/asked-of-ninja ; shift ;; *) echo "$1" >>{WORK}/asked-of-ninja ;; esac; shift; done
 """
 FURTHER = ["compile", "test", "install", "introspect", "machine-file", "self-install"]
 
@@ -89,7 +89,7 @@ def test_without_the_program() -> None:
     done = run([MESON, "setup", "b"], {"PATH": path})
     check("meson setup: no rt", done.returncode == 127 and "there is no command 'rt'" in done.stderr, f"{done}")
     check("meson --version", (run([MESON, "--version"], {"PATH": path}).stdout) == "Hawkottoman 0.1\n")
-    taken("built")
+    taken("asked-of-ninja")
 
 
 def test_building() -> None:
@@ -182,7 +182,7 @@ def test_compile() -> None:
 
     def compiles(name: str, given: list[str], asked: str, cwd: str = WORK) -> None:
         done = meson("compile", *given, cwd=cwd)
-        got, configured_by = taken("built"), taken("configured")
+        got, configured_by = taken("asked-of-ninja"), taken("configured")
         file = f"include build.ninja\n\nbuild wanted#: phony {asked.rpartition('|')[2]}\n"
         folder = given[given.index("-C") + 1] if "-C" in given else "."
         options = "".join(f"{it}\n" for it in asked.rpartition("|")[0].split())
@@ -203,7 +203,7 @@ def fails(name: str, given: list[str], status: int, text: str) -> None:
     put("instead", "exec >/dev/null")
     refuses(name, [MESON, "compile", *given], status, text, env=with_tools())
     os.remove(f"{WORK}/instead")
-    taken("built")
+    taken("asked-of-ninja")
 
 
 def test_compile_that_fails() -> None:
@@ -219,7 +219,8 @@ def test_compile_that_fails() -> None:
         put("instead", f"exit {status}")
         done = meson("compile", *in_b)
         is_told = done.stderr == f"meson compile: `meson setup` ended with status {status}, so nothing was built\n"
-        check(f"meson compile: where setup ends with {status}", done.returncode == status and is_told and not taken("built"), f"{done}")
+        is_good = done.returncode == status and is_told and not taken("asked-of-ninja")
+        check(f"meson compile: where setup ends with {status}", is_good, f"{done}")
     os.remove(f"{WORK}/instead")
     fails("no configured folder", [], 1, ".: is no configured folder")
     os.rename(f"{sources}/b", f"{sources}/moved")
@@ -282,7 +283,7 @@ def test_self_install() -> None:
     installed = f"{WORK}/prefix/bin/hawkottoman-meson"
     done = run([installed, "setup", "c"], with_tools(), cwd=f"{WORK}/sources")
     check("meson self-install: setup", (done.returncode, done.stdout, done.stderr) == (0, "program setup c\n", ""), f"{done}")
-    taken("built")
+    taken("asked-of-ninja")
     for words in (["compile", "-C", "c"], ["test", "-C", "c"], ["install", "-C", "c"], ["introspect", "c"], ["machine-file", "../asks"]):
         done = run([installed, *words], with_tools(), cwd=f"{WORK}/sources")
         check(f"meson self-install: {words[0]}", done.returncode == 0 and done.stderr == "", f"{done}")
