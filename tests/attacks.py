@@ -10,7 +10,7 @@ import subprocess
 import time
 from collections.abc import Iterator
 
-from workshop import CHECKOUT, WORK, check, configured, environment, put, read, refuses, run, shell, words_of
+from workshop import CHECKOUT, WORK, check, configured, environment, over, put, read, refuses, run, shell, words_of
 
 ROOT = os.path.realpath(WORK)
 
@@ -51,8 +51,9 @@ def leaves(name: str, destination: str, text: str, status: int = 2) -> None:
     """Refused at once: neither the place before nor anything outside is written, and nothing is built."""
     to_install("/first/before.h", destination)
     before = files_below("d"), files_below("outside")
-    refuses(f"{name}: is refused", ["install", "i", "d"], status, text, env={"NINJA": put("no-ninja", "#!/bin/sh\ntouch built\n", 0o755)})
-    check(f"install: {name}: writes nothing", before == (files_below("d"), files_below("outside")) and
+    refuses(f"{name}: is refused", over("install", "i", "--destdir", "d"), status, text,
+            env={"NINJA": put("no-ninja", "#!/bin/sh\ntouch built\n", 0o755)})
+    check(f"meson install: {name}: writes nothing", before == (files_below("d"), files_below("outside")) and
           not os.path.exists(f"{WORK}/built"), files_below("d"))
 
 
@@ -63,13 +64,13 @@ def test_destinations() -> None:
     leaves("a relative prefix", "usr/include/a.h", "usr/include/a.h: is a relative path; the option prefix has to be an absolute one")
     leaves("the root itself", "/usr/..", "is the root itself")
     to_install("/usr/include/before.h", f"{ROOT}/.." + "/.." * ROOT.count("/") + f"{ROOT}/outside/a.h")
-    refuses("climbs above /", ["install", "i", "--no-rebuild"], 2, "climbs above the root", env={"DESTDIR": ""})
-    check("install: climbs above /: writes nothing", not files_below("outside") and not os.path.exists("/usr/include/before.h"))
-    refuses("a dry run", ["install", "i", "d", "-n"], 2, "climbs above the root")
+    refuses("climbs above /", over("install", "i", "--no-rebuild"), 2, "climbs above the root", env={"DESTDIR": ""})
+    check("meson install: climbs above /: writes nothing", not files_below("outside") and not os.path.exists("/usr/include/before.h"))
+    refuses("a dry run", over("install", "i", "--destdir", "d", "-n"), 2, "climbs above the root")
     to_install("/usr/local/../lib/a.h", "/usr//./include/a.h")
-    done = run(["install", "i", "d", "--no-rebuild"])
-    check("install: parts are carried out", set(files_below("d")) == {"d/usr/lib/a.h", "d/usr/include/a.h"}, f"{done}")
-    check("install: and shown so", f"Installing {WORK}/i0/a.h to {WORK}/d/usr/lib\n" in done.stdout, done.stdout)
+    done = run(over("install", "i", "--destdir", "d", "--no-rebuild"))
+    check("meson install: parts are carried out", set(files_below("d")) == {"d/usr/lib/a.h", "d/usr/include/a.h"}, f"{done}")
+    check("meson install: and shown so", f"Installing {WORK}/i0/a.h to {WORK}/d/usr/lib\n" in done.stdout, done.stdout)
 
 
 def test_links_on_the_way() -> None:
@@ -95,17 +96,17 @@ def test_links_that_stay() -> None:
     put("outside/kept", "kept")
     link(f"{WORK}/outside/kept", "d/usr/share/last.h")
     to_install("/usr/lib/a.h", "/usr/doc/b.h", "/bin/c.h", "/sbin/d.h", "/usr/share/last.h")
-    done = run(["install", "i", "d", "--no-rebuild"])
+    done = run(over("install", "i", "--destdir", "d", "--no-rebuild"))
     came = {name for name in files_below("d") if name.endswith(".h")}
     wanted = {"d/usr/lib64/a.h", "d/usr/share/b.h", "d/usr/bin/c.h", "d/usr/sbin/d.h", "d/usr/share/last.h"}
-    check("install: links that stay in DESTDIR are followed", done.returncode == 0 and came == wanted, f"{done} {came ^ wanted}")
+    check("meson install: links that stay in DESTDIR are followed", done.returncode == 0 and came == wanted, f"{done} {came ^ wanted}")
     is_replaced = read("outside/kept") == "kept" and not os.path.islink(f"{WORK}/d/usr/share/last.h")
-    check("install: a link in the place of a file is replaced", is_replaced)
+    check("meson install: a link in the place of a file is replaced", is_replaced)
     fresh("d", "outside")
     link(f"{WORK}/outside", "d/link")
     to_install(f"{ROOT}/d/link/sub/a.h")
-    done = run(["install", "i", "--no-rebuild"])
-    check("install: without DESTDIR links are followed", list(files_below("outside")) == ["outside/sub/a.h"], f"{done}")
+    done = run(over("install", "i", "--no-rebuild"))
+    check("meson install: without DESTDIR links are followed", list(files_below("outside")) == ["outside/sub/a.h"], f"{done}")
 
 
 def test_links_that_come_late() -> None:
@@ -113,8 +114,8 @@ def test_links_that_come_late() -> None:
     fresh("d", "outside")
     to_install("/usr/lib/a.h")
     ninja = put("late-ninja", f"#!/bin/sh\nln -s {WORK}/outside {WORK}/d/usr\n", 0o755)
-    refuses("a link that comes with the build", ["install", "i", "d"], 2, "has a link on its way", env={"NINJA": ninja})
-    check("install: a link that comes with the build: nothing is written", not files_below("outside"))
+    refuses("a link that comes with the build", over("install", "i", "--destdir", "d"), 2, "has a link on its way", env={"NINJA": ninja})
+    check("meson install: a link that comes with the build: nothing is written", not files_below("outside"))
     fresh("d", "outside")
     swap = f"""import os, sys
 sys.path.insert(0, {CHECKOUT!r})
@@ -127,7 +128,8 @@ def make(folder, name):
 Root({WORK + '/d'!r}).put('/usr/a.h', make)
 """
     done = run(["python3", "-c", swap])
-    check("install: a folder that becomes a link under way", not files_below("outside") and "d/moved/a.h" in files_below("d"), done.stderr)
+    is_good = not files_below("outside") and "d/moved/a.h" in files_below("d")
+    check("meson install: a folder that becomes a link under way", is_good, done.stderr)
 
 
 # Names that Ninja's command line reads otherwise
@@ -143,23 +145,23 @@ def test_names_for_ninja() -> None:
         "\nbuild all: phony\n\ndefault all\n")
     target = {"build_by_default": False, "defined_in": "meson.build", "installed": True, "name": "t", "type": "custom"}
     targets = [{**target, "filename": [name]} for name in NAMES]
-    for script, wanted in (("run-tests", ["x^", "-n", "a b", "c$d"]), ("install", ["-n", "x^", "e:f", "-t", "all^", "wanted"])):
+    for script, wanted in (("test", ["x^", "-n", "a b", "c$d"]), ("install", ["-n", "x^", "e:f", "-t", "all^", "wanted"])):
         for name in (*NAMES, "user"):
             if os.path.exists(f"{WORK}/n/{name}"):
                 os.remove(f"{WORK}/n/{name}")
         configured("n", targets=targets, tests=[{**shell("t", ":"), "cmd": ["true", *(f"{ROOT}/n/{it}" for it in wanted)]}],
                    installed={f"{ROOT}/n/{it}": f"/opt/{it}" for it in wanted} if script == "install" else {})
-        done = run([script, "n", *(["d"] if script == "install" else [])])
+        done = run(over(script, "n", *(["--destdir", "d"] if script == "install" else [])))
         made = {it for it in os.listdir(f"{WORK}/n") if it in (*NAMES, "user")}
-        check(f"{script}: builds just the outputs of these names", done.returncode == 0 and made == set(wanted), f"{made} {done}")
-    check("install: installs them", {os.path.basename(it) for it in files_below("d")} == set(wanted), files_below("d"))
+        check(f"meson {script}: builds just the outputs of these names", done.returncode == 0 and made == set(wanted), f"{made} {done}")
+    check("meson install: installs them", {os.path.basename(it) for it in files_below("d")} == set(wanted), files_below("d"))
 
 
 # machine-file: compilers that don't work, and what a project's definitions can make it do
 
 def of_machine_file(text: str, env: dict[str, str] | None = None) -> subprocess.CompletedProcess:
     put("m/meson.build", text if text.startswith("project") else f"project('p', 'c')\ncc = meson.get_compiler('c')\n{text}\n")
-    return run(["machine-file", "m"], env)
+    return run(["meson", "machine-file", "m"], env)
 
 
 def test_broken_compilers() -> None:
@@ -172,9 +174,9 @@ def test_broken_compilers() -> None:
             ("a library", {"LDFLAGS": "-lno-such"}, "can't link an empty program: `cc -lno-such`: "),
             ("quotes", {"CFLAGS": "'"}, "CFLAGS: No closing quotation"),
             ("bytes", {"CFLAGS": "-D\udcff"}, "CFLAGS: not UTF-8")):
-        refuses(f"a compiler that doesn't work: {name}", ["machine-file", "m"], 1, text, env=env)
+        refuses(f"a compiler that doesn't work: {name}", ["meson", "machine-file", "m"], 1, text, env=env)
     put("m/meson.build", "project('p', 'c', default_options: ['c_std=c77'])\n")
-    refuses("a compiler that doesn't work: c_std", ["machine-file", "m"], 1, "`cc -std=c77`: ")
+    refuses("a compiler that doesn't work: c_std", ["meson", "machine-file", "m"], 1, "`cc -std=c77`: ")
 
 
 def test_values_of_a_name() -> None:
@@ -183,19 +185,19 @@ def test_values_of_a_name() -> None:
     done = of_machine_file(f"c0 = ''\n{blocks}cc.has_header(c0)\ncc.sizeof('char')")
     line = done.stderr.splitlines()[:1]
     # The tenth block has 1,024 values, and the next one more: its statement is in line 3 + 3 * 10 + 2.
-    wanted = ["machine-file: meson.build:35: is not followed: the text may have more than 1024 values, or more than 65536 characters"]
+    wanted = ["meson machine-file: meson.build:35: is not followed: the text may have more than 1024 values, or more than 65536 characters"]
     is_told = line == wanted and len(done.stderr.splitlines()) < 8
-    check("machine-file: 2 to the power of 16 values", done.returncode == 0 and is_told, f"{done}")
-    check("machine-file: 2 to the power of 16 values: the rest is answered", "sizeof char = 1\n" in done.stdout and
+    check("meson machine-file: 2 to the power of 16 values", done.returncode == 0 and is_told, f"{done}")
+    check("meson machine-file: 2 to the power of 16 values: the rest is answered", "sizeof char = 1\n" in done.stdout and
           "TO FILL IN: meson.build:52: has_header:" in done.stdout, done.stdout)
     done = of_machine_file("a = 'x'\n" + "a += a\n" * 60)
-    check("machine-file: a text that doubles", done.returncode == 0 and "meson.build:20: is not followed" in done.stderr, done.stderr)
+    check("meson machine-file: a text that doubles", done.returncode == 0 and "meson.build:20: is not followed" in done.stderr, done.stderr)
     ten = "".join(f"if x\n  a += '{i:x}'\nendif\n" for i in range(9))
     done = of_machine_file(f"a = ''\n{ten}cc.has_member(a, a)")
-    check("machine-file: pairs", done.returncode == 0 and "the call may ask for more than 1024 checks" in done.stderr, done.stderr)
+    check("meson machine-file: pairs", done.returncode == 0 and "the call may ask for more than 1024 checks" in done.stderr, done.stderr)
     names = ", ".join(f"'-W{i}'" for i in range(1500))
     done = of_machine_file(f"l = [{names}]\nmessage(l)")
-    check("machine-file: a list that is written out is followed", done.returncode == 0 and done.stderr == "", done.stderr)
+    check("meson machine-file: a list that is written out is followed", done.returncode == 0 and done.stderr == "", done.stderr)
 
 
 def test_what_checks_may_do() -> None:
@@ -217,14 +219,15 @@ cc.has_link_argument('-Wl,-o')
 cc.has_link_argument('-Wl,-rpath,/opt/lib')
 cc.has_argument('-fdebug-prefix-map=/a=b')""")
     told = re.findall(r"^# TO FILL IN: .* is not asked: with", done.stdout, re.M)
-    check("machine-file: words that write are not asked", done.returncode == 0 and len(told) == 2 * len(words) + 3, f"{len(told)} {done}")
-    check("machine-file: words that write: nothing is written", not files_below("outside"), files_below("outside"))
-    check("machine-file: words that read are asked", "has_link_argument -Wl,-rpath,/opt/lib = true\n" in done.stdout and
+    is_good = done.returncode == 0 and len(told) == 2 * len(words) + 3
+    check("meson machine-file: words that write are not asked", is_good, f"{len(told)} {done}")
+    check("meson machine-file: words that write: nothing is written", not files_below("outside"), files_below("outside"))
+    check("meson machine-file: words that read are asked", "has_link_argument -Wl,-rpath,/opt/lib = true\n" in done.stdout and
           "has_argument -fdebug-prefix-map=/a=b = true\n" in done.stdout, done.stdout)
     run(["sh", "-c", "echo 'int f(void) { return 0; }' | cc -c -x c - -o outside/f.o"])
     before = files_below("outside")
     of_machine_file("cc.has_link_argument('-Wl,-o')\ncc.has_link_argument('-Wl,-Map')", {"LDFLAGS": f"{WORK}/outside/f.o"})
-    check("machine-file: an output without its name takes none of the linker's files", before and before == files_below("outside"))
+    check("meson machine-file: an output without its name takes none of the linker's files", before and before == files_below("outside"))
 
 
 def test_sizes() -> None:
@@ -236,49 +239,51 @@ def test_sizes() -> None:
     asked = "\n".join(f"cc.sizeof('{name}', prefix: '''{begins}''')" for name in sizes)
     done = of_machine_file(f"{asked}\ncc.alignment('char', prefix: '''{begins}''')\ncc.alignment('struct {{ _Alignas(64) char c; }}')")
     wanted = [f"sizeof {name} = {size}\n" for name, size in sizes.items()] + ["alignment char = 1\n"]
-    check("machine-file: sizes", all(it in done.stdout for it in wanted), f"{[it for it in wanted if it not in done.stdout]} {done.stderr}")
-    check("machine-file: an alignment", "_Alignas(64) char c; } = 64\n" in done.stdout, done.stdout)
-    check("machine-file: no program is run", not files_below("outside"))
+    missing = [it for it in wanted if it not in done.stdout]
+    check("meson machine-file: sizes", not missing, f"{missing} {done.stderr}")
+    check("meson machine-file: an alignment", "_Alignas(64) char c; } = 64\n" in done.stdout, done.stdout)
+    check("meson machine-file: no program is run", not files_below("outside"))
 
 
 # Streams that can't be written, and texts that no system takes
 
-STATUS = {"run-tests": 126, "install": 1, "machine-file": 1}
+STATUS = {"test": 126, "install": 1, "machine-file": 1}
 
 
 def of_each_script() -> Iterator[tuple[str, list[str]]]:
     to_install("/usr/include/a.h")
     configured("t", tests=[shell(f"t{n}", ":") for n in range(20)])
     put("m/meson.build", "project('p', 'c')\n")
-    yield "run-tests", ["run-tests", "t", "--no-rebuild"]
-    yield "install", ["install", "i", "d", "--no-rebuild"]
-    yield "machine-file", ["machine-file", "m"]
+    yield "test", over("test", "t", "--no-rebuild")
+    yield "install", over("install", "i", "--destdir", "d", "--no-rebuild")
+    yield "machine-file", ["meson", "machine-file", "m"]
 
 
 def test_streams() -> None:
     for script, words in of_each_script():
-        for given in (words, [script, "--help"]):
+        for given in (words, ["meson", script, "--help"]):
             name = " ".join(given[::len(given) - 1])
             with open("/dev/full", "w") as full:
                 refuses(f"{name}: a full output", given, STATUS[script], "standard output: No space left on device", stdout=full)
             ends = os.pipe()
             os.close(ends[0])
-            refuses(f"{name}: a closed pipe", given, STATUS[script], "standard output: Broken pipe", stdout=ends[1])
+            done = run(given, stdout=ends[1])
+            check(f"{name}: a closed pipe: ends quietly", done.returncode == STATUS[script] and done.stderr == "", f"{done}")
             os.close(ends[1])
         shell_of = lambda tail: run(["sh", "-c", f'"$@" {tail}', "sh", *words_of(words)])
         done = shell_of(">&-")
-        is_told = done.stderr == f"{script}: standard output: Bad file descriptor\n"
-        check(f"{script}: a closed output", done.returncode == STATUS[script] and is_told, f"{done}")
+        is_told = done.stderr == f"meson {script}: standard output: Bad file descriptor\n"
+        check(f"meson {script}: a closed output", done.returncode == STATUS[script] and is_told, f"{done}")
         with open("/dev/full", "w") as full:
-            done = run([script, "nowhere"], stderr=full)
-            check(f"{script}: a full error stream", done.returncode == STATUS[script] and done.stdout == "", f"{done}")
-        done = run(["sh", "-c", '"$@" 2>&-', "sh", *words_of([script, "nowhere"])])
-        check(f"{script}: a closed error stream", done.returncode == STATUS[script] and done.stdout == done.stderr == "", f"{done}")
-    done = run(["bash", "-c", '"$@" | head -1; echo ${PIPESTATUS[0]}', "bash", *words_of(["run-tests", "t", "--no-rebuild"])])
+            done = run(over(script, "nowhere"), stderr=full)
+            check(f"meson {script}: a full error stream", done.returncode == STATUS[script] and done.stdout == "", f"{done}")
+        done = run(["sh", "-c", '"$@" 2>&-', "sh", *words_of(over(script, "nowhere"))])
+        check(f"meson {script}: a closed error stream", done.returncode == STATUS[script] and done.stdout == done.stderr == "", f"{done}")
+    done = run(["bash", "-c", '"$@" | head -1; echo ${PIPESTATUS[0]}', "bash", *words_of(over("test", "t", "--no-rebuild"))])
     lines = done.stdout.splitlines()
     # Where all was said before head went away, the run is a good one.
-    is_good = len(lines) == 2 and lines[1] in ("0", "126") and "Traceback" not in done.stderr and done.stderr.count("\n") <= 1
-    check("run-tests: | head -1", is_good, f"{done}")
+    is_good = len(lines) == 2 and lines[1] in ("0", "126") and done.stderr == ""
+    check("meson test: | head -1", is_good, f"{done}")
 
 
 ODD = {"a NUL": "\0", "half a pair": "\ud800"}
@@ -286,8 +291,8 @@ ODD = {"a NUL": "\0", "half a pair": "\ud800"}
 
 def test_odd_documents() -> None:
     target = {"build_by_default": True, "defined_in": "meson.build", "filename": ["t"], "installed": False, "name": "t", "type": "custom"}
-    for script in ("run-tests", "install"):
-        bad = lambda name, text: refuses(name, [script, "c", "--no-rebuild"], STATUS[script], text)
+    for script in ("test", "install"):
+        bad = lambda name, text: refuses(name, over(script, "c", "--no-rebuild"), STATUS[script], text)
         for name, odd in ODD.items():
             for part in ({"installed": {f"/a{odd}": "/b"}}, {"installed": {"/a": f"/b{odd}"}}, {"tests": [shell("t", odd)]},
                          {"tests": [shell("t", ":", env=[f"A={odd}"])]}, {"targets": [{**target, "filename": [odd]}]}):
@@ -306,41 +311,41 @@ def test_odd_documents() -> None:
         bad("a pipe in its place", "is no file, but a pipe or a device")
         os.remove(f"{WORK}/c/meson-info/introspect.json")
     configured("c", tests=[shell("t", ":", timeout=10**400)])
-    refuses("a timeout of 400 digits", ["run-tests", "c"], 126, "its tests are not of the form")
+    refuses("a timeout of 400 digits", over("test", "c"), 126, "its tests are not of the form")
     configured("c", tests=[shell("t", ":")])
-    refuses("a factor that is no number", ["run-tests", "c", "-t", "nan"], 126, "--timeout-multiplier takes a number")
-    check("run-tests: an endless timeout", run(["run-tests", "c", "-t", "inf", "--no-rebuild"]).returncode == 0)
+    refuses("a factor that is no number", over("test", "c", "-t", "nan"), 126, "--timeout-multiplier takes a number")
+    check("meson test: an endless timeout", run(over("test", "c", "-t", "inf", "--no-rebuild")).returncode == 0)
 
 
 def test_odd_files() -> None:
     to_install("/usr/a.h")
     with open(f"{WORK}/i/build.ninja", "wb") as it:
         it.write(b"build \xff: phony\n")
-    refuses("a build.ninja that is not UTF-8", ["install", "i", "d"], 1, "i/build.ninja: not UTF-8")
+    refuses("a build.ninja that is not UTF-8", over("install", "i", "--destdir", "d"), 1, "i/build.ninja: not UTF-8")
     configured("t", tests=[])
     put("t/build.ninja", "")
-    refuses("an open quotation in NINJA", ["install", "t", "d"], 1, "NINJA: No closing quotation", env={"NINJA": "'"})
-    refuses("an open quotation in NINJA", ["run-tests", "t"], 125, "NINJA: No closing quotation", env={"NINJA": "'"})
+    refuses("an open quotation in NINJA", over("install", "t", "--destdir", "d"), 1, "NINJA: No closing quotation", env={"NINJA": "'"})
+    refuses("an open quotation in NINJA", over("test", "t"), 125, "NINJA: No closing quotation", env={"NINJA": "'"})
     for name, text, wanted in (
             ("5,000 lists in one another", "x = " + "[" * 5000 + "]" * 5000, "m/meson.build:3: brackets are nested more than 64 deep"),
             ("an escape past the last character", r"x = '\U00110000'", r"m/meson.build:3: \\U00110000 names no character"),
             ("half a pair of surrogates", r"x = '\ud800'", r"m/meson.build:3: \\ud800 names no character")):
         put("m/meson.build", f"project('p', 'c')\n\n{text}\n")
-        refuses(name, ["machine-file", "m"], 1, wanted.removeprefix("m/").replace("\\\\", "\\"))
+        refuses(name, ["meson", "machine-file", "m"], 1, wanted.removeprefix("m/").replace("\\\\", "\\"))
     done = of_machine_file(r"subdir('a\0b')" + "\ncc.has_header('a\\0b')\ndependency('a\\0b')\nfind_program('a\\0b')\n"
                            "cc.has_type('int', args: '-D\\0')")
-    check("machine-file: names with NUL", done.returncode == 0 and done.stderr == "", f"{done}")
+    check("meson machine-file: names with NUL", done.returncode == 0 and done.stderr == "", f"{done}")
     stub = put("broken-pkg-config", "#!/bin/sh\necho \"'\"\n", 0o755)
     put("m/meson.build", "project('p', 'c')\ndependency('one')\n")
-    refuses("an open quotation of pkg-config", ["machine-file", "m"], 1, "dependency one: --cflags: No closing quotation",
+    refuses("an open quotation of pkg-config", ["meson", "machine-file", "m"], 1, "dependency one: --cflags: No closing quotation",
             env={"PKG_CONFIG": stub})
     for n in range(70):
         put("m/" + "d/" * n + "meson.build", "project('p', 'c')\nsubdir('d')\n")
-    refuses("folders in one another", ["machine-file", "m"], 1, "more than 64 folders are entered")
+    refuses("folders in one another", ["meson", "machine-file", "m"], 1, "more than 64 folders are entered")
     shutil.rmtree(f"{WORK}/m")
     os.makedirs(f"{WORK}/m")
     os.mkfifo(f"{WORK}/m/meson.build")
-    refuses("a pipe as definition file", ["machine-file", "m"], 1, "m/meson.build: is no file, but a pipe or a device")
+    refuses("a pipe as definition file", ["meson", "machine-file", "m"], 1, "m/meson.build: is no file, but a pipe or a device")
     os.remove(f"{WORK}/m/meson.build")
 
 
@@ -356,24 +361,24 @@ def test_broken_elf() -> None:
         with open(f"{WORK}/e/t", "wb") as it:
             it.write(data)
         configured("e", targets=[{**target, "type": "executable"}], installed={f"{ROOT}/e/t": "/bin/t"})
-        done = run(["install", "e", "d", "--no-rebuild", "-q"])
-        check(f"install: a program that is {name}", (done.returncode, done.stderr.count("\n")) in ((0, 0), (1, 1)), f"{done}")
+        done = run(over("install", "e", "--destdir", "d", "--no-rebuild", "-q"))
+        check(f"meson install: a program that is {name}", (done.returncode, done.stderr.count("\n")) in ((0, 0), (1, 1)), f"{done}")
 
 
-# run-tests: signals, logs, much output
+# test: signals, logs, much output
 
 def test_signals() -> None:
     for number in (signal.SIGHUP, signal.SIGTERM):
         fresh("s")
         configured("s", tests=[shell(f"hangs {n}", f"echo $$ >pid{n}; exec sleep 300") for n in range(2)])
-        process = subprocess.Popen(words_of(["run-tests", "s", "--no-rebuild", "-j2"]), cwd=WORK, env=environment(),
+        process = subprocess.Popen(words_of(over("test", "s", "--no-rebuild", "-j2")), cwd=WORK, env=environment(),
                                    stdout=subprocess.DEVNULL, stderr=subprocess.PIPE, text=True)
         pids = wait_for_pids(["s/pid0", "s/pid1"])
         process.send_signal(number)
         errors = process.communicate(timeout=300)[1]
-        is_told = (process.returncode, errors) == (130, "run-tests: interrupted\n")
-        check(f"run-tests: {number.name}", is_told, f"{process.returncode} {errors}")
-        check(f"run-tests: {number.name} ends its tests", len(pids) == 2 and not any(map(is_running, pids)), pids)
+        is_told = (process.returncode, errors) == (130, "meson test: interrupted\n")
+        check(f"meson test: {number.name}", is_told, f"{process.returncode} {errors}")
+        check(f"meson test: {number.name} ends its tests", len(pids) == 2 and not any(map(is_running, pids)), pids)
 
 
 def test_interrupted_checks() -> None:
@@ -381,16 +386,17 @@ def test_interrupted_checks() -> None:
     fresh("s", "scratch")
     hangs = put("hangs", f"#!/bin/sh\ncase $* in *-Wslow*) echo $$ >{WORK}/s/pid; exec sleep 300 ;; esac\nexec cc \"$@\"\n", 0o755)
     put("m/meson.build", "project('p', 'c')\nmeson.get_compiler('c').has_argument('-Wslow')\n")
-    process = subprocess.Popen(words_of(["machine-file", "m"]), cwd=WORK, env=environment({"CC": hangs, "TMPDIR": f"{WORK}/scratch"}),
-                               stdout=subprocess.PIPE, stderr=subprocess.PIPE, text=True)
+    env = environment({"CC": hangs, "TMPDIR": f"{WORK}/scratch"})
+    process = subprocess.Popen(words_of(["meson", "machine-file", "m"]), cwd=WORK, env=env, stdout=subprocess.PIPE,
+                               stderr=subprocess.PIPE, text=True)
     pids = wait_for_pids(["s/pid"])
     process.send_signal(signal.SIGTERM)
     process.send_signal(signal.SIGHUP)
     printed, errors = process.communicate(timeout=200)
-    is_told = (process.returncode, printed, errors) == (130, "", "machine-file: interrupted\n")
-    check("machine-file: interrupted", is_told, f"{process.returncode} {errors}")
-    check("machine-file: interrupted: ends the compiler", len(pids) == 1 and not is_running(pids[0]), pids)
-    check("machine-file: interrupted: leaves nothing", os.listdir(f"{WORK}/scratch") == [], os.listdir(f"{WORK}/scratch"))
+    is_told = (process.returncode, printed, errors) == (130, "", "meson machine-file: interrupted\n")
+    check("meson machine-file: interrupted", is_told, f"{process.returncode} {errors}")
+    check("meson machine-file: interrupted: ends the compiler", len(pids) == 1 and not is_running(pids[0]), pids)
+    check("meson machine-file: interrupted: leaves nothing", os.listdir(f"{WORK}/scratch") == [], os.listdir(f"{WORK}/scratch"))
 
 
 def wait_for_pids(names: list[str]) -> list[int]:
@@ -415,8 +421,8 @@ def is_running(number: int) -> bool:
 
 
 def test_logs() -> None:
-    for script, log, words in (("run-tests", "testlog.txt", ["run-tests", "l", "--no-rebuild"]),
-                               ("install", "install-log.txt", ["install", "l", "d", "--no-rebuild"])):
+    for script, log, words in (("test", "testlog.txt", over("test", "l", "--no-rebuild")),
+                               ("install", "install-log.txt", over("install", "l", "--destdir", "d", "--no-rebuild"))):
         fresh("l", "outside", "d")
         configured("l", tests=[shell("t", "echo said")], installed={put("i0/a.h", ""): "/opt/a.h"})
         kept, path = put("outside/kept", "kept"), f"{WORK}/l/meson-logs/{log}"
@@ -427,12 +433,12 @@ def test_logs() -> None:
             make()
             done = run(words)
             is_new = os.path.isfile(path) and not os.path.islink(path) and ("said" in read(path) or "/d/opt/a.h" in read(path))
-            check(f"{script}: a log that is {name} is made new", done.returncode == 0 and is_new, f"{done}")
-            check(f"{script}: a log that is {name}: nothing else is touched", files_below("outside") == {"outside/kept": b"kept"})
+            check(f"meson {script}: a log that is {name} is made new", done.returncode == 0 and is_new, f"{done}")
+            check(f"meson {script}: a log that is {name}: nothing else is touched", files_below("outside") == {"outside/kept": b"kept"})
         shutil.rmtree(f"{WORK}/l/meson-logs")
         os.symlink(f"{WORK}/outside", f"{WORK}/l/meson-logs")
         refuses("logs in a link", words, STATUS[script], "l/meson-logs: is a link")
-        check(f"{script}: logs in a link: nothing is written", set(files_below("outside")) == {"outside/kept"})
+        check(f"meson {script}: logs in a link: nothing is written", set(files_below("outside")) == {"outside/kept"})
 
 
 def test_much_output() -> None:
@@ -441,19 +447,19 @@ def test_much_output() -> None:
     count = 48 << 20
     configured("o", tests=[shell(f"t{n}", f"head -c {count} /dev/zero | tr '\\0' {n}; echo; echo the end; exit 1") for n in range(2)])
     with open(f"{WORK}/shown", "wb") as shown:
-        process = subprocess.Popen(words_of(["run-tests", "o", "--no-rebuild", "-j2", "--print-errorlogs"]), cwd=WORK, env=environment(),
+        process = subprocess.Popen(words_of(over("test", "o", "--no-rebuild", "-j2", "--print-errorlogs")), cwd=WORK, env=environment(),
                                    stdout=shown, stderr=subprocess.DEVNULL)
         _, status, used = os.wait4(process.pid, 0)
         process.returncode = os.waitstatus_to_exitcode(status)
-    check("run-tests: much output: status", process.returncode == 2, process.returncode)
+    check("meson test: much output: status", process.returncode == 2, process.returncode)
     size = os.path.getsize(f"{WORK}/o/meson-logs/testlog.txt")
-    check("run-tests: much output is whole in the log", 2 * count < size < 2 * count + 4096, size)
-    check("run-tests: much output is not kept", used.ru_maxrss < 40 << 10, f"{used.ru_maxrss} KiB")
+    check("meson test: much output is whole in the log", 2 * count < size < 2 * count + 4096, size)
+    check("meson test: much output is not kept", used.ru_maxrss < 40 << 10, f"{used.ru_maxrss} KiB")
     size = os.path.getsize(f"{WORK}/shown")
-    check("run-tests: of much output the end is shown", 2 << 20 < size < (2 << 20) + 4096, size)
+    check("meson test: of much output the end is shown", 2 << 20 < size < (2 << 20) + 4096, size)
     with open(f"{WORK}/shown", "rb") as it:
         text = it.read()
-    check("run-tests: and what is left out is said", text.count(b"the end\n") == 2 and text.count(b"[the first ") == 2, text[:500])
+    check("meson test: and what is left out is said", text.count(b"the end\n") == 2 and text.count(b"[the first ") == 2, text[:500])
     shutil.rmtree(f"{WORK}/o")
     os.remove(f"{WORK}/shown")
 

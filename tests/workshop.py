@@ -1,7 +1,9 @@
 """Where the scripts are tried: a temporary folder, what is put there and run there, and the checks that are counted."""
 import json
 import os
+import shutil
 import subprocess
+import sys
 import tempfile
 
 CHECKOUT = os.path.dirname(os.path.dirname(os.path.realpath(__file__)))
@@ -18,8 +20,13 @@ def check(name: str, holds: object, shown: object = "") -> None:
 
 
 def words_of(words: list[str]) -> list[str]:
-    """A command whose first word may be a script of the checkout."""
-    return [os.path.join(CHECKOUT, words[0]), *words[1:]] if words[0] in os.listdir(CHECKOUT) else words
+    """A command; `meson` is that of the checkout."""
+    return [os.path.join(CHECKOUT, "meson"), *words[1:]] if words[0] == "meson" else words
+
+
+def over(command: str, folder: str, *words: str) -> list[str]:
+    """A command of `meson` over a folder."""
+    return ["meson", command, *([] if command == "machine-file" else ["-C"]), folder, *words]
 
 
 def environment(env: dict[str, str] | None = None) -> dict[str, str]:
@@ -27,7 +34,7 @@ def environment(env: dict[str, str] | None = None) -> dict[str, str]:
 
 
 def run(words: list[str], env: dict[str, str] | None = None, cwd: str = WORK, **how: object) -> subprocess.CompletedProcess:
-    """What a script answers: its status, output and errors."""
+    """What a command answers: its status, output and errors."""
     how = {"stdout": subprocess.PIPE, "stderr": subprocess.PIPE, **how}
     return subprocess.run(words_of(words), env=environment(env), cwd=cwd, text=True, timeout=600, **how)
 
@@ -50,7 +57,8 @@ def refuses(name: str, words: list[str], status: int, text: str, **how: object) 
     """A bad input: a status, and one clear line on the standard error."""
     done = run(words, **how)
     is_one_line = done.stderr.endswith("\n") and done.stderr.count("\n") == 1
-    check(f"{words[0]}: {name}", done.returncode == status and text in done.stderr and is_one_line, f"{done.returncode} {done.stderr}")
+    is_good = done.returncode == status and text in done.stderr and is_one_line
+    check(f"{' '.join(words[:2])}: {name}", is_good, f"{done.returncode} {done.stderr}")
 
 
 def document(**parts: object) -> dict[str, object]:
@@ -65,3 +73,21 @@ def configured(folder: str, **parts: object) -> None:
 def shell(name: str, script: str, suite: tuple[str, ...] = (), **parts: object) -> dict[str, object]:
     """A test of the document, which runs a script."""
     return {"cmd": ["sh", "-c", script], "env": [], "name": name, "should_fail": False, "suite": list(suite), "timeout": 30, **parts}
+
+
+# What `meson` needs to call a script.
+COMMAND = ("bash", "dirname", "env", "python3", "readlink")
+
+
+def only_on_path(*tools: str) -> str:
+    """A folder with these tools, for a PATH that has no others."""
+    folder = tempfile.mkdtemp(dir=WORK)
+    for tool in tools:
+        os.symlink(sys.executable if tool == "python3" else shutil.which(tool), os.path.join(folder, tool))
+    return folder
+
+
+def shows_help(command: str, word: str) -> None:
+    done = run(["meson", command, "--help"])
+    is_good = done.returncode == 0 and done.stderr == "" and word in done.stdout
+    check(f"meson {command}: help", is_good and done.stdout[:13].lower() == "usage: meson ", f"{done}")

@@ -1,1 +1,1 @@
-"""What the scripts at the top of the checkout are made of; install-program installs it beside them."""
+"""The commands of `meson` that are scripts, and what they are made of; `meson self-install` installs it."""

@@ -11,8 +11,9 @@ from tools.files import read_text
 
 Target = dict[str, Any]
 Test = dict[str, Any]
+PARTS = ("targets", "tests", "buildoptions", "installed", "dependencies", "projectinfo", "buildsystem_files")
 # What the document says of a target and of a test, and in what form.
-TARGET = {"name": str, "type": str, "filename": list}
+TARGET = {"name": str, "type": str, "filename": list, "defined_in": str}
 TEST = {"cmd": list, "env": list, "name": str, "should_fail": bool, "suite": list, "timeout": int}
 # A NUL ends what the system is told, and half a pair of surrogates is no character.
 NO_NAME = re.compile("[\0\ud800-\udfff]")
@@ -27,8 +28,13 @@ class Document:
     installed: dict[str, str]
 
 
-def read_document(folder: str) -> Document:
-    path = os.path.join(folder, "meson-info", "introspect.json")
+def document_path(folder: str) -> str:
+    return os.path.join(folder, "meson-info", "introspect.json")
+
+
+def read_content(folder: str) -> dict[str, Any]:
+    """The document with all its parts, whose form is not looked at."""
+    path = document_path(folder)
     if not os.path.isdir(folder):
         raise Stop(f"{folder}: there is no such folder")
     try:
@@ -39,6 +45,13 @@ def read_document(folder: str) -> Document:
         raise Stop(f"{path}: is no JSON of a document: it is nested too deeply") from error
     except ValueError as error:
         raise Stop(f"{path}: is no JSON: {error}") from error
+    if not isinstance(content, dict) or not all(part in content for part in PARTS):
+        raise Stop(f"{path}: is no introspection document of `meson setup`")
+    return content
+
+
+def read_document(folder: str) -> Document:
+    path, content = document_path(folder), read_content(folder)
     try:
         project, installed = content["projectinfo"]["name"], content["installed"]
         targets, tests = content["targets"], content["tests"]

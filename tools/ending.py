@@ -1,7 +1,7 @@
 """How a script ends: with a status and, where something went wrong, with one line on the standard error that says what.
 
-What can go wrong outside of a script is told so too: a standard output that is full, closed, or a pipe whose reader has gone, and a
-signal that asks the script to end.
+What can go wrong outside of a script is told so too: a standard output that is full or closed, and a signal that asks the script to end.
+Where the output is a pipe whose reader has gone, nothing is said.
 """
 import argparse
 import os
@@ -15,7 +15,7 @@ INTERRUPTED = 130
 
 
 class Stop(Exception):
-    """Ends the script; without a status it is the one that `run_script` was given."""
+    """Ends the script and says why, if there is something to be said; without a status it is the one that `run_script` was given."""
 
     def __init__(self, why: str, status: int | None = None) -> None:
         super().__init__(why)
@@ -45,6 +45,10 @@ def write(data: bytes) -> None:
     try:
         sys.stdout.buffer.write(data)
         sys.stdout.buffer.flush()
+    except BrokenPipeError:
+        # Its reader wants no more, as `head` does when it has its lines.
+        let_go(1)
+        raise Stop("") from None
     except OSError as error:
         let_go(1)
         raise Stop(f"standard output: {error.strerror}") from error
@@ -61,6 +65,10 @@ class Parser(argparse.ArgumentParser):
     def __init__(self, script: str, text: str, status: int) -> None:
         super().__init__(prog=script, description=text, formatter_class=argparse.RawDescriptionHelpFormatter)
         self.status = status
+
+    def add_folder(self) -> None:
+        self.add_argument("-C", dest="folder", metavar="BUILDDIR", default=".",
+                          help="the folder that `meson setup` configured (default: the present one)")
 
     def error(self, message: str) -> NoReturn:
         raise Stop(f"{message} (--help says more)", self.status)
@@ -108,7 +116,8 @@ def run_script(script: str, main: Callable[[], int], failed: int) -> NoReturn:
     try:
         status = main()
     except Stop as stop:
-        say(script, stop.why)
+        if stop.why:
+            say(script, stop.why)
         status = failed if stop.status is None else stop.status
     except KeyboardInterrupt:
         say(script, "interrupted")

@@ -1,0 +1,305 @@
+"""The command `meson` itself and the scripts that call it, which tests/scripts runs too: in a copy of the checkout with three crates, an
+`rt` that makes a program of a few lines in place of the real one, and a Ninja that keeps its words."""
+import json
+import os
+import pty
+import shutil
+import subprocess
+import sys
+import time
+
+from workshop import (CHECKOUT, COMMAND, WORK, check, configured, document, environment, only_on_path, over, put, read, refuses, run, shell,
+                      shows_help, words_of)
+
+sys.path.insert(0, CHECKOUT)
+from tools.last_setup import build_folder_of  # noqa: E402
+
+COPY = os.path.join(WORK, "checkout")
+MESON = os.path.join(COPY, "meson")
+# It shows its words, is another command where a file `instead` says so, and writes what stands in `template`.
+PROGRAM = f"""#!/bin/sh
+echo "program $*"
+if test -f {WORK}/instead; then . {WORK}/instead; fi
+for last; do :; done
+case $* in
+*--help*) ;;
+setup*) echo "$PWD" "$@" >>{WORK}/configured; mkdir -p "$last" && cp -r {WORK}/template/. "$last" ;;
+esac
+"""
+NINJA = f"""#!/bin/sh
+test ! -f {WORK}/ninja-fails || exit 1
+while test $# -gt 1; do case $1 in -f) cat "$2" >>{WORK}/asked-of-ninja ; shift ;; *) echo "$1" >>{WORK}/asked-of-ninja ;; esac; shift; done
+"""
+FURTHER = ["compile", "test", "install", "introspect", "machine-file", "self-install"]
+
+
+def with_tools() -> dict[str, str]:
+    return {"PATH": f"{WORK}/tools:{os.environ['PATH']}", "NINJA": f"{WORK}/tools/ninja"}
+
+
+def meson(*words: str, cwd: str = WORK, **how: object) -> subprocess.CompletedProcess:
+    return run([MESON, *words], with_tools(), cwd, **how)
+
+
+def taken(name: str) -> str:
+    """The text of a file of WORK, which is removed."""
+    if not os.path.exists(f"{WORK}/{name}"):
+        return ""
+    text = read(name)
+    os.remove(f"{WORK}/{name}")
+    return text
+
+
+def make_copy() -> None:
+    os.makedirs(f"{COPY}/docs")
+    shutil.copy(os.path.join(CHECKOUT, "meson"), COPY)
+    shutil.copy(os.path.join(CHECKOUT, "docs/hawkottoman-meson.1"), f"{COPY}/docs")
+    shutil.copytree(os.path.join(CHECKOUT, "tools"), f"{COPY}/tools", ignore=shutil.ignore_patterns("__pycache__", "port"))
+    for crate in ("low", "hawkottoman", "low_tests"):
+        put(f"checkout/crates/{crate}/src/lib.rt", "")
+    put("checkout/crates.txt", "# NAME: DEP\nlow: std\nhawkottoman: low\nlow_tests: low\n")
+    put("program", PROGRAM, 0o755)
+    put("tools/ninja", NINJA, 0o755)
+    put("tools/rt", f"""#!/bin/sh
+echo "$(basename "$PWD") $1" >>{WORK}/proved
+test ! -f {WORK}/broken || exit 1
+[ "$1" = lib ] || {{ mkdir -p out; cp {WORK}/program out/hawkottoman; }}
+""", 0o755)
+    target = {"build_by_default": True, "defined_in": "meson.build", "installed": False}
+    configured("template", tests=[shell("t", ":")], targets=[
+        {**target, "filename": ["sub/run"], "name": "run", "type": "executable", "defined_in": "sub/meson.build"},
+        {**target, "filename": ["libx.so.1"], "name": "x", "type": "shared library"},
+        {**target, "filename": ["libx.a"], "name": "x", "type": "static library"},
+        {**target, "filename": ["a.c", "a.h"], "name": "files of a", "type": "custom"}])
+    put("template/build.ninja", "build libx.so: symlink libx.so.1\n")
+    os.makedirs(f"{WORK}/sources")
+
+
+def test_without_the_program() -> None:
+    """The scripts that don't need it, where it can't be built."""
+    make_copy()
+    configured("plain", tests=[shell("t", ":")])
+    put("plain/build.ninja", "")
+    put("asks/meson.build", "project('p', 'c')\n")
+    env = {"NINJA": f"{WORK}/tools/ninja"}
+    for words in (over("test", "plain"), over("install", "plain"), ["meson", "introspect", "plain"], ["meson", "machine-file", "asks"]):
+        done = run([MESON, *words[1:]], env)
+        check(f"meson {words[1]}: without the program", done.returncode == 0 and done.stderr == "", f"{done}")
+    path = only_on_path(*COMMAND, "awk", "cut", "find", "cat")
+    done = run([MESON, "setup", "b"], {"PATH": path})
+    check("meson setup: no rt", done.returncode == 127 and "there is no command 'rt'" in done.stderr, f"{done}")
+    check("meson --version", (run([MESON, "--version"], {"PATH": path}).stdout) == "Hawkottoman 0.1\n")
+    taken("asked-of-ninja")
+
+
+def test_building() -> None:
+    def built(name: str, wanted: list[str]) -> str:
+        taken("proved")
+        done = meson("setup", "b", cwd=f"{WORK}/sources")
+        got = taken("proved").splitlines()
+        is_good = sorted(got) == sorted(wanted) and got[-1:] == wanted[-1:] and done.returncode == 0
+        check(f"meson setup: {name}", is_good and done.stdout == "program setup b\n", f"{got} {done}")
+        return done.stderr
+
+    def touch(name: str, seconds: float) -> None:
+        os.utime(os.path.join(COPY, name), (time.time() + seconds,) * 2)
+
+    errors = built("builds what the program stands on", ["low lib", "hawkottoman run"])
+    check("meson setup: says where it is", "1 of 2 crates proved" in errors and "out/build-" in errors, errors)
+    check("meson setup: builds once", built("is built", []) == "")
+    touch("crates/low_tests/src/lib.rt", 5)
+    built("a changed test builds nothing", [])
+    put("checkout/crates.txt", "# NAME: DEP\nlow: std\nhawkottoman: low\nlow_tests: low\nmore_tests: low\n")
+    built("a further test crate builds nothing", [])
+    put("checkout/crates.txt", "low: std\nmiddle:\nhawkottoman: low middle\n")
+    put("checkout/crates/middle/src/lib.rt", "")
+    built("a further crate is built", ["low lib", "middle lib", "hawkottoman run"])
+    touch("crates/low/src/lib.rt", 1)
+    time.sleep(1.1)
+    built("a changed crate is built", ["low lib", "middle lib", "hawkottoman run"])
+
+
+def test_commands() -> None:
+    listed = lambda text: [line.split()[0] for line in text.splitlines() if line.startswith("  ")]
+    done = meson("--help")
+    is_good = done.returncode == 0 and done.stdout.startswith("program --help\n") and listed(done.stdout) == FURTHER
+    check("meson: help", is_good and done.stderr == "" and meson("-h").stdout == done.stdout, f"{done}")
+    for words in ([], ["such"], ["build-program"], ["../tools/test"], [""], ["port"], ["-C", "b", "test"], ["--such"]):
+        done = meson(*words)
+        is_good = done.returncode == 4 and done.stdout == "" and listed(done.stderr) == ["setup", *FURTHER]
+        check(f"meson: {words} is no command", is_good and repr(words[0] if words else "")[1:-1] in done.stderr, f"{done}")
+    put("checkout/tools/port", '#!/bin/sh\necho port "$@"\n', 0o755)
+    check("meson port: where it is there", meson("port", "a b").stdout == "port a b\n" and "port" in listed(meson("such").stderr))
+    os.remove(f"{COPY}/tools/port")
+    for command in FURTHER:
+        shows_help(command, "Exit status:")
+
+
+def test_setup() -> None:
+    """The program's own output and status; its words are kept where it ended with 0."""
+    words_of_setup = "sources/b/meson-private/words.json"
+    sources = os.path.realpath(f"{WORK}/sources")
+    for words in (["b"], ["-D", "b=b", "--native-file", "a b.ini", "b"], ["-Dx=\"'\\\n", "--native-file=n", "--", "b"], ["./b/"]):
+        taken(words_of_setup)
+        done = meson("setup", *words, cwd=sources)
+        is_good = done.returncode == 0 and done.stdout == f"program setup {' '.join(words)}\n" and done.stderr == ""
+        kept = json.loads(taken(words_of_setup) or "null")
+        check(f"meson setup: keeps {words}", is_good and kept == {"sources": sources, "words": words}, f"{done} {kept}")
+    check("meson setup: help keeps nothing", meson("setup", "--help", "b", cwd=sources).returncode == 0 and taken(words_of_setup) == "")
+    for text, status in {"echo why >&2; exit 1": 1, "exit 4": 4, "kill -TERM $$": -15, "kill -KILL $$": -9}.items():
+        put("instead", text)
+        done = meson("setup", "b", cwd=sources)
+        is_good = (done.returncode, done.stdout, done.stderr) == (status, "program setup b\n", "why\n" if status == 1 else "")
+        check(f"meson setup: status {status} is the program's, and keeps nothing", is_good and taken(words_of_setup) == "", f"{done}")
+    put("instead", "exec sleep 300")
+    process = subprocess.Popen([MESON, "setup", "b"], cwd=sources, env=environment(with_tools()), stdout=subprocess.PIPE, text=True)
+    process.stdout.readline()
+    process.terminate()
+    check("meson setup: a signal ends the program", process.wait(100) == -15, process.returncode)
+    process.stdout.close()
+    os.remove(f"{WORK}/instead")
+    cuts = {"b": "b", "-D x b": "b", "-Dx b": "b", "b -D x": "b", "--native-file n b": "b", "--native-file=n b": "b", "-- -b": "-b",
+            "-Dx -- b": "b", "b --": "b", "-": "-", "-h b": None, "b --help": None, "-Dh b": "b", "-D=x b": "b"}
+    wrong = {text: build_folder_of(text.split()) for text, wanted in cuts.items() if build_folder_of(text.split()) != wanted}
+    check("meson setup: BUILDDIR among its words", not wrong, wrong)
+    shutil.rmtree(f"{sources}/b")
+    os.makedirs(f"{sources}/b")
+    os.makedirs(f"{WORK}/elsewhere")
+    os.symlink(f"{WORK}/elsewhere", f"{sources}/b/meson-private")
+    done = meson("setup", "b", cwd=sources)
+    is_told = done.stderr.startswith("meson: b/meson-private/words.json: has a link on its way") and done.stderr.count("\n") == 1
+    is_good = done.returncode == 2 and is_told and os.listdir(f"{WORK}/elsewhere") == []
+    check("meson setup: says that the words can't be kept", is_good, f"{done}")
+    os.remove(f"{sources}/b/meson-private")
+
+
+def test_compile() -> None:
+    sources = os.path.realpath(f"{WORK}/sources")
+    words = ["-Dx=a b", "--native-file", "n.ini", "b"]
+    meson("setup", *words, cwd=sources)
+    taken("configured")
+    again = f"{sources} setup {' '.join(words)}\n"
+
+    def compiles(name: str, given: list[str], asked: str, cwd: str = WORK) -> None:
+        done = meson("compile", *given, cwd=cwd)
+        got, configured_by = taken("asked-of-ninja"), taken("configured")
+        file = f"include build.ninja\n\nbuild wanted#: phony {asked.rpartition('|')[2]}\n"
+        folder = given[given.index("-C") + 1] if "-C" in given else "."
+        options = "".join(f"{it}\n" for it in asked.rpartition("|")[0].split())
+        is_good = done.returncode == 0 and got == f"-C\n{folder}\n{file}{options}" and configured_by == again
+        check(f"meson compile: {name}", is_good and done.stderr == "", f"{got} {configured_by} {done}")
+
+    compiles("configures again and builds all", ["-C", "sources/b"], "all")
+    compiles("the present folder", [], "all", f"{sources}/b")
+    compiles("-j and -v", ["-C", "sources/b", "-j", "3", "-v"], "-j 3 -v|all")
+    compiles("targets", ["-C", "sources/b", "run", "files of a"], "sub/run a.c a.h")
+    compiles("a target by its folder", ["-C", "sources/b", "sub/run"], "sub/run")
+    compiles("a target by its kind, with its links", ["-C", "sources/b", "x:shared_library"], "libx.so.1 libx.so")
+    compiles("an output", ["-C", "sources/b", "a.h"], "a.h")
+
+
+def fails(name: str, given: list[str], status: int, text: str) -> None:
+    """A `meson compile` that says in one line what is wrong, where `meson setup` says nothing."""
+    put("instead", "exec >/dev/null")
+    refuses(name, [MESON, "compile", *given], status, text, env=with_tools())
+    os.remove(f"{WORK}/instead")
+    taken("asked-of-ninja")
+
+
+def test_compile_that_fails() -> None:
+    sources, in_b = os.path.realpath(f"{WORK}/sources"), ["-C", "sources/b"]
+    fails("a name of two targets", [*in_b, "x"], 1, "the name 'x' has more than one target: say libx.a or libx.so.1")
+    fails("no such target", [*in_b, "y"], 1, "there is no target 'y'")
+    fails("no number", [*in_b, "-j0"], 4, "--jobs takes a number above 0")
+    fails("no such word", [*in_b, "--such"], 4, "--such")
+    put("ninja-fails", "")
+    fails("a build that fails", in_b, 1, "the build failed")
+    os.remove(f"{WORK}/ninja-fails")
+    for status in (1, 2, 4):
+        put("instead", f"exit {status}")
+        done = meson("compile", *in_b)
+        is_told = done.stderr == f"meson compile: `meson setup` ended with status {status}, so nothing was built\n"
+        is_good = done.returncode == status and is_told and not taken("asked-of-ninja")
+        check(f"meson compile: where setup ends with {status}", is_good, f"{done}")
+    os.remove(f"{WORK}/instead")
+    fails("no configured folder", [], 1, ".: is no configured folder")
+    os.rename(f"{sources}/b", f"{sources}/moved")
+    fails("a folder that was moved", ["-C", "sources/moved"], 1, f"was configured as {sources}/b: run `meson setup` once more")
+    kept = "sources/moved/meson-private/words.json"
+    for text in ("", "[]", "{}", '{"sources": 1, "words": []}', '{"sources": "/", "words": [1]}', "[" * 5000):
+        put(kept, text)
+        fails(f"words that are {text[:20]!r}", ["-C", "sources/moved"], 1, "doesn't have the words of a `meson setup`")
+    os.remove(f"{WORK}/{kept}")
+    fails("a folder without words", ["-C", "sources/moved"], 1, "has no words of a `meson setup`: run that once more")
+
+
+def test_introspect() -> None:
+    content = document(tests=[shell("ä", ":")], projectinfo={"name": "p", "version": "1", "license": ["MIT"]})
+    configured("w", **content)
+    for words, wanted in {"": content, "--tests": content["tests"], "--projectinfo": content["projectinfo"], "--targets": [],
+                          "--buildoptions": [], "--installed": {}, "--dependencies": [],
+                          "--buildsystem-files": content["buildsystem_files"],
+                          "--tests --targets": {"tests": content["tests"], "targets": []}}.items():
+        done = run(["meson", "introspect", "w", *words.split()])
+        got = json.loads(done.stdout) if done.returncode == 0 else None
+        check(f"meson introspect {words}", got == wanted and done.stdout.count("\n") == 1 and done.stderr == "", f"{done}")
+    check("meson introspect: the present folder", json.loads(run(["meson", "introspect", "--installed"], cwd=f"{WORK}/w").stdout) == {})
+    refuses("no configured folder", ["meson", "introspect"], 1, ".: is no configured folder")
+    refuses("no such part", ["meson", "introspect", "w", "--such"], 4, "--such")
+    done = run(["bash", "-c", '"$@" | head -c 1; echo ${PIPESTATUS[0]}', "bash", *words_of(["meson", "introspect", "w"])])
+    check("meson introspect: | head", done.stdout in ("{0\n", "{1\n") and done.stderr == "", f"{done}")
+
+
+def test_progress() -> None:
+    """On a terminal a line says which tests are running, and goes; in a file there is none."""
+    configured("w", tests=[shell("one", ":"), shell("two", ":")])
+    master, slave = pty.openpty()
+    words = words_of(over("test", "w", "--no-rebuild", "-j1"))
+    process = subprocess.Popen(words, cwd=WORK, env=environment({"TERM": "xterm"}), stdout=slave)
+    os.close(slave)
+    shown = b""
+    try:
+        while data := os.read(master, 4096):
+            shown += data
+    except OSError:
+        pass  # the other end is closed
+    os.close(master)
+    process.wait()
+    lines = [line.rpartition("\r\x1b[K")[2] for line in shown.decode().split("\r\n")]
+    check("meson test: a line of progress on a terminal", b"[0/2] one" in shown and b"[1/2] two" in shown, shown)
+    is_gone = lines[0].startswith("1/2 one") and lines[1].startswith("2/2 two") and lines[2] == "" and process.returncode == 0
+    check("meson test: which goes", is_gone, shown)
+    check("meson test: and none in a file", "\x1b" not in run(over("test", "w", "--no-rebuild")).stdout)
+
+
+def test_self_install() -> None:
+    done = meson("self-install", "prefix")
+    scripts = {f"share/hawkottoman/tools/{it}" for it in os.listdir(f"{COPY}/tools") if it not in ("build-program", "self-install")}
+    names = {*scripts, "share/hawkottoman/hawkottoman", "share/hawkottoman/meson", "bin/hawkottoman-meson",
+             "share/man/man1/hawkottoman-meson.1"}
+    places = {os.path.join(os.path.realpath(WORK), "prefix", it) for it in names}
+    check("meson self-install: says what it installs", set(done.stdout.split()) == places and done.returncode == 0, f"{done}")
+    os.rename(COPY, f"{WORK}/gone")
+    installed = f"{WORK}/prefix/bin/hawkottoman-meson"
+    done = run([installed, "setup", "c"], with_tools(), cwd=f"{WORK}/sources")
+    check("meson self-install: setup", (done.returncode, done.stdout, done.stderr) == (0, "program setup c\n", ""), f"{done}")
+    taken("asked-of-ninja")
+    for words in (["compile", "-C", "c"], ["test", "-C", "c"], ["install", "-C", "c"], ["introspect", "c"], ["machine-file", "../asks"]):
+        done = run([installed, *words], with_tools(), cwd=f"{WORK}/sources")
+        check(f"meson self-install: {words[0]}", done.returncode == 0 and done.stderr == "", f"{done}")
+    check("meson self-install: no command of the checkout alone", "self-install" not in run([installed, "--help"]).stdout)
+    check("meson self-install: manual page", ".TH HAWKOTTOMAN-MESON 1" in read("prefix/share/man/man1/hawkottoman-meson.1"))
+    os.rename(f"{WORK}/gone", COPY)
+    done = run([MESON, "self-install", "/usr"], {**with_tools(), "DESTDIR": f"{WORK}/stage"})
+    staged = run([f"{WORK}/stage/usr/bin/hawkottoman-meson", "test", "--help"])
+    check("meson self-install: DESTDIR", done.returncode == staged.returncode == 0, f"{done} {staged}")
+    refuses("no words", ["meson", "self-install"], 4, "takes one word")
+    refuses("a word of another kind", ["meson", "self-install", "--prefix=/usr"], 4, "is no folder PREFIX")
+    put("broken", "")
+    os.utime(f"{COPY}/crates/low/src/lib.rt", (time.time() + 5,) * 2)
+    done = meson("setup", "b", cwd=f"{WORK}/sources")
+    check("meson setup: a build that fails", done.returncode == 127 and "low was not built" in done.stderr and done.stdout == "", f"{done}")
+
+
+TESTS = (test_without_the_program, test_building, test_commands, test_setup, test_compile, test_compile_that_fails,
+         test_introspect, test_progress, test_self_install)
