@@ -25,13 +25,9 @@ def program_of(given: str | None) -> str | None:
 
 def machine_file(folder: str, scratch: str) -> list[str]:
     """The words that give the program a machine file of the result, where one can be made."""
-    beside = (os.path.join(CHECKOUT, "tools", "machine-file"), os.path.join(CHECKOUT, "machine-file"))
-    made = next((it for it in beside if os.path.isfile(it)), None)
-    if made is None:
-        return []
     path = os.path.join(scratch, "native.ini")
     with open(path, "wb") as it:
-        done = subprocess.run([made, folder], stdout=it, stderr=subprocess.DEVNULL, stdin=subprocess.DEVNULL, timeout=LONGEST)
+        done = subprocess.run([os.path.join(CHECKOUT, "tools", "machine-file"), folder], stdout=it, stderr=subprocess.DEVNULL, stdin=subprocess.DEVNULL, timeout=LONGEST)
     return ["--native-file", path] if done.returncode == 0 else []
 
 
