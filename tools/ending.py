@@ -94,10 +94,14 @@ def take_closed_streams() -> None:
 SIGNALS = (signal.SIGINT, signal.SIGTERM, signal.SIGHUP)
 
 
+def let_pass(number: int, frame: FrameType | None) -> None:
+    """Does nothing. With SIG_IGN the interpreter would complain of a signal that has come and was not yet handled."""
+
+
 def interrupt(number: int, frame: FrameType | None) -> NoReturn:
     """Ends the script; from here on no signal interrupts what is being cleaned up."""
     for other in SIGNALS:
-        signal.signal(other, signal.SIG_IGN)
+        signal.signal(other, let_pass)
     raise KeyboardInterrupt
 
 

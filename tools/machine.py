@@ -77,6 +77,8 @@ def attempt(words: list[str], folder: str | None = None, hears: bool = True) -> 
     except (OSError, ValueError) as error:  # a ValueError where a word has a NUL
         return None, f"{words[0]}: {getattr(error, 'strerror', error)}"
     AT_WORK.add(process.pid)
+    if ENDED.is_set():
+        kill(process.pid)  # `end_all` may have come before it was among those at work
     try:
         printed, said = process.communicate(timeout=SECONDS)
     except BaseException as error:
