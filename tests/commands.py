@@ -54,7 +54,7 @@ def make_copy() -> None:
     os.makedirs(f"{COPY}/docs")
     shutil.copy(os.path.join(CHECKOUT, "meson"), COPY)
     shutil.copy(os.path.join(CHECKOUT, "docs/hawkottoman-meson.1"), f"{COPY}/docs")
-    shutil.copytree(os.path.join(CHECKOUT, "tools"), f"{COPY}/tools", ignore=shutil.ignore_patterns("__pycache__", "port"))
+    shutil.copytree(os.path.join(CHECKOUT, "tools"), f"{COPY}/tools", ignore=shutil.ignore_patterns("__pycache__", "port*"))
     for crate in ("low", "hawkottoman", "low_tests"):
         put(f"checkout/crates/{crate}/src/lib.rt", "")
     put("checkout/crates.txt", "# NAME: DEP\nlow: std\nhawkottoman: low\nlow_tests: low\n")
@@ -298,7 +298,7 @@ def test_self_install() -> None:
     put("broken", "")
     os.utime(f"{COPY}/crates/low/src/lib.rt", (time.time() + 5,) * 2)
     done = meson("setup", "b", cwd=f"{WORK}/sources")
-    check("meson setup: a build that fails", done.returncode == 127 and "low was not built" in done.stderr and done.stdout == "", f"{done}")
+    check("meson setup: a build that fails", done.returncode == 127 and " was not built" in done.stderr and done.stdout == "", f"{done}")
 
 
 TESTS = (test_without_the_program, test_building, test_commands, test_setup, test_compile, test_compile_that_fails,

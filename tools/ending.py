@@ -94,11 +94,14 @@ def take_closed_streams() -> None:
 SIGNALS = (signal.SIGINT, signal.SIGTERM, signal.SIGHUP)
 
 
+def let_pass(number: int, frame: FrameType | None) -> None:
+    """Does nothing. With SIG_IGN the interpreter would complain of a signal that has come and was not yet handled."""
+
+
 def interrupt(number: int, frame: FrameType | None) -> NoReturn:
     """Ends the script; from here on no signal interrupts what is being cleaned up."""
     for other in SIGNALS:
-        # Not SIG_IGN: Python complains where one that came meanwhile is to be ignored.
-        signal.signal(other, lambda number, frame: None)
+        signal.signal(other, let_pass)
     raise KeyboardInterrupt
 
 
