@@ -37,29 +37,24 @@ fn refusal_of(alloc: Global, text: String) -> LineFault
 }
 
 fn with_tip(alloc: Global, text: String) -> Result<String, AllocError> {
-    let Some(name) = option_tried(text.as_str()) else {
+    let Some((tried, usage)) = flag_tried(text.as_str()) else {
         return Ok(text);
     };
-    let Some((_, usage)) = text.as_str().split_once("\n\nUsage") else {
+    let name = tried.replace(alloc, '-', "_")?;
+    if !is_built_in(name.as_str()) {
         return Ok(text);
-    };
+    }
     format!(in alloc;
-        "error: unexpected argument '--{name}' found\n\n  tip: an option is given as '-D{name}=..'\n\nUsage{usage}"
+        "error: unexpected argument '--{tried}' found\n\n  tip: an option is given as '-D{name}=..'\n\nUsage{usage}"
     )
 }
 
-// The option that every project has and that was tried as a flag, as `clap` tells it.
-fn option_tried(text: &str) -> Option<&str> {
+// The name of a flag that `clap` doesn't know, as it tells it, and what it says behind its own tip.
+fn flag_tried(text: &str) -> Option<(&str, &str)> {
     let rest = text.strip_prefix("error: unexpected argument '--")?;
-    let (name, _) = rest.split_once('\'')?;
-    is_built_in(name).then_some(name)
-}
-
-// The text for a folder in which nothing can be built.
-fn folder_fault(alloc: Global, path: &str) -> Result<String, AllocError> {
-    format!(in alloc;
-        "error: '{path}' cannot be the folder of a build: it has to be a relative path of 1 to 64 parts, none of them '..'\n\nFor more information, try 'meson setup --help'.\n"
-    )
+    let (tried, rest) = rest.split_once('\'')?;
+    let (_, usage) = rest.split_once("\n\nUsage")?;
+    Some((tried, usage))
 }
 
 fn parse<'a>(alloc: Global, words: &'a [String]) -> Result<ArgMatches<'a>, LineFault>

@@ -18,8 +18,8 @@ use world::Settings;
 // The exit status for words that are no command line.
 const BAD_LINE: u8 = 4;
 
-// The most bytes that are read of a machine file, which may be a pipe or a device.
-const MACHINE_FILE_BYTES: usize = 16_777_216;
+// The most bytes that are read of a machine file, which may be a pipe or a device. A text that is too long for a value fits.
+const MACHINE_FILE_BYTES: usize = 33_554_432;
 
 /// Configures the project in the folder `root` as the words say, of which the first is the program's
 /// name. The log goes to `log`, fault lines and the program's own texts to `faults`, outputs to the
@@ -76,6 +76,7 @@ fn configure<R: Files<File = File> + AllocGlobal, L: Write + Drop, F: Write + Dr
         folder: line.folder.clone()?,
     };
     let mut out = DiskOutputs::new(rt, rt.alloc(), place, log, faults)?;
+    out.claim()?;
     let settings = settings_of(rt.alloc(), line, root)?;
     let mut tree = DiskTree::new(rt, rt.alloc(), String::from_str(rt.alloc(), root)?);
     Ok(setup(

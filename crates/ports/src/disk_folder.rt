@@ -61,12 +61,10 @@ fn lock_folder<R: Files<File = File>>(files: &R, path: &str) -> io::Result<Optio
     }
 }
 
-// Says something of the folder, in a line of its own.
-fn tell<F: Write>(faults: &mut F, before: &str, folder: &str, behind: &str) -> io::Result<()> {
-    faults.write_all(b"meson: ")?;
-    faults.write_all(before.as_bytes())?;
+// Says that another run has the folder.
+fn tell_of_another_run<F: Write>(folder: &str, faults: &mut F) -> io::Result<()> {
+    faults.write_all(b"meson: another run is at work in ")?;
     faults.write_all(folder.as_bytes())?;
-    faults.write_all(behind.as_bytes())?;
     faults.write_all(b"\n")?;
     faults.flush()
 }
@@ -89,42 +87,33 @@ impl<'a, R: Files<File = File>> DiskFolder<'a, R> {
         joined(self.alloc, folder.as_str(), path)
     }
 
-    /// Makes the folder and has it for this run alone, where it hasn't yet. Where it is a link, or another run has it, that is said, and is
-    /// an error.
-    pub(crate) fn take<F: Write>(&mut self, faults: &mut F) -> io::Result<()> {
-        if self.lock.is_some() {
-            return Ok(());
-        }
-        self.make(faults)?;
+    /// Has the folder for this run alone from now on, where it is there.
+    pub(crate) fn claim<F: Write>(&mut self, faults: &mut F) -> io::Result<()> {
         let path = joined(self.alloc, self.root.as_str(), self.folder.as_str())?;
-        self.lock = lock_folder(self.files, path.as_str())?;
-        if self.lock.is_none() {
-            tell(
-                faults,
-                "another run is at work in ",
-                self.folder.as_str(),
-                "",
-            )?;
-            return Err(io::Error::from(ErrorKind::WouldBlock));
+        if is_folder(self.files, path.as_str()).unwrap_or(false) {
+            self.take(faults)?;
         }
         Ok(())
     }
 
-    // Makes the folder.
-    fn make<F: Write>(&self, faults: &mut F) -> io::Result<()> {
-        let folder = self.folder.as_str();
-        match make_folders(self.files, self.alloc, self.root.as_str(), folder) {
-            Err(error) if error.kind() == ErrorKind::AlreadyExists => {
-                tell(
-                    faults,
-                    "",
-                    folder,
-                    " is not a folder, or is behind a link: no link is followed",
-                )?;
-                Err(error)
-            }
-            made => made,
+    /// Makes the folder and has it for this run alone, where it hasn't yet. Where another run has it, that is said, and it is an error.
+    pub(crate) fn take<F: Write>(&mut self, faults: &mut F) -> io::Result<()> {
+        if self.lock.is_some() {
+            return Ok(());
         }
+        make_folders(
+            self.files,
+            self.alloc,
+            self.root.as_str(),
+            self.folder.as_str(),
+        )?;
+        let path = joined(self.alloc, self.root.as_str(), self.folder.as_str())?;
+        self.lock = lock_folder(self.files, path.as_str())?;
+        if self.lock.is_none() {
+            tell_of_another_run(self.folder.as_str(), faults)?;
+            return Err(io::Error::from(ErrorKind::WouldBlock));
+        }
+        Ok(())
     }
 
     /// Makes the folders that the output of this name needs.

@@ -22,8 +22,8 @@ const LINE_BUFFER: usize = 1024;
 /// program is killed. Where the old file has the same bytes it stays, with its time. What stands beside is taken away, and no link is
 /// followed: where a folder on the way from the root is a link, that is a device fault.
 ///
-/// The first `open` makes the folder and locks it for as long as the outputs are there. Where another run has it, that is said among the
-/// fault lines, and is a device fault.
+/// The folder is locked for as long as the outputs are there, by `claim` or by the first `open`, which makes it. Where another run has
+/// it, that is said among the fault lines, and is a device fault.
 ///
 /// `open` makes the folders that an output needs, and gives up one that was open. What is put waits in a buffer, which is written out as
 /// it fills, at `close`, and before another output is begun or a fault's bytes are taken: where that fails, the call answers a device
@@ -174,6 +174,14 @@ impl<'a, R: Files<File = File>, L: Write + Drop, F: Write + Drop> DiskOutputs<'a
             faults,
             failures: 0,
         })
+    }
+
+    /// Has the folder for this run alone from now on, where it is there; else the first `open` makes it and has it then. An error where
+    /// another run has it, which is said among the fault lines, or where it can't be locked.
+    pub fn claim(&mut self) -> io::Result<()>
+        ensures { ⟦<DiskOutputs<'a, R, L, F> as Outputs>⟧.seen self.new ≡ ⟦<DiskOutputs<'a, R, L, F> as Outputs>⟧.seen self.old }
+    {
+        self.disk.claim(&mut self.faults)
     }
 }
 
