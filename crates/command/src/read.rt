@@ -57,6 +57,13 @@ fn flag_tried(text: &str) -> Option<(&str, &str)> {
     Some((tried, usage))
 }
 
+// The text for a folder in which nothing can be built.
+fn folder_fault(alloc: Global, path: &str) -> Result<String, AllocError> {
+    format!(in alloc;
+        "error: '{path}' cannot be the folder of a build: it has to be a relative path of 1 to 64 parts, none of them '..'\n\nFor more information, try 'meson setup --help'.\n"
+    )
+}
+
 fn parse<'a>(alloc: Global, words: &'a [String]) -> Result<ArgMatches<'a>, LineFault>
     ensures { MatchResult result
         (λ found. (faults_of (map string_bytes words.entry.now) ≡ [])
