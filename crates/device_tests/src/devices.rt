@@ -5,7 +5,7 @@ ghost use Rattle.ports.specs.MemTree.{mem_tree_seen};
 ghost use Rattle.ports.specs.Outputs.{OutputState};
 ghost use Rattle.ports.specs.Tree.{TreeState};
 
-use crate::given::strings;
+use basics::text_lists::strings;
 use ports::{
     DeviceFault, DiskOutputs, DiskTree, Event, MemOutputs, MemTree, OutputCall, OutputPlace,
     Outputs, Tree, TreeCall, fault_all, log_all, put_all,

@@ -2,7 +2,7 @@
 ghost use Rattle.ports.specs.Endings.{HasRoom};
 ghost use Rattle.ports.specs.Outputs.{OutputState};
 
-use crate::given::strings;
+use basics::text_lists::strings;
 use edge::{Edge, Rule, are_writable, can_hold_path, can_hold_value};
 use ninja::{write_edge, write_path, write_value, write_words};
 use ports::{DeviceFault, Event, MemOutputs, Outputs};

@@ -6,11 +6,20 @@ ghost use Rattle.ports.specs.Outputs.{OutputState};
 ghost use Rattle.ports.specs.Tree.{TreeState};
 ghost use Rattle.std.specs.Prelude.{◌≡◌, ◌+◌, ◌^◌, ◌<◌, [], length, false, IfOk};
 
-use crate::device_failures::Ran;
 use ports::{DeviceFault, Event, MemOutputs, MemTree, OutputCall, Outputs, Tree, TreeCall};
 use std::alloc::{AllocError, Global};
 use std::test::Fail;
 use template::{ConfigData, ConfigValue, LINE_LIMIT, PassStop, header, pass};
+
+// How a template went over devices of which one was to fail once.
+#[derive(Clone, Copy, Debug, PartialEq, Eq)]
+enum Outcome {
+    // The call did not come: all was written.
+    Whole,
+    // The call failed, and a beginning was written.
+    Failed,
+    Wrong,
+}
 
 // The device of which a call is to fail.
 #[derive(Clone, Copy, Debug, PartialEq, Eq)]
@@ -122,7 +131,7 @@ fn tree_of(alloc: Global, plan: Plan) -> Result<MemTree, AllocError>
 }
 
 // How the three are written over devices that behave by this plan. `A` is true, nothing else has a value.
-fn ran(alloc: Global, plan: Plan) -> Result<Ran, Fail> {
+fn ran(alloc: Global, plan: Plan) -> Result<Outcome, Fail> {
     let mut config = ConfigData::new(alloc);
     config.set("A", ConfigValue::Boolean(true))?;
     let mut tree = tree_of(alloc, plan)?;
@@ -137,18 +146,18 @@ fn ran(alloc: Global, plan: Plan) -> Result<Ran, Fail> {
 }
 
 // What a call of the outputs took before it failed is less than all; a call of the tree may fail behind the last byte that is written.
-fn judged(device: Device, stop: Option<PassStop>, shown: &[u8]) -> Ran {
+fn judged(device: Device, stop: Option<PassStop>, shown: &[u8]) -> Outcome {
     let is_begun = WRITTEN.as_bytes().starts_with(shown);
     let is_whole = is_begun && shown.len() == WRITTEN.len();
     if is_whole && stop == Some(PassStop::Template(3)) {
-        Ran::Whole
+        Outcome::Whole
     } else if is_begun
         && !(is_whole && device == Device::Outputs)
         && stop == Some(PassStop::Device)
     {
-        Ran::Failed
+        Outcome::Failed
     } else {
-        Ran::Wrong
+        Outcome::Wrong
     }
 }
 
@@ -161,7 +170,7 @@ fn pieces_change_nothing(rt: HostRuntime) -> Result<(), Fail> {
                 put_piece,
                 fails: (Device::Tree, 0),
             };
-            assert_eq!(rt; ran(rt.alloc(), plan)?, Ran::Whole);
+            assert_eq!(rt; ran(rt.alloc(), plan)?, Outcome::Whole);
         }
     }
     Ok(())
@@ -181,9 +190,9 @@ fn calls_of(alloc: Global, device: Device, piece: usize) -> Result<Option<u64>, 
             fails: (device, number),
         };
         match ran(alloc, plan)? {
-            Ran::Failed => {}
-            Ran::Whole => return Ok(Some(number - 1)),
-            Ran::Wrong => return Ok(None),
+            Outcome::Failed => {}
+            Outcome::Whole => return Ok(Some(number - 1)),
+            Outcome::Wrong => return Ok(None),
         }
     }
     Ok(None)

@@ -2,7 +2,8 @@
 ghost use Rattle.std.specs.Prelude.{◌<◌};
 
 use crate::expected::{Expected, outputs};
-use crate::given::{EMPTY, Given, SMALLEST, SMALLEST_BUILD_FILE, run_over, strings, tree_of};
+use crate::given::{EMPTY, Given, SMALLEST, SMALLEST_BUILD_FILE, run_over, tree_of};
+use basics::text_lists::strings;
 use build_file::Status;
 use ports::{MemOutputs, OutputCall, Outputs, Tree, TreeCall};
 use std::alloc::{AllocError, Global};

@@ -112,14 +112,6 @@ pub const EMPTY: Given<'static> = Given {
     expected: Expected::Fault("meson.build:1: ERROR: E13 project call\n"),
 };
 
-pub fn strings(alloc: Global, texts: &[&str]) -> Result<Vec<String>, AllocError> {
-    let mut strings = Vec::with_capacity(alloc, texts.len())?;
-    for text in texts {
-        strings.push(String::from_str(alloc, text)?)?;
-    }
-    Ok(strings)
-}
-
 /// The tree of the given files.
 pub fn tree_of(alloc: Global, given: &Given<'_>) -> Result<MemTree, AllocError>
     ensures { IfOk result (λ tree. (mem_tree_seen tree).failures ≡ 0) }
