@@ -1,6 +1,6 @@
 //! The folder of a disk that outputs go to.
 
-use crate::disk_tree::joined;
+use crate::disk_tree::{is_absent, joined};
 use std::alloc::{AllocError, Global};
 use std::fs::{File, TryLockError};
 use std::io::{ErrorKind, Write};
@@ -90,10 +90,12 @@ impl<'a, R: Files<File = File>> DiskFolder<'a, R> {
     /// Has the folder for this run alone from now on, where it is there.
     pub(crate) fn claim<F: Write>(&mut self, faults: &mut F) -> io::Result<()> {
         let path = joined(self.alloc, self.root.as_str(), self.folder.as_str())?;
-        if is_folder(self.files, path.as_str()).unwrap_or(false) {
-            self.take(faults)?;
+        match is_folder(self.files, path.as_str()) {
+            Ok(true) => self.take(faults),
+            Ok(false) => Ok(()),
+            Err(error) if is_absent(&error) => Ok(()),
+            Err(error) => Err(error),
         }
-        Ok(())
     }
 
     /// Makes the folder and has it for this run alone, where it hasn't yet. Where another run has it, that is said, and it is an error.

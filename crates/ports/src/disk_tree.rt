@@ -32,7 +32,7 @@ pub(crate) fn joined(alloc: Global, folder: &str, path: &str) -> Result<String, 
 
 // Whether this error says that no file has the path: the path ends at nothing or goes through a file, or has a NUL or a part that
 // is longer than any file's name.
-fn is_absent(error: &io::Error) -> bool {
+pub(crate) fn is_absent(error: &io::Error) -> bool {
     matches!(
         error.kind(),
         ErrorKind::NotFound
