@@ -41,16 +41,10 @@ const BAD_LINE: u8 = 4;
 // The number of the last standard stream.
 const STANDARD_ERROR: i32 = 2;
 
-// The least stack with which a run over files nested as deep as they may be ends as it should.
-const STACK_BYTES: u64 = 524_288;
-
 fn main(rt: HostRuntime) -> ExitCode {
     let Ok(_held) = hold_streams(&rt) else {
         return ended(&rt, "meson: device fault", DEVICE_FAILED);
     };
-    if stack_limit() < STACK_BYTES {
-        return ended(&rt, "meson: out of memory", MEMORY_RAN_OUT);
-    }
     let words = match words(&rt) {
         Ok(words) => words,
         Err(error) if error.kind() == ErrorKind::OutOfMemory => {
@@ -87,19 +81,6 @@ fn hold_streams(rt: &HostRuntime) -> io::Result<Vec<File>> {
         held.push(folder)?;
     }
     Ok(held)
-}
-
-// How many bytes the stack may have; where the system doesn't say, it has enough.
-fn stack_limit() -> u64 {
-    let mut limit = libc::types::rlimit {
-        rlim_cur: 0,
-        rlim_max: 0,
-    };
-    if libc::getrlimit(libc::RLIMIT_STACK, &mut limit) == 0 {
-        limit.rlim_cur
-    } else {
-        u64::MAX
-    }
 }
 
 // The words of the command line, of which the first is the program's name.
