@@ -1,6 +1,6 @@
 -- The rows of the functions: what each takes.
 use Rattle.std.specs.Prelude.{[], ◌∷◌, Some, None, codes}
-use Rattle.arguments.specs.declared.row.Kind.TheVariants.{Text, Texts, TextsOrDictionary}
+use Rattle.arguments.specs.declared.row.Kind.TheVariants.{Any, Text, Texts, TextsOrDictionary}
 use Rattle.arguments.specs.Row.{RowData, common_left_out, optional}
 
 -- a name and languages
@@ -10,7 +10,7 @@ project_row = record {
   needed = 1;
   others = Some Texts;
   keywords = optional (codes "version") Text ∷ optional (codes "license") Texts ∷ optional (codes "default_options") TextsOrDictionary
-      ∷ optional (codes "meson_version") Text ∷ [];
+      ∷ optional (codes "meson_version") Any ∷ [];
   left_out = common_left_out;
 }
 

@@ -23,7 +23,7 @@ static PROJECT: [Keyword; 4] = [
     },
     Keyword {
         name: "meson_version",
-        kind: Kind::Text,
+        kind: Kind::Any,
         is_needed: false,
     },
 ];
