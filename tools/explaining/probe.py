@@ -16,8 +16,8 @@ from tools.explaining.values import OBJECT, Value, value_in
 MARK, COUNT = "the explanation is asked here", "explain_rounds_of_the_fault"
 # Of which kind an object is that has a method.
 METHODS = {
-    "enabled": "feature option", "get_id": "compiler", "set10": "configuration data object", "system": "machine", "project_name": "meson object",
-    "version": "dependency", "path": "program", "to_list": "custom target", "full_path": "target",
+    "enabled": "feature option", "get_id": "compiler", "set10": "configuration data object", "system": "machine",
+    "project_name": "meson object", "version": "dependency", "path": "program", "to_list": "custom target", "full_path": "target",
 }
 # How often the program is asked of one fault, at most.
 MOST = 400
