@@ -74,6 +74,13 @@ class Probe:
             return Value("list", "", tuple(self.value(it) for it in node.items[:MOST]))
         return Value(self.kind(node))
 
+    def variable(self, name: str) -> Value | None:
+        """What a variable is before the statement, in the round of the fault."""
+        fault = self.outcome([], f"{COUNT} == {self.rounds} and error('{MARK}', [{name}])\n").fault
+        if fault is None or not fault.text.startswith(MARK):
+            return None
+        return value_in(fault.text[len(MARK):].strip())
+
     def kind(self, node: tree.Node) -> str:
         """Of which kind an object is."""
         for method, name in METHODS.items():
@@ -90,6 +97,17 @@ class Probe:
         if isinstance(made, tree.Call) and made.receiver is None and made.name in ("files", "include_directories", "disabler"):
             return {"files": "list of files", "include_directories": "include_directories object", "disabler": "disabler"}[made.name]
         return name
+
+    def without(self, call: tree.Call) -> tree.Keyword | None:
+        """The keyword without which the call is not refused so."""
+        for item in call.items:
+            if isinstance(item, tree.Keyword):
+                end = self.place.text.find(",", item.end, call.end)
+                is_last = self.place.text[item.end:call.end].lstrip()[:1] != ","
+                fault = self.outcome([(item.start, item.end if is_last else end + 1, "")]).fault
+                if fault is None or fault.number != 9:
+                    return item
+        return None
 
     def culprit(self) -> tree.Node | None:
         """The innermost node that is begun and doesn't complete; none where all expressions of the statement do."""
