@@ -59,7 +59,8 @@ def explain(asked: Asked, outcome: Outcome) -> int:
         show("there is no fault")
         return DONE
     if outcome.fault is not None:
-        show_fault(asked, outcome.fault)
+        for line in explained(asked, outcome.fault):
+            show(line)
         return outcome.status
     if outcome.status == NOT_READ:
         why = devices.unread(asked) or devices.unwritten(asked)
@@ -71,15 +72,14 @@ def explain(asked: Asked, outcome: Outcome) -> int:
     return outcome.status
 
 
-def show_fault(asked: Asked, fault: Fault) -> None:
-    show(one_line(fault.shown()))
+def explained(asked: Asked, fault: Fault) -> list[str]:
+    """The fault line, the line of the source with its mark, and the detail."""
     text = text_of(asked, fault)
     try:
         found = detail_of(asked, fault, text)
     except subprocess.TimeoutExpired:
         found = detail("it takes too long to ask what stands there")
-    for line in [*(shown(text, fault.line, found.at) if text is not None else []), *map(one_line, found.lines)]:
-        show(line)
+    return [one_line(fault.shown()), *(shown(text, fault.line, found.at) if text is not None else []), *map(one_line, found.lines)]
 
 
 def text_of(asked: Asked, fault: Fault) -> str | None:

@@ -26,6 +26,11 @@ def quoted(text: str) -> str:
     return "'" + "".join(it if it.isprintable() else it.encode("unicode_escape").decode() for it in cut) + "'"
 
 
+def named(text: str) -> str:
+    """A token as it is written; between quotes, where it has none of its own."""
+    return quoted(text) if not text.lstrip("f").startswith("'") else quoted(text)[1:-1]
+
+
 def listed(words: Iterable[str]) -> str:
     return ", ".join(words)
 

@@ -7,7 +7,7 @@ from collections.abc import Iterator
 from porting import tree
 from porting.lexer import KEYWORDS, SyntaxFault, Token, tokens_of
 from porting.parser import Parser
-from tools.explaining.detail import Detail, detail, line_at, quoted
+from tools.explaining.detail import Detail, detail, line_at, named, quoted
 
 WORD = re.compile(r"[A-Za-z_0-9]+|'''|f?'[^'\n]*'?|\S")
 CLOSING = {"(": ")", "[": "]", "{": "}"}
@@ -133,7 +133,7 @@ def hint_of(parser: Parser) -> str:
     ends = before.kind in ("text", "number", "name") or before.text in (")", "]", "}", "true", "false")
     begins = token.kind in ("text", "number", "name") or token.text in ("[", "{", "true", "false")
     if ends and begins and open_at(parser.text, token.start):
-        return f"a comma is missing between {quoted(before.text)} and {quoted(token.text)}, or a bracket before it"
+        return f"a comma is missing between {named(before.text)} and {named(token.text)}, or a bracket is"
     return ""
 
 
