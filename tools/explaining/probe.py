@@ -6,6 +6,7 @@ what `x` is.
 """
 from __future__ import annotations
 
+import time
 from collections.abc import Iterator
 
 from porting import tree
@@ -19,13 +20,13 @@ METHODS = {
     "enabled": "feature option", "get_id": "compiler", "set10": "configuration data object", "system": "machine",
     "project_name": "meson object", "version": "dependency", "path": "program", "to_list": "custom target", "full_path": "target",
 }
-# How often the program is asked of one fault, at most.
-MOST = 400
+# How often the program is asked of one fault, at most, and for how many seconds.
+MOST, MOST_SECONDS = 400, 30
 
 
 class Probe:
     def __init__(self, room: Room, place: Place) -> None:
-        self.room, self.place, self.asked = room, place, 0
+        self.room, self.place, self.asked, self.begun = room, place, 0, time.monotonic()
         first = place.body[0]
         is_root = place.file == "meson.build"
         self.begin = place.text.find("\n", first.end) + 1 if is_root else 0
@@ -36,7 +37,7 @@ class Probe:
     @property
     def can_ask(self) -> bool:
         """Whether the statement is reached, and calls may stand in it: not in the first one, `project`."""
-        return self.rounds > 0 and self.asked < MOST
+        return self.rounds > 0 and self.asked < MOST and time.monotonic() - self.begun < MOST_SECONDS
 
     def outcome(self, edits: list[tuple[int, int, str]], before: str = "") -> Outcome:
         """What comes of the file with other texts at some places, and with lines before the statement."""
