@@ -113,9 +113,10 @@ def grammar_detail(text: str, line: int) -> Detail:
         token = parser.token
         at = token.start
         if isinstance(fault, SyntaxFault) and (fault.line == line or token.kind in ("newline", "end")):
+            is_end = at >= len(text.rstrip())
             why = fault.why.replace("wanted before", "missing before")
-            name = "" if token.kind != "end" and line_at(text, at) == line else " (the end of the file)"
-            return detail(f"{why}{name}", hint_of(parser), open_detail(text, at), at=at if line_at(text, at) == line else None)
+            why = why.replace("'the end of the line'", "the end of the file" if is_end else "the end of the line")
+            return detail(why, hint_of(parser), open_detail(text, at), at=at if line_at(text, at) == line and not is_end else None)
         return on_line(text, line)
     for at, why in refused_in(body):
         if line_at(text, at) == line:
