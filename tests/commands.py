@@ -191,11 +191,13 @@ def test_explain() -> None:
 
     fault = "echo 'meson.build:2: ERROR: E9 arguments' >&2; exit 1"
     explains("a fault", fault, ["b"], 1, "executable: keyword 'instal': there is none; near: 'install'")
-    explains("a fault, with words", fault, ["-D", "x=1", "--native-file=n.ini", "--", "b"], 1, "meson.build:2: ERROR: E9 arguments\n  2 | exec")
+    shown = "meson.build:2: ERROR: E9 arguments\n  2 | exec"
+    explains("a fault, with words", fault, ["-D", "x=1", "--native-file=n.ini", "--", "b"], 1, shown)
     explains("no fault", "exit 0", ["./b/"], 0, "there is no fault\n")
     explains("a machine file that isn't there", "exit 0", ["--native-file", "no.ini", "b"], 2, "no.ini: the machine file: No such file")
     explains("want of memory", "echo 'meson: out of memory' >&2; exit 3", ["b"], 3, "meson explain: out of memory\n")
-    explains("bad words", "echo 'error: there is no word --such' >&2; exit 4", ["--such", "b"], 4, "meson explain: there is no word --such\n")
+    such = "there is no word --such"
+    explains("bad words", f"echo 'error: {such}' >&2; exit 4", ["--such", "b"], 4, f"meson explain: {such}\n")
     os.symlink(WORK, f"{sources}/link")
     explains("a folder that is a link", "exit 0", ["link/b"], 2, "link: is a link")
     os.remove(f"{sources}/link")

@@ -10,6 +10,9 @@ from tools.explaining.rules import broken_rule
 from tools.explaining.values import Value
 
 
+OWN = ("meson", "host_machine", "build_machine", "target_machine")
+
+
 def row_of(call: tree.Call) -> Row | None:
     return FUNCTIONS.get(call.name) if call.receiver is None else METHODS.get(call.name)
 
@@ -20,13 +23,20 @@ def refused(context: Context) -> Detail:
     node = context.probe.culprit() if context.probe.can_ask else None
     call = node if isinstance(node, tree.Call) else None
     if call is None and (node is None or not isinstance(node, tree.Call)):
-        if isinstance(statement, tree.Assignment) and node is None and context.probe.can_ask:
-            return detail(f"{quoted(statement.name)} can't be set: it is a variable of the program's own", at=statement.start)
+        own = own_name(statement) if node is None else None
+        if own is not None:
+            return detail(f"{quoted(own)} can't be set: it is a variable of the program's own", at=statement.start)
         candidates = context.place.calls()
         call = next((it for it in candidates[::-1] if of_words(context, it)), candidates[0] if candidates else None)
     if call is None:
         return detail(f"{quoted(context.place.source(statement))}: a value can't be used so", at=statement.start)
     return of_words(context, call) or of_values(context, call)
+
+
+def own_name(statement: tree.Statement) -> str | None:
+    """The variable of the program's own that a statement would set."""
+    names = [statement.name] if isinstance(statement, tree.Assignment) else statement.names if isinstance(statement, tree.Foreach) else []
+    return next((it for it in names if it in OWN), None)
 
 
 def of_words(context: Context, call: tree.Call) -> Detail | None:

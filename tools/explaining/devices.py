@@ -13,7 +13,8 @@ FOLDER = os.O_RDONLY | os.O_DIRECTORY | os.O_CLOEXEC | os.O_NOFOLLOW
 def unread(asked: Asked) -> str | None:
     """A file of the sources that is there and can't be read."""
     for folder, folders, names in os.walk(asked.root):
-        folders[:] = [it for it in sorted(folders) if not it.startswith(".") and os.path.relpath(os.path.join(folder, it), asked.root) != asked.build]
+        folders[:] = [it for it in sorted(folders)
+                      if not it.startswith(".") and os.path.relpath(os.path.join(folder, it), asked.root) != asked.build]
         for name in sorted(names):
             path = os.path.join(folder, name)
             why = reason(path)

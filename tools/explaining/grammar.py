@@ -5,7 +5,7 @@ import re
 from collections.abc import Iterator
 
 from porting import tree
-from porting.lexer import KEYWORDS, SyntaxFault, Token, tokens_of
+from porting.lexer import TOKEN, SyntaxFault, Token, tokens_of
 from porting.parser import Parser
 from tools.explaining.detail import Detail, detail, line_at, named, quoted
 
@@ -72,8 +72,9 @@ def token_detail(text: str, line: int) -> Detail:
     start = start_of(text, line)
     for match in re.finditer(r"(?<![\w'])0\d\w*|(?<![\w'])\d+[A-Za-z_]\w*", text[start:start + len(line_text(text, line))]):
         if not re.fullmatch(r"0[xX][0-9a-fA-F]+|0[oO][0-7]+|0[bB][01]+", match[0]):
-            octal = f"; an octal number is 0o{match[0].lstrip('0')}, and {quoted(match[0])} is a text" if re.fullmatch(r"0[0-7]+", match[0]) else ""
-            return detail(f"{quoted(match[0])} is no number{octal}", at=start + match.start())
+            is_octal = re.fullmatch(r"0[0-7]+", match[0])
+            told = f"; an octal number is 0o{match[0].lstrip('0') or '0'}, and {quoted(match[0])} is a text" if is_octal else ""
+            return detail(f"{quoted(match[0])} is no number{told}", at=start + match.start())
     for match in re.finditer(r"\\(?:u([0-9a-fA-F]{4})|U([0-9a-fA-F]{8}))", line_text(text, line)):
         code = int(match[1] or match[2], 16)
         if 0xD800 <= code < 0xE000 or code > 0x10FFFF:
@@ -91,7 +92,6 @@ def token_detail(text: str, line: int) -> Detail:
 
 def unread_at(text: str) -> int | None:
     """Where the tokens end before the file does."""
-    from porting.lexer import TOKEN
     at = 0
     while at < len(text):
         match = TOKEN.match(text, at)
@@ -184,7 +184,3 @@ def nesting_detail(text: str, line: int) -> Detail:
     found = open_at(text, start + len(line_text(text, line)))
     since = f": the outermost begins in line {line_at(text, found[0][1])}" if found else ""
     return detail(f"brackets, blocks and the prefixes 'not' and '-' stand more than 64 deep here{since}")
-
-
-def is_keyword(word: str) -> bool:
-    return word in KEYWORDS

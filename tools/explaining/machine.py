@@ -8,7 +8,8 @@ from tools.explaining.detail import Detail, detail, listed, near, quoted
 SECTIONS = ("binaries", "built-in options", "project options", "host_machine", "compiler", "dependency NAME", "checks", "properties")
 KEYS = {"host_machine": ("system", "cpu_family", "cpu", "endian"), "compiler": ("id", "version"),
         "dependency": ("version", "compile_args", "link_args")}
-VALUE = re.compile(r"(?:(?P<text>'(?:[^'\\]|\\.)*')|(?P<number>-?\s*(?:0[xX][0-9a-fA-F]+|0[oO][0-7]+|0[bB][01]+|0|[1-9][0-9]*))|(?P<truth>true|false)"
+VALUE = re.compile(r"(?:(?P<text>'(?:[^'\\]|\\.)*')|(?P<number>-?\s*(?:0[xX][0-9a-fA-F]+|0[oO][0-7]+|0[bB][01]+|0|[1-9][0-9]*))"
+                   r"|(?P<truth>true|false)"
                    r"|(?P<list>\[(?:\s*'(?:[^'\\]|\\.)*'\s*,)*(?:\s*'(?:[^'\\]|\\.)*')?\s*\]))\s*(?:#.*)?")
 
 

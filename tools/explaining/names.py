@@ -67,10 +67,10 @@ def text_at(context: Context, path: str) -> int | None:
     """The text of the statement that names a path."""
     for root in tree.expressions_of(context.place.statement):
         for node in tree.inside(root):
-            if isinstance(node, tree.Text) and node.value and os.path.normpath(os.path.join(context.folder, node.value)) == path:
-                return node.start
-            if isinstance(node, tree.Text) and os.path.join(os.path.normpath(os.path.join(context.folder, node.value)), "meson.build") == path:
-                return node.start
+            if isinstance(node, tree.Text) and node.value:
+                named = os.path.normpath(os.path.join(context.folder, node.value))
+                if path in (named, os.path.join(named, "meson.build")):
+                    return node.start
     return None
 
 
@@ -126,6 +126,6 @@ def of_project(context: Context, call: tree.Call) -> Detail:
     for argument in call.arguments[1:]:
         for node in tree.inside(argument):
             if isinstance(node, tree.Text) and node.value != "c":
-                return detail(f"project: the language {quoted(node.value)} is left out: C alone is built", in_its_place("Functions", "add_languages"),
-                              at=node.start)
+                why = f"project: the language {quoted(node.value)} is left out: C alone is built"
+                return detail(why, in_its_place("Functions", "add_languages"), at=node.start)
     return detail("project: default_library=both is left out", in_its_place("Functions", "both_libraries"), at=call.start)

@@ -8,9 +8,9 @@ from tools.explaining.context import Context
 from tools.explaining.detail import Detail, detail, near, quoted
 from tools.explaining.values import Value
 
-GIVE_NOTHING = ("message", "warning", "error", "assert", "set_variable", "unset_variable", "subdir", "subdir_done", "test", "add_project_arguments",
-                "add_project_link_arguments", "install_headers", "install_data", "install_man", "project", "set", "set10", "set_quoted",
-                "merge_from")
+GIVE_NOTHING = ("message", "warning", "error", "assert", "set_variable", "unset_variable", "subdir", "subdir_done", "test",
+                "add_project_arguments", "add_project_link_arguments", "install_headers", "install_data", "install_man", "project", "set",
+                "set10", "set_quoted", "merge_from")
 
 
 def shown(value: Value | None, source: str) -> str:
@@ -45,8 +45,8 @@ def of_node(context: Context, node: tree.Node) -> Detail:
             what = f"a key is {said(context, keys[0])}, and no text" if keys else "its keys are not all texts"
             return detail(f"a dictionary: {what}", at=keys[0].start if keys else node.start)
         case tree.Text():
-            return detail(f"in the text {quoted(node.value)} a name between '@' is no text, integer or truth value: {names_in(context, node)}",
-                          at=node.start)
+            why = f"in the text {quoted(node.value)} a name between '@' is no text, integer or truth value"
+            return detail(f"{why}: {names_in(node)}", at=node.start)
         case tree.Number():
             return detail(f"the number {quoted(context.place.source(node))} needs more than 128 bits", at=node.start)
         case tree.Call():
@@ -72,7 +72,7 @@ def advice(context: Context, node: tree.Binary) -> str:
     return f"'{node.operator}' doesn't take these two types" if left.kind != right.kind else f"'{node.operator}' doesn't take this type"
 
 
-def names_in(context: Context, node: tree.Text) -> str:
+def names_in(node: tree.Text) -> str:
     """What stands in an f-string."""
     return ", ".join(re.findall(r"@([A-Za-z_]\w*)@", node.value))
 
@@ -87,8 +87,8 @@ def of_index(context: Context, node: tree.Index) -> Detail:
     if context.fault.number == 10:
         length = len(receiver.items) if receiver.kind == "list" else len(receiver.text)
         return detail(f"the index {index.text} is none of {receiver.shown()}, whose length is {length}", at=node.index.start)
-    return detail(f"{receiver.shown()} can't be asked with {index.shown()} as index: a list and a text take an integer, a dictionary a text",
-                  at=node.index.start)
+    why = f"{receiver.shown()} can't be asked with {index.shown()} as index"
+    return detail(f"{why}: a list and a text take an integer, a dictionary a text", at=node.index.start)
 
 
 def of_call(context: Context, call: tree.Call) -> Detail:

@@ -42,8 +42,8 @@ def duplicate(context: Context) -> Detail:
             for key, _ in node.pairs:
                 text = context.text_of(key)
                 if text is not None and text in keys:
-                    return detail(f"the key {quoted(text)} stands twice in a dictionary: in line {context.place.line_of(keys[text].start)} before",
-                                  at=key.start)
+                    first = context.place.line_of(keys[text].start)
+                    return detail(f"the key {quoted(text)} stands twice in a dictionary: in line {first} before", at=key.start)
                 if text is not None:
                     keys[text] = key
     call = culprit_call(context)
@@ -73,11 +73,12 @@ def made_twice(context: Context, call: tree.Call) -> Detail:
                 is_same_place = path == context.fault.file and statement.start >= context.place.statement.start
                 if isinstance(other, tree.Call) and other.receiver is None and other.name in MAKERS and not is_same_place:
                     if os.path.dirname(path) == context.folder and set(outputs_of(other)) & set(names):
-                        text = open_text(context, path)
-                        return detail(f"{call.name}: {', '.join(map(quoted, names))} is made before, by {other.name} at "
-                                      f"{path}:{line_at(text, other.start)}", "give it another name, or declare it in another folder", at=call.start)
-    made = f"{call.name}: an output, an object or a link of {', '.join(map(quoted, names)) or 'it'} has the path of one that another target makes"
-    return detail(made, "two sources whose paths differ only in '/' and '_' have one object; a library has its links, too", at=call.start)
+                        place = f"{path}:{line_at(open_text(context, path), other.start)}"
+                        return detail(f"{call.name}: {', '.join(map(quoted, names))} is made before, by {other.name} at {place}",
+                                      "give it another name, or declare it in another folder", at=call.start)
+    made = ", ".join(map(quoted, names)) or "it"
+    return detail(f"{call.name}: an output, an object or a link of {made} has the path of one that another target makes",
+                  "two sources whose paths differ only in '/' and '_' have one object; a library has its links, too", at=call.start)
 
 
 def open_text(context: Context, path: str) -> str:
@@ -124,7 +125,8 @@ def own_words(context: Context) -> Detail:
         return detail("the project itself ends the run", at=context.place.statement.start)
     if call.name == "error":
         return detail("error: the project itself ends the run, with these words", at=call.start)
-    return detail(f"assert: the project itself ends the run: not true is {quoted(context.place.source(call.arguments[0]))}", at=call.arguments[0].start)
+    condition = call.arguments[0]
+    return detail(f"assert: the project itself ends the run: not true is {quoted(context.place.source(condition))}", at=condition.start)
 
 
 def template(line: str) -> Detail:
@@ -135,7 +137,8 @@ def template(line: str) -> Detail:
     if words and words[0] != "#mesondefine":
         return detail(f"{quoted(words[0])} is not '#mesondefine', with which it begins")
     if len(words) > 2:
-        return detail(f"behind the name {quoted(words[1])} stands {quoted(' '.join(words[2:]))}: it is '#mesondefine NAME', and nothing else")
+        more = quoted(" ".join(words[2:]))
+        return detail(f"behind the name {quoted(words[1])} stands {more}: it is '#mesondefine NAME', and nothing else")
     return detail(f"{quoted(words[1] if len(words) > 1 else line)} is no name: it has letters, digits, '_' and '-'")
 
 
@@ -143,7 +146,8 @@ def frozen(context: Context) -> Detail:
     """E20."""
     call = culprit_call(context)
     name = context.place.source(call.receiver) if call and call.receiver else "the data"
-    uses = [(path, node) for path, statement in context.statements() for root in tree.expressions_of(statement) for node in tree.inside(root)
+    uses = [(path, node) for path, statement in context.statements() for root in tree.expressions_of(statement)
+            for node in tree.inside(root)
             if isinstance(node, tree.Call) and node.name == "configure_file" and "configuration" in node.keywords
             and name in tree.names_in(node.keywords["configuration"].value)]
     where = f", at {uses[0][0]}:{line_at(open_text(context, uses[0][0]), uses[0][1].start)}" if uses else ""
@@ -173,7 +177,8 @@ def sign_name(sign: str) -> str:
 
 LIMITS = {"range": "a list may have 65,536 items", "subdir": "4,096 folders may be entered, 64 of them inside one another"}
 TARGETS = "a list of a target may have 65,536 items, those of its dependencies counted"
-VALUES = "a list or a dictionary may have 65,536 items, hold others 64 deep and weigh a bounded amount in all; a text may have 16,777,216 bytes"
+VALUES = ("a list or a dictionary may have 65,536 items, hold others 64 deep and weigh a bounded amount in all; a text may have "
+          "16,777,216 bytes")
 
 
 def limit(context: Context) -> Detail:
@@ -198,6 +203,6 @@ def too_late(context: Context) -> Detail:
                 if isinstance(node, tree.Call) and node.receiver is None and node.name in MAKERS[:4]:
                     name = outputs_of(node)
                     return detail(f"{what}: it stands behind {node.name} {quoted(name[0]) if name else ''} of "
-                                  f"{path}:{line_at(open_text(context, path), node.start)}", f"move it before the first target",
+                                  f"{path}:{line_at(open_text(context, path), node.start)}", "move it before the first target",
                                   at=call.start if call else None)
     return detail(f"{what}: a target was declared before", at=call.start if call else None)

@@ -71,8 +71,8 @@ def of_targets(context: Context, call: tree.Call, values: dict[str, Value]) -> W
     for key, text in given:
         if not text.endswith((".c", ".h")):
             return key, f"the source {quoted(text)} is none of C: it ends in neither '.c' nor '.h'"
-    if not any(text.endswith(".c") for _, text in given) and not any(it.kind not in (TEXT, "list") for key, it in values.items() if key != "1"
-                                                                     and (key.isdigit() or key in ("sources", "dependencies"))):
+    others = [it for key, it in values.items() if key != "1" and (key.isdigit() or key in ("sources", "dependencies"))]
+    if not any(text.endswith(".c") for _, text in given) and all(it.kind in (TEXT, "list") for it in others):
         return "1", f"the target {quoted(name.text) if name else ''} has no source that ends in '.c'"
     version = values.get("version")
     if version is not None and not TARGET_NAMES.fullmatch(version.text):
@@ -102,7 +102,7 @@ def of_outputs(context: Context, call: tree.Call, values: dict[str, Value]) -> W
 def of_placeholders(context: Context, call: tree.Call, values: dict[str, Value]) -> Why:
     if call.name != "custom_target" or "command" not in values:
         return None
-    counts = {"INPUT": len(flat(values["input"])) if "input" in values else 0, "OUTPUT": len(flat(values["output"])) if "output" in values else 0}
+    counts = {name.upper(): len(flat(values[name])) if name in values else 0 for name in ("input", "output")}
     for text in texts(values["command"]):
         for word, number in re.findall(r"@(INPUT|OUTPUT)(\d*)@", text):
             if number and int(number) >= counts[word]:
@@ -149,7 +149,8 @@ def of_environment(context: Context, call: tree.Call, values: dict[str, Value]) 
         if "=" not in text:
             return "env", f"{quoted(text)} is no NAME=VALUE"
     if call.name.startswith("add_project_") and texts(values.get("language", Value(TEXT))) != ["c"]:
-        return "language", f"the language is 'c', and here {quoted(', '.join(texts(values['language'])) if 'language' in values else '')}"
+        given = ", ".join(texts(values["language"])) if "language" in values else ""
+        return "language", f"the language is 'c', and here {quoted(given)}"
     return None
 
 
@@ -158,11 +159,12 @@ def of_method(context: Context, call: tree.Call, values: dict[str, Value]) -> De
     if receiver is None:
         return None
     if call.name == "to_int" and receiver.kind == TEXT:
-        return detail(f"to_int: {receiver.shown()} is no number: an optional sign and digits", at=call.receiver.start if call.receiver else None)
+        return detail(f"to_int: {receiver.shown()} is no number: an optional sign and digits", at=call.start)
     if call.name in ("path", "full_path") and receiver.kind == "program":
         return detail(f"{call.name}: the program was not found: ask 'found()' first", at=call.start)
     if call.name in ("replace", "split") and "1" in values and values["1"].text == "":
         return detail(f"{call.name}: the text that is looked for is empty", at=place_of(call, "1"))
-    if receiver.kind == "configuration data object" and "1" in values and not re.fullmatch(r"[-A-Za-z0-9_]+", values["1"].text):
+    is_data = receiver.kind == "configuration data object"
+    if is_data and "1" in values and not re.fullmatch(r"[-A-Za-z0-9_]+", values["1"].text):
         return detail(f"{call.name}: {quoted(values['1'].text)} is no name: it has letters, digits, '_' and '-'", at=place_of(call, "1"))
     return None

@@ -37,7 +37,8 @@ def declared(root: str) -> dict[str, tree.Call]:
             body = parse(text)
         except (SyntaxFault, RecursionError):
             return {}
-        calls = [it.value for it in body if isinstance(it, tree.Expression) and isinstance(it.value, tree.Call) and it.value.name == "option"]
+        values = [it.value for it in body if isinstance(it, tree.Expression)]
+        calls = [it for it in values if isinstance(it, tree.Call) and it.name == "option"]
         return {first.value: it for it in calls if it.arguments and isinstance(first := it.arguments[0], tree.Text)}
     return {}
 
@@ -73,7 +74,8 @@ def given(asked: Asked, name: str, value: str | None) -> Detail:
         return detail(f"{quoted(name)} has no '=': it is NAME=VALUE")
     if name not in BUILT_IN and name not in options:
         told = instead_of("Options", name) or (instead_of("Options", "b_") if name.startswith("b_") else "")
-        return detail(f"there is no option {quoted(name)}{near(name, [*BUILT_IN, *options])}", f"write in its place: {told}" if told else "",
+        return detail(f"there is no option {quoted(name)}{near(name, [*BUILT_IN, *options])}",
+                      f"write in its place: {told}" if told else "",
                       f"the options of this project: {listed(options)}" if options and not told else "")
     return detail(f"option {quoted(name)}: the value {quoted(value)} is none that it has: it takes {takes(options, name)}")
 
@@ -95,7 +97,8 @@ def of_machine(asked: Asked, fault: Fault) -> Detail:
     found = given(asked, key, value.strip("'"))
     options = declared(asked.root)
     if section == "project options" and key in BUILT_IN or section == "built-in options" and key in options:
-        return detail(f"[{section}], {quoted(key)}: it stands in the other section, [{'built-in' if key in BUILT_IN else 'project'} options]")
+        other = "built-in options" if key in BUILT_IN else "project options"
+        return detail(f"[{section}], {quoted(key)}: it stands in the other section, [{other}]")
     return detail(f"[{section}], {found.lines[0]}", *found.lines[1:])
 
 
@@ -125,7 +128,8 @@ def of_option(call: tree.Call, calls: list[tree.Call]) -> Detail:
             seen.add(item.name)
     for key, word in call.keywords.items():
         if key in LEFT_OUT:
-            return detail(f"{named}the keyword {quoted(key)} is left out", f"write in its place: {instead_of('Keywords', key)}", at=word.start)
+            told = instead_of("Keywords", key)
+            return detail(f"{named}the keyword {quoted(key)} is left out", f"write in its place: {told}" if told else "", at=word.start)
         if key not in WORDS:
             return detail(f"{named}keyword {quoted(key)}: there is none{near(key, WORDS)}", f"option takes {listed(WORDS)}", at=word.start)
     if len(call.arguments) != 1 or not isinstance(call.arguments[0], tree.Text):
@@ -147,7 +151,8 @@ def of_type(call: tree.Call, named: str) -> Detail:
     if kind not in TYPES:
         return detail(f"{named}there is no type {quoted(kind)}{near(kind, TYPES)}", f"types: {listed(TYPES)}", at=words["type"].value.start)
     for node in (it for word in words.values() for it in tree.inside(word.value)):
-        if not isinstance(node, (tree.Text, tree.Number, tree.Truth, tree.List, tree.Unary)) or isinstance(node, tree.Text) and node.has_names:
+        is_plain = isinstance(node, (tree.Text, tree.Number, tree.Truth, tree.List, tree.Unary))
+        if not is_plain or isinstance(node, tree.Text) and node.has_names:
             return detail(f"{named}a value is a plain text, number, truth value or list of these", at=node.start)
     if kind == "combo" and not ("choices" in words and isinstance(words["choices"].value, tree.List) and words["choices"].value.items):
         return detail(f"{named}the type combo needs 'choices', a list of texts", at=call.start)
