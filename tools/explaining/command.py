@@ -68,6 +68,8 @@ def explain(asked: Asked, outcome: Outcome) -> int:
     if outcome.status == BAD_WORDS:
         complaint = outcome.complaint.strip().replace("meson setup", "meson explain")
         raise Stop(" ".join(complaint.split("\n\n")[0].split()).removeprefix("error: ").removeprefix("meson: "), BAD_WORDS)
+    if outcome.status < 0:
+        raise Stop(f"the program was ended by signal {-outcome.status}", 128 - outcome.status)
     say("meson explain", outcome.complaint.strip().removeprefix("meson: "))
     return outcome.status
 

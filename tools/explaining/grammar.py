@@ -85,6 +85,8 @@ def token_detail(text: str, line: int) -> Detail:
     sign = text[at]
     if sign == '"':
         return detail("the character '\"' begins no token: a text stands between single quotes, as 'text'", at=at)
+    if text[max(at - 2, 0):at + 1] == "'''":
+        return detail("the text that begins with ''' has no end: the next ''' ends it", at=at - 2)
     if sign == "'" or text[at:at + 2] == "f'":
         return detail(f"the text {quoted(text[at:].splitlines()[0])} has no end", at=at)
     return detail(f"the character {quoted(sign)} begins no token", at=at)
