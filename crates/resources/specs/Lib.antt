@@ -5,3 +5,4 @@ pub mod Installs
 pub mod Joined
 pub mod Testing
 pub mod TestingView
+pub mod Beside

@@ -19,6 +19,7 @@ use Rattle.std.proofs.lemmas.List.{get_or_past}
 use Rattle.std.proofs.Common.{append_assoc, append-nil}
 use Rattle.world.proofs.Numbers.{number_at}
 use Rattle.std.specs.Prelude.{codes, Result, Ok, Err, OnOk}
+use Rattle.machine_file.specs.Files.{Section}
 use Rattle.project.specs.World.{WorldData, new_world}
 use Rattle.world.specs.Declaring.{declaring}
 use Rattle.world.specs.Settings.{SettingsData}
@@ -231,9 +232,9 @@ then_same v (Ok x) is same = is ∙ same
 then_same v (Err e) is same = tt
 
 -- before anything was done
-pub world_first : (k : Kept) (settings : SettingsData) → k.file ≡ codes "meson.build" → k.folder ≡ [] → k.line ≡ 1 → k.settings ≡ settings → k.names ≡ [] → k.slots ≡ [] → k.machine ≡ []
-    → k.options ≡ [] → k.configurations ≡ [] → k.is_begun ≡ false → k.project ≡ new_world (unnamed settings) → k.entered ≡ [] → k.looked ≡ [] → world_of k ≡ first_world settings
-world_first k settings file folder line set names slots machine options configurations begun project entered looked = λ i. world_of (record {
+pub world_first : (k : Kept) (settings : SettingsData) (machine : List Section) → k.file ≡ codes "meson.build" → k.folder ≡ [] → k.line ≡ 1 → k.settings ≡ settings → k.names ≡ [] → k.slots ≡ [] → k.machine ≡ machine
+    → k.options ≡ [] → k.configurations ≡ [] → k.is_begun ≡ false → k.project ≡ new_world (unnamed settings) → k.entered ≡ [] → k.looked ≡ [] → k.asked ≡ [] → world_of k ≡ first_world settings machine
+world_first k settings file_said file folder line set names slots machine options configurations begun project entered looked asked = λ i. world_of (record {
   file = file i;
   folder = folder i;
   line = line i;
@@ -247,4 +248,5 @@ world_first k settings file folder line set names slots machine options configur
   project = project i;
   entered = entered i;
   looked = looked i;
+  asked = asked i;
 })
