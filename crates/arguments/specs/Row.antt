@@ -19,7 +19,8 @@ pub record KeywordData : Type 0 where
   pub kind : Kind
   pub is_needed : Bool
 
--- the positional arguments and how many of them are needed, what those behind them are, the keywords, and those left out
+-- the positional arguments and how many of them are needed, what those behind them are, the keywords, and those that are left out
+-- besides those that no call takes
 pub record RowData : Type 0 where
   pub positional : List Kind
   pub needed : ℕ
@@ -29,15 +30,29 @@ pub record RowData : Type 0 where
 
 -- ---- words for rows
 
--- the keywords that no call takes
-abbrev pub common_left_out : List (List ℕ)
-common_left_out = codes "kwargs" ∷ codes "fallback" ∷ codes "deprecated" ∷ []
-
 abbrev pub optional : List ℕ → Kind → KeywordData
 optional name kind = record { name = name; kind = kind; is_needed = false }
 
 abbrev pub needed : List ℕ → Kind → KeywordData
 needed name kind = record { name = name; kind = kind; is_needed = true }
+
+-- these positional arguments, of which the first so many are needed, and these keywords
+abbrev pub row : List Kind → ℕ → List KeywordData → RowData
+row positional needed keywords = record { positional = positional; needed = needed; others = None; keywords = keywords; left_out = [] }
+
+-- the same, with any number of others behind the positional arguments
+abbrev pub with_others : Kind → RowData → RowData
+with_others kind r =
+    record { positional = r.positional; needed = r.needed; others = Some kind; keywords = r.keywords; left_out = r.left_out }
+
+-- the same, with these keywords left out
+abbrev pub leaving_out : List (List ℕ) → RowData → RowData
+leaving_out names r =
+    record { positional = r.positional; needed = r.needed; others = r.others; keywords = r.keywords; left_out = names }
+
+-- the keywords that no call takes
+abbrev pub common_left_out : List (List ℕ)
+common_left_out = codes "kwargs" ∷ codes "fallback" ∷ codes "deprecated" ∷ []
 
 -- ---- whether arguments are what a row says
 
@@ -108,9 +123,10 @@ comes_again names (n ∷ ns) = list_any (bytes_eq n.0) names || comes_again (nam
 abbrev pub has_twice : List (List ℕ × Data) → Bool
 has_twice ns = comes_again [] ns
 
+-- whether one of the keywords is among those that no call takes, or among these
 abbrev pub has_left_out : List (List ℕ) → List (List ℕ × Data) → Bool
 has_left_out names [] = false
-has_left_out names (n ∷ ns) = is_among names n.0 || has_left_out names ns
+has_left_out names (n ∷ ns) = (is_among common_left_out n.0 || is_among names n.0) || has_left_out names ns
 
 abbrev pub fits : RowData → ArgumentsData → Bool
 fits row a = nat_le row.needed (length a.positional) && (each_fits row 0 a.positional

@@ -1,10 +1,11 @@
 //! Whether the arguments of a call are what its row says.
 ghost use Rattle.std.specs.Prelude.{◌≡◌, ◌&&◌, ◌||◌, ◌++◌, ◌∷◌, [], IfOk, IsTrue, bytes_eq, false, not};
-ghost use Rattle.std.specs.Prelude.{is_some, map, string_bytes};
+ghost use Rattle.std.specs.Prelude.{flat_map, is_some, map, string_bytes};
 ghost use Rattle.std.specs.List.{list_any};
+ghost use Rattle.basics.specs.Among.{is_among};
 ghost use Rattle.data.specs.View.{data_of};
 ghost use Rattle.arguments.specs.Arguments.{arguments_data, named_data};
-ghost use Rattle.arguments.specs.Row.{checked, each_fits, each_is_given, each_named_fits, fits, has_left_out, has_twice};
+ghost use Rattle.arguments.specs.Row.{checked, common_left_out, each_fits, each_is_given, each_named_fits, fits, has_left_out, has_twice};
 ghost use Rattle.arguments.specs.Row.{is_object, is_of, is_of_some, keyword_kind, kind_at};
 ghost use Rattle.arguments.specs.Pieces.{is_command, is_configuration, is_feature, is_file};
 ghost use Rattle.arguments.specs.RowView.{keyword_data, row_data};
@@ -119,34 +120,38 @@ fn each_fits(row: &Row, values: &[Value]) -> bool
     true
 }
 
-fn keyword_kind(name: &str, keywords: &[Keyword]) -> Option<Kind>
-    ensures { result ≡ keyword_kind name.now (map keyword_data keywords.now) }
+fn keyword_kind(name: &str, lists: &[&[Keyword]]) -> Option<Kind>
+    ensures { result ≡ keyword_kind name.now (flat_map (λ ks. map keyword_data ks.now) lists.now) }
 {
-    for keyword in keywords {
-        if keyword.name == name {
-            return Some(keyword.kind);
+    for keywords in lists {
+        for keyword in *keywords {
+            if keyword.name() == name {
+                return Some(keyword.kind());
+            }
         }
     }
     None
 }
 
-fn each_named_fits(keywords: &[Keyword], named: &[Named]) -> bool
-    ensures { result ≡ each_named_fits (map keyword_data keywords.now) (map named_data named.now) }
+fn each_named_fits(lists: &[&[Keyword]], named: &[Named]) -> bool
+    ensures { result ≡ each_named_fits (flat_map (λ ks. map keyword_data ks.now) lists.now) (map named_data named.now) }
 {
     for one in named {
-        if !is_of_some(keyword_kind(one.name.as_str(), keywords), &one.value) {
+        if !is_of_some(keyword_kind(one.name.as_str(), lists), &one.value) {
             return false;
         }
     }
     true
 }
 
-fn each_is_given(keywords: &[Keyword], named: &[Named]) -> bool
-    ensures { result ≡ each_is_given (map keyword_data keywords.now) (map named_data named.now) }
+fn each_is_given(lists: &[&[Keyword]], named: &[Named]) -> bool
+    ensures { result ≡ each_is_given (flat_map (λ ks. map keyword_data ks.now) lists.now) (map named_data named.now) }
 {
-    for keyword in keywords {
-        if keyword.is_needed && value_named(keyword.name, named).is_none() {
-            return false;
+    for keywords in lists {
+        for keyword in *keywords {
+            if keyword.is_needed() && value_named(keyword.name(), named).is_none() {
+                return false;
+            }
         }
     }
     true
@@ -185,11 +190,18 @@ fn has_twice(alloc: Global, named: &[Named]) -> Result<bool, AllocError>
     Ok(false)
 }
 
+// Whether no call takes a keyword of this name.
+fn is_common_left_out(name: &str) -> bool
+    ensures { result ≡ is_among common_left_out name.now }
+{
+    is_among(&["kwargs", "fallback", "deprecated"], name)
+}
+
 fn has_left_out(names: &[&str], named: &[Named]) -> bool
     ensures { result ≡ has_left_out (map (λ n. n.now) names.now) (map named_data named.now) }
 {
     for one in named {
-        if is_among(names, one.name.as_str()) {
+        if is_common_left_out(one.name.as_str()) || is_among(names, one.name.as_str()) {
             return true;
         }
     }

@@ -1,6 +1,7 @@
 pub mod Stopping
 pub mod Parts
 pub mod DefaultPaths
+pub mod FileEdges
 pub mod Counting
 pub mod FaultLines
 pub mod Ends

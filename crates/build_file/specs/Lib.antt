@@ -1,5 +1,6 @@
 pub mod BuildFile
 pub mod Parts
+pub mod FileEdges
 pub mod Means
 pub mod FaultSteps
 pub mod Document

@@ -1,29 +1,23 @@
 -- The rows of these functions: what each takes.
-use Rattle.std.specs.Prelude.{ℕ, List, [], ◌∷◌, Some, None, codes}
+use Rattle.std.specs.Prelude.{ℕ, List, [], ◌∷◌, codes}
 use Rattle.arguments.specs.declared.row.Kind.{Kind}
 use Rattle.arguments.specs.declared.row.Kind.TheVariants.{Any, Text, Dependencies}
-use Rattle.arguments.specs.Row.{RowData, common_left_out, optional}
+use Rattle.arguments.specs.Row.{RowData, optional, row, with_others}
 
 -- values of any type, and no keyword
 abbrev pub any_values : RowData
-any_values = record { positional = []; needed = 0; others = Some Any; keywords = []; left_out = common_left_out }
+any_values = with_others Any (row [] 0 [])
 
 -- values of these kinds, of which so many are needed, and no keyword
 abbrev pub values : List Kind → ℕ → RowData
-values kinds needed = record { positional = kinds; needed = needed; others = None; keywords = []; left_out = common_left_out }
+values kinds needed = row kinds needed []
 
 -- one text at least, and no keyword
 abbrev pub some_texts : RowData
-some_texts = record { positional = []; needed = 1; others = Some Text; keywords = []; left_out = common_left_out }
+some_texts = with_others Text (row [] 1 [])
 
 -- ---- folders
 
 -- a folder, and the dependencies without which it is passed over
 abbrev pub subdir_row : RowData
-subdir_row = record {
-  positional = Text ∷ [];
-  needed = 1;
-  others = None;
-  keywords = optional (codes "if_found") Dependencies ∷ [];
-  left_out = common_left_out;
-}
+subdir_row = row (Text ∷ []) 1 (optional (codes "if_found") Dependencies ∷ [])

@@ -3,7 +3,7 @@ use Rattle.std.proofs.Common.{◌≡◌, ℕ, true, false, List, [], ◌∷◌, 
 use Rattle.std.proofs.lemmas.Bool.{and_parts, false≢true}
 use Rattle.ninja.specs.Pieces.{Piece, Plain, Outside, escapes, Scope}
 use Rattle.ninja.specs.Lines.{without_blanks, plain_name, Token, Path, Colon, Bar, Bars, Between, Within, tokens}
-use Rattle.ninja.specs.Reading.{◌>>=◌, Empty, Let, BuildHead, statement_of, paths_at, paths_behind_bar, paths_behind_bars, build_line, BuildLine, State, Manifest, BuildEdge, Block, NoBlock, EdgeBlock, file_scope, expansions, edge_of, reads_from}
+use Rattle.ninja.specs.Reading.{◌>>=◌, Empty, Let, BuildHead, statement_of, paths_at, paths_behind_bar, paths_behind_bars, build_line, BuildLine, State, Manifest, Block, NoBlock, EdgeBlock, file_scope, block_scope, expansions, edge_of, reads_from}
 use Rattle.edge.specs.declared.rule.Rule.{Rule as RuleName}
 use Rattle.edge.specs.declared.rule.Rule.TheVariants.{CCompile, Ar, CLink, Symlink, Custom, CustomDep}
 use Rattle.ninja.specs.Writing.{rule_text, paths_text, signed_paths_text, build_text, binding_text, depfile_line, edge_text}
@@ -207,39 +207,48 @@ paths_again : (scope : Scope) (ps : List (List ℕ)) → expansions scope (all_p
 paths_again scope [] = refl
 paths_again scope (p ∷ ps) = rw (path_again scope p, paths_again scope ps) refl
 
-edge_again : (scope : Scope) (rule : List ℕ) (outputs inputs implicit order_only : List (List ℕ)) → edge_of scope (line_made rule outputs inputs implicit order_only) ≡ edge_read rule outputs inputs implicit order_only []
-edge_again scope rule outputs inputs implicit order_only = rw (paths_again scope outputs, paths_again scope inputs, paths_again scope implicit, paths_again scope order_only) refl
+edge_again : (scope : Scope) (rule : List ℕ) (outputs inputs implicit order_only : List (List ℕ)) (bindings : List (List ℕ × List ℕ))
+    → edge_of scope (line_made rule outputs inputs implicit order_only) bindings ≡ edge_read rule outputs inputs implicit order_only bindings
+edge_again scope rule outputs inputs implicit order_only bindings =
+    rw (paths_again scope outputs, paths_again scope inputs, paths_again scope implicit, paths_again scope order_only) refl
 
 -- a build line is read, and then what follows it
 pub build_read : (m : Manifest) (rule : List ℕ) (outputs inputs implicit order_only : List (List ℕ)) (after rest : List ℕ) → IsBuild rule outputs inputs implicit order_only
-    → reads_from (at_block m NoBlock) ((build_text rule outputs inputs implicit order_only ++ 10 ∷ after) ++ rest) ≡ reads_from (at_block m (EdgeBlock (edge_read rule outputs inputs implicit order_only []))) (after ++ rest)
+    → reads_from (at_block m NoBlock) ((build_text rule outputs inputs implicit order_only ++ 10 ∷ after) ++ rest) ≡ reads_from (at_block m (EdgeBlock (line_made rule outputs inputs implicit order_only) [])) (after ++ rest)
 build_read m rule outputs inputs implicit order_only after rest b =
-    line_read (at_block m NoBlock) (at_block m (EdgeBlock (edge_read rule outputs inputs implicit order_only []))) (build_text rule outputs inputs implicit order_only) (plain (codes "build") ++ behind_build rule outputs inputs implicit order_only) (BuildHead (line_made rule outputs inputs implicit order_only)) after rest
+    let line = line_made rule outputs inputs implicit order_only in
+    line_read (at_block m NoBlock) (at_block m (EdgeBlock line [])) (build_text rule outputs inputs implicit order_only) (plain (codes "build") ++ behind_build rule outputs inputs implicit order_only) (BuildHead line) after rest
     (build_is_line rule outputs inputs implicit order_only b)
     (build_statement rule outputs inputs implicit order_only b)
-    (ap (λ edge. Some (at_block m (EdgeBlock edge))) (edge_again (file_scope m) rule outputs inputs implicit order_only))
+    refl
 
 -- ---- the block of an edge
 
-binding_read : (m : Manifest) (edge : BuildEdge) (name v : List ℕ) (after rest : List ℕ) → IsName name → value_held v ≡ true
-    → reads_from (at_block m (EdgeBlock edge)) ((binding_text name v ++ 10 ∷ after) ++ rest) ≡ reads_from (at_block m (EdgeBlock (record edge { bindings = edge.bindings ++ (name, v) ∷ [] }))) (after ++ rest)
-binding_read m edge name v after rest n h =
-    line_read (at_block m (EdgeBlock edge)) (at_block m (EdgeBlock (record edge { bindings = edge.bindings ++ (name, v) ∷ [] }))) (binding_text name v) (binding_pieces name v) (Let true name (value_pieces v)) after rest
+binding_read : (m : Manifest) (line : BuildLine) (bindings : List (List ℕ × List ℕ)) (name v : List ℕ) (after rest : List ℕ) → IsName name → value_held v ≡ true
+    → reads_from (at_block m (EdgeBlock line bindings)) ((binding_text name v ++ 10 ∷ after) ++ rest) ≡ reads_from (at_block m (EdgeBlock line (bindings ++ (name, v) ∷ []))) (after ++ rest)
+binding_read m line bindings name v after rest n h =
+    line_read (at_block m (EdgeBlock line bindings)) (at_block m (EdgeBlock line (bindings ++ (name, v) ∷ []))) (binding_text name v) (binding_pieces name v) (Let true name (value_pieces v)) after rest
     (binding_line name v n h)
     (binding_statement name v n)
-    (ap (λ w. Some (at_block m (EdgeBlock (record edge { bindings = edge.bindings ++ (name, w) ∷ [] })))) (value_again (file_scope m) v))
+    (ap (λ w. Some (at_block m (EdgeBlock line (bindings ++ (name, w) ∷ [])))) (value_again (file_scope m) v))
 
-pub block_ends : (m : Manifest) (edge : BuildEdge) (rest : List ℕ) → reads_from (at_block m (EdgeBlock edge)) (10 ∷ rest) ≡ reads_from (at_block (with_edge m edge) NoBlock) rest
-block_ends m edge rest =
-    line_read (at_block m (EdgeBlock edge)) (at_block (with_edge m edge) NoBlock) [] [] Empty [] rest
+pub block_ends : (m : Manifest) (rule : List ℕ) (outputs inputs implicit order_only : List (List ℕ)) (bindings : List (List ℕ × List ℕ)) (rest : List ℕ)
+    → reads_from (at_block m (EdgeBlock (line_made rule outputs inputs implicit order_only) bindings)) (10 ∷ rest) ≡ reads_from (at_block (with_edge m (edge_read rule outputs inputs implicit order_only bindings)) NoBlock) rest
+block_ends m rule outputs inputs implicit order_only bindings rest =
+    let line = line_made rule outputs inputs implicit order_only in
+    line_read (at_block m (EdgeBlock line bindings)) (at_block (with_edge m (edge_of (block_scope m bindings) line bindings)) NoBlock) [] [] Empty [] rest
     (record { passes = passes_none escapes Outside; in_line = record { none = refl } }) refl refl
+    ∙ ap (λ edge. reads_from (at_block (with_edge m edge) NoBlock) rest) (edge_again (block_scope m bindings) rule outputs inputs implicit order_only bindings)
 
-edge_ends : (m : Manifest) (edge : BuildEdge) (depfile : Option (List ℕ)) (rest : List ℕ) → value_held_if depfile ≡ true
-    → reads_from (at_block m (EdgeBlock edge)) (depfile_line depfile (10 ∷ []) ++ rest) ≡ reads_from (at_block (with_edge m (record edge { bindings = edge.bindings ++ depfile_bindings depfile })) NoBlock) rest
-edge_ends m edge None rest h =
-    block_ends m edge rest ∙ ap (λ bs. reads_from (at_block (with_edge m (record edge { bindings = bs })) NoBlock) rest) (sym (append-nil edge.bindings))
-edge_ends m edge (Some path) rest h =
-    binding_read m edge (codes "DEPFILE") path (10 ∷ []) rest depfile_name h ∙ block_ends m (record edge { bindings = edge.bindings ++ (codes "DEPFILE", path) ∷ [] }) rest
+edge_ends : (m : Manifest) (rule : List ℕ) (outputs inputs implicit order_only : List (List ℕ)) (bindings : List (List ℕ × List ℕ)) (depfile : Option (List ℕ)) (rest : List ℕ) → value_held_if depfile ≡ true
+    → reads_from (at_block m (EdgeBlock (line_made rule outputs inputs implicit order_only) bindings)) (depfile_line depfile (10 ∷ []) ++ rest)
+    ≡ reads_from (at_block (with_edge m (edge_read rule outputs inputs implicit order_only (bindings ++ depfile_bindings depfile))) NoBlock) rest
+edge_ends m rule outputs inputs implicit order_only bindings None rest h =
+    block_ends m rule outputs inputs implicit order_only bindings rest
+    ∙ ap (λ bs. reads_from (at_block (with_edge m (edge_read rule outputs inputs implicit order_only bs)) NoBlock) rest) (sym (append-nil bindings))
+edge_ends m rule outputs inputs implicit order_only bindings (Some path) rest h =
+    binding_read m (line_made rule outputs inputs implicit order_only) bindings (codes "DEPFILE") path (10 ∷ []) rest depfile_name h
+    ∙ block_ends m rule outputs inputs implicit order_only (bindings ++ (codes "DEPFILE", path) ∷ []) rest
 
 rule_line : (text : List ℕ) → Passes escapes Outside text (plain text) Outside → has_newline (plain text) ≡ false → IsLine text (plain text)
 rule_line text p h = record { passes = p; in_line = record { none = h } }
@@ -258,12 +267,12 @@ is_phony = record { line = rule_line (codes "phony") (record { state = refl; giv
 pub edge_text_read : (m : Manifest) (e : EdgeData) (rest : List ℕ) → is_writable e ≡ true → reads_from (at_block m NoBlock) (edge_text e ++ rest) ≡ reads_from (at_block (with_edge m (edge_seen e)) NoBlock) rest
 edge_text_read m e rest writable =
     let h = held_of e writable in
-    let head = edge_read (rule_text e.rule) e.outputs e.inputs e.implicit e.order_only in
+    let line = line_made (rule_text e.rule) e.outputs e.inputs e.implicit e.order_only in
     let command = words_text e.words e.redirect in
     let end = depfile_line e.depfile (10 ∷ []) in
     let desc = binding_text (codes "DESC") e.description ++ 10 ∷ end in
     build_read m (rule_text e.rule) e.outputs e.inputs e.implicit e.order_only (binding_text (codes "COMMAND") command ++ 10 ∷ desc) rest
     (record { rule_stands = is_rule e.rule; has_output = h.has_output; outputs_held = h.outputs; inputs_held = h.inputs; implicit_held = h.implicit; order_only_held = h.order_only })
-    ∙ binding_read m (head []) (codes "COMMAND") command desc rest command_name h.command
-    ∙ binding_read m (head ((codes "COMMAND", command) ∷ [])) (codes "DESC") e.description end rest desc_name h.description
-    ∙ edge_ends m (head ((codes "COMMAND", command) ∷ (codes "DESC", e.description) ∷ [])) e.depfile rest h.depfile
+    ∙ binding_read m line [] (codes "COMMAND") command desc rest command_name h.command
+    ∙ binding_read m line ((codes "COMMAND", command) ∷ []) (codes "DESC") e.description end rest desc_name h.description
+    ∙ edge_ends m (rule_text e.rule) e.outputs e.inputs e.implicit e.order_only ((codes "COMMAND", command) ∷ (codes "DESC", e.description) ∷ []) e.depfile rest h.depfile

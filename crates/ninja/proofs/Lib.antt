@@ -10,4 +10,4 @@ pub mod Tokens
 pub mod ReadLines
 pub mod EdgeBlocks
 pub mod WholeFile
-pub mod ReaderChecks
+mod Examples

@@ -1,8 +1,10 @@
 -- What the writer makes of words, a shell reads as these words.
-use Rattle.std.proofs.Common.{◌≡◌, ℕ, Bool, true, false, cond, eqb, ◌&&◌, not, List, [], ◌∷◌, ◌++◌, Option, Some, None, refl, sym, ap, ◌∙◌, subst, append_assoc, append-nil, true≢false, inl, inr}
+use Rattle.std.proofs.Common.{◌≡◌, ℕ, Bool, true, false, cond, eqb, bytes_eq, codes, ◌||◌, ◌&&◌, not, nat_le, arith, List, [], ◌∷◌, ◌++◌, Option, Some, None, refl, sym, ap, ◌∙◌, subst, append_assoc, append-nil, true≢false, inl, inr}
 use Rattle.std.proofs.lemmas.Bool.{and_parts, eqb-true, cases_Bool, false_from_ne_true, not-true}
+use Rattle.std.proofs.lemmas.Slice.Eq.{bytes_eq-Decides}
 use Rattle.ninja.specs.Machine.{before, output_from}
-use Rattle.ninja.specs.Shell.{is_bare_byte, is_no_first_word}
+use Rattle.ninja.specs.Shell.{is_bare_byte, is_reserved, has_equals, is_no_first_word}
+use Rattle.ninja.specs.Posix.{is_literal, is_reserved_word, is_no_command_name}
 use Rattle.ninja.specs.Commands.{ShellToken, Word, Redirect, BetweenWords, Bare, Single, shell, command_of, shell_command}
 use Rattle.ninja.specs.Words.{is_all_bare, is_bare, quoted_byte, quoted_bytes, quoted, word_text, first_word_text, later_words_text, redirect_text, words_text}
 use Rattle.ninja.proofs.Machines.{Passes, passes_none, passes_both, passes_first, passes_to, passes_on, passes_all}
@@ -11,16 +13,59 @@ use Rattle.ninja.proofs.Machines.{Passes, passes_none, passes_both, passes_first
 pub other_than : (p : ℕ → Bool) (s b : ℕ) → p s ≡ false → p b ≡ true → eqb b s ≡ false
 other_than p s b fails passes = false_from_ne_true (eqb b s) (λ e. true≢false (sym passes ∙ ap p (eqb-true b s e) ∙ fails))
 
+-- ---- what the writer leaves bare, a shell reads as it stands
+
+visible : (b : ℕ) → is_bare_byte b ≡ true → (nat_le 33 b && nat_le b 126) ≡ true
+visible b e = grind arith
+
+literal : (b : ℕ) → is_bare_byte b ≡ true → is_literal b ≡ true
+literal b e =
+    let other = λ (s : ℕ) (fails : is_bare_byte s ≡ false). other_than is_bare_byte s b fails e in
+    rw (
+      visible b e,
+      other 124 refl,
+      other 38 refl,
+      other 59 refl,
+      other 60 refl,
+      other 62 refl,
+      other 40 refl,
+      other 41 refl,
+      other 36 refl,
+      other 96 refl,
+      other 92 refl,
+      other 34 refl,
+      other 39 refl,
+      other 42 refl,
+      other 63 refl,
+      other 91 refl,
+      other 93 refl,
+      other 94 refl,
+      other 33 refl,
+      other 35 refl,
+      other 126 refl,
+      other 123 refl,
+      other 125 refl,
+    ) refl
+
+other_word : (w v : List ℕ) → is_bare v ≡ false → is_bare w ≡ true → bytes_eq w v ≡ false
+other_word w v fails passes = false_from_ne_true (bytes_eq w v) (λ e. true≢false (sym passes ∙ ap is_bare ((bytes_eq-Decides w v).0 e) ∙ fails))
+
+same_reserved : (w : List ℕ) → is_bare w ≡ true → is_reserved_word w ≡ is_reserved w
+same_reserved w e = rw (other_word w (codes "!") refl e, other_word w (codes "{") refl e, other_word w (codes "}") refl e) refl
+
+command_name : (w : List ℕ) → is_bare w ≡ true → is_no_command_name w ≡ is_no_first_word w
+command_name w e = ap (λ v. has_equals w || v) (same_reserved w e)
+
 -- ---- a word
 
 bare_step : (bare text : List ℕ) (b : ℕ) → is_bare_byte b ≡ true → shell.next (Bare bare text) b ≡ Bare (bare ++ b ∷ []) (text ++ b ∷ [])
-bare_step bare text b e = rw (other_than is_bare_byte 32 b refl e, other_than is_bare_byte 39 b refl e, other_than is_bare_byte 34 b refl e, e) refl
+bare_step bare text b e = rw (literal b e, other_than is_bare_byte 32 b refl e, other_than is_bare_byte 39 b refl e, other_than is_bare_byte 34 b refl e) refl
 
 bare_gives : (bare text : List ℕ) (b : ℕ) → is_bare_byte b ≡ true → shell.gives (Bare bare text) b ≡ []
 bare_gives bare text b e = rw (other_than is_bare_byte 32 b refl e) refl
 
 bare_begins : (b : ℕ) → is_bare_byte b ≡ true → shell.next BetweenWords b ≡ Bare (b ∷ []) (b ∷ [])
-bare_begins b e = rw (other_than is_bare_byte 32 b refl e, other_than is_bare_byte 39 b refl e, other_than is_bare_byte 34 b refl e, other_than is_bare_byte 62 b refl e, e) refl
+bare_begins b e = rw (literal b e, other_than is_bare_byte 32 b refl e, other_than is_bare_byte 39 b refl e, other_than is_bare_byte 34 b refl e, other_than is_bare_byte 62 b refl e) refl
 
 bare_rest : (bare text : List ℕ) (bs : List ℕ) → is_all_bare bs ≡ true → Passes shell (Bare bare text) bs [] (Bare (bare ++ bs) (text ++ bs))
 bare_rest bare text [] e = passes_to shell (Bare bare text) [] [] (Bare bare text) (Bare (bare ++ []) (text ++ [])) (rw (append-nil bare, append-nil text) refl) (passes_none shell (Bare bare text))
@@ -76,10 +121,10 @@ first_word_passes w =
       | inr e ↦ rw e (quoted_word w)
     ]
 
-first_word_stands : (w : List ℕ) → is_no_first_word (first_bare_of w) ≡ false
+first_word_stands : (w : List ℕ) → is_no_command_name (first_bare_of w) ≡ false
 first_word_stands w =
     elim (cases_Bool (is_bare w && not (is_no_first_word w))) [
-      | inl e ↦ rw e (not-true (is_no_first_word w) (and_parts _ _ e).1)
+      | inl e ↦ let h = and_parts (is_bare w) (not (is_no_first_word w)) e in rw e (command_name w h.0 ∙ not-true (is_no_first_word w) h.1)
       | inr e ↦ rw e refl
     ]
 

@@ -62,7 +62,7 @@ tail_read m names h =
     let last = 10 ∷ (codes "default all" ++ 10 ∷ []) in
     ap (reads_from (after_reading m)) (sym (append-nil (tail_text names)))
     ∙ build_read m (codes "phony") (codes "all" ∷ []) names [] [] last [] (record { rule_stands = is_phony; has_output = refl; outputs_held = refl; inputs_held = h; implicit_held = refl; order_only_held = refl })
-    ∙ block_ends m (all_seen names) (codes "default all" ++ 10 ∷ [])
+    ∙ block_ends m (codes "phony") (codes "all" ∷ []) names [] [] [] (codes "default all" ++ 10 ∷ [])
     ∙ default_read (with_edge m (all_seen names))
 
 -- ---- the file

@@ -1,7 +1,7 @@
 -- The words of a command, as a POSIX shell reads them.
 use Rattle.std.specs.Prelude.{ℕ, Bool, cond, ◌==◌, ◌||◌, List, [], ◌∷◌, ◌++◌, Option, Some, None}
 use Rattle.ninja.specs.Machine.{Machine, output_from}
-use Rattle.ninja.specs.Shell.{is_bare_byte, is_no_first_word}
+use Rattle.ninja.specs.Posix.{is_literal, is_no_command_name}
 use Rattle.ninja.specs.Reading.{◌>>=◌}
 
 pub data ShellToken : Type 0 where
@@ -24,13 +24,13 @@ is_special_in_double b = (b == 36) || ((b == 96) || (b == 92))
 abbrev pub next_between : ℕ → Quoting
 next_between b = cond (b == 32) BetweenWords
     (cond (b == 39) (Single [] []) (cond (b == 34) (Double [] [])
-    (cond (b == 62) Arrow (cond (is_bare_byte b) (Bare (b ∷ []) (b ∷ [])) Unread))))
+    (cond (b == 62) Arrow (cond (is_literal b) (Bare (b ∷ []) (b ∷ [])) Unread))))
 
 abbrev pub next_quoting : Quoting → ℕ → Quoting
 next_quoting BetweenWords b = next_between b
 next_quoting (Bare bare text) b = cond (b == 32) BetweenWords
     (cond (b == 39) (Single bare text)
-    (cond (b == 34) (Double bare text) (cond (is_bare_byte b) (Bare (bare ++ b ∷ []) (text ++ b ∷ [])) Unread)))
+    (cond (b == 34) (Double bare text) (cond (is_literal b) (Bare (bare ++ b ∷ []) (text ++ b ∷ [])) Unread)))
 next_quoting (Single bare text) b = cond (b == 39) (Bare bare text) (Single bare (text ++ b ∷ []))
 next_quoting (Double bare text) b = cond (b == 34) (Bare bare text) (cond (is_special_in_double b) Unread (Double bare (text ++ b ∷ [])))
 next_quoting Arrow b = cond (b == 32) BetweenWords Unread
@@ -72,7 +72,7 @@ command_of (Redirect ∷ _) = None
 
 abbrev pub command_from : List ShellToken → Option Command
 command_from [] = None
-command_from (Word bare text ∷ ts) = cond (is_no_first_word bare) None (command_of (Word bare text ∷ ts))
+command_from (Word bare text ∷ ts) = cond (is_no_command_name bare) None (command_of (Word bare text ∷ ts))
 command_from (Redirect ∷ ts) = None
 
 -- the command that a text is

@@ -1,3 +1,4 @@
+pub mod Bytes
 pub mod Shell
 pub mod Escapes
 pub mod Words
@@ -8,5 +9,6 @@ pub mod Machine
 pub mod Pieces
 pub mod Lines
 pub mod Reading
+pub mod Posix
 pub mod Commands
 pub mod Meaning

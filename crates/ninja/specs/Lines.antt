@@ -1,6 +1,6 @@
 -- The lines of a Ninja file, and what stands in one line.
-use Rattle.std.specs.Prelude.{ℕ, Bool, false, cond, ◌==◌, List, [], ◌∷◌, ◌++◌, Option, Some, None}
-use Rattle.ninja.specs.Shell.{same_bytes}
+use Rattle.std.specs.Prelude.{ℕ, Bool, false, cond, ◌==◌, ◌||◌, not, List, [], ◌∷◌, ◌++◌, Option, Some, None, codes}
+use Rattle.ninja.specs.Bytes.{same_bytes, is_one_of}
 use Rattle.ninja.specs.Machine.{Machine, output_from}
 use Rattle.ninja.specs.Pieces.{Piece, Plain, Escaped, Variable, is_name_byte}
 
@@ -48,8 +48,15 @@ abbrev pub name_at : List Piece → List ℕ × List Piece
 name_at [] = ([], [])
 name_at (p ∷ ps) = name_step p ps (name_at ps)
 
+-- what begins a statement names nothing
+abbrev pub is_keyword : List ℕ → Bool
+is_keyword name = is_one_of (codes "build" ∷ codes "rule" ∷ codes "default" ∷ codes "include" ∷ codes "subninja" ∷ codes "pool" ∷ []) name
+
+abbrev pub is_name : List ℕ → Bool
+is_name name = not (is_keyword name || same_bytes name [])
+
 abbrev pub whole_name : List ℕ × List Piece → Option (List ℕ)
-whole_name found = elim found.1 [ [] ↦ cond (same_bytes found.0 []) None (Some found.0) | p ∷ ps ↦ None ]
+whole_name found = elim found.1 [ [] ↦ cond (is_name found.0) (Some found.0) None | p ∷ ps ↦ None ]
 
 -- these pieces, where they are a name
 abbrev pub plain_name : List Piece → Option (List ℕ)

@@ -1,8 +1,8 @@
 -- What a Ninja file says, by the Ninja manual.
 use Rattle.std.specs.Prelude.{ℕ, zero, suc, Bool, true, false, cond, ◌||◌, ◌&&◌, not, List, [], ◌∷◌, ◌++◌, length, Option, Some, None, codes, unwrap_or}
 use Rattle.ninja.specs.Pieces.{Piece, Plain, Escaped, Variable, Scope, pieces_of, expansion}
-use Rattle.ninja.specs.Shell.{same_bytes}
-use Rattle.ninja.specs.Lines.{is_plain, lines_of, without_blanks, begins_blank, name_at, plain_name, Token, Path, Colon, Bar, Bars, tokens_of}
+use Rattle.ninja.specs.Bytes.{same_bytes}
+use Rattle.ninja.specs.Lines.{is_plain, lines_of, without_blanks, begins_blank, name_at, plain_name, is_name, Token, Path, Colon, Bar, Bars, tokens_of}
 
 infixl 10 ◌>>=◌
 abbrev pub ◌>>=◌ : {A B : Type 0} → Option A → (A → Option B) → Option B
@@ -88,14 +88,11 @@ pub data Statement : Type 0 where
   BuildHead : (line : BuildLine) → Statement
   Default : (paths : List (List Piece)) → Statement
 
-abbrev pub is_keyword : List ℕ → Bool
-is_keyword name = same_bytes name (codes "build") || (same_bytes name (codes "rule") || same_bytes name (codes "default"))
-
 -- `= value`, behind a name
 abbrev pub let_behind : Bool → List ℕ → List Piece → Option Statement
 let_behind indented name [] = None
 let_behind indented name (p ∷ ps) =
-    cond (is_plain 61 p && not (is_keyword name || same_bytes name [])) (Some (Let indented name (without_blanks ps))) None
+    cond (is_plain 61 p && is_name name) (Some (Let indented name (without_blanks ps))) None
 
 abbrev pub let_of : Bool → List ℕ × List Piece → Option Statement
 let_of indented found = let_behind indented found.0 (without_blanks found.1)
@@ -153,7 +150,7 @@ pub record Manifest : Type 0 where
 pub data Block : Type 0 where
   NoBlock : Block
   RuleBlock : (rule : Rule) → Block
-  EdgeBlock : (edge : BuildEdge) → Block
+  EdgeBlock : (line : BuildLine) (bindings : List (List ℕ × List ℕ)) → Block
 
 pub record State : Type 0 where
   pub read : Manifest
@@ -172,30 +169,36 @@ value_in (b ∷ bs) name = later (value_in bs name) (same_bytes b.0 name) b.1
 abbrev pub file_scope : Manifest → Scope
 file_scope m name = unwrap_or (value_in m.variables name) []
 
-abbrev pub closed : Manifest → Block → Manifest
-closed m NoBlock = m
-closed m (RuleBlock rule) = record m { rules = m.rules ++ rule ∷ [] }
-closed m (EdgeBlock edge) = record m { edges = m.edges ++ edge ∷ [] }
+-- in a block of a `build` line: its own values, then the file's
+abbrev pub block_scope : Manifest → List (List ℕ × List ℕ) → Scope
+block_scope m bindings name = unwrap_or (value_in bindings name) (file_scope m name)
 
 abbrev pub expansions : Scope → List (List Piece) → List (List ℕ)
 expansions scope [] = []
 expansions scope (p ∷ ps) = expansion scope p ∷ expansions scope ps
 
-abbrev pub edge_of : Scope → BuildLine → BuildEdge
-edge_of scope line = record {
+abbrev pub edge_of : Scope → BuildLine → List (List ℕ × List ℕ) → BuildEdge
+edge_of scope line bindings = record {
   outputs = expansions scope line.outputs;
   implicit_outputs = expansions scope line.implicit_outputs;
   rule = line.rule;
   inputs = expansions scope line.inputs;
   implicit = expansions scope line.implicit;
   order_only = expansions scope line.order_only;
-  bindings = [];
+  bindings = bindings;
 }
 
+-- behind a block. The paths of a `build` line are expanded where all of its block is read.
+abbrev pub closed : Manifest → Block → Manifest
+closed m NoBlock = m
+closed m (RuleBlock rule) = record m { rules = m.rules ++ rule ∷ [] }
+closed m (EdgeBlock line bindings) = record m { edges = m.edges ++ edge_of (block_scope m bindings) line bindings ∷ [] }
+
+-- a block's value is expanded at once, by what stands outside the block; a rule's where it is used
 abbrev pub bound : Scope → List ℕ → List Piece → Block → Option Block
 bound scope name value NoBlock = None
 bound scope name value (RuleBlock rule) = Some (RuleBlock (record rule { bindings = rule.bindings ++ (name, value) ∷ [] }))
-bound scope name value (EdgeBlock edge) = Some (EdgeBlock (record edge { bindings = edge.bindings ++ (name, expansion scope value) ∷ [] }))
+bound scope name value (EdgeBlock line bindings) = Some (EdgeBlock line (bindings ++ (name, expansion scope value) ∷ []))
 
 abbrev pub after_statement : State → Statement → Option State
 after_statement s Empty = Some (record { read = closed s.read s.block; block = NoBlock })
@@ -207,9 +210,9 @@ after_statement s (RuleHead name) = Some (record {
   read = closed s.read s.block;
   block = RuleBlock (record { name = name; bindings = [] });
 })
-after_statement s (BuildHead line) = let m = closed s.read s.block in Some (record {
-  read = m;
-  block = EdgeBlock (edge_of (file_scope m) line);
+after_statement s (BuildHead line) = Some (record {
+  read = closed s.read s.block;
+  block = EdgeBlock line [];
 })
 after_statement s (Default paths) =
     let m = closed s.read s.block in

@@ -1,6 +1,7 @@
--- What a POSIX shell takes as part of a word, and what it takes as a word of its own language.
-use Rattle.std.specs.Prelude.{ℕ, Bool, bytes_eq, true, false, ◌==◌, nat_le, ◌||◌, ◌&&◌, List, [], ◌∷◌, codes}
+-- Which words are written without quotes.
+use Rattle.std.specs.Prelude.{ℕ, Bool, ◌==◌, nat_le, ◌||◌, ◌&&◌, List, [], ◌∷◌, codes}
 use Rattle.std.specs.List.{list_any}
+use Rattle.ninja.specs.Bytes.{is_one_of}
 
 -- `A-Z a-z 0-9 _ @ % + = : , . / -`
 abbrev pub is_bare_byte : ℕ → Bool
@@ -11,20 +12,10 @@ is_bare_byte b = (nat_le 97 b && nat_le b 122)
 abbrev pub has_equals : List ℕ → Bool
 has_equals bytes = list_any (λ b. b == 61) bytes
 
-abbrev pub same_bytes : List ℕ → List ℕ → Bool
-same_bytes [] [] = true
-same_bytes [] (b ∷ bs) = false
-same_bytes (a ∷ more) [] = false
-same_bytes (a ∷ more) (b ∷ bs) = (a == b) && same_bytes more bs
-
-abbrev pub is_one_of : List (List ℕ) → List ℕ → Bool
-is_one_of [] word = false
-is_one_of (w ∷ ws) word = bytes_eq word w || is_one_of ws word
-
 abbrev pub is_reserved : List ℕ → Bool
 is_reserved word = is_one_of (codes "case" ∷ codes "do" ∷ codes "done" ∷ codes "elif" ∷ codes "else" ∷ codes "esac" ∷ codes "fi"
     ∷ codes "for" ∷ codes "if" ∷ codes "in" ∷ codes "then" ∷ codes "until" ∷ codes "while" ∷ []) word
 
--- what a shell would read as no word of the command: an assignment, or a word of its own language
+-- as the first word it gets quotes, since a shell would read no word of the command: an assignment, or a word of its own language
 abbrev pub is_no_first_word : List ℕ → Bool
 is_no_first_word bare = has_equals bare || is_reserved bare

@@ -10,7 +10,7 @@ ghost use Rattle.world.specs.Caller.{state_of};
 ghost use Rattle.world.specs.Deed.{fitting};
 ghost use Rattle.objects.specs.Machines.{machine_method};
 ghost use Rattle.objects.specs.Methods.{has_method, object_method, tell, told_of};
-ghost use Rattle.objects.specs.Rows.{no_values, one_text, row_of};
+ghost use Rattle.objects.specs.Rows.{row_of};
 ghost use Rattle.world.specs.Store.{world_of};
 
 use crate::dependencies::{DependencyMethod, dependency_answer};
@@ -72,39 +72,14 @@ fn told_of(
     }
 }
 
-// The row of a method that takes nothing.
-fn no_values() -> Row
-    ensures { row_data result ≡ no_values }
-{
-    Row {
-        positional: &[],
-        needed: 0,
-        others: None,
-        keywords: &[],
-        left_out: &["kwargs", "fallback", "deprecated"],
-    }
-}
-
-fn one_text() -> Row
-    ensures { row_data result ≡ one_text }
-{
-    Row {
-        positional: &[Kind::Text],
-        needed: 1,
-        others: None,
-        keywords: &[],
-        left_out: &["kwargs", "fallback", "deprecated"],
-    }
-}
-
 // The row of a method of `meson`.
 fn meson_row(name: &str) -> Row
     ensures { row_data result ≡ row_of Object.Meson name.now }
 {
     if name == "get_compiler" {
-        one_text()
+        Row::of(&[Kind::Text], 1, &[])
     } else {
-        no_values()
+        Row::of(&[], 0, &[])
     }
 }
 
@@ -114,7 +89,7 @@ fn row_of(object: &Object, name: &str) -> Row
 {
     match object {
         Object::Meson => meson_row(name),
-        _ => no_values(),
+        _ => Row::of(&[], 0, &[]),
     }
 }
 

@@ -11,7 +11,7 @@ use Rattle.targets.specs.Files.{path_in, file_path, file_name, link_names, link_
 use Rattle.targets.specs.Libraries.{LinkedData, linked, links_libraries}
 use Rattle.target_edges.specs.Edges.{edges_of}
 use Rattle.project.specs.Laws.{outputs_of, all_inside}
-use Rattle.project.specs.Adding.{has_slash, is_file_name, is_folder, names_fit, has_c, begins_with_dash, optional_file_name, target_fits}
+use Rattle.project.specs.Adding.{has_slash, is_file_name, is_folder, is_target_name, names_fit, has_c, optional_file_name, target_fits}
 use Rattle.project.proofs.EdgeOrder.{split_and, both, list_all-weaker, list_all-joined}
 use Rattle.project.proofs.NextMade.{outputs-build}
 
@@ -93,8 +93,7 @@ next_inside s earlier (Custom t) e =
 next_inside s earlier (Build t) e =
     let h = split_and (is_folder t.folder) (names_fit t && (not (has_foreign t) && (has_c t && links_libraries earlier t))) e in
     let g = split_and (names_fit t) (not (has_foreign t) && (has_c t && links_libraries earlier t)) h.1 in
-    let a = split_and (not (begins_with_dash t.name)) (is_file_name t.name && (is_file_name (file_name t) && list_all is_file_name (link_names t))) g.0 in
-    let b = split_and (is_file_name t.name) (is_file_name (file_name t) && list_all is_file_name (link_names t)) a.1 in
+    let b = split_and (is_target_name t.name) (is_file_name (file_name t) && list_all is_file_name (link_names t)) g.0 in
     let d = split_and (is_file_name (file_name t)) (list_all is_file_name (link_names t)) b.1 in
     let file = path_inside t.folder (file_name t) h.0 (no_slash (file_name t) d.0) in
     ap all_inside (outputs-build s earlier (linked earlier (Build t)).libraries t)

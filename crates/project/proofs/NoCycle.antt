@@ -31,7 +31,7 @@ abbrev Apart : List Path → List Path → Type 0
 Apart xs ys = (p : Path) → holds p xs ≡ true → holds p ys ≡ true → ⊥
 
 -- what all paths of a list meet, each meets
-member : (q : Path → Bool) (xs : List Path) (p : Path) → list_all q xs ≡ true → holds p xs ≡ true → q p ≡ true
+pub member : (q : Path → Bool) (xs : List Path) (p : Path) → list_all q xs ≡ true → holds p xs ≡ true → q p ≡ true
 member q [] p e h = absurd cc
 member q (x ∷ xs) p e h =
     let s = split_and (q x) (list_all q xs) e in
@@ -43,7 +43,7 @@ one_here : (b : Bool) (n : ℕ) → (b ≡ false → 1 ≤ n) → 1 ≤ (if b th
 one_here true n h = omega arith
 one_here false n h = let k = h refl in omega arith
 
-times_held : (p : Path) (xs : List Path) → holds p xs ≡ true → 1 ≤ times p xs
+pub times_held : (p : Path) (xs : List Path) → holds p xs ≡ true → 1 ≤ times p xs
 times_held p [] h = absurd cc
 times_held p (x ∷ xs) h = one_here (bytes_eq p x) (times p xs) (λ e. times_held p xs (right_of (bytes_eq p x) (holds p xs) h e))
   where
@@ -87,7 +87,7 @@ source_up : (n : ℕ) (path : Path) → is_upward (way_up n ++ (codes "../" ++ p
 source_up zero path = refl
 source_up (suc n) path = refl
 
-sources_up : (depth : ℕ) (ps : List Path) → list_all is_upward (map (source_path depth) ps) ≡ true
+pub sources_up : (depth : ℕ) (ps : List Path) → list_all is_upward (map (source_path depth) ps) ≡ true
 sources_up depth [] = refl
 sources_up depth (p ∷ ps) = both (is_upward (source_path depth p)) (list_all is_upward (map (source_path depth) ps)) (source_up (depth - 1) p) (sources_up depth ps)
 

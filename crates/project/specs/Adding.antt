@@ -65,8 +65,13 @@ has_c t = list_any has_c_in (all_sources t)
 
 -- ---- what a target may be (E9)
 
+-- the name of a build target: not empty, and without `/` and a leading `-`
+abbrev pub is_target_name : Text → Bool
+is_target_name name = not (bytes_eq name [] || (has_slash name || begins_with_dash name))
+
+-- the name that is given, and the names of the files that come of it
 abbrev pub names_fit : BuildData → Bool
-names_fit t = not (begins_with_dash t.name) && (is_file_name t.name && (is_file_name (file_name t) && list_all is_file_name (link_names t)))
+names_fit t = is_target_name t.name && (is_file_name (file_name t) && list_all is_file_name (link_names t))
 
 abbrev pub optional_file_name : Option Text → Bool
 optional_file_name None = true

@@ -8,7 +8,7 @@ ghost use Rattle.targets.specs.Libraries.{links_libraries as links_all};
 ghost use Rattle.targets.specs.Sources.{is_c as is_c_path, has_foreign};
 ghost use Rattle.project.specs.World.{reserved, is_made_in};
 ghost use Rattle.project.specs.Adding.{has_slash, is_file_name, begins_with_dash, is_folder, sources_of, is_made_source, is_present};
-ghost use Rattle.project.specs.Adding.{has_c_in, has_c, names_fit, optional_file_name, build_fits, custom_fits, length_in, length_of};
+ghost use Rattle.project.specs.Adding.{has_c_in, has_c, is_target_name, names_fit, optional_file_name, build_fits, custom_fits, length_in, length_of};
 ghost use Rattle.project.specs.Adding.{is_short, is_within, is_build};
 
 use basics::tables::SipSet;
@@ -62,6 +62,12 @@ fn begins_with_dash(name: &str) -> bool
     matches!(name.as_bytes(), [b'-', ..])
 }
 
+fn is_target_name(name: &str) -> bool
+    ensures { result ≡ is_target_name name.now }
+{
+    !(name == "" || has_slash(name) || begins_with_dash(name))
+}
+
 /// Whether the path may be that of a folder of the tree.
 pub fn is_folder(folder: &str) -> bool
     ensures { result ≡ is_folder folder.now }
@@ -74,12 +80,7 @@ fn names_fit(alloc: Global, target: &BuildTarget) -> Result<bool, AllocError>
 {
     let file = file_name(alloc, target)?;
     let links = link_names(alloc, target)?;
-    Ok(
-        !begins_with_dash(&target.name)
-            && is_file_name(&target.name)
-            && is_file_name(&file)
-            && all_file_names(&links),
-    )
+    Ok(is_target_name(&target.name) && is_file_name(&file) && all_file_names(&links))
 }
 
 // ---- what is made

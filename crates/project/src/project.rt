@@ -15,8 +15,8 @@ ghost use Rattle.std.specs.List.{list_any};
 ghost use Rattle.edge.specs.Paths.{is_upward};
 ghost use Rattle.edge.specs.Holding.{are_writable};
 ghost use Rattle.targets.specs.Files.{path_in as path_of};
-ghost use Rattle.project.specs.Laws.{outputs_of as outputs_of_edges, AtMostOnce, all_made, Reaches};
-ghost use Rattle.project.specs.World.{new_world, edges_in, known_in};
+ghost use Rattle.project.specs.Laws.{AtMostOnce, all_made, Reaches};
+ghost use Rattle.project.specs.World.{new_world, edges_in, known_in, taken_in};
 ghost use Rattle.target_edges.specs.Edges.{target_edges as target_edges_of, edges_of};
 
 use crate::claims::{claim, outputs_of};
@@ -484,9 +484,10 @@ pub fn edges(project: &Project, target: usize) -> Result<Vec<Edge>, AllocError>
     }
 }
 
-/// No path is an output of two edges, nor of an edge and of `configure_file`.
+/// No path is an output of two edges, nor of an edge and of `configure_file`, and none is one that is reserved: `all`, `build.ninja`
+/// and the path of the document.
 pub fn outputs_differ(project: &Project)
-    ensures { AtMostOnce (outputs_of_edges (edges_in project.now) ++ project.now.outputs) }
+    ensures { AtMostOnce (taken_in project.now) }
 {
     let _ = &project.linked;
 }

@@ -1,19 +1,20 @@
 -- The rows of the functions: what each takes.
-use Rattle.std.specs.Prelude.{[], ◌∷◌, Some, None, codes}
-use Rattle.arguments.specs.declared.row.Kind.TheVariants.{Text, Texts, TextsOrDictionary}
-use Rattle.arguments.specs.Row.{RowData, common_left_out, optional}
+use Rattle.std.specs.Prelude.{List, [], ◌∷◌, codes}
+use Rattle.arguments.specs.declared.row.Kind.TheVariants.{Any, Text, Texts, TextsOrDictionary}
+use Rattle.arguments.specs.Row.{KeywordData, RowData, optional, row, with_others}
+
+abbrev pub project_keywords : List KeywordData
+project_keywords =
+    optional (codes "version") Text
+    ∷ optional (codes "license") Texts
+    ∷ optional (codes "default_options") TextsOrDictionary
+    ∷ optional (codes "meson_version") Any
+    ∷ []
 
 -- a name and languages
 abbrev pub project_row : RowData
-project_row = record {
-  positional = Text ∷ [];
-  needed = 1;
-  others = Some Texts;
-  keywords = optional (codes "version") Text ∷ optional (codes "license") Texts ∷ optional (codes "default_options") TextsOrDictionary
-      ∷ optional (codes "meson_version") Text ∷ [];
-  left_out = common_left_out;
-}
+project_row = with_others Texts (row (Text ∷ []) 1 project_keywords)
 
 -- the name of an option
 abbrev pub get_option_row : RowData
-get_option_row = record { positional = Text ∷ []; needed = 1; others = None; keywords = []; left_out = common_left_out }
+get_option_row = row (Text ∷ []) 1 []

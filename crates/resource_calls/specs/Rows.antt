@@ -1,89 +1,83 @@
 -- The rows of the functions: what each takes.
-use Rattle.std.specs.Prelude.{List, [], ◌∷◌, None, Some, codes}
+use Rattle.std.specs.Prelude.{List, [], ◌∷◌, codes}
 use Rattle.arguments.specs.declared.row.Kind.TheVariants.{Any, Boolean, Command, Dependencies, Flat, Integer, Requirement, Text, Texts, TextsOrDictionary}
 use Rattle.arguments.specs.declared.row.Piece.TheVariants as pieces
-use Rattle.arguments.specs.Row.{KeywordData, RowData, common_left_out, optional}
+use Rattle.arguments.specs.Row.{KeywordData, RowData, optional, row, with_others}
 
--- `dependency(names..)`: values of any type for `method`, `static`, `native` and `include_type` are read and dropped
+-- values of any type for `method`, `static`, `native` and `include_type` are read and dropped
+abbrev pub dependency_keywords : List KeywordData
+dependency_keywords =
+    optional (codes "required") Requirement
+    ∷ optional (codes "disabler") Boolean
+    ∷ optional (codes "version") Texts
+    ∷ optional (codes "method") Any
+    ∷ optional (codes "static") Any
+    ∷ optional (codes "native") Any
+    ∷ optional (codes "include_type") Any
+    ∷ []
+
+-- `dependency(names..)`
 abbrev pub dependency_row : RowData
-dependency_row = record {
-  positional = Text ∷ [];
-  needed = 1;
-  others = Some Text;
-  keywords = optional (codes "required") Requirement
-      ∷ optional (codes "disabler") Boolean
-      ∷ optional (codes "version") Texts
-      ∷ optional (codes "method") Any
-      ∷ optional (codes "static") Any
-      ∷ optional (codes "native") Any
-      ∷ optional (codes "include_type") Any
-      ∷ [];
-  left_out = common_left_out;
-}
+dependency_row = with_others Text (row (Text ∷ []) 1 dependency_keywords)
+
+abbrev pub declare_dependency_keywords : List KeywordData
+declare_dependency_keywords =
+    optional (codes "include_directories") (Flat pieces.Folder)
+    ∷ optional (codes "compile_args") Texts
+    ∷ optional (codes "link_args") Texts
+    ∷ optional (codes "link_with") (Flat pieces.BuildTarget)
+    ∷ optional (codes "sources") (Flat pieces.Source)
+    ∷ optional (codes "dependencies") Dependencies
+    ∷ optional (codes "version") Text
+    ∷ []
 
 -- `declare_dependency()`
 abbrev pub declare_dependency_row : RowData
-declare_dependency_row = record {
-  positional = [];
-  needed = 0;
-  others = None;
-  keywords = optional (codes "include_directories") (Flat pieces.Folder)
-      ∷ optional (codes "compile_args") Texts
-      ∷ optional (codes "link_args") Texts
-      ∷ optional (codes "link_with") (Flat pieces.BuildTarget)
-      ∷ optional (codes "sources") (Flat pieces.Source)
-      ∷ optional (codes "dependencies") Dependencies
-      ∷ optional (codes "version") Text
-      ∷ [];
-  left_out = common_left_out;
-}
+declare_dependency_row = row [] 0 declare_dependency_keywords
 
--- `find_program(names..)`: a value of any type for `native` is read and dropped
+-- a value of any type for `native` is read and dropped
+abbrev pub find_program_keywords : List KeywordData
+find_program_keywords =
+    optional (codes "required") Requirement
+    ∷ optional (codes "disabler") Boolean
+    ∷ optional (codes "native") Any
+    ∷ []
+
+-- `find_program(names..)`
 abbrev pub find_program_row : RowData
-find_program_row = record {
-  positional = Text ∷ [];
-  needed = 1;
-  others = Some Text;
-  keywords = optional (codes "required") Requirement ∷ optional (codes "disabler") Boolean ∷ optional (codes "native") Any ∷ [];
-  left_out = common_left_out;
-}
+find_program_row = with_others Text (row (Text ∷ []) 1 find_program_keywords)
 
--- texts and files in lists of any depth
-abbrev pub files_with : List KeywordData → RowData
-files_with keywords = record {
-  positional = [];
-  needed = 0;
-  others = Some (Flat pieces.Path);
-  keywords = keywords;
-  left_out = common_left_out;
-}
+abbrev pub install_headers_keywords : List KeywordData
+install_headers_keywords =
+    optional (codes "install_dir") Text
+    ∷ optional (codes "subdir") Text
+    ∷ []
 
--- `install_headers(files..)`
+-- `install_headers(files..)`: texts and files in lists of any depth
 abbrev pub install_headers_row : RowData
-install_headers_row = files_with (optional (codes "install_dir") Text ∷ optional (codes "subdir") Text ∷ [])
+install_headers_row = with_others (Flat pieces.Path) (row [] 0 install_headers_keywords)
 
 -- `install_data(files..)`
 abbrev pub install_data_row : RowData
-install_data_row = files_with (optional (codes "install_dir") Text ∷ [])
+install_data_row = with_others (Flat pieces.Path) (row [] 0 (optional (codes "install_dir") Text ∷ []))
 
 -- `install_man(files..)`
 abbrev pub install_man_row : RowData
 install_man_row = install_data_row
 
--- `test(name, program)`: values of any type for `depends`, `workdir` and `is_parallel` are read and dropped
+-- values of any type for `depends`, `workdir` and `is_parallel` are read and dropped
+abbrev pub test_keywords : List KeywordData
+test_keywords =
+    optional (codes "args") (Flat pieces.Word)
+    ∷ optional (codes "env") TextsOrDictionary
+    ∷ optional (codes "should_fail") Boolean
+    ∷ optional (codes "suite") Texts
+    ∷ optional (codes "timeout") Integer
+    ∷ optional (codes "depends") Any
+    ∷ optional (codes "workdir") Any
+    ∷ optional (codes "is_parallel") Any
+    ∷ []
+
+-- `test(name, program)`
 abbrev pub test_row : RowData
-test_row = record {
-  positional = Text ∷ Command ∷ [];
-  needed = 2;
-  others = None;
-  keywords = optional (codes "args") (Flat pieces.Word)
-      ∷ optional (codes "env") TextsOrDictionary
-      ∷ optional (codes "should_fail") Boolean
-      ∷ optional (codes "suite") Texts
-      ∷ optional (codes "timeout") Integer
-      ∷ optional (codes "depends") Any
-      ∷ optional (codes "workdir") Any
-      ∷ optional (codes "is_parallel") Any
-      ∷ [];
-  left_out = common_left_out;
-}
+test_row = row (Text ∷ Command ∷ []) 2 test_keywords

@@ -6,251 +6,80 @@ ghost use Rattle.target_calls.specs.Rows.{shared_library_row, target_row};
 
 use arguments::{Keyword, Kind, Piece, Row};
 
-static IS_SYSTEM: [Keyword; 1] = [Keyword {
-    name: "is_system",
-    kind: Kind::Any,
-    is_needed: false,
-}];
+const IS_SYSTEM: &[Keyword] = &[Keyword::Optional("is_system", Kind::Any)];
 
-static LANGUAGE: [Keyword; 1] = [Keyword {
-    name: "language",
-    kind: Kind::Texts,
-    is_needed: true,
-}];
+const LANGUAGE: &[Keyword] = &[Keyword::Needed("language", Kind::Texts)];
 
-static TARGET: [Keyword; 9] = [
-    Keyword {
-        name: "sources",
-        kind: Kind::Flat(Piece::Source),
-        is_needed: false,
-    },
-    Keyword {
-        name: "include_directories",
-        kind: Kind::Flat(Piece::Folder),
-        is_needed: false,
-    },
-    Keyword {
-        name: "c_args",
-        kind: Kind::Texts,
-        is_needed: false,
-    },
-    Keyword {
-        name: "link_args",
-        kind: Kind::Texts,
-        is_needed: false,
-    },
-    Keyword {
-        name: "link_with",
-        kind: Kind::Flat(Piece::BuildTarget),
-        is_needed: false,
-    },
-    Keyword {
-        name: "dependencies",
-        kind: Kind::Dependencies,
-        is_needed: false,
-    },
-    Keyword {
-        name: "install",
-        kind: Kind::Boolean,
-        is_needed: false,
-    },
-    Keyword {
-        name: "install_dir",
-        kind: Kind::Text,
-        is_needed: false,
-    },
-    Keyword {
-        name: "build_by_default",
-        kind: Kind::Boolean,
-        is_needed: false,
-    },
+// What all build targets take.
+const TARGET: &[Keyword] = &[
+    Keyword::Optional("sources", Kind::Flat(Piece::Source)),
+    Keyword::Optional("include_directories", Kind::Flat(Piece::Folder)),
+    Keyword::Optional("c_args", Kind::Texts),
+    Keyword::Optional("link_args", Kind::Texts),
+    Keyword::Optional("link_with", Kind::Flat(Piece::BuildTarget)),
+    Keyword::Optional("dependencies", Kind::Dependencies),
+    Keyword::Optional("install", Kind::Boolean),
+    Keyword::Optional("install_dir", Kind::Text),
+    Keyword::Optional("build_by_default", Kind::Boolean),
 ];
 
-static SHARED_LIBRARY: [Keyword; 11] = [
-    Keyword {
-        name: "sources",
-        kind: Kind::Flat(Piece::Source),
-        is_needed: false,
-    },
-    Keyword {
-        name: "include_directories",
-        kind: Kind::Flat(Piece::Folder),
-        is_needed: false,
-    },
-    Keyword {
-        name: "c_args",
-        kind: Kind::Texts,
-        is_needed: false,
-    },
-    Keyword {
-        name: "link_args",
-        kind: Kind::Texts,
-        is_needed: false,
-    },
-    Keyword {
-        name: "link_with",
-        kind: Kind::Flat(Piece::BuildTarget),
-        is_needed: false,
-    },
-    Keyword {
-        name: "dependencies",
-        kind: Kind::Dependencies,
-        is_needed: false,
-    },
-    Keyword {
-        name: "install",
-        kind: Kind::Boolean,
-        is_needed: false,
-    },
-    Keyword {
-        name: "install_dir",
-        kind: Kind::Text,
-        is_needed: false,
-    },
-    Keyword {
-        name: "build_by_default",
-        kind: Kind::Boolean,
-        is_needed: false,
-    },
-    Keyword {
-        name: "version",
-        kind: Kind::Text,
-        is_needed: false,
-    },
-    Keyword {
-        name: "soversion",
-        kind: Kind::IntegerOrText,
-        is_needed: false,
-    },
+// What a shared library takes besides.
+const VERSION: &[Keyword] = &[
+    Keyword::Optional("version", Kind::Text),
+    Keyword::Optional("soversion", Kind::IntegerOrText),
 ];
 
-static CUSTOM_TARGET: [Keyword; 10] = [
-    Keyword {
-        name: "output",
-        kind: Kind::Texts,
-        is_needed: true,
-    },
-    Keyword {
-        name: "command",
-        kind: Kind::Flat(Piece::CommandWord),
-        is_needed: true,
-    },
-    Keyword {
-        name: "input",
-        kind: Kind::Flat(Piece::Source),
-        is_needed: false,
-    },
-    Keyword {
-        name: "depend_files",
-        kind: Kind::Flat(Piece::Source),
-        is_needed: false,
-    },
-    Keyword {
-        name: "depends",
-        kind: Kind::Flat(Piece::Target),
-        is_needed: false,
-    },
-    Keyword {
-        name: "capture",
-        kind: Kind::Boolean,
-        is_needed: false,
-    },
-    Keyword {
-        name: "depfile",
-        kind: Kind::Text,
-        is_needed: false,
-    },
-    Keyword {
-        name: "build_by_default",
-        kind: Kind::Boolean,
-        is_needed: false,
-    },
-    Keyword {
-        name: "install",
-        kind: Kind::Boolean,
-        is_needed: false,
-    },
-    Keyword {
-        name: "install_dir",
-        kind: Kind::Text,
-        is_needed: false,
-    },
+const CUSTOM_TARGET: &[Keyword] = &[
+    Keyword::Needed("output", Kind::Texts),
+    Keyword::Needed("command", Kind::Flat(Piece::CommandWord)),
+    Keyword::Optional("input", Kind::Flat(Piece::Source)),
+    Keyword::Optional("depend_files", Kind::Flat(Piece::Source)),
+    Keyword::Optional("depends", Kind::Flat(Piece::Target)),
+    Keyword::Optional("capture", Kind::Boolean),
+    Keyword::Optional("depfile", Kind::Text),
+    Keyword::Optional("build_by_default", Kind::Boolean),
+    Keyword::Optional("install", Kind::Boolean),
+    Keyword::Optional("install_dir", Kind::Text),
 ];
 
 /// What `files` takes.
 pub fn files_row() -> Row
     ensures { row_data result ≡ files_row }
 {
-    Row {
-        positional: &[],
-        needed: 0,
-        others: Some(Kind::Texts),
-        keywords: &[],
-        left_out: &["kwargs", "fallback", "deprecated"],
-    }
+    Row::of(&[], 0, &[]).with_others(Kind::Texts)
 }
 
 /// What `include_directories` takes.
 pub fn include_directories_row() -> Row
     ensures { row_data result ≡ include_directories_row }
 {
-    Row {
-        positional: &[],
-        needed: 0,
-        others: Some(Kind::Texts),
-        keywords: &IS_SYSTEM,
-        left_out: &["kwargs", "fallback", "deprecated"],
-    }
+    Row::of(&[], 0, &[IS_SYSTEM]).with_others(Kind::Texts)
 }
 
 /// What `add_project_arguments` and `add_project_link_arguments` take.
 pub fn project_words_row() -> Row
     ensures { row_data result ≡ project_words_row }
 {
-    Row {
-        positional: &[],
-        needed: 0,
-        others: Some(Kind::Texts),
-        keywords: &LANGUAGE,
-        left_out: &["kwargs", "fallback", "deprecated"],
-    }
+    Row::of(&[], 0, &[LANGUAGE]).with_others(Kind::Texts)
 }
 
 /// What `custom_target` takes.
 pub fn custom_target_row() -> Row
     ensures { row_data result ≡ custom_target_row }
 {
-    Row {
-        positional: &[Kind::Text],
-        needed: 1,
-        others: None,
-        keywords: &CUSTOM_TARGET,
-        left_out: &["kwargs", "fallback", "deprecated"],
-    }
+    Row::of(&[Kind::Text], 1, &[CUSTOM_TARGET])
 }
 
 /// What `executable` and `static_library` take.
 pub fn target_row() -> Row
     ensures { row_data result ≡ target_row }
 {
-    Row {
-        positional: &[Kind::Text],
-        needed: 1,
-        others: Some(Kind::Flat(Piece::Source)),
-        keywords: &TARGET,
-        left_out: &["kwargs", "fallback", "deprecated"],
-    }
+    Row::of(&[Kind::Text], 1, &[TARGET]).with_others(Kind::Flat(Piece::Source))
 }
 
 /// What `shared_library` and `library` take.
 pub fn shared_library_row() -> Row
     ensures { row_data result ≡ shared_library_row }
 {
-    Row {
-        positional: &[Kind::Text],
-        needed: 1,
-        others: Some(Kind::Flat(Piece::Source)),
-        keywords: &SHARED_LIBRARY,
-        left_out: &["kwargs", "fallback", "deprecated"],
-    }
+    Row::of(&[Kind::Text], 1, &[TARGET, VERSION]).with_others(Kind::Flat(Piece::Source))
 }

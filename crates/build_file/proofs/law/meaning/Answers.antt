@@ -1,6 +1,7 @@
 use Rattle.project.specs.World.{edges_in}
 use Rattle.build_file.specs.BuildFile.{default_outputs}
 use Rattle.build_file.proofs.DefaultPaths.{defaults_are_paths}
+use Rattle.build_file.proofs.FileEdges.{once_with_all, defaults_held, all_before, no_circle_read}
 use Rattle.build_file.proofs.law.meaning.Goals as goal
 
 pub returns : goal.returns
@@ -8,10 +9,14 @@ returns c =
     let w = c.args.project.now in
     let writable = c.edges_are_writable.ensures in
     let paths = defaults_are_paths w.surroundings w.targets writable in
+    let once = c.outputs_differ.ensures in
+    let made = c.needs_are_made.ensures in
+    let asked = defaults_held w.surroundings w.targets in
     record {
       read = c.file_law.ensures.read (edges_in w) (default_outputs w) writable paths;
       runs = c.file_law.ensures.runs (edges_in w) (default_outputs w) writable;
-      once = c.outputs_differ.ensures;
-      made = c.needs_are_made.ensures;
-      no_circle = c.no_circle.ensures;
+      once = once_with_all w once;
+      made = all_before w made asked;
+      asked = asked;
+      no_circle = no_circle_read w once made asked c.no_circle.ensures;
     }

@@ -1,0 +1,12 @@
+-- Texts as bytes: whether two are the same, and whether one is in a list.
+use Rattle.std.specs.Prelude.{ℕ, Bool, bytes_eq, true, false, ◌==◌, ◌||◌, ◌&&◌, List, [], ◌∷◌}
+
+abbrev pub same_bytes : List ℕ → List ℕ → Bool
+same_bytes [] [] = true
+same_bytes [] (b ∷ bs) = false
+same_bytes (a ∷ more) [] = false
+same_bytes (a ∷ more) (b ∷ bs) = (a == b) && same_bytes more bs
+
+abbrev pub is_one_of : List (List ℕ) → List ℕ → Bool
+is_one_of [] word = false
+is_one_of (w ∷ ws) word = bytes_eq word w || is_one_of ws word
