@@ -1,5 +1,4 @@
 pub mod Fitting
-pub mod FittingView
 pub mod Found
 pub mod Installs
 pub mod Joined

@@ -22,7 +22,7 @@ mod joining;
 mod testing;
 
 pub use beside::call_question;
-pub use fitting::{Fitting, first_fitting, program_words, said_dependency};
+pub use fitting::{dependency_that_fits, program_words};
 pub use found::{found_dependency, missing_dependency, within_texts};
 pub use installs::{destination, headers_folder, man_folder};
 pub use joining::{dependencies_in, joined};
