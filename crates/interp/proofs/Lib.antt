@@ -2,6 +2,7 @@ pub mod Assigning
 pub mod Blocks
 pub mod Coming
 mod Costs
+mod Depending
 pub mod Ending
 pub mod Evaluating
 pub mod Filling
