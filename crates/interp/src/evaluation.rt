@@ -131,7 +131,8 @@ pub fn start(alloc: Global, inputs: &Inputs<'_>) -> Result<Store, Stop>
         Ok(machine) => machine,
         Err(fault) => return Err(Stop::Refused(fault.told(alloc)?)),
     };
-    Ok(Store::new(alloc, inputs.settings.copy(alloc)?, machine)?)
+    let store = Store::new(alloc, inputs.settings.copy(alloc)?, machine)?;
+    Ok(store)
 }
 
 /// Evaluates the machine file and then the definitions of a tree, from its root file on, and gives the world after them.

@@ -19,5 +19,5 @@ pub returns-clause-starts : goal.returns-clause-starts
 returns-clause-starts c = λ said is.
     let bytes = c.args.inputs.now.machine.now in
     let answered = subst (λ a. Answers bytes a) c.in-Ok.is c.in_ok-machine.ensures.answer in
-    subst (λ x. Starts (settings_view c.args.inputs.now.settings.now) x (Ok c.in_ok-new.field-0)) (answer_is bytes (Ok c.in-Ok.machine) said answered is)
-    (c.in_ok-new.ensures.world ∙ ap (λ s. first_world s (machine_in c.in-Ok.machine)) c.in_ok-copy.ensures)
+    subst (λ x. Starts (settings_view c.args.inputs.now.settings.now) x (Ok c.in_ok-store.store)) (answer_is bytes (Ok c.in-Ok.machine) said answered is)
+    (c.in_ok-store.ensures.world ∙ ap (λ s. first_world s (machine_in c.in-Ok.machine)) c.in_ok-copy.ensures)
