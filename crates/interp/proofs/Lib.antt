@@ -15,7 +15,7 @@ pub mod Places
 pub mod Reading
 pub mod Spelling
 pub mod Stack
-mod Starting
+pub mod Starting
 mod Ticking
 mod Values
 mod Walking
