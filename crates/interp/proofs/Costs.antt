@@ -35,11 +35,12 @@ use Rattle.language_calls.specs.declared.function.Function.{Function}
 use Rattle.language_calls.specs.declared.function.Function.TheVariants as functions
 use Rattle.ports.specs.Tree.{file_at}
 use Rattle.world.specs.World.{World, Facts, looking, entering, with_facts, with_place}
-use Rattle.world.specs.Run.{Run, ran, follow, after, Done, Faulted}
+use Rattle.world.specs.Run.{Run, ran, follow, after, Done, Faulted, marks_of}
 use Rattle.world.specs.Deed.{Files, Deed, read, refuse as refuse_deed, then as andthen, perform, need}
 use Rattle.world.specs.Plan.{Plan, deed, ruled, entered, next as next_plan, carry, answered, refuse, give}
 use Rattle.world.specs.Costs.{definition_file, is_opened, unopened, spent}
 use Rattle.world.specs.Start.{first_world}
+use Rattle.world.specs.Trace.{ends_of}
 use Rattle.world.proofs.Costs.{Takes, more as more_in, free as free_in, none as none_in, chain as chain_in, rules as rules_in, opens, paid, paid-after, spent-after, spent-paid, deed-costs}
 use Rattle.interp.specs.declared.meaning.Meaning.{Meaning}
 use Rattle.interp.specs.declared.meaning.Meaning.TheVariants.{Combines, Connects}
@@ -532,7 +533,10 @@ unopened-none : (files : Files) → unopened file_cost files [] ≡ tree_cost fi
 unopened-none [] = refl
 unopened-none (f ∷ fs) = ap (λ n. file_cost f + n) (unopened-none fs)
 
+within_cost : (files : Files) (said : MachineSaid) (w : World) → w.entered ≡ [] → ends_of (marks_of (carry files (evaluation said) w)) ≤ tree_cost files
+within_cost files said w none_entered =
+    omega (arith, begun_run files said w none_entered, ap (unopened file_cost files) none_entered, unopened-none files)
+
 pub steps_within_cost : StepsWithinCost
 unfolding evaluated
-steps_within_cost files settings said =
-    omega (arith, begun_run files said (first_world settings (sections_of said)) refl, unopened-none files)
+steps_within_cost files settings said = within_cost files said (first_world settings (sections_of said)) refl
