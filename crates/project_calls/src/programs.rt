@@ -63,7 +63,7 @@ fn program<T: Tree, O: Outputs>(
 }
 
 /// The compiler and the archiver, for which the machine file is asked one after the other.
-pub fn programs<T: Tree, O: Outputs>(caller: &mut Caller<'_, T, O>) -> Result<Programs, Stop>
+pub fn ask_programs<T: Tree, O: Outputs>(caller: &mut Caller<'_, T, O>) -> Result<Programs, Stop>
     ensures { Carries programs_in programs (state_of T.seen O.seen caller.old) result (state_of T.seen O.seen caller.new) }
 {
     let compiler = program(caller, "c", "cc")?;

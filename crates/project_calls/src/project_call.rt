@@ -20,7 +20,7 @@ ghost use Rattle.project_calls.specs.ProgramsView.{programs_in};
 use crate::declaring::option_file;
 use crate::defaults::{printed_all, values_given};
 use crate::flags::flags_of;
-use crate::programs::{Programs, programs};
+use crate::programs::{Programs, ask_programs};
 use crate::resolution::resolution;
 use crate::shown_options::option_entries;
 use arguments::Arguments;
@@ -157,7 +157,7 @@ fn begin<T: Tree, O: Outputs>(
     let Resolved { unknown, outcome } = resolved;
     warn(caller, &unknown)?;
     let options = settle(caller, path, outcome)?;
-    let programs = programs(caller)?;
+    let programs = ask_programs(caller)?;
     let facts = facts_of(
         caller.alloc,
         arguments,

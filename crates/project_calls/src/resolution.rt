@@ -5,7 +5,7 @@ ghost use Rattle.edge.specs.Texts.{texts};
 ghost use Rattle.machine_file.specs.Questions.{answer_to, plain};
 ghost use Rattle.machine_file.specs.QuestionsView.{topic_in};
 ghost use Rattle.option_file.specs.View.{options_in as declared_in};
-ghost use Rattle.option_values.specs.View.{row_in, strings_in};
+ghost use Rattle.option_values.specs.View.{strings_in};
 ghost use Rattle.options.specs.View.{resolved_in};
 ghost use Rattle.world.specs.Answering.{Carries};
 ghost use Rattle.world.specs.Caller.{state_of};
@@ -23,7 +23,7 @@ use std::alloc::{AllocError, Global};
 use world::{Caller, Stop, Store};
 
 fn row_names(alloc: Global, rows: &[BuiltIn]) -> Result<Vec<String>, AllocError>
-    ensures { IfOk result (λ v. texts v.items ≡ map (λ b. b.name) (map row_in rows.now)) }
+    ensures { IfOk result (λ v. texts v.items ≡ map (λ row. row.name.now) rows.now) }
 {
     let mut names = Vec::new(alloc);
     for row in rows {
@@ -37,7 +37,8 @@ fn built_in_names(alloc: Global) -> Result<Vec<String>, AllocError>
     ensures { IfOk result (λ v. texts v.items ≡ built_in_names) }
 {
     let table = built_ins();
-    row_names(alloc, &table)
+    let names = row_names(alloc, &table)?;
+    Ok(names)
 }
 
 // The names of the options that are declared, in the order of their calls.
