@@ -158,13 +158,7 @@ fn begin<T: Tree, O: Outputs>(
     warn(caller, &unknown)?;
     let options = settle(caller, path, outcome)?;
     let programs = ask_programs(caller)?;
-    let facts = facts_of(
-        caller.alloc,
-        arguments,
-        &options,
-        programs,
-        caller.store,
-    )?;
+    let facts = facts_of(caller.alloc, arguments, &options, programs, caller.store)?;
     caller.store.set_options(options);
     caller.begin(facts)
 }

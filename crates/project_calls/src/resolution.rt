@@ -106,12 +106,6 @@ pub fn resolution<T: Tree, O: Outputs>(
         (state_of T.seen O.seen caller.old) result (state_of T.seen O.seen caller.new) }
 {
     ask_options(caller, declared)?;
-    let resolved = resolved_by(
-        caller.alloc,
-        arguments,
-        printed,
-        declared,
-        caller.store,
-    )?;
+    let resolved = resolved_by(caller.alloc, arguments, printed, declared, caller.store)?;
     Ok(resolved)
 }
