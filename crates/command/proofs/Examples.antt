@@ -55,7 +55,7 @@ unfolding clap_on_literals
 asking_gives = refl
 
 -- a task is named whole
-other_is_none : faults_of (codes "meson" ∷ codes "question" ∷ codes "build" ∷ []) ≡ InvalidSubcommand ∷ []
+other_is_none : faults_of (codes "meson" ∷ codes "question" ∷ codes "build" ∷ []) ≡ UnknownArgument ∷ InvalidSubcommand ∷ []
 unfolding clap_on_literals
 other_is_none = refl
 
