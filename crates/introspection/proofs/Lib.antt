@@ -1,4 +1,5 @@
 pub mod Lists
+pub mod Asking
 pub mod Shape
 pub mod WholeShape
 pub mod Text

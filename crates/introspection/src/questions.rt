@@ -1,5 +1,5 @@
 //! What a run asks a machine file, as lines of JSON.
-ghost use Rattle.std.specs.Prelude.{◌≡◌, ◌++◌, IfOk, map, option_map, string_bytes};
+ghost use Rattle.std.specs.Prelude.{◌≡◌, ◌++◌, IfOk, codes, map, option_map, string_bytes};
 ghost use Rattle.serde_json.specs.View.{view};
 ghost use Rattle.machine_file.specs.QuestionsView.{asides_in, question_in};
 ghost use Rattle.machine_file.specs.Questions.{answer_to};
@@ -55,6 +55,24 @@ fn add_options<'a>(
     Ok(())
 }
 
+// The lines of options: those that are built in, and then those that the project declares.
+fn option_lines<'a>(
+    alloc: Global,
+    machine: &'a Machine,
+    built_in: &'a [String],
+    declared: &'a [String],
+    asides: &'a [Aside],
+) -> Result<Vec<QuestionLine<'a>>, AllocError>
+    ensures { IfOk result (λ lines. map line_in lines.items
+        ≡ map (option_line (machine_in machine.now) (asides_in asides.now) (codes "built-in options")) (strings_in built_in.now)
+        ++ map (option_line (machine_in machine.now) (asides_in asides.now) (codes "project options")) (strings_in declared.now)) }
+{
+    let mut lines = Vec::new(alloc);
+    add_options(&mut lines, machine, "built-in options", built_in, asides)?;
+    add_options(&mut lines, machine, "project options", declared, asides)?;
+    Ok(lines)
+}
+
 /// The lines of a question: one, or one for each option that is asked for, with what this machine file answers.
 pub fn question_lines<'a>(
     alloc: Global,
@@ -65,26 +83,29 @@ pub fn question_lines<'a>(
         ≡ lines_of (question_in question.now) (answer_to (machine_in machine.now) (question_in question.now).topic)) }
 {
     let asides = question.asides.as_slice();
-    let mut lines = Vec::new(alloc);
     match &question.topic {
-        Topic::Key(section, key) => lines.push(QuestionLine {
-            section: section.as_str(),
-            key: Some(key.as_str()),
-            reply: Reply::Value(machine.get(section.as_str(), key.as_str())),
-            asides,
-        })?,
-        Topic::Whole(section) => lines.push(QuestionLine {
-            section: section.as_str(),
-            key: None,
-            reply: Reply::Section(machine.section(section.as_str())),
-            asides,
-        })?,
+        Topic::Key(section, key) => {
+            let line = QuestionLine {
+                section: section.as_str(),
+                key: Some(key.as_str()),
+                reply: Reply::Value(machine.get(section.as_str(), key.as_str())),
+                asides,
+            };
+            Ok(vec![in alloc; line]?)
+        }
+        Topic::Whole(section) => {
+            let line = QuestionLine {
+                section: section.as_str(),
+                key: None,
+                reply: Reply::Section(machine.section(section.as_str())),
+                asides,
+            };
+            Ok(vec![in alloc; line]?)
+        }
         Topic::Options(built_in, declared) => {
-            add_options(&mut lines, machine, "built-in options", built_in, asides)?;
-            add_options(&mut lines, machine, "project options", declared, asides)?;
+            option_lines(alloc, machine, built_in, declared, asides)
         }
     }
-    Ok(lines)
 }
 
 // A value of a machine file.
