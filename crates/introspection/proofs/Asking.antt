@@ -1,8 +1,9 @@
 -- Lines of questions.
-use Rattle.std.proofs.Common.{◌≡◌, ◌∙◌, suc, ◌+◌, ◌++◌, ◌∷◌, [], ℕ, Bool, true, false, List, Some, None, map, take, get_or, length, codes, bytes_eq, if◌then◌else◌, refl, sym, ap, Result, IfOk, String, Global, string_bytes}
+use Rattle.std.proofs.Common.{◌≡◌, ◌∙◌, ◌<◌, ◌+◌, arith, ◌++◌, ◌∷◌, [], ℕ, Bool, true, false, List, Some, None, map, take, get_or, length, codes, bytes_eq, if◌then◌else◌, refl, sym, ap, Result, IfOk, String, Global, string_bytes}
 use Rattle.std.specs.Option.{option_map, option_and_then}
 use Rattle.std.specs.Prelude.{slice_get}
-use Rattle.std.proofs.lemmas.List.{take_more, map-append}
+use Rattle.std.proofs.lemmas.List.{map-append, take_more}
+use Rattle.std.proofs.lemmas.Option.{get_or_from_slice_get, slice_get-get_or, slice_get_within}
 use Rattle.std.proofs.lemmas.Result.{IfOk-weaker}
 use Rattle.std.proofs.lemmas.Slice.Eq.{bytes_eq-Decides}
 use Rattle.serde_json.specs.Data.{Data}
@@ -33,12 +34,17 @@ text_is d v r e plain h = IfOk-weaker r _ _ (λ s is. is (ap has_float e ∙ pla
 -- one more of these
 pub map_got : {A B : Type 0} (f : A → B) (xs : List A) (i : ℕ) (x : A) → Some x ≡ slice_get xs i
     → map f (take (i + 1) xs) ≡ map f (take i xs) ++ f x ∷ []
-map_got f [] i x e = cc
-map_got f (y ∷ xs) 0 x e = ap (λ z. f z ∷ []) (head y x e)
-  where
-    head : {A : Type 0} (y x : A) → Some x ≡ Some y → y ≡ x
-    head y x e = cc
-map_got f (y ∷ xs) (suc i) x e = ap (λ zs. f y ∷ zs) (map_got f xs i x e)
+map_got f xs i x e =
+    ap (map f) (take_more xs i x (slice_get_within xs i x (sym e)))
+    ∙ map-append f (take i xs) (get_or xs i x ∷ [])
+    ∙ ap (λ y. map f (take i xs) ++ f y ∷ []) (get_or_from_slice_get xs i x x (sym e))
+
+-- there is a thing at each place below the length
+pub is_there : {A : Type 0} {B : Type 0} (xs : List A) (i : ℕ) → None ≡ slice_get xs i → i < length xs → B
+is_there [] i e lt = absurd (omega (arith, lt))
+is_there (x ∷ xs) i e lt =
+    let h : None ≡ Some (get_or (x ∷ xs) i x) = e ∙ slice_get-get_or (x ∷ xs) i x lt in
+    cc
 
 -- ---- options: the sections that give options values have what all sections have there
 

@@ -134,7 +134,7 @@ fn section_text(alloc: Global, section: &Section) -> Result<String, AllocError>
     let mut members = Vec::new(alloc);
     for i in 0..section.len() {
         let Some((key, entry)) = section.at(i) else {
-            break;
+            return object_text(alloc, members);
         };
         members.push((key, value_text(alloc, &entry.value)?))?;
     }
