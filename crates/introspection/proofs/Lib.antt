@@ -4,3 +4,4 @@ pub mod Shape
 pub mod WholeShape
 pub mod Text
 mod Examples
+mod QuestionExamples

@@ -6,7 +6,8 @@ use Rattle.serde_json.specs.Written.{comma_if, compact_text}
 use Rattle.edge.specs.Texts.{Text}
 use Rattle.machine_file.specs.Files.{Entry, Section as SectionSaid}
 use Rattle.machine_file.specs.Lookups.{value_at}
-use Rattle.machine_file.specs.Questions.{Answer, Aside, Question, Topic, Key, Whole, Options, entries_of_answer, options_of_answer, value_of_answer}
+use Rattle.machine_file.specs.Questions.{Answer, Aside, Question, Topic, Key, Whole, Options}
+use Rattle.machine_file.specs.Questions.{entries_of_answer, options_of_answer, value_of_answer}
 use Rattle.machine_file.specs.Values as written
 use Rattle.introspection.specs.Document.{strings}
 

@@ -14,9 +14,11 @@ returns-in-Options c =
     IfOk-weaker c.option_lines.result _ _
     (λ lines is. is
     ∙ ap₂ (λ a b. a ++ b)
-    (ap₂ (λ a ns. map (option_line ss (asides_in a) (codes "built-in options")) (strings_in ns)) c.as_slice-asides.ensures.value c.deref.ensures.value
+    (ap₂ (λ a ns. map (option_line ss (asides_in a) (codes "built-in options")) (strings_in ns)) c.as_slice-asides.ensures.value
+    c.deref.ensures.value
     ∙ sym (options_said ss asides (codes "built-in options") (strings_in c.in-Options.built_in.items) refl))
-    (ap₂ (λ a ns. map (option_line ss (asides_in a) (codes "project options")) (strings_in ns)) c.as_slice-asides.ensures.value c.deref-in-Options.ensures.value
+    (ap₂ (λ a ns. map (option_line ss (asides_in a) (codes "project options")) (strings_in ns)) c.as_slice-asides.ensures.value
+    c.deref-in-Options.ensures.value
     ∙ sym (options_said ss asides (codes "project options") (strings_in c.in-Options.declared.items) refl))
     ∙ ap (λ t. topic_lines (topic_in t) (answer_to ss (topic_in t)) asides) (sym c.in-Options.is))
     c.option_lines.ensures
