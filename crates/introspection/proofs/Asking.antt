@@ -1,6 +1,7 @@
 -- Lines of questions.
 use Rattle.std.proofs.Common.{◌≡◌, ◌∙◌, ◌<◌, ◌+◌, arith}
-use Rattle.std.proofs.Common.{◌++◌, ◌∷◌, [], ℕ, Bool, true, false, List, Some, None, map, take, get_or, length, codes, bytes_eq, if◌then◌else◌, refl, sym, ap, Result, IfOk, String, Global, string_bytes}
+use Rattle.std.proofs.Common.{◌++◌, ◌∷◌, [], ℕ, Bool, true, false, List, Some, None, map, take}
+use Rattle.std.proofs.Common.{get_or, length, codes, bytes_eq, if◌then◌else◌, refl, sym, ap, Result, IfOk, String, Global, string_bytes}
 use Rattle.std.specs.Option.{option_map, option_and_then}
 use Rattle.std.specs.Prelude.{slice_get}
 use Rattle.std.proofs.lemmas.List.{map-append, take_more}
