@@ -50,7 +50,7 @@ PLAIN_DEPENDENCIES = {"threads": (["-pthread"], ["-pthread"]), "openmp": (["-fop
                       "m": ([], ["-lm"]), "dl": ([], ["-ldl"])}
 # Words that name a path and only read there, or don't look at it.
 READING = re.compile(r"-[DUILl].*|-(?:isystem|iquote|idirafter).+|-f(?:debug|file|macro|profile)-prefix-map=.*"
-                     r"|-Wl,-(?:-?rpath|-?rpath-link)[,=][^,]*|-Wl,-L[^,]*", re.DOTALL)
+                     r"|-Wl,-(?:-?rpath|-?rpath-link)[,=][^,]*|-Wl,-L[^,]*|-Wl,--version-script[,=][^,]*", re.DOTALL)
 # Words that run another program, that hand the next word on, and that stand for words of a file.
 FORBIDDEN = re.compile(r"--?(?:wrapper|run)\b.*|-X.*|(?:.*,)?@.*", re.DOTALL)
 # Behind the words of a check: a word of the linker that changes nothing, so that an option there, which takes the next word as the name
