@@ -1,4 +1,4 @@
-"""What this machine answers: the C compiler and its checks, pkg-config, and what the machine is.
+"""What this machine answers: the C compiler and its checks, and what the machine is.
 
 The words and prefixes of checks come from a project that nobody has to trust. They are compiled and linked, and what comes of it is not
 run. Each check has a folder of its own, the current one, and the last words name the output in it. Words that could have something else
@@ -16,7 +16,7 @@ import tempfile
 import threading
 
 from tools.ending import Stop
-from tools.variables import words_in, words_of
+from tools.variables import words_of
 
 SECONDS = 300  # that a command may take
 AT_WORK: set[int] = set()  # the groups of processes of the commands that run
@@ -50,9 +50,6 @@ NUMBERS = {"sizeof": "sizeof(%s)", "alignment": "offsetof(struct { char c; %s it
 HOLDS = ("#include <stdio.h>\n#include <stddef.h>\n%(prefix)s\n"
          "int main(void) { static int check[1 - 2 * !(%(condition)s)]; check[0] = 0; return check[0]; }")
 GREATEST = 2**62
-# Dependencies that have no .pc file as a rule: the words that compile and link with them.
-PLAIN_DEPENDENCIES = {"threads": (["-pthread"], ["-pthread"]), "openmp": (["-fopenmp"], ["-fopenmp"]),
-                      "m": ([], ["-lm"]), "dl": ([], ["-ldl"])}
 # Words that name a path and only read there, or don't look at it.
 READING = re.compile(r"-[DUILl].*|-(?:isystem|iquote|idirafter).+|-f(?:debug|file|macro|profile)-prefix-map=.*"
                      r"|-Wl,-(?:-?rpath|-?rpath-link)[,=][^,]*|-Wl,-L[^,]*|-Wl,--version-script[,=][^,]*", re.DOTALL)
@@ -203,13 +200,14 @@ class Machine:
             low, high = (low, middle) if holds(f"{expression} <= {middle}L") else (middle, high)
         return high
 
-    def dependency(self, name: str) -> dict[str, object] | None:
-        """The lines of its section, or none where it isn't found."""
-        ask = lambda word: run([*self.pkg_config, word, "--", name])
-        version = ask("--modversion")
-        if version is not None:
-            cflags, libs = (words_in(ask(it) or "", f"dependency {name}: {it}") for it in ("--cflags", "--libs"))
-            return {"version": version or None, "compile_args": cflags, "link_args": libs}
-        compile_args, link_args = PLAIN_DEPENDENCIES.get(name, ([], []))
-        is_there = link_args and self.builds([*compile_args, *link_args], MAIN)
-        return {"compile_args": compile_args, "link_args": link_args} if is_there else None
+    def define(self, name: str, prefix: str, args: list[str]) -> str:
+        """What a macro stands for behind a prefix, without quotation marks; empty where it is none."""
+        printed = self.preprocessed(f'{prefix}\n#ifndef {name}\n#define {name}\n#endif\n"it is" {name}', args)
+        return printed.rpartition('"it is"')[2].strip().strip('"')
+
+    def preprocessed(self, source: str, args: list[str]) -> str:
+        with tempfile.TemporaryDirectory(dir=self.scratch) as folder:
+            file = os.path.join(folder, "asked.c")
+            with open(file, "w", encoding="utf-8") as it:
+                it.write(source + "\n")
+            return run([*self.c, *self.standard, *self.c_args, "-E", "-P", *args, file]) or ""
