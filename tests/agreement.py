@@ -39,7 +39,7 @@ LINES = {
 DEPENDENCY = r"^(?:Run-time dependency|Dependency) (\S+)(?: \(modules: .*?\))? found: (YES|NO)(?: ([0-9][^ ]*))?"
 FLAGS = ("-Wall", "-Wformat-security", "-Wno-such", "-Wno-format-security", "-Wlogical-op", "-Wnon-virtual-dtor", "-fno-rtti", "-such",
          "-Wno-error=such", "-Wno-error=unused", "-Werror=format-security", "-Wno-long-long", "-mno-such", "-std=c99",
-         "-Wno-unknown-pragmas", "-fstack-protector-strong", "-Wno-attributes=x::")
+         "-Wno-unknown-pragmas", "-fstack-protector-strong", "-Wno-frame-larger-than")
 LINK_FLAGS = ("-Wl,--as-needed", "-Wl,--no-such", "-Wl,-z,relro", "-Wl,-z,such", "-rdynamic", "-pie", "-Wl,-O1", "-Wl,--version-script,/no")
 FUNCTIONS = ("__sync_add_and_fetch", "__atomic_load_n", "memcpy", "strlcat", "alloca", "__builtin_expect", "lchmod", "no_such", "printf",
              "sin", "clz", "bswap_32", "__builtin_such", "dlopen", "gets", "va_copy", "abs", "revoke", "gnu_dev_major")

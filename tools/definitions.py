@@ -142,7 +142,7 @@ class Reader:
         texts = [it.text for it in tokens]
         if texts[:2] == ["meson", "."] and texts[3:] == ["(", ")"]:
             inner = {"current_source_dir": self.folder, "project_source_root": "", "source_root": ""}.get(texts[2])
-            return Known() if inner is None else Known([os.path.normpath(os.path.join(os.path.abspath(self.root), inner))], True)
+            return Known() if inner is None else Known([os.path.normpath(os.path.join(os.path.realpath(self.root), inner))], True)
         opens = next((i for i, it in enumerate(tokens) if is_mark(it, "(") and len(bracketed(tokens, i)) == len(tokens) - i - 2), 0)
         arguments = [self.known(it) for it in parts_of(tokens[opens + 1:-1], ",") if it]
         if texts[:2] == ["join_paths", "("] and opens == 1 and arguments:

@@ -43,8 +43,6 @@ UNDECLARED = ("#define %(a)s no_%(a)s\n%(prefix)s\n#include <limits.h>\n#undef %
               "int main(void) { return %(a)s (); }")
 BUILTIN = ("%(prefix)s\nint main(void) {\n#if %(has_include)d && !defined(%(a)s) && !%(is_builtin)d\n#error\n#endif\n#ifdef __has_builtin\n"
            "#if !__has_builtin(%(b)s)\n#error\n#endif\n#elif !defined(%(a)s)\n%(b)s;\n#endif\nreturn 0; }")
-# Words that leave out a warning which can't be asked for without a number.
-NUMBERED = ("-Wno-frame-larger-than", "-Wno-larger-than", "-Wno-stack-usage")
 NUMBERS = {"sizeof": "sizeof(%s)", "alignment": "offsetof(struct { char c; %s it; }, it)"}
 # An array that has a size only where the condition holds.
 HOLDS = ("#include <stdio.h>\n#include <stddef.h>\n%(prefix)s\n"
@@ -64,7 +62,7 @@ def with_positive(word: str) -> list[str]:
     """The word of a warning for one that leaves it out, which GCC takes where it knows no such warning either."""
     if not word.startswith("-Wno-") or word.startswith("-Wno-attributes="):
         return []
-    return ["-W" + word[5:] + ("=1000" if word in NUMBERED else "")]
+    return ["-W" + word[5:]]
 
 
 class NoAnswer(Stop):
