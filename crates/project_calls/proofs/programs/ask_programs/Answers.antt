@@ -9,7 +9,8 @@ returns-in_err-compiler g c = carries_stop c.in_err-compiler.ensures c.from_resi
 
 pub returns-in_err-archiver : goal.returns-in_err-archiver
 unfolding programs
-returns-in_err-archiver g c = carries_then c.in_ok-compiler.ensures (carries_stop c.in_err-archiver.ensures c.from_residual-in_err-archiver.ensures.1)
+returns-in_err-archiver g c =
+    carries_then c.in_ok-compiler.ensures (carries_stop c.in_err-archiver.ensures c.from_residual-in_err-archiver.ensures.1)
 
 pub returns : goal.returns
 unfolding programs

@@ -16,4 +16,5 @@ pub returns : goal.returns
 unfolding program
 returns g c =
     carries_then c.in_ok-ask_key.ensures.deed (carries_give (c.in_ok-words.ensures
-    ∙ ap (λ m. program_by (answer_to m (Key (codes "binaries") c.args.name.now)) c.args.default.now) (c.machine.ensures ∙ c.in_ok-ask_key.ensures.machine)))
+    ∙ ap (λ m. program_by (answer_to m (Key (codes "binaries") c.args.name.now)) c.args.default.now)
+    (c.machine.ensures ∙ c.in_ok-ask_key.ensures.machine)))

@@ -22,5 +22,6 @@ returns g c =
     let a = arguments_data c.args.arguments.now in
     let ds = options_in c.args.declared.now in
     carries_then c.in_ok-ask_options.ensures.deed (carries_read (carries_give (c.in_ok-resolved.ensures
-    ∙ ap (λ m. resolution_by a (strings_in c.args.printed.now) ds (answer_to m (options_topic ds)) (world_of c.ask_options.new.caller.store.now).facts)
+    ∙ ap (λ m. resolution_by a (strings_in c.args.printed.now) ds (answer_to m (options_topic ds))
+    (world_of c.ask_options.new.caller.store.now).facts)
     c.in_ok-ask_options.ensures.machine)))
