@@ -1,5 +1,5 @@
 -- What holds of every evaluation.
-use Rattle.std.specs.Prelude.{◌≡◌, ℕ, ◌≤◌, List, Result, Ok, Err}
+use Rattle.std.specs.Prelude.{◌≡◌, ℕ, ◌≤◌, List, Ok, Err}
 use Rattle.world.specs.Deed.{Files}
 use Rattle.world.specs.Look.{Agree, AgreeOn, ran_over}
 use Rattle.world.specs.Run.{marks_of, world_after}
