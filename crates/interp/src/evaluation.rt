@@ -3,15 +3,14 @@ ghost use Rattle.std.specs.Prelude.{◌≡◌, ℕ, [], IfOk, length};
 ghost use Rattle.ports.specs.Endings.{HasRoom};
 ghost use Rattle.world.specs.Deed.{Files};
 ghost use Rattle.world.specs.Gives.{Holds, failures_after};
-ghost use Rattle.world.specs.Plan.{carry, ruled};
+ghost use Rattle.world.specs.Plan.{ruled};
 ghost use Rattle.world.specs.SettingsView.{settings_view};
-ghost use Rattle.world.specs.Start.{first_world};
 ghost use Rattle.world.specs.Trace.{seen};
-ghost use Rattle.interp.specs.Beginnings.{RootGives, Starts, definitions};
+ghost use Rattle.interp.specs.Beginnings.{RootGives, Starts};
 ghost use Rattle.interp.specs.Blocks.{file_by};
 ghost use Rattle.interp.specs.Cost.{tree_cost};
 ghost use Rattle.interp.specs.Evaluated.{Evaluated, FailsOnce, Ticked};
-ghost use Rattle.interp.specs.Evaluation.{IsSaid, MachineSaid, evaluation, root};
+ghost use Rattle.interp.specs.Evaluation.{IsSaid, MachineSaid, definitions, evaluated, root};
 
 use crate::beginning::line_before_project;
 use crate::evaluator::Evaluator;
@@ -101,8 +100,9 @@ impl<'a, T: Tree, O: Outputs, L: Ledger> Evaluator<'a, T, O, L> {
     }
 }
 
-// The root file, in the world that a store keeps.
-fn definitions<T: Tree, O: Outputs, L: Ledger>(
+/// Evaluates the definitions of a tree, from its root file on, in the world that [`start`] gives. What was done stands in the store, also
+/// after a fault: the questions that were asked of the machine file until then are [`Store::asked`].
+pub fn definitions<T: Tree, O: Outputs, L: Ledger>(
     alloc: Global,
     store: &mut Store,
     tree: &mut T,
@@ -120,8 +120,8 @@ fn definitions<T: Tree, O: Outputs, L: Ledger>(
     evaluator.definitions()
 }
 
-// The world in which the root file is evaluated: what the machine file says is known.
-fn start(alloc: Global, inputs: &Inputs<'_>) -> Result<Store, Stop>
+/// The world in which the root file is evaluated, over the machine file. A file that is none is the fault; nothing was looked at then.
+pub fn start(alloc: Global, inputs: &Inputs<'_>) -> Result<Store, Stop>
     ensures starts { (said : MachineSaid) → IsSaid inputs.now.machine.now said
         → Starts (settings_view inputs.now.settings.now) said result }
     ensures entered { IfOk result (λ s. s.entered ≡ []) }
@@ -131,8 +131,7 @@ fn start(alloc: Global, inputs: &Inputs<'_>) -> Result<Store, Stop>
         Ok(machine) => machine,
         Err(fault) => return Err(Stop::Refused(fault.told(alloc)?)),
     };
-    let mut store = Store::new(alloc, inputs.settings.copy(alloc)?)?;
-    store.set_machine(machine);
+    let store = Store::new(alloc, inputs.settings.copy(alloc)?, machine)?;
     Ok(store)
 }
 
@@ -147,10 +146,10 @@ pub fn evaluate<T: Tree, O: Outputs, L: Ledger>(
     requires tree { HasRoom (T.seen tree.old).failures }
     requires out { HasRoom (O.seen out.old).failures }
     ensures gives { (files : Files) (said : MachineSaid) → Holds (T.seen tree.old) files → IsSaid inputs.now.machine.now said
-        → Evaluated (carry files (evaluation said) (first_world (settings_view inputs.now.settings.now))) result
+        → Evaluated (evaluated files (settings_view inputs.now.settings.now) said) result
         (seen (O.seen out.old) steps.old []) (seen (O.seen out.new) steps.new []) }
     ensures ticks { (files : Files) (said : MachineSaid) → Holds (T.seen tree.old) files → IsSaid inputs.now.machine.now said
-        → Ticked (carry files (evaluation said) (first_world (settings_view inputs.now.settings.now))) (tree_cost files) result
+        → Ticked (evaluated files (settings_view inputs.now.settings.now) said) (tree_cost files) result
         (seen (O.seen out.old) steps.old []) (seen (O.seen out.new) steps.new []) }
     ensures device { FailsOnce (T.seen tree.old) (O.seen out.old) result (T.seen tree.new) (O.seen out.new) }
 {
