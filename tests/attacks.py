@@ -206,7 +206,7 @@ def test_what_checks_may_do() -> None:
     place, tool = f"{WORK}/outside/it", put("tool", f"#!/bin/sh\ntouch {WORK}/outside/ran\n", 0o755)
     words = [f"-o{place}", f"-Wl,-o,{place}", f"-Wl,-o{place}", f"-Wl,-Map={place}", f"-MF{place}", f"-B{WORK}/", f"-fplugin={tool}",
              f"-specs={tool}", f"-fuse-ld={tool}", "@words", "-Wl,@words", f"-save-temps={WORK}/outside", f"-wrapper,{tool}", "-wrapper"]
-    texts = ", ".join(f"'{it}'" for it in words)
+    texts = ", ".join(f"'{it}'" for it in [*words, f"{put('outside.o', '')}"])
     done = of_machine_file(f"""foreach w : [{texts}]
   cc.has_argument(w)
   cc.has_link_argument(w)
@@ -217,13 +217,14 @@ cc.has_header('stdio.h', args: '-MF{place}')
 cc.has_argument('-o')
 cc.has_link_argument('-Wl,-o')
 cc.has_link_argument('-Wl,-rpath,/opt/lib')
+cc.has_argument('/utf-8')
 cc.has_argument('-fdebug-prefix-map=/a=b')""")
     told = re.findall(r"^# TO FILL IN: .* is not asked: with", done.stdout, re.M)
-    is_good = done.returncode == 0 and len(told) == 2 * len(words) + 3
+    is_good = done.returncode == 0 and len(told) == 2 * (len(words) + 1) + 3
     check("meson machine-file: words that write are not asked", is_good, f"{len(told)} {done}")
     check("meson machine-file: words that write: nothing is written", not files_below("outside"), files_below("outside"))
     check("meson machine-file: words that read are asked", "has_link_argument -Wl,-rpath,/opt/lib = true\n" in done.stdout and
-          "has_argument -fdebug-prefix-map=/a=b = true\n" in done.stdout, done.stdout)
+          "has_argument -fdebug-prefix-map=/a=b = true\n" in done.stdout and "has_argument /utf-8 = false\n" in done.stdout, done.stdout)
     run(["sh", "-c", "echo 'int f(void) { return 0; }' | cc -c -x c - -o outside/f.o"])
     before = files_below("outside")
     of_machine_file("cc.has_link_argument('-Wl,-o')\ncc.has_link_argument('-Wl,-Map')", {"LDFLAGS": f"{WORK}/outside/f.o"})

@@ -31,7 +31,7 @@ NINJA = f"""#!/bin/sh
 test ! -f {WORK}/ninja-fails || exit 1
 while test $# -gt 1; do case $1 in -f) cat "$2" >>{WORK}/asked-of-ninja ; shift ;; *) echo "$1" >>{WORK}/asked-of-ninja ;; esac; shift; done
 """
-FURTHER = ["compile", "test", "install", "introspect", "machine-file", "self-install"]
+FURTHER = ["explain", "compile", "test", "install", "introspect", "machine-file", "self-install"]
 
 
 def with_tools() -> dict[str, str]:
@@ -55,7 +55,7 @@ def make_copy() -> None:
     os.makedirs(f"{COPY}/docs")
     shutil.copy(os.path.join(CHECKOUT, "meson"), COPY)
     shutil.copy(os.path.join(CHECKOUT, "docs/hawkottoman-meson.1"), f"{COPY}/docs")
-    shutil.copytree(os.path.join(CHECKOUT, "tools"), f"{COPY}/tools", ignore=shutil.ignore_patterns("__pycache__", "port*"))
+    shutil.copytree(os.path.join(CHECKOUT, "tools"), f"{COPY}/tools", ignore=shutil.ignore_patterns("__pycache__", "port"))
     for crate in ("low", "hawkottoman", "low_tests"):
         put(f"checkout/crates/{crate}/src/lib.rt", "")
     put("checkout/crates.txt", "# NAME: DEP\nlow: std\nhawkottoman: low\nlow_tests: low\n")
@@ -174,6 +174,39 @@ def test_setup() -> None:
     os.remove(f"{sources}/b/meson-private")
 
 
+def test_explain() -> None:
+    """Its command line and its statuses; what it says of faults is tried by tests/explained_cases."""
+    put("explained/meson.build", "project('p', 'c')\nexecutable('p', 'a.c', instal: true)\n")
+    put("explained/n.ini", "[binaries]\n")
+    put("explained/b/kept", "")
+    sources = f"{WORK}/explained"
+
+    def explains(name: str, script: str, words: list[str], status: int, text: str) -> None:
+        put("instead", script)
+        before = sorted(os.listdir(sources))
+        done = meson("explain", *words, cwd=sources)
+        is_good = done.returncode == status and text in (done.stdout if status < 2 else done.stderr)
+        is_untouched = sorted(os.listdir(sources)) == before and os.listdir(f"{sources}/b") == ["kept"]
+        check(f"meson explain: {name}", is_good and is_untouched and (done.stderr == "") == (status < 2), f"{done}")
+
+    fault = "echo 'meson.build:2: ERROR: E9 arguments' >&2; exit 1"
+    explains("a fault", fault, ["b"], 1, "executable: keyword 'instal': there is none; near: 'install'")
+    shown = "meson.build:2: ERROR: E9 arguments\n  2 | exec"
+    explains("a fault, with words", fault, ["-D", "x=1", "--native-file=n.ini", "--", "b"], 1, shown)
+    explains("no fault", "exit 0", ["./b/"], 0, "there is no fault\n")
+    explains("a machine file that isn't there", "exit 0", ["--native-file", "no.ini", "b"], 2, "no.ini: the machine file: No such file")
+    explains("want of memory", "echo 'meson: out of memory' >&2; exit 3", ["b"], 3, "meson explain: out of memory\n")
+    such = "there is no word --such"
+    explains("bad words", f"echo 'error: {such}' >&2; exit 4", ["--such", "b"], 4, f"meson explain: {such}\n")
+    os.symlink(WORK, f"{sources}/link")
+    explains("a folder that is a link", "exit 0", ["link/b"], 2, "link: is a link")
+    os.remove(f"{sources}/link")
+    os.mkfifo(f"{sources}/fifo")
+    explains("a file that can't be read", "echo 'meson: device fault' >&2; exit 2", ["b"], 2, "fifo: is no file, but a pipe")
+    os.remove(f"{WORK}/instead")
+    taken("configured")
+
+
 def test_compile() -> None:
     sources = os.path.realpath(f"{WORK}/sources")
     words = ["-Dx=a b", "--native-file", "n.ini", "b"]
@@ -275,7 +308,9 @@ def test_progress() -> None:
 
 def test_self_install() -> None:
     done = meson("self-install", "prefix")
-    scripts = {f"share/hawkottoman/tools/{it}" for it in os.listdir(f"{COPY}/tools") if it not in ("build-program", "self-install")}
+    files = [os.path.join(folder, it) for folder, _, names in os.walk(f"{COPY}/tools") for it in names if "__pycache__" not in folder]
+    scripts = {f"share/hawkottoman/tools/{os.path.relpath(it, f'{COPY}/tools')}" for it in files
+               if os.path.basename(it) not in ("build-program", "self-install")}
     names = {*scripts, "share/hawkottoman/hawkottoman", "share/hawkottoman/meson", "bin/hawkottoman-meson",
              "share/man/man1/hawkottoman-meson.1"}
     places = {os.path.join(os.path.realpath(WORK), "prefix", it) for it in names}
@@ -304,5 +339,5 @@ def test_self_install() -> None:
     check("meson setup: a build that fails", done.returncode == 127 and is_told and done.stdout == "", f"{done}")
 
 
-TESTS = (test_without_the_program, test_building, test_commands, test_setup, test_compile, test_compile_that_fails,
+TESTS = (test_without_the_program, test_building, test_commands, test_setup, test_explain, test_compile, test_compile_that_fails,
          test_introspect, test_progress, test_self_install)

@@ -4,6 +4,8 @@ import dataclasses
 import functools
 import itertools
 import os
+import re
+from collections.abc import Callable
 
 from tools.ending import Stop
 from tools.files import read_text
@@ -46,7 +48,7 @@ class Reader:
         self.given_up = {}  # the places where a text or a list is over the bounds, each with a line that says so
         self.entered, self.depth, self.folders = set(), 0, 0  # files; open blocks; open folders
         self.standard = []  # of C, which the checks are compiled by
-        self.place = ""  # of the statement that is read
+        self.place = self.folder = ""  # of the statement that is read
 
     def read(self, folder: str, asked_at: str | None = None) -> None:
         path = os.path.normpath(os.path.join(folder, "meson.build"))
@@ -71,7 +73,7 @@ class Reader:
 
     def read_statement(self, path: str, folder: str, tokens: list[Token]) -> None:
         texts = [token.text if token.kind in ("name", "mark") else None for token in tokens]
-        place = f"{path}:{tokens[0].line}"
+        place, self.folder = f"{path}:{tokens[0].line}", folder
         self.depth += (texts[0] in ("if", "foreach")) - (texts[0] in ("endif", "endforeach"))
         for i in range(len(tokens) - 1):
             self.place = place
@@ -118,13 +120,14 @@ class Reader:
             self.read(os.path.normpath(os.path.join(folder, text)), place)
 
     def known(self, tokens: list[Token]) -> Known:
-        sums = parts_of(tokens, "+")
-        if len(sums) > 1 and all(sums):
-            return self.sum_of([self.known(it) for it in sums])
+        for mark, put_together in (("+", self.sum_of), ("/", self.path_of)):
+            parts = parts_of(tokens, mark)
+            if len(parts) > 1 and all(parts):
+                return put_together([self.known(it) for it in parts])
         if len(tokens) == 1:
             return Known([tokens[0].text], True) if tokens[0].kind == "string" else self.names.get(tokens[0].text, Known())
         if not tokens or not is_mark(tokens[0], "([{") or len(bracketed(tokens, 0)) != len(tokens) - 2:
-            return Known()
+            return self.known_call(tokens)
         if is_mark(tokens[0], "("):
             return self.known(tokens[1:-1])
         found, values = [], []
@@ -133,6 +136,37 @@ class Reader:
             found.append(self.known(key))
             values += found[-1].values + (self.known(value[0]).texts if value else [])
         return Known(distinct(*(it.texts for it in found)), all(it.whole for it in found), True, values)
+
+    def known_call(self, tokens: list[Token]) -> Known:
+        """What a call gives that names a folder of the sources, joins a path or puts values into a text."""
+        texts = [it.text for it in tokens]
+        if texts[:2] == ["meson", "."] and texts[3:] == ["(", ")"]:
+            inner = {"current_source_dir": self.folder, "project_source_root": "", "source_root": ""}.get(texts[2])
+            return Known() if inner is None else Known([os.path.normpath(os.path.join(os.path.realpath(self.root), inner))], True)
+        opens = next((i for i, it in enumerate(tokens) if is_mark(it, "(") and len(bracketed(tokens, i)) == len(tokens) - i - 2), 0)
+        arguments = [self.known(it) for it in parts_of(tokens[opens + 1:-1], ",") if it]
+        if texts[:2] == ["join_paths", "("] and opens == 1 and arguments:
+            return self.path_of(arguments)
+        if opens > 2 and texts[opens - 2:opens] == [".", "format"]:
+            return self.formatted(self.known(tokens[:opens - 2]), arguments)
+        return Known()
+
+    def path_of(self, parts: list[Known]) -> Known:
+        return self.of_each(parts, os.path.join)
+
+    def formatted(self, template: Known, values: list[Known]) -> Known:
+        longest = max((len(text) for it in values for text in it.texts), default=0)
+        if template.is_list or sum(map(len, template.texts)) * longest > CHARACTERS * VALUES:
+            return Known()
+        value = lambda match, row: row[int(match[1])] if int(match[1]) < len(row) else match[0]
+        return self.of_each([template, *values], lambda text, *row: re.sub("@([0-9]{1,4})@", lambda match: value(match, row), text))
+
+    def of_each(self, parts: list[Known], make: Callable[..., str]) -> Known:
+        """The texts that are made of each choice of one text for each part."""
+        if any(it.is_list for it in parts):
+            return Known()
+        rows = itertools.islice(itertools.product(*(it.texts for it in parts)), VALUES + 1)
+        return self.bounded(Known(distinct([make(*row) for row in rows]), all(it.whole for it in parts)))
 
     def sum_of(self, parts: list[Known]) -> Known:
         if any(it.is_list for it in parts):

@@ -1,4 +1,4 @@
-"""What this machine answers: the C compiler and its checks, pkg-config, and what the machine is.
+"""What this machine answers: the C compiler and its checks, and what the machine is.
 
 The words and prefixes of checks come from a project that nobody has to trust. They are compiled and linked, and what comes of it is not
 run. Each check has a folder of its own, the current one, and the last words name the output in it. Words that could have something else
@@ -16,46 +16,53 @@ import tempfile
 import threading
 
 from tools.ending import Stop
-from tools.variables import words_in, words_of
+from tools.variables import words_of
 
 SECONDS = 300  # that a command may take
 AT_WORK: set[int] = set()  # the groups of processes of the commands that run
 ENDED = threading.Event()  # no further command is begun
 BEGINS = threading.Lock()  # so that one that is being begun is among those that are ended
 MAIN = "int main(void) { return 0; }"
-# For each check the compiler's words, and a source that it takes where the answer is true.
+# For each check the compiler's words, and a source that it takes where the answer is true: those of the real Meson.
 SOURCES = {
-    "has_header": (["-E"], "%(prefix)s\n#include <%(a)s>"),
+    "has_header": (["-E"], "%(prefix)s\n#ifdef __has_include\n#if !__has_include(\"%(a)s\")\n#error\n#endif\n#else\n"
+                   "#include <%(a)s>\n#endif"),
     "check_header": (["-c"], "%(prefix)s\n#include <%(a)s>"),
-    "has_type": (["-c"], "%(prefix)s\nint check(void) { return (int)sizeof(%(a)s); }"),
-    "has_member": (["-c"], "%(prefix)s\nint check(void) { %(a)s it; return (int)sizeof(it.%(b)s); }"),
-    "has_header_symbol": (["-c"], "%(prefix)s\n#include <%(a)s>\nint check(void) {\n#ifndef %(b)s\n%(b)s;\n#endif\nreturn 0; }"),
-    "has_function": ([], "%(prefix)s\nint main(void) {\n#ifndef %(a)s\nreturn (long)&%(a)s == 0;\n#endif\nreturn 0; }"),
-    "has_argument": (["-c", "-Werror", "%(a)s"], MAIN),
-    "has_link_argument": (["-Werror", "-Wl,--fatal-warnings", "%(a)s"], MAIN),
-    "find_library": (["-l%(a)s"], MAIN),
+    "has_type": (["-c"], "%(prefix)s\nvoid check(void) { sizeof(%(a)s); }"),
+    "has_member": (["-c"], "%(prefix)s\nvoid check(void) { %(a)s it;\nit.%(b)s;\n}"),
+    "has_header_symbol": (["-c"], "%(prefix)s\n#include <%(a)s>\nint main(void) {\n#ifndef %(b)s\n%(b)s;\n#endif\nreturn 0; }"),
+    "has_argument": (["-c", "%(a)s"], "extern int i;\nint i;"),
+    "has_link_argument": (["-Wl,--fatal-warnings", "%(a)s"], MAIN),
+    "find_library": (["-l%(a)s", "-Wl,--allow-shlib-undefined"], MAIN),
 }
-UNDECLARED = (
-    ["-fno-builtin", "-w"],
-    "%(prefix)s\n#define %(a)s no_%(a)s\n#include <limits.h>\n#undef %(a)s\n#if defined __stub_%(a)s\n#error\n#endif\n"
-    "#ifdef __has_builtin\n#if __has_builtin(%(a)s) || __has_builtin(__builtin_%(a)s)\n#define %(a)s()\n#endif\n#endif\n"
-    "#ifndef %(a)s\nint %(a)s(void);\n#endif\nint main(void) { %(a)s(); return 0; }")
+# A function that fails wherever it is called, as the C library says of some.
+STUB = "\n#if defined __stub_%(a)s || defined __stub___%(a)s\n#error\n#endif\n"
+DECLARED = ("%(prefix)s\n#include <limits.h>\n" + STUB +
+            "int main(void) { void *a = (void*) &%(a)s; long long b = (long long) a; return (int) b; }")
+UNDECLARED = ("#define %(a)s no_%(a)s\n%(prefix)s\n#include <limits.h>\n#undef %(a)s\nchar %(a)s (void);\n" + STUB +
+              "int main(void) { return %(a)s (); }")
+BUILTIN = ("%(prefix)s\nint main(void) {\n#if %(has_include)d && !defined(%(a)s) && !%(is_builtin)d\n#error\n#endif\n#ifdef __has_builtin\n"
+           "#if !__has_builtin(%(b)s)\n#error\n#endif\n#elif !defined(%(a)s)\n%(b)s;\n#endif\nreturn 0; }")
 NUMBERS = {"sizeof": "sizeof(%s)", "alignment": "offsetof(struct { char c; %s it; }, it)"}
 # An array that has a size only where the condition holds.
 HOLDS = ("#include <stdio.h>\n#include <stddef.h>\n%(prefix)s\n"
          "int main(void) { static int check[1 - 2 * !(%(condition)s)]; check[0] = 0; return check[0]; }")
 GREATEST = 2**62
-# Dependencies that have no .pc file as a rule: the words that compile and link with them.
-PLAIN_DEPENDENCIES = {"threads": (["-pthread"], ["-pthread"]), "openmp": (["-fopenmp"], ["-fopenmp"]),
-                      "m": ([], ["-lm"]), "dl": ([], ["-ldl"])}
 # Words that name a path and only read there, or don't look at it.
 READING = re.compile(r"-[DUILl].*|-(?:isystem|iquote|idirafter).+|-f(?:debug|file|macro|profile)-prefix-map=.*"
-                     r"|-Wl,-(?:-?rpath|-?rpath-link)[,=][^,]*|-Wl,-L[^,]*", re.DOTALL)
+                     r"|-Wl,-(?:-?rpath|-?rpath-link)[,=][^,]*|-Wl,-L[^,]*|-Wl,--version-script[,=][^,]*", re.DOTALL)
 # Words that run another program, that hand the next word on, and that stand for words of a file.
 FORBIDDEN = re.compile(r"--?(?:wrapper|run)\b.*|-X.*|(?:.*,)?@.*", re.DOTALL)
 # Behind the words of a check: a word of the linker that changes nothing, so that an option there, which takes the next word as the name
 # of a file to be written, has none of the compiler's own files.
 GUARD = "-Wl,-O0"
+
+
+def with_positive(word: str) -> list[str]:
+    """The word of a warning for one that leaves it out, which GCC takes where it knows no such warning either."""
+    if not word.startswith("-Wno-") or word.startswith("-Wno-attributes="):
+        return []
+    return ["-W" + word[5:]]
 
 
 class NoAnswer(Stop):
@@ -75,7 +82,7 @@ def attempt(words: list[str], folder: str | None = None, hears: bool = True) -> 
             if ENDED.is_set():
                 raise NoAnswer(f"{words[0]} was not begun")
             process = subprocess.Popen(words, cwd=folder, stdin=subprocess.DEVNULL, stdout=to, stderr=to, encoding="utf-8",
-                                       errors="replace", start_new_session=True)
+                                       errors="replace", start_new_session=True, env={**os.environ, "LC_ALL": "C"})
             AT_WORK.add(process.pid)
     except (OSError, ValueError) as error:  # a ValueError where a word has a NUL
         return None, f"{words[0]}: {getattr(error, 'strerror', error)}"
@@ -149,7 +156,7 @@ class Machine:
             with open(file, "w", encoding="utf-8", errors="surrogatepass") as it:
                 it.write(source + "\n")
             link_args = [] if {"-c", "-E"} & set(words) else [GUARD, *self.c_link_args]
-            given = [*self.c, *self.standard, *self.c_args, file, *words, *link_args, "-o", os.path.join(folder, "made")]
+            given = [*self.c, *self.standard, *self.c_args, "-O0", file, *words, *link_args, "-o", os.path.join(folder, "made")]
             printed, said = attempt(given, folder, hears)
             return printed is not None, said.replace(file, "empty.c")
 
@@ -160,12 +167,21 @@ class Machine:
         a, b = (*texts, "")[:2]
         if method in NUMBERS:
             return self.number(f"(long)({NUMBERS[method] % a})", prefix, args)
-        if method == "has_argument":
-            a = re.sub(r"^-Wno-(?!error)", "-W", a)
-        # A function that no header declares is declared here, so that the linker alone decides.
-        words, source = UNDECLARED if method == "has_function" and "#include" not in prefix else SOURCES[method]
+        if method == "has_function":
+            return self.has_function(a, prefix, args)
+        words, source = SOURCES[method]
         names = {"prefix": prefix, "a": a, "b": b}
-        return self.builds([it % names for it in words] + args, source % names)
+        given = [it % names for it in words]
+        if method == "has_argument":
+            done, said = self.compile(with_positive(a) + given, source, hears=True)
+            return done and "is valid for C++/ObjC++" not in said
+        return self.builds(given + args, source % names)
+
+    def has_function(self, name: str, prefix: str, args: list[str]) -> bool:
+        """Whether it can be linked or, as a builtin, needn't be. A function that no header declares is declared here."""
+        names = {"prefix": prefix, "a": name, "b": "__builtin_" + name.removeprefix("__builtin_"), "has_include": "#include" in prefix,
+                 "is_builtin": name.startswith("__builtin_")}
+        return any(self.builds(args, source % names) for source in (DECLARED if names["has_include"] else UNDECLARED, BUILTIN))
 
     def number(self, expression: str, prefix: str, args: list[str]) -> int:
         """The value of a constant, or -1 where the compiler knows none: found by halves, with a compilation for each question."""
@@ -182,13 +198,14 @@ class Machine:
             low, high = (low, middle) if holds(f"{expression} <= {middle}L") else (middle, high)
         return high
 
-    def dependency(self, name: str) -> dict[str, object] | None:
-        """The lines of its section, or none where it isn't found."""
-        ask = lambda word: run([*self.pkg_config, word, "--", name])
-        version = ask("--modversion")
-        if version is not None:
-            cflags, libs = (words_in(ask(it) or "", f"dependency {name}: {it}") for it in ("--cflags", "--libs"))
-            return {"version": version or None, "compile_args": cflags, "link_args": libs}
-        compile_args, link_args = PLAIN_DEPENDENCIES.get(name, ([], []))
-        is_there = link_args and self.builds([*compile_args, *link_args], MAIN)
-        return {"compile_args": compile_args, "link_args": link_args} if is_there else None
+    def define(self, name: str, prefix: str, args: list[str]) -> str:
+        """What a macro stands for behind a prefix, without quotation marks; empty where it is none."""
+        printed = self.preprocessed(f'{prefix}\n#ifndef {name}\n#define {name}\n#endif\n"it is" {name}', args)
+        return printed.rpartition('"it is"')[2].strip().strip('"')
+
+    def preprocessed(self, source: str, args: list[str]) -> str:
+        with tempfile.TemporaryDirectory(dir=self.scratch) as folder:
+            file = os.path.join(folder, "asked.c")
+            with open(file, "w", encoding="utf-8") as it:
+                it.write(source + "\n")
+            return run([*self.c, *self.standard, *self.c_args, "-E", "-P", *args, file]) or ""

@@ -5,3 +5,4 @@ pub mod FileEdges
 pub mod Counting
 pub mod FaultLines
 pub mod Ends
+mod Examples

@@ -1,0 +1,1 @@
+"""What the first fault of a run is about, in words."""

@@ -1,0 +1,139 @@
+"""The command: makes the run, and shows what its fault is about."""
+from __future__ import annotations
+
+import os
+import subprocess
+
+from tools.ending import Stop, one_line, say, show
+from tools.explaining import arguments, devices, grammar, machine, names, operators, others, settings
+from tools.explaining.context import Context, read
+from tools.explaining.detail import Detail, detail, shown
+from tools.explaining.place import place_of
+from tools.explaining.probe import Probe
+from tools.explaining.run import LONGEST, MACHINE, MOST_BYTES, WORDS, Asked, Fault, Outcome, machine_path, room_of
+
+DONE, NOT_READ, BAD_WORDS = 0, 2, 4
+ON_STATEMENTS = {
+    5: names.undefined, 6: operators.refused, 7: operators.refused, 8: names.unknown, 9: arguments.refused, 10: operators.refused,
+    11: others.duplicate, 12: others.folder, 13: others.project_call, 14: names.missing_file, 15: settings.of_statement,
+    17: names.not_found, 18: others.own_words, 20: others.frozen, 21: others.not_held, 22: others.limit, 23: names.left_out,
+    24: others.too_late,
+}
+ON_TEXTS = {2: grammar.token_detail, 3: grammar.grammar_detail, 4: grammar.nesting_detail}
+TOO_LONG = "a text or a definition file may have 16,777,216 bytes, a machine file 33,554,432, and a line of a template 65,536"
+
+
+def main(told: str, program: str, words: list[str]) -> int:
+    before = words[:words.index("--")] if "--" in words else words
+    if {"-h", "--help"} & set(before):
+        subject, usage, more = told.strip().split("\n\n", 2)
+        show(f"usage: {usage.strip()}\n\n{subject}\n\n{more}")
+        return DONE
+    asked = Asked(program, os.getcwd(), words, machine_of(words))
+    try:
+        with room_of(asked, {}) as room:
+            outcome = room.run()
+    except subprocess.TimeoutExpired as error:
+        raise Stop(f"the program had not ended after {LONGEST} seconds") from error
+    return explain(asked, outcome)
+
+
+def machine_of(words: list[str]) -> bytes | None:
+    """The bytes of the machine file that the words name."""
+    path = machine_path(words)
+    if path is None:
+        return None
+    try:
+        with open(path, "rb") as it:
+            return it.read(MOST_BYTES)
+    except (OSError, ValueError) as error:
+        raise Stop(f"{path}: the machine file: {getattr(error, 'strerror', None) or error}") from error
+
+
+def explain(asked: Asked, outcome: Outcome) -> int:
+    """Shows what came of the run, and gives its status."""
+    if outcome.status == DONE:
+        why = devices.unwritten(asked)
+        if why:
+            raise Stop(why)
+        show("there is no fault")
+        return DONE
+    if outcome.fault is not None:
+        for line in explained(asked, outcome.fault):
+            show(line)
+        return outcome.status
+    if outcome.status == NOT_READ:
+        why = devices.unread(asked) or devices.unwritten(asked)
+        raise Stop(why or outcome.complaint.strip().split("\n")[-1].removeprefix("meson: "))
+    if outcome.status == BAD_WORDS:
+        complaint = outcome.complaint.strip().replace("meson setup", "meson explain")
+        raise Stop(" ".join(complaint.split("\n\n")[0].split()).removeprefix("error: ").removeprefix("meson: "), BAD_WORDS)
+    if outcome.status < 0:
+        raise Stop(f"the program was ended by signal {-outcome.status}", 128 - outcome.status)
+    say("meson explain", outcome.complaint.strip().removeprefix("meson: "))
+    return outcome.status
+
+
+def explained(asked: Asked, fault: Fault) -> list[str]:
+    """The fault line, the line of the source with its mark, and the detail."""
+    text = text_of(asked, fault)
+    try:
+        found = detail_of(asked, fault, text)
+    except subprocess.TimeoutExpired:
+        found = detail("it takes too long to ask what stands there")
+    return [one_line(fault.shown()), *(shown(text, fault.line, found.at) if text is not None else []), *map(one_line, found.lines)]
+
+
+def text_of(asked: Asked, fault: Fault) -> str | None:
+    """The text in which the fault's line stands."""
+    if fault.file == WORDS:
+        return "\n".join("-D" + it for it in asked.settings())
+    try:
+        if fault.file == MACHINE:
+            data = asked.machine or b""
+        else:
+            with open(os.path.join(asked.root, fault.file), "rb") as it:
+                data = it.read()
+    except OSError:
+        return None
+    return data.decode(errors="backslashreplace")
+
+
+def detail_of(asked: Asked, fault: Fault, text: str | None) -> Detail:
+    if fault.number == 1:
+        return grammar.bytes_detail(bytes_of(asked, fault))
+    if fault.file == WORDS:
+        return settings.of_word(asked, fault)
+    if fault.file == MACHINE:
+        return settings.of_machine(asked, fault) if fault.number == 15 else of_machine(asked, fault)
+    if text is None:
+        return detail(f"the folder has no {fault.file}: `meson explain` is called in the folder of the sources, as `meson setup`")
+    if fault.number in ON_TEXTS:
+        return ON_TEXTS[fault.number](text, fault.line)
+    if fault.file in settings.FILES:
+        return settings.of_option_file(asked, fault, text)
+    if fault.number == 19:
+        return others.template(grammar.line_text(text, fault.line))
+    return on_statement(asked, fault, text)
+
+
+def of_machine(asked: Asked, fault: Fault) -> Detail:
+    return machine.machine_detail(asked.machine or b"", fault.line) if fault.number == 16 else detail(TOO_LONG)
+
+
+def bytes_of(asked: Asked, fault: Fault) -> bytes:
+    if fault.file == MACHINE:
+        return asked.machine or b""
+    with open(os.path.join(asked.root, fault.file), "rb") as it:
+        return it.read()
+
+
+def on_statement(asked: Asked, fault: Fault, text: str) -> Detail:
+    """A fault of a statement: its values are asked of the program."""
+    place = place_of(fault.file, text, fault.line) if read(os.path.join(asked.root, fault.file)) is not None else None
+    if fault.number == 22 and place is None:
+        return detail(TOO_LONG)
+    if place is None:
+        return detail("a project begins with project(NAME, 'c')" if fault.number == 13 else "what is refused stands in this line")
+    with room_of(asked, {fault.file: text}) as room:
+        return ON_STATEMENTS[fault.number](Context(asked, fault, place, Probe(room, place)))

@@ -1,0 +1,84 @@
+"""What an explanation is made from."""
+from __future__ import annotations
+
+import dataclasses
+import os
+import re
+from collections.abc import Iterator
+
+from porting import tree
+from porting.lexer import SyntaxFault
+from porting.parser import parse
+from tools.explaining.place import Place
+from tools.explaining.probe import Probe
+from tools.explaining.run import Asked, Fault
+from tools.explaining.values import Value
+
+
+@dataclasses.dataclass
+class Context:
+    """A fault of a definition file, where it stands, and who answers what is there."""
+    asked: Asked
+    fault: Fault
+    place: Place
+    probe: Probe
+
+    def value(self, node: tree.Node) -> Value | None:
+        """What a node is in the round of the fault; none where that isn't known."""
+        node = tree.plain(node)
+        if isinstance(node, tree.Text) and not node.has_names:
+            return Value("text", node.value)
+        if isinstance(node, tree.Number):
+            return Value("integer", str(node.value))
+        if isinstance(node, tree.Truth):
+            return Value("truth value", str(node.value).lower())
+        if isinstance(node, tree.List) and not self.probe.can_ask:
+            items = [self.value(it) for it in node.items]
+            return Value("list", "[]", tuple(it for it in items if it is not None))
+        return self.probe.value(node) if self.probe.can_ask else None
+
+    def text_of(self, node: tree.Node | None) -> str | None:
+        """A node that is a text."""
+        value = self.value(node) if node is not None else None
+        return value.text if value is not None and value.kind == "text" else None
+
+    @property
+    def folder(self) -> str:
+        return os.path.dirname(self.fault.file)
+
+    def names(self) -> set[str]:
+        """The names that the definition files set."""
+        found = {"meson", "host_machine", "build_machine", "target_machine"}
+        for _, statement in self.statements():
+            if isinstance(statement, tree.Assignment):
+                found.add(statement.name)
+            if isinstance(statement, tree.Foreach):
+                found.update(statement.names)
+        return found
+
+    def statements(self) -> Iterator[tuple[str, tree.Statement]]:
+        """The statements of all definition files that are found by their names, each with its file."""
+        waiting, seen = ["meson.build"], set()
+        while waiting:
+            path = waiting.pop(0)
+            text = read(os.path.join(self.asked.root, path))
+            if path in seen or text is None:
+                continue
+            seen.add(path)
+            try:
+                body = parse(text)
+            except (SyntaxFault, RecursionError):
+                continue
+            for statement in tree.statements_in(body):
+                yield path, statement
+            waiting += [os.path.normpath(os.path.join(os.path.dirname(path), it, "meson.build"))
+                        for it in re.findall(r"\bsubdir\(\s*'([^']*)'", text)]
+
+
+def read(path: str) -> str | None:
+    """The text of a file of the sources, where it can be had."""
+    try:
+        with open(path, "rb") as it:
+            return it.read().decode()
+    except (OSError, ValueError):
+        return None

@@ -1,0 +1,63 @@
+"""What is told of a fault, and how it is shown."""
+from __future__ import annotations
+
+import dataclasses
+import difflib
+from collections.abc import Iterable
+
+# How much of a text is shown.
+LONGEST = 40
+
+
+@dataclasses.dataclass(frozen=True)
+class Detail:
+    """Lines of words; the place in the file that they are about, where that is known."""
+    lines: tuple[str, ...]
+    at: int | None = None
+
+
+def detail(*lines: str, at: int | None = None) -> Detail:
+    return Detail(tuple(it for it in lines if it), at)
+
+
+def quoted(text: str) -> str:
+    """A text between quotes, not more of it than is read at a glance, without what would break the line."""
+    cut = text if len(text) <= LONGEST else text[:LONGEST - 2] + ".."
+    return "'" + "".join(it if it.isprintable() else it.encode("unicode_escape").decode() for it in cut) + "'"
+
+
+def named(text: str) -> str:
+    """A token as it is written; between quotes, where it has none of its own."""
+    return quoted(text) if not text.lstrip("f").startswith("'") else quoted(text)[1:-1]
+
+
+def listed(words: Iterable[str]) -> str:
+    return ", ".join(words)
+
+
+def near(word: str, known: Iterable[str]) -> str:
+    """The known name that is nearest, as the end of a sentence; nothing where none is near."""
+    found = difflib.get_close_matches(word, sorted(set(known) - {word}), 1, 0.6)
+    return f"; near: {quoted(found[0])}" if found else ""
+
+
+def line_at(text: str, at: int) -> int:
+    return text.count("\n", 0, at) + 1
+
+
+def shown(text: str, line: int, at: int | None) -> list[str]:
+    """The line of the fault, and the one with the place, with a mark below it."""
+    lines = text.split("\n")
+    numbers = [line] if at is None else sorted({line, line_at(text, at)})
+    width = len(str(numbers[-1]))
+    found = [f"  {number:{width}} | {printable(lines[number - 1])}" for number in numbers if number <= len(lines)]
+    if at is not None and found:
+        start = text.rfind("\n", 0, at) + 1
+        before = "".join("\t" if it == "\t" else " " for it in printable(text[start:at]))
+        mark = f"  {'':{width}} | {before}^"
+        found.insert(len(found) if line_at(text, at) == numbers[-1] else 1, mark)
+    return found
+
+
+def printable(text: str) -> str:
+    return "".join(it if it.isprintable() or it == "\t" else it.encode("unicode_escape").decode() for it in text.rstrip("\r"))

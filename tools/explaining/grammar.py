@@ -1,0 +1,188 @@
+"""E1 to E4: bytes, tokens and grammar, by the text of the file alone."""
+from __future__ import annotations
+
+import re
+from collections.abc import Iterator
+
+from porting import tree
+from porting.lexer import TOKEN, SyntaxFault, Token, tokens_of
+from porting.parser import Parser
+from tools.explaining.detail import Detail, detail, line_at, named, quoted
+
+WORD = re.compile(r"[A-Za-z_0-9]+|'''|f?'[^'\n]*'?|\S")
+CLOSING = {"(": ")", "[": "]", "{": "}"}
+
+
+def bytes_detail(data: bytes) -> Detail:
+    """E1: the first byte that is no UTF-8."""
+    try:
+        data.decode()
+    except UnicodeDecodeError as error:
+        return detail(f"the byte 0x{data[error.start]:02x} is no UTF-8 ({error.reason}): save the file as UTF-8")
+    return detail("a byte is no UTF-8")
+
+
+def start_of(text: str, line: int) -> int:
+    """Where a line begins."""
+    at = 0
+    for _ in range(line - 1):
+        at = text.find("\n", at) + 1
+    return at
+
+
+def line_text(text: str, line: int) -> str:
+    lines = text.split("\n")
+    return lines[line - 1] if line <= len(lines) else ""
+
+
+def tokens_before(text: str, end: int) -> list[Token]:
+    """The tokens up to a place, as far as there are tokens."""
+    while True:
+        try:
+            return tokens_of(text[:end])
+        except SyntaxFault as fault:
+            end = min(end - 1, start_of(text, fault.line))
+            if end <= 0:
+                return []
+
+
+def open_at(text: str, end: int) -> list[tuple[str, int]]:
+    """The brackets and blocks that are open at a place, each with where it begins."""
+    found: list[tuple[str, int]] = []
+    for token in tokens_before(text, end):
+        if token.text in CLOSING and token.kind == "mark" or token.kind == "keyword" and token.text in ("if", "foreach"):
+            found.append((token.text, token.start))
+        elif (token.kind == "mark" and token.text in ")]}" or token.text in ("endif", "endforeach")) and found:
+            found.pop()
+    return found
+
+
+def open_detail(text: str, end: int) -> str:
+    """What is open, and since which line."""
+    found = open_at(text, end)
+    if not found:
+        return ""
+    word, at = found[-1]
+    closing = CLOSING.get(word, "end" + word)
+    return f"'{word}' of line {line_at(text, at)} is still open there: its '{closing}' is missing, or stands elsewhere"
+
+
+def token_detail(text: str, line: int) -> Detail:
+    """E2: the token that is none."""
+    start = start_of(text, line)
+    for match in re.finditer(r"(?<![\w'])0\d\w*|(?<![\w'])\d+[A-Za-z_]\w*", text[start:start + len(line_text(text, line))]):
+        if not re.fullmatch(r"0[xX][0-9a-fA-F]+|0[oO][0-7]+|0[bB][01]+", match[0]):
+            is_octal = re.fullmatch(r"0[0-7]+", match[0])
+            told = f"; an octal number is 0o{match[0].lstrip('0') or '0'}, and {quoted(match[0])} is a text" if is_octal else ""
+            return detail(f"{quoted(match[0])} is no number{told}", at=start + match.start())
+    for match in re.finditer(r"\\(?:u([0-9a-fA-F]{4})|U([0-9a-fA-F]{8}))", line_text(text, line)):
+        code = int(match[1] or match[2], 16)
+        if 0xD800 <= code < 0xE000 or code > 0x10FFFF:
+            return detail(f"the escape {quoted(match[0])} names no character", at=start + match.start())
+    at = unread_at(text)
+    if at is None or line_at(text, at) != line:
+        return detail(f"there is no token in {quoted(line_text(text, line).strip())}")
+    sign = text[at]
+    if sign == '"':
+        return detail("the character '\"' begins no token: a text stands between single quotes, as 'text'", at=at)
+    if text[max(at - 2, 0):at + 1] == "'''":
+        return detail("the text that begins with ''' has no end: the next ''' ends it", at=at - 2)
+    if sign == "'" or text[at:at + 2] == "f'":
+        return detail(f"the text {quoted(text[at:].splitlines()[0])} has no end", at=at)
+    return detail(f"the character {quoted(sign)} begins no token", at=at)
+
+
+def unread_at(text: str) -> int | None:
+    """Where the tokens end before the file does."""
+    at = 0
+    while at < len(text):
+        match = TOKEN.match(text, at)
+        if not match:
+            return at
+        at = match.end()
+    return None
+
+
+def grammar_detail(text: str, line: int) -> Detail:
+    """E3: the token at fault, what could stand there, and what is open."""
+    try:
+        parser = Parser(text)
+    except SyntaxFault:
+        return on_line(text, line)
+    try:
+        body = parser.file()
+    except (SyntaxFault, RecursionError) as fault:
+        token = parser.token
+        at = token.start
+        if isinstance(fault, SyntaxFault) and (fault.line == line or token.kind in ("newline", "end")):
+            is_end = at >= len(text.rstrip())
+            why = fault.why.replace("wanted before", "missing before")
+            why = why.replace("'the end of the line'", "the end of the file" if is_end else "the end of the line")
+            return detail(why, hint_of(parser), open_detail(text, at), at=at if line_at(text, at) == line and not is_end else None)
+        return on_line(text, line)
+    for at, why in refused_in(body):
+        if line_at(text, at) == line:
+            return detail(why, at=at)
+    return on_line(text, line)
+
+
+def hint_of(parser: Parser) -> str:
+    """What is often meant by what can't be read."""
+    token, before = parser.token, parser.tokens[parser.at - 1] if parser.at else None
+    if before is None:
+        return ""
+    if before.kind == "name" and token.kind == "mark" and token.text == "=" and open_at(parser.text, token.start):
+        return f"a keyword is given as '{before.text}: value'"
+    ends = before.kind in ("text", "number", "name") or before.text in (")", "]", "}", "true", "false")
+    begins = token.kind in ("text", "number", "name") or token.text in ("[", "{", "true", "false")
+    if ends and begins and open_at(parser.text, token.start):
+        return f"a comma is missing between {named(before.text)} and {named(token.text)}, or a bracket is"
+    return ""
+
+
+def on_line(text: str, line: int) -> Detail:
+    """The line at fault, where no place in it is known."""
+    words = WORD.findall(line_text(text, line))
+    end = start_of(text, line)
+    what = f"at {quoted(words[0])}" if words else "at the end of the line"
+    if line > text.count("\n"):
+        what = "at the end of the file"
+    return detail(f"{what}: no file goes on so", open_detail(text, end), at=end if words and line_text(text, line)[:1].strip() else None)
+
+
+def refused_in(body: list[tree.Statement]) -> Iterator[tuple[int, str]]:
+    """What the grammar refuses beside what can't be read."""
+    for statement, is_in_loop in with_loops(body, False):
+        if isinstance(statement, tree.Jump) and not is_in_loop:
+            yield statement.start, f"'{statement.word}' stands outside of a foreach"
+        for root in tree.expressions_of(statement):
+            for node in tree.inside(root):
+                if isinstance(node, tree.Call):
+                    yield from late_arguments(node)
+                if isinstance(node, tree.Ternary):
+                    yield from ((it.start, "'?' stands inside of a branch of another '?'") for branch in (node.yes, node.no)
+                                for it in tree.inside(branch) if isinstance(it, tree.Ternary))
+
+
+def late_arguments(call: tree.Call) -> Iterator[tuple[int, str]]:
+    named = ""
+    for item in call.items:
+        if isinstance(item, tree.Keyword):
+            named = item.name
+        elif named:
+            yield item.start, f"{call.name}: an argument without a name stands behind '{named}:'; those without stand first"
+
+
+def with_loops(body: list[tree.Statement], is_in_loop: bool) -> Iterator[tuple[tree.Statement, bool]]:
+    for statement in body:
+        yield statement, is_in_loop
+        for inner in tree.bodies_of(statement):
+            yield from with_loops(inner, is_in_loop or isinstance(statement, tree.Foreach))
+
+
+def nesting_detail(text: str, line: int) -> Detail:
+    """E4: where level 65 is opened."""
+    start = start_of(text, line)
+    found = open_at(text, start + len(line_text(text, line)))
+    since = f": the outermost begins in line {line_at(text, found[0][1])}" if found else ""
+    return detail(f"brackets, blocks and the prefixes 'not' and '-' stand more than 64 deep here{since}")

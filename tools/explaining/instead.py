@@ -1,0 +1,155 @@
+"""What to write in place of what is left out: the tables of docs/PORTING.md, word for word."""
+from __future__ import annotations
+
+import re
+
+# Of each table the rows: what is left out, and what stands in its place.
+TABLES: dict[str, list[tuple[str, str]]] = {
+    'Functions': [
+        ('`subproject`, wraps, `fallback:`',
+         "install what it stands on first; then `dependency('x')`, which `meson machine-file` asks `pkg-config` for"),
+        ("`import('pkgconfig')`",
+         "a template `NAME.pc.in` and `configure_file(.., install_dir: get_option('libdir') / 'pkgconfig')`, as in "
+         '`examples/inifile`; or [one template for all](#one-template-for-all-pc-files)'),
+        ("`import('fs')`, other modules",
+         "the names as texts; what has to be computed, an option. `fs.name(x)` is `x.split('/')[-1]`, `fs.copyfile` a "
+         '`custom_target` with `cp`'),
+        ("`import('python').find_installation()`",
+         "`find_program('python3')`"),
+        ('`run_command`',
+         'what is needed while configuring: an option, whose value the machine file gives in `[project options]`; what is needed '
+         'while building: a `custom_target`'),
+        ('`vcs_tag`',
+         '`configure_file` with its fallback; or an option, or a `custom_target` with `capture: true`; this one runs again where '
+         'its inputs change, not at each commit'),
+        ('`generator`',
+         'a `foreach` with a `custom_target` for each input'),
+        ('`run_target`, `alias_target`',
+         '`custom_target(NAME, output: NAME, build_by_default: false, ..)`, which Ninja is asked for by that name; or a script'),
+        ('`benchmark`',
+         'a `test` in a suite of its own: `meson test --suite NAME` and `meson test --no-suite NAME`'),
+        ('`environment`',
+         "a dictionary or texts `NAME=VALUE` in `env:`; `env.set('A', 'b')` is `env += {'A': 'b'}`"),
+        ('`install_subdir`',
+         '`install_data` or `install_headers` with the files by name'),
+        ('`install_emptydir`, `install_symlink`',
+         "a step of the package after `install`; kept for the real Meson alone behind `if not is_variable('meson')`"),
+        ('`summary`, `debug`',
+         '`message`'),
+        ('`both_libraries`, `default_library=both`',
+         '`shared_library` and `static_library` with the same name and sources'),
+        ('`shared_module`',
+         '`shared_library`'),
+        ('`build_target`',
+         'the function of the kind that is wanted'),
+        ('`add_languages`',
+         'nothing: C alone'),
+        ('`add_global_arguments`, `add_global_link_arguments`',
+         '`add_project_arguments`, `add_project_link_arguments`'),
+        ('`add_test_setup`',
+         'the words of `meson test`'),
+    ],
+    'Methods': [
+        ('`compiles`, `links`',
+         'a check that says what is wanted: `has_function`, `has_type`, `has_member`, `has_header_symbol`; or [the same source '
+         'before a name of its own](#a-source-that-has-to-compile-or-to-link)'),
+        ('`run` of a compiler',
+         'an option'),
+        ('`has_function_attribute`, `has_define`',
+         '`has_type` in the same way'),
+        ('`has_multi_arguments`, `has_members`',
+         '`has_argument`, `has_member` for each, with `and` between'),
+        ('`get_argument_syntax`',
+         "`get_id`, as `cc.get_id() in ['msvc', 'clang-cl']`"),
+        ('`get_define`, `compute_int`',
+         '`sizeof`, `alignment`, or an option'),
+        ('`preprocess`',
+         'a `custom_target`'),
+        ('`first_supported_argument`, `get_supported_link_arguments`',
+         '`get_supported_arguments`, and `has_link_argument` in an `if`'),
+        ('`get_variable`, `get_pkgconfig_variable` of a dependency',
+         'an option'),
+        ('`type_name` of a dependency',
+         '`found`, or a text'),
+        ('`partial_dependency`, `as_system`',
+         'the dependency itself'),
+        ('`extract_objects`',
+         'a static library that both targets link'),
+        ('`meson.add_install_script`, `add_postconf_script`, `add_dist_script`',
+         "a step of the package; kept for the real Meson alone behind `if not is_variable('meson')`"),
+        ('`meson.override_dependency`, `override_find_program`',
+         'nothing: there are no subprojects; kept behind `if meson.is_subproject()`'),
+        ('`meson.can_run_host_binaries`',
+         '`not meson.is_cross_build()`'),
+        ('`both_libraries(..).get_static_lib()`',
+         'the static library itself'),
+    ],
+    'Keywords': [
+        ('`kwargs:`',
+         "the keywords themselves, as `version: words['version']`"),
+        ('`native:` of targets, `link_depends:`, `link_language:`, `vs_module_defs:`, `darwin_versions:`, `extra_files:`, '
+         '`install_tag:`',
+         'nothing'),
+        ('`variables:` of `declare_dependency`, `fallback:` and `default_options:` of `dependency`, `version:` of `find_program`',
+         'nothing'),
+        ("`gnu_symbol_visibility: 'hidden'`",
+         "`c_args: cc.get_supported_arguments('-fvisibility=hidden')`"),
+        ('`link_whole:`',
+         'the sources of that library, in both targets'),
+        ('`override_options:`',
+         '`c_args:` and `link_args:` of the target'),
+        ('`export_dynamic: true`',
+         "`link_args: '-rdynamic'`"),
+        ('`implicit_include_directories: false`, `pic:`, `pie:`',
+         'nothing: libraries are always compiled with `-fPIC`'),
+        ('`install_rpath:`, `build_rpath:`',
+         "`link_args: '-Wl,-rpath,..'`"),
+        ('`install_mode:`',
+         'a step of the package'),
+        ('`install:` of `configure_file`',
+         "`install_dir:` alone; two calls in an `if` where it isn't always installed"),
+        ('`workdir:` of `test` (taken, without effect)',
+         "`test(NAME, find_program('env'), args: ['-C', FOLDER, program, ..])`"),
+        ("`language: ['c', 'cpp']`",
+         "`language: 'c'`"),
+        ('`configure_file(command: ..)`',
+         'a `custom_target`'),
+        ('`configure_file(copy: true)`',
+         '`configuration: {}`, where the file has no `@name@`, no `#mesondefine` and no exec bit; else a `custom_target` with '
+         '`cp`, `build_by_default: true`'),
+        ("`configure_file(format: 'cmake')`",
+         'a template with `@name@` and `#mesondefine`'),
+        ('`env:` of `custom_target`',
+         "words of `env`: `command: ['env', 'A=b', ..]`"),
+        ('`build_always_stale:`, `feed:` of `custom_target`',
+         'a script that does it'),
+        ('`console:` of `custom_target`, `priority:` of `test`',
+         'nothing'),
+        ('`protocol:` of `test`',
+         'a program that ends with 0, 77 (skipped) or another status'),
+        ('`deprecated:` of `option`',
+         'the option without it'),
+    ],
+    'Options': [
+        ("`get_option('libexecdir')`, `localedir`, `sbindir`, `localstatedir` and other folders",
+         'an option of the project with another name, as `libexec_dir`: the real Meson keeps the first names for itself'),
+        ("`get_option('b_ndebug')` and others that begin with `b_`",
+         "their value; `(not is_variable('meson') ? get_option('b_ndebug') : 'false')` asks the real Meson still"),
+        ('several standards in `c_std=gnu99,c99`',
+         'the first that is taken here'),
+    ],
+}
+
+
+def plain(text: str) -> str:
+    """A text of the document without what makes it a link."""
+    return re.sub(r"\[([^]]*)\]\([^)]*\)", r"\1", text)
+
+
+def instead_of(table: str, name: str) -> str:
+    """What the document writes in place of a function, a method, a keyword or an option; nothing where it has no row."""
+    for left_out, instead in TABLES[table]:
+        spans = re.findall(r"`([^`]*)`", left_out) + ([name] if re.search(rf"(?<![\w`]){re.escape(name)}(?![\w`])", left_out) else [])
+        if any(re.search(rf"(?<!\w){re.escape(name)}(?!\w)", it) for it in spans):
+            return plain(instead)
+    return ""

@@ -1,0 +1,131 @@
+"""E5, E8, E14, E17 and E23: names that are not there, or that are left out."""
+from __future__ import annotations
+
+import difflib
+import os
+
+from porting import left, tree
+from tools.explaining.context import Context
+from tools.explaining.detail import Detail, detail, near, quoted
+from tools.explaining.instead import instead_of
+from tools.explaining.machine import has_section
+from tools.explaining.rows import FUNCTIONS, METHODS, METHODS_OF, methods_of
+
+
+
+def in_its_place(table: str, name: str, short: str = "") -> str:
+    """What PORTING.md says of a name, as a line; nothing where it says nothing."""
+    text = instead_of(table, name) or short
+    return f"write in its place: {text}" if text else ""
+
+
+def named_call(context: Context, name: str) -> tree.Call | None:
+    found = [it for it in context.place.calls() if it.name == name]
+    return found[0] if found else None
+
+
+def undefined(context: Context) -> Detail:
+    """E5."""
+    name = context.fault.name
+    nodes = [node for root in tree.expressions_of(context.place.statement) for node in tree.inside(root)]
+    at = next((it.start for it in nodes if isinstance(it, tree.Name) and it.text == name), None)
+    is_set = name in context.names()
+    where = " at this point, though a file of the project sets it: in a branch that was not taken, or later" if is_set else ""
+    return detail(f"the name {quoted(name)} has no value{where}{near(name, context.names())}", at=at)
+
+
+def unknown(context: Context) -> Detail:
+    """E8."""
+    name = context.fault.name
+    call = named_call(context, name)
+    if call is not None and call.receiver is not None:
+        value = context.value(call.receiver)
+        known = methods_of(value.kind) if value else []
+        of_what = f"{value.shown()} has no method" if value else "there is no method"
+        takes = f"; it has {', '.join(known)}" if known and len(known) < 12 else ""
+        others = [kind for kind, text in METHODS_OF.items() if name in text.split()]
+        told = f"it is a method of: {', '.join(others)}" if others else in_its_place("Methods", name)
+        return detail(f"{of_what} {quoted(name)}{near(name, known or METHODS)}{takes}", told, at=call.name_start)
+    told = in_its_place("Functions", name, left.FUNCTIONS.get(name, ""))
+    return detail(f"there is no function {quoted(name)}{near(name, FUNCTIONS)}", told, at=call.start if call else None)
+
+
+def missing_file(context: Context) -> Detail:
+    """E14."""
+    path = context.fault.name
+    folder, name = os.path.split(path)
+    place = os.path.join(context.asked.root, folder)
+    if not os.path.isdir(place):
+        return detail(f"there is no file {quoted(path)}: there is no folder {quoted(folder)}", at=text_at(context, path))
+    found = difflib.get_close_matches(name, os.listdir(place), 1, 0.6)
+    told = f"; near: {quoted(os.path.join(folder, found[0]))}" if found else ""
+    what = "is a folder, and no file" if os.path.isdir(os.path.join(place, name)) else "is not there"
+    return detail(f"the file {quoted(path)} {what}{told}", at=text_at(context, path))
+
+
+def text_at(context: Context, path: str) -> int | None:
+    """The text of the statement that names a path."""
+    for root in tree.expressions_of(context.place.statement):
+        for node in tree.inside(root):
+            if isinstance(node, tree.Text) and node.value:
+                named = os.path.normpath(os.path.join(context.folder, node.value))
+                if path in (named, os.path.join(named, "meson.build")):
+                    return node.start
+    return None
+
+
+def not_found(context: Context) -> Detail:
+    """E17."""
+    name = context.fault.name
+    call = context.place.calls()[0] if context.place.calls() else None
+    at = call.start if call else None
+    what = call.name if call else "a call"
+    if what == "dependency":
+        if has_section(context.asked.machine, f"dependency {name}"):
+            why = f"the machine file has [dependency {name}], but its version doesn't fit what 'version:' asks"
+        else:
+            why = f"the machine file has no section [dependency {name}]"
+    elif what == "find_program":
+        why = f"the machine file has no key {quoted(name)} in [binaries], and there is no file of that name in the folder"
+    else:
+        why = f"the machine file has no line that says true to '{what} {name}' in [checks]"
+    given = "" if context.asked.machine is not None else "; no machine file is given (--native-file)"
+    return detail(f"{what}: {quoted(name)} is required and not found: {why}{given}", at=at)
+
+
+def left_out(context: Context) -> Detail:
+    """E23: a function, a method, a keyword or a value."""
+    for call in context.place.calls()[::-1]:
+        if call.receiver is None and call.name not in FUNCTIONS:
+            first = call.arguments[0] if call.arguments else None
+            module = f"import('{first.value}')" if call.name == "import" and isinstance(first, tree.Text) else call.name
+            told = in_its_place("Functions", module) or in_its_place("Functions", "import('fs')" if call.name == "import" else call.name,
+                                                                     left.FUNCTIONS.get(call.name, ""))
+            return detail(f"the function {quoted(call.name)} is left out", told, at=call.start)
+        if call.receiver is not None and call.name not in METHODS and in_its_place("Methods", call.name):
+            return detail(f"the method {quoted(call.name)} is left out", in_its_place("Methods", call.name), at=call.name_start)
+        for name, word in call.keywords.items():
+            row = FUNCTIONS.get(call.name)
+            short = left.KEYWORDS.get(call.name, {}).get(name, "")
+            if (row is None or name not in row.keywords) and (told := in_its_place("Keywords", name, short)):
+                return detail(f"{call.name}: the keyword {quoted(name)} is left out", told, at=word.start)
+    for call in context.place.calls():
+        if call.name == "project":
+            return of_project(context, call)
+        for method in (it for it in left.METHODS.values() if call.receiver is not None and call.name in it):
+            return detail(f"the method {quoted(call.name)} is left out", f"write in its place: {method[call.name]}", at=call.name_start)
+        for name, word in call.keywords.items():
+            if name in ("format", "protocol"):
+                return detail(f"{call.name}: this value of {quoted(name)} is left out", in_its_place("Keywords", name), at=word.start)
+    call = context.place.calls()[0] if context.place.calls() else None
+    return detail(f"{quoted(call.name)} is left out" if call else "something of this line is left out", at=call.start if call else None)
+
+
+def of_project(context: Context, call: tree.Call) -> Detail:
+    """A language beside C, or a value of an option that is left out."""
+    for argument in call.arguments[1:]:
+        for node in tree.inside(argument):
+            if isinstance(node, tree.Text) and node.value != "c":
+                why = f"project: the language {quoted(node.value)} is left out: C alone is built"
+                return detail(why, in_its_place("Functions", "add_languages"), at=node.start)
+    return detail("project: default_library=both is left out", in_its_place("Functions", "both_libraries"), at=call.start)

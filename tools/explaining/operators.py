@@ -1,0 +1,132 @@
+"""E6, E7 and E10: operators, conditions, numbers and indexes, with what their operands were."""
+from __future__ import annotations
+
+import re
+
+from porting import tree
+from tools.explaining.context import Context
+from tools.explaining.detail import Detail, detail, near, quoted
+from tools.explaining.values import Value
+
+GIVE_NOTHING = ("message", "warning", "error", "assert", "set_variable", "unset_variable", "subdir", "subdir_done", "test",
+                "add_project_arguments", "add_project_link_arguments", "install_headers", "install_data", "install_man", "project", "set",
+                "set10", "set_quoted", "merge_from")
+
+
+def shown(value: Value | None, source: str) -> str:
+    return f"{value.shown()}" if value is not None else f"{quoted(source)}"
+
+
+def said(context: Context, node: tree.Node) -> str:
+    return shown(context.value(node), context.place.source(node))
+
+
+def refused(context: Context) -> Detail:
+    """E6, E7 and E10 at a node of the statement, or at the statement itself."""
+    node = context.probe.culprit() if context.probe.can_ask else None
+    if node is None:
+        return of_statement(context)
+    return of_node(context, node)
+
+
+def of_node(context: Context, node: tree.Node) -> Detail:
+    match node:
+        case tree.Binary():
+            left, right = said(context, node.left), said(context, node.right)
+            return detail(f"'{node.operator}' stands between {left} and {right}", advice(context, node), at=node.start)
+        case tree.Unary():
+            return detail(f"'{node.operator}' stands before {said(context, node.operand)}", at=node.start)
+        case tree.Ternary():
+            return detail(f"the condition of '?' is {said(context, node.condition)}, and no truth value", at=node.condition.start)
+        case tree.Index():
+            return of_index(context, node)
+        case tree.Dictionary():
+            keys = [key for key, _ in node.pairs if (value := context.value(key)) is not None and value.kind != "text"]
+            what = f"a key is {said(context, keys[0])}, and no text" if keys else "its keys are not all texts"
+            return detail(f"a dictionary: {what}", at=keys[0].start if keys else node.start)
+        case tree.Text():
+            why = f"in the text {quoted(node.value)} a name between '@' is no text, integer or truth value"
+            return detail(f"{why}: {names_in(node)}", at=node.start)
+        case tree.Number():
+            return detail(f"the number {quoted(context.place.source(node))} needs more than 128 bits", at=node.start)
+        case tree.Call():
+            return of_call(context, node)
+    return detail(f"{quoted(context.place.source(node))} can't be used here", at=node.start)
+
+
+def advice(context: Context, node: tree.Binary) -> str:
+    """How two types are brought together."""
+    left, right = context.value(node.left), context.value(node.right)
+    if left is None or right is None:
+        return ""
+    kinds = {left.kind, right.kind}
+    if node.operator in ("/", "%") and right.kind == "integer" and right.text == "0":
+        return "the divisor is zero"
+    if node.operator in ("and", "or"):
+        wrong = left if left.kind != "truth value" else right
+        return f"both sides have to be truth values: {wrong.shown()} is none; of a text write != '', of a list .length() > 0"
+    if kinds == {"text", "integer"} and node.operator == "+":
+        return "write .to_string() behind the integer, or .to_int() behind the text"
+    if context.fault.number == 7:
+        return "the result needs more than 128 bits"
+    return f"'{node.operator}' doesn't take these two types" if left.kind != right.kind else f"'{node.operator}' doesn't take this type"
+
+
+def names_in(node: tree.Text) -> str:
+    """What stands in an f-string."""
+    return ", ".join(re.findall(r"@([A-Za-z_]\w*)@", node.value))
+
+
+def of_index(context: Context, node: tree.Index) -> Detail:
+    receiver, index = context.value(node.receiver), context.value(node.index)
+    if receiver is None or index is None:
+        return detail(f"{quoted(context.place.source(node))} is not there", at=node.start)
+    if context.fault.number == 10 and receiver.kind == "dictionary":
+        keys = re.findall(r"'([^']*)' : ", receiver.text)
+        return detail(f"the dictionary has no key {quoted(index.text)}{near(index.text, keys)}", at=node.index.start)
+    if context.fault.number == 10:
+        length = len(receiver.items) if receiver.kind == "list" else len(receiver.text)
+        return detail(f"the index {index.text} is none of {receiver.shown()}, whose length is {length}", at=node.index.start)
+    why = f"{receiver.shown()} can't be asked with {index.shown()} as index"
+    return detail(f"{why}: a list and a text take an integer, a dictionary a text", at=node.index.start)
+
+
+def of_call(context: Context, call: tree.Call) -> Detail:
+    if context.fault.number == 6:
+        return detail(f"{call.name}: it gives nothing, and stands where a value is wanted", at=call.start)
+    values = ", ".join(said(context, it) for it in call.arguments)
+    if call.receiver is not None:
+        receiver = said(context, call.receiver)
+        known = re.findall(r"'([^']*)' : ", getattr(context.value(call.receiver), "text", ""))
+        key = context.text_of(call.arguments[0]) if call.arguments else None
+        close = near(key, known) if key else ""
+        if context.fault.number == 7:
+            return detail(f"{call.name}: the number of {receiver} is out of range", at=call.name_start)
+        return detail(f"{call.name}: {receiver} has nothing for {values or 'this'}{close}", at=call.name_start)
+    return detail(f"{call.name}: a number is out of range: {values}", at=call.start)
+
+
+def of_statement(context: Context) -> Detail:
+    statement = context.place.statement
+    match statement:
+        case tree.If():
+            on_line = [it for it in statement.branches if it.condition and context.place.line_of(it.start) == context.place.line]
+            for branch in on_line or [it for it in statement.branches if it.condition]:
+                if branch.condition:
+                    what = said(context, branch.condition)
+                    return detail(f"the condition is {what}, and no truth value: of a text write != '', of a list .length() > 0",
+                                  at=branch.condition.start)
+        case tree.Foreach():
+            names = "two names walk a dictionary" if len(statement.names) == 2 else "one name walks a list"
+            return detail(f"foreach: {names}, and this is {said(context, statement.items)}", at=statement.items.start)
+        case tree.Assignment() if statement.operator == "+=":
+            name = tree.Name(statement.start, statement.start + len(statement.name), statement.name)
+            before = context.probe.variable(statement.name) if context.probe.can_ask else None
+            return detail(f"'+=' stands between {shown(before, statement.name)} and {said(context, statement.value)}", at=name.start)
+        case tree.Assignment() | tree.Expression() if isinstance(tree.plain(statement.value), tree.Call):
+            call = tree.plain(statement.value)
+            assert isinstance(call, tree.Call)
+            if call.name in GIVE_NOTHING:
+                return detail(f"{call.name}: it gives nothing, and stands where a value is wanted", at=call.start)
+    first = tree.expressions_of(statement)
+    return detail(f"what is refused stands in {quoted(context.place.source(statement))}", at=first[0].start if first else statement.start)

@@ -1,0 +1,208 @@
+"""E11 to E13, E18 to E22 and E24: doubles, folders, templates, limits and what came too late."""
+from __future__ import annotations
+
+import os
+import re
+
+from porting import tree
+from tools.explaining.context import Context
+from tools.explaining.detail import Detail, detail, line_at, quoted
+from tools.explaining.values import TEXT, flat
+
+MAKERS = ("executable", "static_library", "shared_library", "library", "custom_target", "configure_file")
+RESERVED = ("all", "build.ninja", "meson-info/introspect.json")
+
+
+def culprit_call(context: Context) -> tree.Call | None:
+    """The call at fault; where that isn't known, the outermost of the line."""
+    node = context.probe.culprit() if context.probe.can_ask else None
+    if isinstance(node, tree.Call):
+        return node
+    calls = context.place.calls()
+    return calls[0] if calls else None
+
+
+def duplicate(context: Context) -> Detail:
+    """E11: a keyword, a key or an output twice."""
+    nodes = [node for root in tree.expressions_of(context.place.statement) for node in tree.inside(root)]
+    for node in nodes:
+        if isinstance(node, tree.Call):
+            seen: dict[str, tree.Keyword] = {}
+            for item in node.items:
+                if isinstance(item, tree.Keyword) and item.name in seen:
+                    first = context.place.line_of(seen[item.name].start)
+                    return detail(f"{node.name}: the keyword {quoted(item.name)} stands twice: in line {first} before", at=item.start)
+                if isinstance(item, tree.Keyword):
+                    seen[item.name] = item
+    culprit = context.probe.culprit() if context.probe.can_ask else None
+    dictionaries = [culprit] if isinstance(culprit, tree.Dictionary) else [it for it in nodes if isinstance(it, tree.Dictionary)]
+    if not isinstance(culprit, tree.Call):
+        for node in dictionaries:
+            keys: dict[str, tree.Node] = {}
+            for key, _ in node.pairs:
+                text = context.text_of(key)
+                if text is not None and text in keys:
+                    first = context.place.line_of(keys[text].start)
+                    return detail(f"the key {quoted(text)} stands twice in a dictionary: in line {first} before", at=key.start)
+                if text is not None:
+                    keys[text] = key
+    call = culprit_call(context)
+    return made_twice(context, call) if call else detail("something stands twice in this line", at=context.place.statement.start)
+
+
+def outputs_of(call: tree.Call) -> list[str]:
+    """The names that a call makes, as far as they stand in its text."""
+    named = call.keywords["output"].value if "output" in call.keywords else None
+    node = named if named is not None else call.arguments[0] if call.arguments else None
+    return [it.value for it in tree.inside(node) if isinstance(it, tree.Text)] if node is not None else []
+
+
+def made_twice(context: Context, call: tree.Call) -> Detail:
+    """A target or a file whose outputs another one makes."""
+    node = call.keywords["output"].value if "output" in call.keywords else call.arguments[0] if call.arguments else None
+    value = context.value(node) if node is not None else None
+    names = [it.text for it in flat(value) if it.kind == TEXT] if value else outputs_of(call)
+    reserved = [it for it in names if os.path.normpath(os.path.join(context.folder, it)) in RESERVED]
+    if reserved:
+        return detail(f"{call.name}: {quoted(reserved[0])} is a name of build.ninja's own", at=call.start)
+    if len(set(names)) < len(names):
+        return detail(f"{call.name}: an output stands twice among {', '.join(map(quoted, names))}", at=call.start)
+    for path, statement in context.statements():
+        for root in tree.expressions_of(statement):
+            for other in tree.inside(root):
+                is_same_place = path == context.fault.file and statement.start >= context.place.statement.start
+                if isinstance(other, tree.Call) and other.receiver is None and other.name in MAKERS and not is_same_place:
+                    if os.path.dirname(path) == context.folder and set(outputs_of(other)) & set(names):
+                        place = f"{path}:{line_at(open_text(context, path), other.start)}"
+                        return detail(f"{call.name}: {', '.join(map(quoted, names))} is made before, by {other.name} at {place}",
+                                      "give it another name, or declare it in another folder", at=call.start)
+    made = ", ".join(map(quoted, names)) or "it"
+    return detail(f"{call.name}: an output, an object or a link of {made} has the path of one that another target makes",
+                  "two sources whose paths differ only in '/' and '_' have one object; a library has its links, too", at=call.start)
+
+
+def open_text(context: Context, path: str) -> str:
+    with open(os.path.join(context.asked.root, path), encoding="utf-8", newline="") as it:
+        return it.read()
+
+
+def folder(context: Context) -> Detail:
+    """E12."""
+    call = next((it for it in context.place.calls() if it.name == "subdir"), None)
+    name = context.text_of(call.arguments[0]) if call and call.arguments else None
+    if call is None or name is None:
+        return detail("subdir: this folder can't be entered", at=context.place.statement.start)
+    if not name:
+        why = "the name is empty"
+    elif name.startswith("/"):
+        why = "the name is absolute: a folder is named from the present one"
+    elif ".." in name.split("/"):
+        why = "the name has a part '..': call subdir from the folder above"
+    else:
+        why = "the folder was entered before, and each is entered once (the root is from the beginning)"
+    return detail(f"subdir: {quoted(name)}: {why}", at=call.arguments[0].start)
+
+
+def project_call(context: Context) -> Detail:
+    """E13."""
+    first = context.place.body[0] if context.fault.file == "meson.build" else None
+    if context.place.statement is not first:
+        return detail("project: it stands only once, as the first statement of the root's meson.build", at=context.place.statement.start)
+    value = first.value if isinstance(first, tree.Expression) else None
+    if not isinstance(value, tree.Call) or value.name != "project" or value.receiver is not None:
+        source = context.place.source(first).splitlines()[0]
+        return detail(f"in place of project(NAME, 'c') stands {quoted(source)}: it has to be the first statement", at=first.start)
+    for node in tree.inside(value):
+        if isinstance(node, tree.Call) and node is not value:
+            return detail(f"project: its arguments may call no function and ask nothing, and {quoted(node.name)} is called", at=node.start)
+    return detail("project: no language is named: write project(NAME, 'c')", at=value.start)
+
+
+def own_words(context: Context) -> Detail:
+    """E18."""
+    call = next((it for it in context.place.calls() if it.name in ("assert", "error")), None)
+    if call is None or not call.arguments:
+        return detail("the project itself ends the run", at=context.place.statement.start)
+    if call.name == "error":
+        return detail("error: the project itself ends the run, with these words", at=call.start)
+    condition = call.arguments[0]
+    return detail(f"assert: the project itself ends the run: not true is {quoted(context.place.source(condition))}", at=condition.start)
+
+
+def template(line: str) -> Detail:
+    """E19."""
+    words = line.split()
+    if len(words) == 1:
+        return detail(f"{quoted(words[0])} stands alone: it is '#mesondefine NAME'")
+    if words and words[0] != "#mesondefine":
+        return detail(f"{quoted(words[0])} is not '#mesondefine', with which it begins")
+    if len(words) > 2:
+        more = quoted(" ".join(words[2:]))
+        return detail(f"behind the name {quoted(words[1])} stands {more}: it is '#mesondefine NAME', and nothing else")
+    return detail(f"{quoted(words[1] if len(words) > 1 else line)} is no name: it has letters, digits, '_' and '-'")
+
+
+def frozen(context: Context) -> Detail:
+    """E20."""
+    call = culprit_call(context)
+    name = context.place.source(call.receiver) if call and call.receiver else "the data"
+    uses = [(path, node) for path, statement in context.statements() for root in tree.expressions_of(statement)
+            for node in tree.inside(root)
+            if isinstance(node, tree.Call) and node.name == "configure_file" and "configuration" in node.keywords
+            and name in tree.names_in(node.keywords["configuration"].value)]
+    where = f", at {uses[0][0]}:{line_at(open_text(context, uses[0][0]), uses[0][1].start)}" if uses else ""
+    what = call.name if call else "a change"
+    return detail(f"{what}: a file was made from {quoted(name)} before{where}, so it doesn't change any more",
+                  "set all values before configure_file, or change a copy: 'more = data' makes one", at=call.start if call else None)
+
+
+def not_held(context: Context) -> Detail:
+    """E21: the text with what Ninja can't hold."""
+    call = culprit_call(context)
+    nodes = [it.value if isinstance(it, tree.Keyword) else it for it in call.items] if call else []
+    for node in nodes:
+        for value in flat(found) if (found := context.value(node)) else []:
+            sign = re.search(r"[#|\x00-\x1f\x7f]", value.text) if value.kind == TEXT else None
+            if sign:
+                return detail(f"{call.name if call else ''}: the text {quoted(value.text)} has {sign_name(sign[0])}", at=node.start)
+    names = [it.value for it in tree.inside(call) if isinstance(it, tree.Text)] if call else []
+    told = f": {', '.join(map(quoted, names[:4]))}" if names else ""
+    return detail(f"{call.name if call else 'the call'}: a path with '#', '|' or a control character, or a word with an end of line{told}",
+                  at=call.start if call else None)
+
+
+def sign_name(sign: str) -> str:
+    return repr(sign) if sign.isprintable() else f"the control character {sign.encode('unicode_escape').decode()}"
+
+
+LIMITS = {"range": "a list may have 65,536 items", "subdir": "4,096 folders may be entered, 64 of them inside one another"}
+TARGETS = "a list of a target may have 65,536 items, those of its dependencies counted"
+VALUES = ("a list or a dictionary may have 65,536 items, hold others 64 deep and weigh a bounded amount in all; a text may have "
+          "16,777,216 bytes")
+
+
+def limit(context: Context) -> Detail:
+    """E22: which limit."""
+    call = culprit_call(context)
+    if call is None:
+        return detail(VALUES, at=context.place.statement.start)
+    if call.name in MAKERS[:4]:
+        return detail(f"{call.name}: {TARGETS}", at=call.start)
+    values = [it for node in call.arguments if (it := context.value(node)) and it.kind == "integer"]
+    got = f"; it got {', '.join(it.text for it in values)}" if values else ""
+    return detail(f"{call.name}: {LIMITS.get(call.name, VALUES)}{got}", at=call.start)
+
+
+def too_late(context: Context) -> Detail:
+    """E24: what was declared before."""
+    call = next((it for it in context.place.calls() if it.name.startswith("add_project")), None)
+    what = call.name if call else "add_project_arguments"
+    for path, statement in context.statements():
+        for root in tree.expressions_of(statement):
+            for node in tree.inside(root):
+                if isinstance(node, tree.Call) and node.receiver is None and node.name in MAKERS[:4]:
+                    name = outputs_of(node)
+                    return detail(f"{what}: it stands behind {node.name} {quoted(name[0]) if name else ''} of "
+                                  f"{path}:{line_at(open_text(context, path), node.start)}", "move it before the first target",
+                                  at=call.start if call else None)
+    return detail(f"{what}: a target was declared before", at=call.start if call else None)

@@ -1,0 +1,51 @@
+"""The statement of a file that a fault's line belongs to, and its nodes."""
+from __future__ import annotations
+
+import dataclasses
+
+from porting import tree
+from porting.lexer import SyntaxFault
+from porting.parser import parse
+from tools.explaining.detail import line_at
+
+
+@dataclasses.dataclass(frozen=True)
+class Place:
+    """A definition file, the line of the fault, the statement that it belongs to, and the first statement of the file."""
+    file: str
+    text: str
+    line: int
+    body: list[tree.Statement]
+    statement: tree.Statement
+
+    def source(self, node: tree.Node) -> str:
+        return self.text[node.start:node.end]
+
+    def line_of(self, at: int) -> int:
+        return line_at(self.text, at)
+
+    def calls(self) -> list[tree.Call]:
+        """The calls that begin on the line, outer ones first."""
+        nodes = [node for it in tree.expressions_of(self.statement) for node in tree.inside(it)]
+        found = [it for it in nodes if isinstance(it, tree.Call)]
+        on_line = [it for it in found if self.line in (self.line_of(it.start), self.line_of(it.name_start))]
+        return (on_line or found)[::-1]
+
+
+def head_lines(text: str, statement: tree.Statement) -> tuple[int, int]:
+    """The first and last line of a statement, without those of its body."""
+    ends = [it.end for it in tree.expressions_of(statement)]
+    last = max(ends, default=statement.end)
+    return line_at(text, statement.start), line_at(text, max(last, statement.start))
+
+
+def place_of(file: str, text: str, line: int) -> Place | None:
+    """Where the line stands; none where the file can't be read as one, or no statement has this line."""
+    try:
+        body = parse(text)
+    except (SyntaxFault, RecursionError):
+        return None
+    fitting = [it for it in tree.statements_in(body) if head_lines(text, it)[0] <= line <= head_lines(text, it)[1]]
+    if not fitting:
+        return None
+    return Place(file, text, line, body, fitting[-1])
