@@ -12,6 +12,7 @@ use Rattle.code.proofs.Trees.{less}
 use Rattle.interp.specs.Blocks.{expressions_by, statements_by}
 use Rattle.std.proofs.lemmas.Bool.{false≢true, eqb-true}
 use Rattle.machine_file.specs.Fault.{told}
+use Rattle.machine_file.specs.Files.{Section}
 use Rattle.definition_files.specs.Places.{refuse_at}
 use Rattle.world.specs.Settings.{SettingsData}
 use Rattle.world.specs.Start.{first_world}
@@ -29,7 +30,7 @@ use Rattle.world.specs.declared.stop.Stop.{Stop}
 use Rattle.world.specs.declared.stop.Stop.TheVariants as stops
 use Rattle.world.proofs.Follow.{begun, refused_later}
 use Rattle.grammar.specs.Tree.{StatementTree, AssignTree, AppendTree, ValueTree, BreakTree, ContinueTree, IfTree, ForeachTree, Statements, NoStatement, MoreStatements}
-use Rattle.interp.specs.Beginnings.{RootGives, Starts, begun_at, line_before, line_unless, other_line}
+use Rattle.interp.specs.Beginnings.{Reads, RootGives, Starts, begun_at, line_before, line_unless, other_line}
 use Rattle.interp.specs.Evaluation.{MachineSaid, begins, begins_all, begun_by, definitions, evaluated, is_project}
 use Rattle.interp.proofs.Blocks.{number_below}
 use Rattle.interp.specs.declared.block.Block.TheVariants as blocks
@@ -83,6 +84,35 @@ pub started : (files : Files) (s : SettingsData) (said : MachineSaid) (kept : Ke
 unfolding evaluated
 started files s (Ok sections) kept is = ap (carry files definitions) is
 started files s (Err fault) kept is = absurd is
+
+-- what stops where the machine file is read stops the start
+unread : {A : Type 0} (view : A → List Section) (s : SettingsData) (said : MachineSaid) (e : Stop) → Reads view said (Err e) → Starts s said (Err e)
+unread view s (Ok sections) (stops.Refused f) h = absurd h
+unread view s (Err g) (stops.Refused f) h = h
+unread view s (Ok sections) stops.Device h = absurd h
+unread view s (Err g) stops.Device h = absurd h
+unread view s (Ok sections) stops.Memory h = tt
+unread view s (Err g) stops.Memory h = tt
+
+pub not_read : {A : Type 0} (view : A → List Section) (s : SettingsData) (said : MachineSaid) (e : Stop) (result : Result Kept Stop) → IsErrAnd result (λ r. r ≡ e)
+    → Reads view said (Err e) → Starts s said result
+not_read view s said e (Ok k) is h = absurd is
+not_read view s said e (Err d) is h = subst (λ x. Starts s said (Err x)) (sym is) (unread view s said e h)
+
+-- no memory for the first world
+pub no_world : (s : SettingsData) (said : MachineSaid) (result : Result Kept Stop) → IsErrAnd result (λ r. r ≡ stops.Memory) → Starts s said result
+no_world s said (Ok k) is = absurd is
+no_world s said (Err d) is = subst (λ x. Starts s said (Err x)) (sym is) (none s said)
+  where
+    none : (s : SettingsData) (said : MachineSaid) → Starts s said (Err stops.Memory)
+    none s (Ok sections) = tt
+    none s (Err g) = tt
+
+-- the first world over what was read
+pub was_read : {A : Type 0} (view : A → List Section) (s : SettingsData) (said : MachineSaid) (x : A) (k : Kept) → Reads view said (Ok x) → world_of k ≡ first_world s (view x)
+    → Starts s said (Ok k)
+was_read view s (Ok sections) x k h e = e ∙ ap (first_world s) h
+was_read view s (Err g) x k h e = absurd h
 
 -- a machine file that is refused, or no memory
 pub not_started : (files : Files) (s : SettingsData) (said : MachineSaid) (e : Stop) (result : Result Kept Stop) (out : OutputState) (n : ℕ) → IsErrAnd result (λ r. r ≡ e)

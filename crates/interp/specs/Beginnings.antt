@@ -1,9 +1,10 @@
 -- How an evaluation begins.
-use Rattle.std.specs.Prelude.{◌≡◌, ℕ, Bool, true, false, [], Option, Some, None, Result, Ok, Err}
+use Rattle.std.specs.Prelude.{◌≡◌, ℕ, Bool, true, false, List, [], Option, Some, None, Result, Ok, Err}
 use Rattle.grammar.specs.Tree.{StatementTree, AssignTree, AppendTree, ValueTree, BreakTree, ContinueTree, IfTree, ForeachTree, Statements, NoStatement, MoreStatements}
 use Rattle.basics.specs.View.{fault_view}
 use Rattle.basics.specs.declared.faults.refusal.Refusal.TheVariants as refusals
 use Rattle.machine_file.specs.Fault.{told}
+use Rattle.machine_file.specs.Files.{Section}
 use Rattle.ports.specs.Outputs.{OutputState}
 use Rattle.world.specs.Deed.{Files}
 use Rattle.world.specs.Gives.{Gives}
@@ -39,6 +40,15 @@ line_before (MoreStatements s ss) = other_line s
 abbrev pub begun_at : Option ℕ → Plan (Unit {0})
 begun_at None = give tt
 begun_at (Some line) = refuse line refusals.ProjectCall []
+
+-- a machine file was read that says this, or it is refused
+abbrev pub Reads : {A : Type 0} → (A → List Section) → MachineSaid → Result A Stop → Type 0
+Reads view (Ok sections) (Ok x) = view x ≡ sections
+Reads view (Ok sections) (Err (stops.Refused fault)) = ⊥
+Reads view (Err f) (Ok x) = ⊥
+Reads view (Err f) (Err (stops.Refused fault)) = fault_view fault ≡ told f
+Reads view said (Err stops.Device) = ⊥
+Reads view said (Err stops.Memory) = Unit {0}
 
 -- the world before the root file, over a machine file that says this, or it is refused
 abbrev pub Starts : SettingsData → MachineSaid → Result Kept Stop → Type 0

@@ -1,12 +1,13 @@
 //! A whole evaluation.
 ghost use Rattle.std.specs.Prelude.{◌≡◌, ℕ, [], IfOk, length};
+ghost use Rattle.machine_file.specs.View.{machine_in};
 ghost use Rattle.ports.specs.Endings.{HasRoom};
 ghost use Rattle.world.specs.Deed.{Files};
 ghost use Rattle.world.specs.Gives.{Holds, failures_after};
 ghost use Rattle.world.specs.Plan.{ruled};
 ghost use Rattle.world.specs.SettingsView.{settings_view};
 ghost use Rattle.world.specs.Trace.{seen};
-ghost use Rattle.interp.specs.Beginnings.{RootGives, Starts};
+ghost use Rattle.interp.specs.Beginnings.{Reads, RootGives, Starts};
 ghost use Rattle.interp.specs.Blocks.{file_by};
 ghost use Rattle.interp.specs.Cost.{tree_cost};
 ghost use Rattle.interp.specs.Evaluated.{Evaluated, FailsOnce, Ticked};
@@ -20,6 +21,7 @@ use code::Code;
 use machine_file::Machine;
 use ports::{Outputs, Tree};
 use std::alloc::Global;
+use std::rc::Rc;
 use std::sync::ledger::Ledger;
 use world::{Settings, Steps, Stop, Store, ended, ends_keep_up};
 
@@ -100,8 +102,8 @@ impl<'a, T: Tree, O: Outputs, L: Ledger> Evaluator<'a, T, O, L> {
     }
 }
 
-/// Evaluates the definitions of a tree, from its root file on, in the world that [`start`] gives. What was done stands in the store, also
-/// after a fault: the questions that were asked of the machine file until then are [`Store::asked`].
+/// Evaluates the definitions of a tree, from its root file on, in a new world. What was done stands in the store, also after a fault: the
+/// questions that were asked of the machine file until then are [`Store::asked`].
 pub fn definitions<T: Tree, O: Outputs, L: Ledger>(
     alloc: Global,
     store: &mut Store,
@@ -120,17 +122,25 @@ pub fn definitions<T: Tree, O: Outputs, L: Ledger>(
     evaluator.definitions()
 }
 
-/// The world in which the root file is evaluated, over the machine file. A file that is none is the fault; nothing was looked at then.
-pub fn start(alloc: Global, inputs: &Inputs<'_>) -> Result<Store, Stop>
+/// The machine file that these bytes spell. A file that is none is the fault; nothing was looked at then.
+pub fn read_machine(alloc: Global, bytes: &[u8]) -> Result<Rc<Machine>, Stop>
+    ensures reads { (said : MachineSaid) → IsSaid bytes.now said → Reads (λ m. machine_in m.value) said result }
+    ensures quiet { (n : ℕ) → failures_after n result ≡ n }
+{
+    match Machine::read(alloc, bytes)? {
+        Ok(machine) => Ok(Rc::new(alloc, machine)?),
+        Err(fault) => Err(Stop::Refused(fault.told(alloc)?)),
+    }
+}
+
+// The world in which the root file is evaluated, over the machine file.
+fn start(alloc: Global, inputs: &Inputs<'_>) -> Result<Store, Stop>
     ensures starts { (said : MachineSaid) → IsSaid inputs.now.machine.now said
         → Starts (settings_view inputs.now.settings.now) said result }
     ensures entered { IfOk result (λ s. s.entered ≡ []) }
     ensures quiet { (n : ℕ) → failures_after n result ≡ n }
 {
-    let machine = match Machine::read(alloc, inputs.machine)? {
-        Ok(machine) => machine,
-        Err(fault) => return Err(Stop::Refused(fault.told(alloc)?)),
-    };
+    let machine = read_machine(alloc, inputs.machine)?;
     let store = Store::new(alloc, inputs.settings.copy(alloc)?, machine)?;
     Ok(store)
 }

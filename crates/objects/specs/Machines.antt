@@ -1,13 +1,12 @@
 -- The methods of a machine: the type `build_machine` of the page "Reference manual".
 use Rattle.std.specs.Prelude.{ℕ, List, [], Option, Some, None, codes, bytes_eq, if◌then◌else◌}
 use Rattle.arguments.specs.Arguments.{ArgumentsData}
-use Rattle.arguments.specs.Row.{checked}
+use Rattle.arguments.specs.Row.{checked, row}
 use Rattle.basics.specs.declared.faults.refusal.Refusal.TheVariants as refusals
 use Rattle.compiler_methods.specs.Said.{said_or}
 use Rattle.data.specs.Data.{Data, text}
 use Rattle.data.specs.Limits.{within}
 use Rattle.machine_file.specs.Questions.{Topic, Key, plain}
-use Rattle.objects.specs.Rows.{no_values}
 use Rattle.objects.specs.declared.machines.MachineMethod.{MachineMethod}
 use Rattle.objects.specs.declared.machines.MachineMethod.TheVariants.{Cpu, CpuFamily, Endian, System}
 use Rattle.world.specs.Deed.{Deed, give, refuse, consult, ◌>>=◌, answered, fitting}
@@ -52,5 +51,5 @@ told_by (Some method) = told method
 -- the method with a name, on arguments that its row looks at first
 unfoldable pub machine_method : List ℕ → ArgumentsData → Deed (Option Data)
 machine_method name a = do
-  _ ← fitting (checked no_values a)
+  _ ← fitting (checked (row [] 0 []) a)
   told_by (named name)

@@ -132,7 +132,7 @@ fn machine_method<T: Tree, O: Outputs>(
     ensures { Carries (option_map data_of) (machine_method name.now (arguments_data arguments.now))
         (state_of T.seen O.seen caller.old) result (state_of T.seen O.seen caller.new) }
 {
-    fit(caller, &no_values(), arguments)?;
+    fit(caller, &Row::of(&[], 0, &[]), arguments)?;
     machine_answer(caller, name)
 }
 

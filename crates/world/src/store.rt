@@ -33,6 +33,7 @@ use project::Project;
 use std::alloc::{AllocError, Global};
 use std::marker::Model;
 use std::mem;
+use std::rc::Rc;
 use targets::{Facts, Flags};
 use template::ConfigData;
 
@@ -53,7 +54,7 @@ pub struct Store {
     settings: Settings,
     names: Names,
     slots: Vec<Option<Value>>,
-    machine: Machine,
+    machine: Rc<Machine>,
     options: Option<Options>,
     configurations: Vec<ConfigData>,
     is_begun: bool,
@@ -103,7 +104,7 @@ impl Model for Store {
       settings = settings_view s.settings;
       names = s.names;
       slots = s.slots.items;
-      machine = machine_in s.machine;
+      machine = machine_in s.machine.value;
       options = options_of s.options;
       configurations = s.configurations.items;
       is_begun = s.is_begun;
@@ -186,8 +187,12 @@ fn no_flags(alloc: Global) -> Flags
 
 impl Store {
     /// The world in which a run begins, over a machine file that says this.
-    pub fn new(alloc: Global, settings: Settings, machine: Machine) -> Result<Store, AllocError>
-        ensures world { IfOk result (λ s. world_of s ≡ first_world (settings_view settings) (machine_in machine)) }
+    pub fn new(
+        alloc: Global,
+        settings: Settings,
+        machine: Rc<Machine>,
+    ) -> Result<Store, AllocError>
+        ensures world { IfOk result (λ s. world_of s ≡ first_world (settings_view settings) (machine_in machine.value)) }
         ensures names { IfOk result (λ s. s.names ≡ []) }
     {
         let project = Project::new(alloc, unnamed(alloc, &settings)?)?;

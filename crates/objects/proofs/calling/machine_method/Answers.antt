@@ -9,11 +9,11 @@ use Rattle.objects.proofs.calling.machine_method.Goals as goal
 pub returns-in_err-fit : goal.returns-in_err-fit
 unfolding machine_method
 returns-in_err-fit g c =
-    carries_stop (carries_as (ap (λ r. fitting (checked r (arguments_data c.args.arguments.now))) c.no_values.ensures) c.in_err-fit.ensures)
+    carries_stop (carries_as (ap (λ r. fitting (checked r (arguments_data c.args.arguments.now))) c.of.ensures) c.in_err-fit.ensures)
     c.from_residual.ensures.1
 
 pub returns : goal.returns
 unfolding machine_method
 returns g c =
-    carries_then (carries_as (ap (λ r. fitting (checked r (arguments_data c.args.arguments.now))) c.no_values.ensures) c.in_ok-fit.ensures)
+    carries_then (carries_as (ap (λ r. fitting (checked r (arguments_data c.args.arguments.now))) c.of.ensures) c.in_ok-fit.ensures)
     c.machine_answer.ensures

@@ -1,0 +1,134 @@
+//! What a run asks of the machine file, told in place of what it writes.
+ghost use Rattle.std.specs.Prelude.{◌≡◌, ◌<◌, option_map, string_bytes};
+ghost use Rattle.ports.specs.Endings.{HasRoom};
+ghost use Rattle.basics.specs.View.{fault_view};
+ghost use Rattle.build_file.specs.Concluding.{Agrees};
+ghost use Rattle.interp.specs.Evaluation.{IsSaid, MachineSaid, evaluated, sections_of};
+ghost use Rattle.world.specs.Deed.{Files};
+ghost use Rattle.world.specs.Gives.{Holds, failures_after};
+ghost use Rattle.world.specs.SettingsView.{settings_view};
+ghost use Rattle.hawkottoman.specs.Laws.{asked_by};
+ghost use Rattle.hawkottoman.specs.Questions.{lines_then, questions_of, questions_text};
+ghost use Rattle.hawkottoman.specs.Setup.{Concludes, FailsOnce};
+ghost use Rattle.hawkottoman.specs.Telling.{Asks, Told};
+
+use crate::nothing::NoOutputs;
+use crate::telling::questions_text;
+use basics::faults::Fault;
+use build_file::{Status, refuse};
+use interp::{Inputs, definitions, read_machine};
+use ports::{Outputs, Tree, log_all};
+use std::alloc::Global;
+use std::marker::Brand;
+use std::sync::ledger::{Blank, Ledger};
+use world::{Settings, Steps, Stop, Store, new_steps};
+
+// What a run asked of the machine file, as lines, and its fault.
+#[derive(Drop)]
+pub struct Asking {
+    pub lines: String,
+    pub fault: Option<Fault>,
+}
+
+impl Asking {
+    // Tells the lines in the log, and then the fault.
+    fn tell<O: Outputs>(&self, out: &mut O) -> Status
+        requires { HasRoom (O.seen out.old).failures }
+        ensures { Concludes (lines_then (string_bytes self.now.lines) (option_map fault_view self.now.fault)) result (O.seen out.old)
+            (O.seen out.new) }
+    {
+        if log_all(out, self.lines.as_bytes()).is_err() {
+            return Status::Device;
+        }
+        match &self.fault {
+            Some(fault) => refuse(fault, out),
+            None => Status::Done,
+        }
+    }
+}
+
+// Evaluates the definitions over outputs that keep nothing.
+fn ask<T: Tree, L: Ledger>(
+    alloc: Global,
+    tree: &mut T,
+    inputs: &Inputs<'_>,
+    steps: &mut Steps<L>,
+) -> Result<Asking, Stop>
+    requires { HasRoom (T.seen tree.old).failures }
+    ensures asks { (files : Files) (said : MachineSaid) → Holds (T.seen tree.old) files → IsSaid inputs.now.machine.now said
+        → Asks (evaluated files (settings_view inputs.now.settings.now) said)
+        (questions_text (sections_of said) (asked_by files (settings_view inputs.now.settings.now) said)) result }
+    ensures device { (T.seen tree.new).failures ≡ failures_after (T.seen tree.old).failures result }
+{
+    let machine = read_machine(alloc, inputs.machine)?;
+    let mut store = Store::new(alloc, inputs.settings.copy(alloc)?, machine.clone()?)?;
+    let mut nothing = NoOutputs::new();
+    let fault = match definitions(alloc, &mut store, tree, &mut nothing, steps) {
+        Ok(()) => None,
+        Err(Stop::Refused(fault)) => Some(fault),
+        Err(stop) => return Err(stop),
+    };
+    let lines = questions_text(alloc, &machine, store.asked())?;
+    Ok(Asking { lines, fault })
+}
+
+// What is done with what a run asked: its lines are told, and its fault.
+fn settle<O: Outputs>(answer: Result<Asking, Stop>, out: &mut O) -> Status
+    requires { HasRoom (O.seen out.old).failures }
+    ensures { Told answer result (O.seen out.old) (O.seen out.new) }
+{
+    match answer {
+        Ok(asking) => asking.tell(out),
+        Err(Stop::Refused(fault)) => refuse(&fault, out),
+        Err(Stop::Device) => Status::Device,
+        Err(Stop::Memory) => Status::Memory,
+    }
+}
+
+// A run whose rules are counted on this ledger.
+fn questions_with<T: Tree, O: Outputs, L: Ledger>(
+    alloc: Global,
+    tree: &mut T,
+    inputs: &Inputs<'_>,
+    out: &mut O,
+    blank: Blank,
+) -> Status
+    requires tree { HasRoom (T.seen tree.old).failures }
+    requires out { HasRoom (O.seen out.old).failures }
+    requires name { blank.name ≡ L.name }
+    requires parts { blank.parts ≡ L.parts }
+    requires some { 0 < blank.parts }
+    ensures run { (files : Files) (said : MachineSaid) → Holds (T.seen tree.old) files → IsSaid inputs.now.machine.now said
+        → Agrees (questions_of files (settings_view inputs.now.settings.now) said) result (O.seen out.old) (O.seen out.new) }
+    ensures device { FailsOnce result (T.seen tree.old).failures (O.seen out.old).failures (T.seen tree.new).failures
+        (O.seen out.new).failures }
+{
+    let mut steps = new_steps::<L>(blank);
+    let answer = ask(alloc, tree, inputs, &mut steps);
+    settle(answer, out)
+}
+
+/// Tells what the run of [`setup`](crate::running::setup) over the same bytes asks of the machine file: in the log one line of JSON for
+/// each question, in the order of the first asking, and then the line of the run's fault, where it has one. Nothing else is written.
+pub fn questions<T: Tree, O: Outputs>(
+    alloc: Global,
+    tree: &mut T,
+    settings: &Settings,
+    machine: &[u8],
+    out: &mut O,
+) -> Status
+    requires tree { HasRoom (T.seen tree.old).failures }
+    requires out { HasRoom (O.seen out.old).failures }
+
+    // Over a steady tree, status `Done` or `Fault` is that of the run, and outputs that tell took all of these lines, and nothing else. With
+    // status `Device` or `Memory` they took a beginning. The questions and their answers are those of the run that `setup` does.
+    ensures run { (files : Files) (said : MachineSaid) → Holds (T.seen tree.old) files → IsSaid machine.now said
+        → Agrees (questions_of files (settings_view settings.now) said) result (O.seen out.old) (O.seen out.new) }
+
+    // Of any devices: one of them has failed once where the status is `Device`, and else none has.
+    ensures device { FailsOnce result (T.seen tree.old).failures (O.seen out.old).failures (T.seen tree.new).failures
+        (O.seen out.new).failures }
+{
+    let inputs = Inputs { settings, machine };
+    questions_with::<T, O, Brand>(alloc, tree, &inputs, out, Blank::new(1))
+}
