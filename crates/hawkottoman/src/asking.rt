@@ -1,14 +1,16 @@
 //! What a run asks of the machine file, told in place of what it writes.
-ghost use Rattle.std.specs.Prelude.{◌≡◌, ◌<◌, option_map, string_bytes};
+ghost use Rattle.std.specs.Prelude.{◌≡◌, ◌<◌, IfOk, option_map, string_bytes};
 ghost use Rattle.ports.specs.Endings.{HasRoom};
 ghost use Rattle.basics.specs.View.{fault_view};
 ghost use Rattle.build_file.specs.Concluding.{Agrees};
 ghost use Rattle.interp.specs.Evaluation.{IsSaid, MachineSaid, evaluated, sections_of};
+ghost use Rattle.machine_file.specs.View.{machine_in};
+ghost use Rattle.world.specs.AskedView.{all_asked_in};
 ghost use Rattle.world.specs.Deed.{Files};
 ghost use Rattle.world.specs.Gives.{Holds, failures_after};
 ghost use Rattle.world.specs.SettingsView.{settings_view};
 ghost use Rattle.hawkottoman.specs.Laws.{asked_by};
-ghost use Rattle.hawkottoman.specs.Questions.{lines_then, questions_of, questions_text};
+ghost use Rattle.hawkottoman.specs.Questions.{ending_with, lines_then, questions_of, questions_text};
 ghost use Rattle.hawkottoman.specs.Setup.{Concludes, FailsOnce};
 ghost use Rattle.hawkottoman.specs.Telling.{Asks, Told};
 
@@ -17,11 +19,12 @@ use crate::telling::questions_text;
 use basics::faults::Fault;
 use build_file::{Status, refuse};
 use interp::{Inputs, definitions, read_machine};
+use machine_file::Machine;
 use ports::{Outputs, Tree, log_all};
-use std::alloc::Global;
+use std::alloc::{AllocError, Global};
 use std::marker::Brand;
 use std::sync::ledger::{Blank, Ledger};
-use world::{Settings, Steps, Stop, Store, new_steps};
+use world::{Asked, Settings, Steps, Stop, Store, new_steps};
 
 // What a run asked of the machine file, as lines, and its fault.
 #[derive(Drop)]
@@ -30,19 +33,41 @@ pub struct Asking {
     pub fault: Option<Fault>,
 }
 
+// How the telling ends: by the fault, where there is one.
+fn end<O: Outputs>(fault: &Option<Fault>, out: &mut O) -> Status
+    requires { HasRoom (O.seen out.old).failures }
+    ensures { Concludes (ending_with (option_map fault_view fault.now)) result (O.seen out.old) (O.seen out.new) }
+{
+    match fault {
+        Some(fault) => refuse(fault, out),
+        None => Status::Done,
+    }
+}
+
 impl Asking {
+    // What was asked, with what this machine file answers, and how the run ended.
+    fn of(
+        alloc: Global,
+        machine: &Machine,
+        asked: &[Asked],
+        fault: Option<Fault>,
+    ) -> Result<Asking, AllocError>
+        ensures lines { IfOk result (λ a. string_bytes a.lines ≡ questions_text (machine_in machine.now) (all_asked_in asked.now)) }
+        ensures fault { IfOk result (λ a. a.fault ≡ fault) }
+    {
+        let lines = questions_text(alloc, machine, asked)?;
+        Ok(Asking { lines, fault })
+    }
+
     // Tells the lines in the log, and then the fault.
     fn tell<O: Outputs>(&self, out: &mut O) -> Status
         requires { HasRoom (O.seen out.old).failures }
         ensures { Concludes (lines_then (string_bytes self.now.lines) (option_map fault_view self.now.fault)) result (O.seen out.old)
             (O.seen out.new) }
     {
-        if log_all(out, self.lines.as_bytes()).is_err() {
-            return Status::Device;
-        }
-        match &self.fault {
-            Some(fault) => refuse(fault, out),
-            None => Status::Done,
+        match log_all(out, self.lines.as_bytes()) {
+            Ok(()) => end(&self.fault, out),
+            Err(_) => Status::Device,
         }
     }
 }
@@ -62,14 +87,15 @@ fn ask<T: Tree, L: Ledger>(
 {
     let machine = read_machine(alloc, inputs.machine)?;
     let mut store = Store::new(alloc, inputs.settings.copy(alloc)?, machine.clone()?)?;
-    let mut nothing = NoOutputs::new();
-    let fault = match definitions(alloc, &mut store, tree, &mut nothing, steps) {
-        Ok(()) => None,
-        Err(Stop::Refused(fault)) => Some(fault),
-        Err(stop) => return Err(stop),
-    };
-    let lines = questions_text(alloc, &machine, store.asked())?;
-    Ok(Asking { lines, fault })
+    let mut nothing = NoOutputs::new(alloc);
+    match definitions(alloc, &mut store, tree, &mut nothing, steps) {
+        Ok(()) => Ok(Asking::of(alloc, &machine, store.asked(), None)?),
+        Err(Stop::Refused(fault)) => Ok(Asking::of(alloc, &machine, store.asked(), Some(fault))?),
+        // Outputs that keep nothing fail only where no memory is left.
+        Err(Stop::Device) if nothing.failures() == 0 => Err(Stop::Device),
+        Err(Stop::Device) => Err(Stop::Memory),
+        Err(Stop::Memory) => Err(Stop::Memory),
+    }
 }
 
 // What is done with what a run asked: its lines are told, and its fault.

@@ -1,39 +1,54 @@
 //! Outputs that keep nothing.
-ghost use Rattle.std.specs.Prelude.{◌≡◌, ℕ, List, None, Option};
+ghost use Rattle.std.specs.Prelude.{◌≡◌, None, option_map, string_bytes};
 ghost use Rattle.hawkottoman.specs.Nothing.{untold};
 
 use ports::{DeviceFault, Outputs};
+use std::alloc::Global;
 
-/// Outputs that take all and keep nothing, for a run of which only something else is wanted. No call fails.
+/// Outputs that take all and keep nothing but the name of the open one, for a run of which only something else is wanted. A call fails
+/// only where there is no memory for that name.
 #[derive(Drop)]
 pub struct NoOutputs {
-    // The output that is open, which nothing asks for when the program runs.
-    ghost open: { Option (List ℕ) },
+    alloc: Global,
+    current: Option<String>,
+    failures: u64,
 }
 
 impl NoOutputs {
     /// Outputs of which none is open.
-    pub fn new() -> NoOutputs
-        ensures { result.open ≡ None }
+    pub fn new(alloc: Global) -> NoOutputs
+        ensures { ⟦<NoOutputs as Outputs>⟧.seen result ≡ untold None 0 }
     {
-        NoOutputs {}
+        NoOutputs {
+            alloc,
+            current: None,
+            failures: 0,
+        }
     }
 }
 
 impl Outputs for NoOutputs {
-    ghost seen = { λ n. untold n.open };
+    ghost seen = { λ n. untold n.current n.failures };
 
     fn failures(&self) -> u64 {
-        0
+        self.failures
     }
 
-    fn open(&mut self, _name: &str) -> Result<(), DeviceFault> {
-        *self = NoOutputs {};
-        Ok(())
+    fn open(&mut self, name: &str) -> Result<(), DeviceFault> {
+        match String::from_str(self.alloc, name) {
+            Ok(name) => {
+                self.current = Some(name);
+                Ok(())
+            }
+            Err(_) => {
+                self.failures += 1;
+                Err(DeviceFault)
+            }
+        }
     }
 
     fn close(&mut self) -> Result<(), DeviceFault> {
-        *self = NoOutputs {};
+        self.current = None;
         Ok(())
     }
 
