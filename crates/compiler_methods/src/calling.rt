@@ -94,7 +94,10 @@ fn text_of(value: &Value) -> &str
 }
 
 // Asks whether the compiler takes a value as an argument.
-fn ask_argument<T: Tree, O: Outputs>(caller: &mut Caller<'_, T, O>, value: &Value) -> Result<(), Stop>
+fn ask_argument<T: Tree, O: Outputs>(
+    caller: &mut Caller<'_, T, O>,
+    value: &Value,
+) -> Result<(), Stop>
     ensures deed { Carries (λ u. answer_to caller.old.store.now.machine (argument_topic (text_or_none (Some (data_of value.now)))))
         (consult (plain (argument_topic (text_or_none (Some (data_of value.now)))))) (state_of T.seen O.seen caller.old) result
         (state_of T.seen O.seen caller.new) }

@@ -31,7 +31,12 @@ impl Telling {
     }
 
     // Tells a line of a question, unless one was told that says the same.
-    fn add(&mut self, alloc: Global, line: &QuestionLine<'_>, asked: &Asked) -> Result<(), AllocError>
+    fn add(
+        &mut self,
+        alloc: Global,
+        line: &QuestionLine<'_>,
+        asked: &Asked,
+    ) -> Result<(), AllocError>
         ensures { OnOk result (Tells self.old (shown (asked_in asked.now) (line_in line.now) ∷ []) self.new) }
     {
         let label = line.label(alloc)?;

@@ -187,11 +187,7 @@ fn no_flags(alloc: Global) -> Flags
 
 impl Store {
     /// The world in which a run begins, over a machine file that says this.
-    pub fn new(
-        alloc: Global,
-        settings: Settings,
-        machine: Rc<Machine>,
-    ) -> Result<Store, AllocError>
+    pub fn new(alloc: Global, settings: Settings, machine: Rc<Machine>) -> Result<Store, AllocError>
         ensures world { IfOk result (λ s. world_of s ≡ first_world (settings_view settings) (machine_in machine.value)) }
         ensures names { IfOk result (λ s. s.names ≡ []) }
     {
