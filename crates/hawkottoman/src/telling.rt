@@ -40,11 +40,12 @@ impl Telling {
         ensures { OnOk result (Tells self.old (shown (asked_in asked.now) (line_in line.now) ∷ []) self.new) }
     {
         let label = line.label(alloc)?;
-        if self.labels.number_of(&label).is_some() {
+        let count = self.labels.len();
+        self.labels.put(&label)?;
+        if self.labels.len() == count {
             return Ok(());
         }
         let text = line.text(alloc, asked.file.as_str(), asked.line)?;
-        self.labels.put(&label)?;
         self.text.push_str(&text)?;
         self.text.push_str("\n")
     }

@@ -6,4 +6,4 @@ use Rattle.hawkottoman.specs.Telling.{Tells}
 use Rattle.hawkottoman.proofs.telling.Telling.add_all.Given as goal
 
 abbrev pub invariant-loop-line : goal.invariant-loop-line
-invariant-loop-line l = Tells l.fn.self (map (shown (asked_in l.asked)) (map line_in (take l.line-index l.lines.items))) l.self
+invariant-loop-line l = Tells l.fn.self (map (shown (asked_in l.asked)) (map line_in (take l.line-index l.line-items))) l.self
