@@ -1,3 +1,3 @@
 pub mod Others
 pub mod Outputs
-pub mod Machines
+pub mod Keys

@@ -1,9 +1,10 @@
 -- Names that are looked up, one after another.
-use Rattle.std.proofs.Common.{◌≡◌, ℕ, ◌+◌, ◌<◌, ◌≤◌, Bor, List, [], map, length, drop, get_or, ap}
+use Rattle.std.proofs.Common.{◌≡◌, ◌==◌, ℕ, suc, ◌+◌, ◌<◌, ◌≤◌, Bor, true, false, List, [], ◌∷◌, None, refl, map, length, drop, get_or, sym, ap, eqb-true, arith}
+use Rattle.std.proofs.lemmas.Bool.{false≢true}
 use Rattle.std.proofs.lemmas.List.{drop_all, drop_more}
-use Rattle.world.specs.Deed.{then}
+use Rattle.world.specs.Deed.{give, then}
 use Rattle.arguments.specs.Arguments.{ArgumentsData}
-use Rattle.resource_calls.specs.Dependency.{dependency_named, first_said, said_or}
+use Rattle.resource_calls.specs.Dependency.{ask_dependency, dependency_named, first_said, said_or}
 use Rattle.resource_calls.specs.Programs.{first_program, or_else, program_named}
 
 -- what stands behind a list
@@ -34,3 +35,14 @@ first_said-drop a names i h = ap (λ (ns : List (Bor (List ℕ))). first_said a 
 
 pub first_said-end : (a : ArgumentsData) (names : List (Bor (List ℕ))) (i : ℕ) → length names ≤ i → first_said a (all_from names i) ≡ first_said a []
 first_said-end a names i h = ap (λ (ns : List (Bor (List ℕ))). first_said a (map (λ n. n.now) ns)) (drop_all i names h)
+
+-- of the empty name nothing is asked
+pub named_none : (name : List ℕ) (a : ArgumentsData) → (length name == 0) ≡ true → dependency_named name a ≡ give None
+unfolding dependency_named
+named_none [] a h = refl
+named_none (b ∷ name) a h = absurd (let e : suc (length name) ≡ 0 = eqb-true (length (b ∷ name)) 0 h in omega (arith, e))
+
+pub named_some : (name : List ℕ) (a : ArgumentsData) → (length name == 0) ≡ false → dependency_named name a ≡ ask_dependency name a
+unfolding dependency_named
+named_some [] a h = absurd (false≢true (sym h))
+named_some (b ∷ name) a h = refl

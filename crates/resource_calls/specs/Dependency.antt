@@ -1,5 +1,5 @@
 -- `dependency`: what the machine file has.
-use Rattle.std.specs.Prelude.{ℕ, ◌==◌, List, [], ◌∷◌, length, Option, Some, None, codes, if◌then◌else◌, Result}
+use Rattle.std.specs.Prelude.{ℕ, List, [], ◌∷◌, Option, Some, None, codes, Result}
 use Rattle.arguments.specs.Arguments.{ArgumentsData}
 use Rattle.data.specs.Flat.{flat_all}
 use Rattle.arguments.specs.Given.{text_at, texts}
@@ -34,7 +34,8 @@ ask_dependency name a = do
 
 -- the same; for the empty name nothing is asked, and there is none
 unfoldable pub dependency_named : List ℕ → ArgumentsData → Deed (Option (Result Dependency Refusal))
-dependency_named name a = if length name == 0 then give None else ask_dependency name a
+dependency_named [] a = give None
+dependency_named (b ∷ name) a = ask_dependency (b ∷ name) a
 
 abbrev pub said_or : Option (Result Dependency Refusal) → Deed (Option (Result Dependency Refusal)) → Deed (Option (Result Dependency Refusal))
 said_or (Some said) others = give (Some said)
