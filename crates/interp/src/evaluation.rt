@@ -1,5 +1,6 @@
 //! A whole evaluation.
 ghost use Rattle.std.specs.Prelude.{◌≡◌, ℕ, [], IfOk, length};
+ghost use Rattle.std.specs.Rc.{rc_value};
 ghost use Rattle.machine_file.specs.View.{machine_in};
 ghost use Rattle.ports.specs.Endings.{HasRoom};
 ghost use Rattle.world.specs.Deed.{Files};
@@ -124,7 +125,7 @@ pub fn definitions<T: Tree, O: Outputs, L: Ledger>(
 
 /// The machine file that these bytes spell. A file that is none is the fault; nothing was looked at then.
 pub fn read_machine(alloc: Global, bytes: &[u8]) -> Result<Rc<Machine>, Stop>
-    ensures reads { (said : MachineSaid) → IsSaid bytes.now said → Reads (λ m. machine_in m.value) said result }
+    ensures reads { (said : MachineSaid) → IsSaid bytes.now said → Reads (λ m. machine_in (rc_value m)) said result }
     ensures quiet { (n : ℕ) → failures_after n result ≡ n }
 {
     match Machine::read(alloc, bytes)? {
