@@ -1,52 +1,38 @@
--- What a run asks, and how that is told.
-use Rattle.std.proofs.Common.{◌≡◌, ℕ, ◌+◌, ◌≤◌, true, false, List, [], ◌∷◌, ◌++◌, Option, Some, None, Result, Ok, Err, IsErrAnd, refl, sym, ap, subst, ◌∙◌, arith}
-use Rattle.std.specs.Prelude.{option_map, string_bytes}
-use Rattle.std.proofs.lemmas.Bool.{false≢true}
-use Rattle.ports.specs.Endings.{HasRoom, ended}
-use Rattle.ports.specs.Outputs.{OutputState, Step, Writes, logs}
-use Rattle.ports.specs.declared.fault.DeviceFault.{DeviceFault}
-use Rattle.ports.proofs.Sending.{sends_none, sends_nothing, sends_stop, sends_then}
+-- What a run asks.
+use Rattle.std.proofs.Common.{◌≡◌, ◌≢◌, ℕ, zero, suc, ◌+◌, ◌≤◌, List, [], Result, Ok, Err, IsErrAnd, refl, sym, ap, subst, ◌∙◌, arith}
 use Rattle.basics.specs.Faults.{FaultData}
-use Rattle.basics.specs.View.{fault_view}
-use Rattle.build_file.specs.Concluding.{Agrees, Whole, failed_devices, faulted_with, is_finished, told_before}
-use Rattle.build_file.specs.declared.concluding.Status.{Status}
-use Rattle.build_file.specs.declared.concluding.Status.TheVariants as statuses
-use Rattle.edge.specs.Texts.{Text}
 use Rattle.definition_files.specs.Places.{refuse_at}
 use Rattle.machine_file.specs.Fault.{told}
 use Rattle.machine_file.specs.Files.{Section}
 use Rattle.machine_file.specs.declared.fault.MachineFault.{MachineFault}
 use Rattle.world.specs.Deed.{Files}
-use Rattle.world.specs.Gives.{Gives, failures_after, is_ended}
+use Rattle.world.specs.Gives.{Gives, failures_after}
 use Rattle.world.specs.Plan.{carry}
-use Rattle.world.specs.Run.{Outcome, Run, Done, Faulted, outcome_of, world_after}
+use Rattle.world.specs.Run.{Outcome, Run, Faulted, outcome_of}
 use Rattle.world.specs.Settings.{SettingsData}
-use Rattle.world.specs.Start.{first_world}
-use Rattle.world.specs.Store.{Kept, world_of}
 use Rattle.world.specs.Trace.{Seen}
-use Rattle.world.specs.World.{Asked}
+use Rattle.world.specs.World.{Asked, World}
 use Rattle.world.specs.declared.stop.Stop.{Stop}
 use Rattle.world.specs.declared.stop.Stop.TheVariants as stops
-use Rattle.interp.specs.Beginnings.{Reads, Starts}
+use Rattle.interp.specs.Beginnings.{Reads}
 use Rattle.interp.specs.Evaluation.{MachineSaid, definitions, evaluated, sections_of}
-use Rattle.interp.proofs.Starting.{all_asked, started, was_read}
 use Rattle.hawkottoman.specs.Laws.{asked_by}
-use Rattle.hawkottoman.specs.Questions.{ending_with, fault_of, lines_then, questions_text}
-use Rattle.hawkottoman.specs.Setup.{Concludes, FailsOnce, Keeps}
-use Rattle.hawkottoman.specs.Telling.{Asks, Is, Told}
+use Rattle.hawkottoman.specs.Questions.{fault_of, questions_text}
+use Rattle.hawkottoman.specs.Telling.{Asks, AsksOver, Ended, text_of}
 use Rattle.hawkottoman.specs.declared.asking.Asking.{Asking}
-use Rattle.hawkottoman.proofs.Runs.{unfinished}
-
--- ---- what was asked
 
 -- the lines of all that a run asks
-abbrev pub run_text : Files → SettingsData → MachineSaid → Text
+abbrev pub run_text : Files → SettingsData → MachineSaid → List ℕ
 run_text files s said = questions_text (sections_of said) (asked_by files s said)
 
 -- no memory was left
-pub asks_none : (run : Run (Unit {0})) (text : Text) (result : Result Asking Stop) → IsErrAnd result (λ r. r ≡ stops.Memory) → Asks run text result
+pub asks_none : (run : Run (Unit {0})) (text : List ℕ) (result : Result Asking Stop) → IsErrAnd result (λ r. r ≡ stops.Memory) → Asks run text result
 asks_none run text (Ok a) is = absurd is
 asks_none run text (Err e) is = subst (λ x. Asks run text (Err x)) (sym is) tt
+
+pub fails_none : (result : Result Asking Stop) (t : ℕ) → IsErrAnd result (λ r. r ≡ stops.Memory) → t ≡ failures_after t result
+fails_none (Ok a) t is = absurd is
+fails_none (Err e) t is = subst (λ x. t ≡ failures_after {B = Asking} t (Err x)) (sym is) refl
 
 -- a machine file with a fault: nothing was asked
 faulty_asked : (files : Files) (s : SettingsData) (f : MachineFault) → run_text files s (Err f) ≡ []
@@ -70,100 +56,63 @@ pub asks_unread : {A : Type 0} (view : A → List Section) (files : Files) (s : 
 asks_unread view files s said e (Ok a) is h = absurd is
 asks_unread view files s said e (Err d) is h = subst (λ x. Asks (evaluated files s said) (run_text files s said) (Err x)) (sym is) (unread view files s said e h)
 
--- the sections that were read
-pub read_sections : {A : Type 0} (view : A → List Section) (said : MachineSaid) (x : A) → Reads view said (Ok x) → view x ≡ sections_of said
-read_sections view (Ok sections) x h = h
-read_sections view (Err g) x h = absurd h
+-- a store that begins so was asked
+pub over_read : (files : Files) (machine sections : List Section) (k w : World) (result : Result Asking Stop) → machine ≡ sections → k ≡ w
+    → Asks (carry files definitions k) (text_of machine (carry files definitions k)) result → Asks (carry files definitions w) (text_of sections (carry files definitions w)) result
+over_read files machine sections k w result same is h =
+    subst (λ ss. Asks (carry files definitions w) (text_of ss (carry files definitions w)) result) same
+    (subst (λ x. Asks (carry files definitions x) (text_of machine (carry files definitions x)) result) is h)
 
--- the outcome of the definitions in the first world is that of the run
-abbrev pub ends_as : Result (Unit {0}) Stop → Outcome (Unit {0}) → Type 0
-ends_as (Ok u) o = o ≡ Done tt
-ends_as (Err (stops.Refused fault)) o = o ≡ Faulted (fault_view fault)
-ends_as (Err stops.Device) o = Unit {0}
-ends_as (Err stops.Memory) o = Unit {0}
-
-came_to : (run : Run (Unit {0})) (result : Result (Unit {0}) Stop) (k : Kept) (old new : Seen) → Gives {A = Unit {0}} {B = Unit {0}} (λ u. u) run result (world_of k) old new
-    → ends_as result (outcome_of run)
-came_to run (Ok u) k old new g = ap (λ r. outcome_of r) g.is
-came_to run (Err (stops.Refused fault)) k old new g = g.is
-came_to run (Err stops.Device) k old new g = tt
-came_to run (Err stops.Memory) k old new g = tt
+-- what was asked over the sections that were read is what the run asks
+pub asks_read : {A : Type 0} (view : A → List Section) (files : Files) (s : SettingsData) (said : MachineSaid) (x : A) (result : Result Asking Stop) → Reads view said (Ok x)
+    → AsksOver files s (view x) result → Asks (evaluated files s said) (run_text files s said) result
+unfolding evaluated
+asks_read view files s (Ok sections) x result read h = subst (λ ss. AsksOver files s ss result) read h
+asks_read view files s (Err g) x result read h = absurd read
 
 -- what stands in the store is all that was asked, where the definitions came to their end
-pub asks_all : {A : Type 0} (view : A → List Section) (files : Files) (s : SettingsData) (said : MachineSaid) (x : A) (kept k : Kept) (result : Result (Unit {0}) Stop)
-    (fault : Option FaultData) (a : Asking) (old new : Seen) → Reads view said (Ok x) → world_of kept ≡ first_world s (view x)
-    → Gives {A = Unit {0}} {B = Unit {0}} (λ u. u) (carry files definitions (world_of kept)) result (world_of k) old new → is_ended result ≡ 1
-    → ((o : Outcome (Unit {0})) → ends_as result o → fault ≡ fault_of o) → string_bytes a.lines ≡ questions_text (view x) k.asked → option_map fault_view a.fault ≡ fault
-    → Is (evaluated files s said) (run_text files s said) a
-asks_all view files s said x kept k result fault a old new read first g e by_outcome lines is =
-    let starts = was_read view s said x kept read first in
-    record {
-      lines = lines ∙ ap (λ ss. questions_text ss k.asked) (read_sections view said x read)
-          ∙ ap (λ (asked : List Asked). questions_text (sections_of said) asked) (all_asked files s said kept k result old new starts g e);
-      fault = is ∙ by_outcome (outcome_of (evaluated files s said))
-          (subst (λ r. ends_as result (outcome_of r)) (started files s said kept starts) (came_to (carry files definitions (world_of kept)) result k old new g));
-    }
+pub asks_after : (run : Run (Unit {0})) (sections : List Section) (ended : Result (Unit {0}) Stop) (w : World) (n : ℕ) (old new : Seen) (result : Result Asking Stop)
+    → Gives {A = Unit {0}} {B = Unit {0}} (λ u. u) run ended w old new → Ended ended (questions_text sections w.asked) n result → Asks run (text_of sections run) result
+asks_after run sections (Ok u) w n old new (Ok a) g e = record {
+  lines = e.0 ∙ ap (λ r. text_of sections r) (sym g.is);
+  fault = e.1 ∙ ap (λ r. fault_of (outcome_of r)) (sym g.is);
+}
+asks_after run sections (Err (stops.Refused fault)) w n old new (Ok a) g e = record {
+  lines = e.0 ∙ ap (λ (asked : List Asked). questions_text sections asked) g.asks;
+  fault = e.1 ∙ ap (λ (o : Outcome (Unit {0})). fault_of o) (sym g.is);
+}
+asks_after run sections (Err stops.Device) w n old new (Ok a) g e = absurd e
+asks_after run sections (Err stops.Memory) w n old new (Ok a) g e = absurd e
+asks_after run sections ended w n old new (Err (stops.Refused fault)) g e = absurd e
+asks_after run sections ended w n old new (Err stops.Device) g e = tt
+asks_after run sections ended w n old new (Err stops.Memory) g e = tt
 
--- ---- how it is told
+-- ---- the failures of the tree, `t` before and `u` after it
 
-pub ends_none : (old : OutputState) → Concludes (ending_with None) statuses.Done old old
-ends_none old = record { agrees = record { status = λ h. refl; events = sends_nothing old }; failures = omega arith }
+no_memory : (t u n : ℕ) → n ≢ 0 → t ≤ u → u + n ≡ t + 0 + 1 → u ≡ t
+no_memory t u zero other a e = absurd (other refl)
+no_memory t u (suc n) other a e = omega (arith, a, e)
 
--- the lines were taken, and then the ending
-pub told_lines : (run : List Step) (end : Whole) (status : Status) (old mid new : OutputState) (r : Result (Unit {0}) DeviceFault) → r ≡ Ok tt → Writes old run (ended r) mid
-    → Concludes end status mid new → Concludes (told_before run end) status old new
-told_lines run end status old mid new r is w c =
-    let whole = subst (λ x. Writes old run (ended x) mid) is w in
-    record {
-      agrees = record { status = c.agrees.status; events = sends_then whole.sends c.agrees.events };
-      failures = c.failures ∙ ap (λ n. n + failed_devices status) whole.failures;
-    }
+pub fails_after : (ended : Result (Unit {0}) Stop) (text : List ℕ) (n : ℕ) (result : Result Asking Stop) (t u : ℕ) → t ≤ u → u + n ≡ failures_after (t + 0) ended → Ended ended text n result
+    → u ≡ failures_after t result
+fails_after (Ok x) text n (Ok a) t u le sum e = omega (arith, le, sum)
+fails_after (Err (stops.Refused fault)) text n (Ok a) t u le sum e = omega (arith, le, sum)
+fails_after (Err stops.Device) text n (Ok a) t u le sum e = absurd e
+fails_after (Err stops.Memory) text n (Ok a) t u le sum e = absurd e
+fails_after ended text n (Err (stops.Refused fault)) t u le sum e = absurd e
+fails_after ended text n (Err stops.Device) t u le sum e =
+    let all : u + n ≡ t + 0 + 1 = subst (λ x. u + n ≡ failures_after (t + 0) x) e.0 sum in omega (arith, all, e.1)
+fails_after (Ok x) text n (Err stops.Memory) t u le sum e = omega (arith, le, sum)
+fails_after (Err (stops.Refused fault)) text n (Err stops.Memory) t u le sum e = omega (arith, le, sum)
+fails_after (Err stops.Device) text n (Err stops.Memory) t u le sum e = no_memory t u n (e refl) le sum
+fails_after (Err stops.Memory) text n (Err stops.Memory) t u le sum e = omega (arith, le, sum)
 
--- or the log failed
-pub stopped_lines : (run : List Step) (end : Whole) (old new : OutputState) (r : Result (Unit {0}) DeviceFault) (e : DeviceFault) → r ≡ Err e → Writes old run (ended r) new
-    → Concludes (told_before run end) statuses.Device old new
-stopped_lines run end old new r e is w =
-    let failed = subst (λ x. Writes old run (ended x) new) is w in
-    record {
-      agrees = record { status = λ h. absurd (false≢true h); events = sends_stop end.steps failed.sends };
-      failures = failed.failures;
-    }
-
-pub room_then : (run : List Step) (old mid : OutputState) (r : Result (Unit {0}) DeviceFault) → r ≡ Ok tt → Writes old run (ended r) mid → HasRoom old.failures → HasRoom mid.failures
-room_then run old mid r is w h = subst (λ n. HasRoom n) (sym (subst (λ x. Writes old run (ended x) mid) is w).failures) h
-
--- ---- a run is asked, and that is told
-
-nothing_then : (f : FaultData) → faulted_with f ≡ lines_then [] (Some f)
-unfolding logs
-nothing_then f = refl
-
-pub agrees_asked : (run : Run (Unit {0})) (text : Text) (answer : Result Asking Stop) (status : Status) (old new : OutputState) → Asks run text answer → Told answer status old new
-    → Agrees (lines_then text (fault_of (outcome_of run))) status old new
-agrees_asked run text (Ok a) status old new asks is =
-    subst (λ f. Agrees (lines_then text f) status old new) asks.fault
-    (subst (λ t. Agrees (lines_then t (option_map fault_view a.fault)) status old new) asks.lines is.agrees)
-agrees_asked run text (Err (stops.Refused fault)) status old new asks is =
-    subst (λ o. Agrees (lines_then text (fault_of o)) status old new) (sym asks.1)
-    (subst (λ t. Agrees (lines_then t (Some (fault_view fault))) status old new) (sym asks.0)
-    (subst (λ w. Agrees w status old new) (nothing_then (fault_view fault)) is.agrees))
-agrees_asked run text (Err stops.Device) status old new asks is =
-    let whole = lines_then text (fault_of (outcome_of run)) in
-    unfinished whole statuses.Device status old old new refl is (sends_none old whole.steps)
-agrees_asked run text (Err stops.Memory) status old new asks is =
-    let whole = lines_then text (fault_of (outcome_of run)) in
-    unfinished whole statuses.Memory status old old new refl is (sends_none old whole.steps)
-
--- the devices: the tree's count of failures before and after, and the outputs
-kept_fails : (stop status : Status) (t u : ℕ) (old new : OutputState) → u ≡ t + failed_devices stop → Keeps stop status old new → FailsOnce status t old.failures u new.failures
-kept_fails stop status t u old new e k =
-    let same : new.failures ≡ old.failures = ap (λ (o : OutputState). o.failures) k.same in
-    let by : failed_devices status ≡ failed_devices stop = ap failed_devices k.ended in
-    record { of_tree = omega (arith, e); of_out = omega (arith, same); sum = omega (arith, e, same, by) }
-
-pub fails_asked : (answer : Result Asking Stop) (status : Status) (t u : ℕ) (old new : OutputState) → u ≡ failures_after t answer → Told answer status old new
-    → FailsOnce status t old.failures u new.failures
-fails_asked (Ok a) status t u old new e is = record { of_tree = omega (arith, e); of_out = omega (arith, is.failures); sum = omega (arith, e, is.failures) }
-fails_asked (Err (stops.Refused fault)) status t u old new e is = record { of_tree = omega (arith, e); of_out = omega (arith, is.failures); sum = omega (arith, e, is.failures) }
-fails_asked (Err stops.Device) status t u old new e is = kept_fails statuses.Device status t u old new e is
-fails_asked (Err stops.Memory) status t u old new e is = kept_fails statuses.Memory status t u old new (omega (arith, e)) is
+-- a stop before any device was asked
+pub fails_unread : (A : Type 0) (e : Stop) (result : Result Asking Stop) (t : ℕ) → IsErrAnd result (λ s. s ≡ e) → ((n : ℕ) → failures_after {B = A} n (Err e) ≡ n) → t ≡ failures_after t result
+fails_unread A e (Ok a) t is quiet = absurd is
+fails_unread A e (Err d) t is quiet = subst (λ x. t ≡ failures_after {B = Asking} t (Err x)) (sym is) (same A t e quiet)
+  where
+    same : (A : Type 0) (t : ℕ) (e : Stop) → ((n : ℕ) → failures_after {B = A} n (Err e) ≡ n) → t ≡ failures_after {B = Asking} t (Err e)
+    same A t (stops.Refused fault) quiet = refl
+    same A t stops.Device quiet = sym (quiet t)
+    same A t stops.Memory quiet = refl

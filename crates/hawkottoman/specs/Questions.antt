@@ -1,10 +1,9 @@
 -- What `meson questions` tells: what a run asks of the machine file, as lines, and how the run ends.
-use Rattle.std.specs.Prelude.{List, [], ◌∷◌, ◌++◌, map, codes, Option, Some, None, if◌then◌else◌}
+use Rattle.std.specs.Prelude.{ℕ, List, [], ◌∷◌, ◌++◌, map, codes, Option, Some, None, if◌then◌else◌}
 use Rattle.std.specs.List.{flat_map, list_any}
 use Rattle.std.specs.Str.{bytes_eq}
 use Rattle.ports.specs.Outputs.{logs}
 use Rattle.basics.specs.Faults.{FaultData}
-use Rattle.edge.specs.Texts.{Text}
 use Rattle.machine_file.specs.Files.{Section}
 use Rattle.machine_file.specs.Questions.{answer_to}
 use Rattle.build_file.specs.Concluding.{Whole, faulted_with, told_before}
@@ -18,20 +17,20 @@ use Rattle.interp.specs.Evaluation.{MachineSaid, evaluated, sections_of}
 use Rattle.hawkottoman.specs.Laws.{asked_by}
 
 -- a line of a question: what it says beside its place, and the whole text, of the place of the call that asked
-abbrev pub shown : Asked → Line → Text × Text
+abbrev pub shown : Asked → Line → List ℕ × List ℕ
 shown a l = (label_text l, line_text l a.file a.line)
 
 -- the lines of a question that was asked, with what these sections answer
-abbrev pub lines_asked : List Section → Asked → List (Text × Text)
+abbrev pub lines_asked : List Section → Asked → List (List ℕ × List ℕ)
 lines_asked sections a = map (shown a) (lines_of a.question (answer_to sections a.question.topic))
 
 -- of lines that say the same beside their places the first alone, each with a newline; these were told before
-abbrev pub first_told : List Text → List (Text × Text) → Text
+abbrev pub first_told : List (List ℕ) → List (List ℕ × List ℕ) → List ℕ
 first_told told [] = []
 first_told told (l ∷ ls) = if list_any (bytes_eq l.0) told then first_told told ls else l.1 ++ (codes "\n" ++ first_told (told ++ l.0 ∷ []) ls)
 
 -- the lines of all questions, in the order of the asking, each once
-abbrev pub questions_text : List Section → List Asked → Text
+abbrev pub questions_text : List Section → List Asked → List ℕ
 questions_text sections asked = first_told [] (flat_map (lines_asked sections) asked)
 
 -- the fault in which a run ends
@@ -45,7 +44,7 @@ ending_with None = record { steps = []; status = statuses.Done }
 ending_with (Some f) = faulted_with f
 
 -- lines for the log, and then that end
-abbrev pub lines_then : Text → Option FaultData → Whole
+abbrev pub lines_then : List ℕ → Option FaultData → Whole
 lines_then text fault = told_before (logs text) (ending_with fault)
 
 -- the lines of all that the run of these files, settings and what a machine file says asks of the machine file, for the log, and then the

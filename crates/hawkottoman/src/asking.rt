@@ -1,18 +1,21 @@
 //! What a run asks of the machine file, told in place of what it writes.
-ghost use Rattle.std.specs.Prelude.{◌≡◌, ◌<◌, IfOk, option_map, string_bytes};
+ghost use Rattle.std.specs.Prelude.{◌≡◌, ◌<◌, [], IfOk, option_map, string_bytes};
+ghost use Rattle.std.specs.Rc.{rc_value};
 ghost use Rattle.ports.specs.Endings.{HasRoom};
 ghost use Rattle.basics.specs.View.{fault_view};
 ghost use Rattle.build_file.specs.Concluding.{Agrees};
-ghost use Rattle.interp.specs.Evaluation.{IsSaid, MachineSaid, evaluated, sections_of};
+ghost use Rattle.interp.specs.Evaluation.{IsSaid, MachineSaid, definitions, evaluated, sections_of};
 ghost use Rattle.machine_file.specs.View.{machine_in};
 ghost use Rattle.world.specs.AskedView.{all_asked_in};
 ghost use Rattle.world.specs.Deed.{Files};
 ghost use Rattle.world.specs.Gives.{Holds, failures_after};
+ghost use Rattle.world.specs.Plan.{carry};
 ghost use Rattle.world.specs.SettingsView.{settings_view};
+ghost use Rattle.world.specs.Store.{world_of};
 ghost use Rattle.hawkottoman.specs.Laws.{asked_by};
 ghost use Rattle.hawkottoman.specs.Questions.{ending_with, lines_then, questions_of, questions_text};
 ghost use Rattle.hawkottoman.specs.Setup.{Concludes, FailsOnce};
-ghost use Rattle.hawkottoman.specs.Telling.{Asks, Told};
+ghost use Rattle.hawkottoman.specs.Telling.{Asks, AsksOver, Ended, Told, text_of};
 
 use crate::nothing::NoOutputs;
 use crate::telling::questions_text;
@@ -23,6 +26,7 @@ use machine_file::Machine;
 use ports::{Outputs, Tree, log_all};
 use std::alloc::{AllocError, Global};
 use std::marker::Brand;
+use std::rc::Rc;
 use std::sync::ledger::{Blank, Ledger};
 use world::{Asked, Settings, Steps, Stop, Store, new_steps};
 
@@ -72,7 +76,63 @@ impl Asking {
     }
 }
 
-// Evaluates the definitions over outputs that keep nothing.
+// What was asked, where the definitions ended so, over outputs that keep nothing and have failed so often: they do where no memory is left.
+fn told_after(
+    alloc: Global,
+    machine: &Machine,
+    asked: &[Asked],
+    ended: Result<(), Stop>,
+    failures: u64,
+) -> Result<Asking, Stop>
+    ensures { Ended ended (questions_text (machine_in machine.now) (all_asked_in asked.now)) failures result }
+{
+    match ended {
+        Ok(()) => Ok(Asking::of(alloc, machine, asked, None)?),
+        Err(Stop::Refused(fault)) => Ok(Asking::of(alloc, machine, asked, Some(fault))?),
+        Err(Stop::Device) if failures == 0 => Err(Stop::Device),
+        Err(Stop::Device) => Err(Stop::Memory),
+        Err(Stop::Memory) => Err(Stop::Memory),
+    }
+}
+
+// Evaluates the definitions in a new world.
+fn ask_in<T: Tree, L: Ledger>(
+    alloc: Global,
+    store: &mut Store,
+    tree: &mut T,
+    machine: &Machine,
+    steps: &mut Steps<L>,
+) -> Result<Asking, Stop>
+    requires new { store.old.entered ≡ [] }
+    requires tree { HasRoom (T.seen tree.old).failures }
+    ensures asks { (files : Files) → Holds (T.seen tree.old) files
+        → Asks (carry files definitions (world_of store.old)) (text_of (machine_in machine.now) (carry files definitions (world_of store.old)))
+        result }
+    ensures device { (T.seen tree.new).failures ≡ failures_after (T.seen tree.old).failures result }
+{
+    let mut nothing = NoOutputs::new(alloc);
+    let ended = definitions(alloc, store, tree, &mut nothing, steps);
+    told_after(alloc, machine, store.asked(), ended, nothing.failures())
+}
+
+// Evaluates the definitions over a machine file.
+fn ask_over<T: Tree, L: Ledger>(
+    alloc: Global,
+    tree: &mut T,
+    settings: &Settings,
+    machine: &Rc<Machine>,
+    steps: &mut Steps<L>,
+) -> Result<Asking, Stop>
+    requires { HasRoom (T.seen tree.old).failures }
+    ensures asks { (files : Files) → Holds (T.seen tree.old) files
+        → AsksOver files (settings_view settings.now) (machine_in (rc_value machine.now)) result }
+    ensures device { (T.seen tree.new).failures ≡ failures_after (T.seen tree.old).failures result }
+{
+    let mut store = Store::new(alloc, settings.copy(alloc)?, machine.clone()?)?;
+    ask_in(alloc, &mut store, tree, machine, steps)
+}
+
+// Evaluates the definitions, where the machine file has no fault.
 fn ask<T: Tree, L: Ledger>(
     alloc: Global,
     tree: &mut T,
@@ -86,16 +146,7 @@ fn ask<T: Tree, L: Ledger>(
     ensures device { (T.seen tree.new).failures ≡ failures_after (T.seen tree.old).failures result }
 {
     let machine = read_machine(alloc, inputs.machine)?;
-    let mut store = Store::new(alloc, inputs.settings.copy(alloc)?, machine.clone()?)?;
-    let mut nothing = NoOutputs::new(alloc);
-    match definitions(alloc, &mut store, tree, &mut nothing, steps) {
-        Ok(()) => Ok(Asking::of(alloc, &machine, store.asked(), None)?),
-        Err(Stop::Refused(fault)) => Ok(Asking::of(alloc, &machine, store.asked(), Some(fault))?),
-        // Outputs that keep nothing fail only where no memory is left.
-        Err(Stop::Device) if nothing.failures() == 0 => Err(Stop::Device),
-        Err(Stop::Device) => Err(Stop::Memory),
-        Err(Stop::Memory) => Err(Stop::Memory),
-    }
+    ask_over(alloc, tree, inputs.settings, &machine, steps)
 }
 
 // What is done with what a run asked: its lines are told, and its fault.

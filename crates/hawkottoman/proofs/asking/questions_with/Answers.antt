@@ -1,6 +1,7 @@
 use Rattle.world.specs.SettingsView.{settings_view}
 use Rattle.interp.specs.Evaluation.{evaluated}
-use Rattle.hawkottoman.proofs.Asked.{agrees_asked, fails_asked, run_text}
+use Rattle.hawkottoman.proofs.Asked.{run_text}
+use Rattle.hawkottoman.proofs.Tellings.{agrees_asked, fails_asked}
 use Rattle.hawkottoman.proofs.asking.questions_with.Goals as goal
 
 pub returns-clause-run : goal.returns-clause-run
