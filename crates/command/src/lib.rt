@@ -1,5 +1,4 @@
-//! The command line of the program: `meson setup [-Dname=value].. [--native-file FILE] BUILDDIR`, and `meson questions` with the same
-//! words.
+//! The command line of the program: `meson setup [-Dname=value].. [--native-file FILE] BUILDDIR`.
 //!
 //! # Decisions
 //!
@@ -21,5 +20,5 @@ mod line;
 mod read;
 
 pub use fault::LineFault;
-pub use line::{Line, Task};
+pub use line::Line;
 pub use read::command_line;

@@ -1,5 +1,2 @@
 pub mod Setup
 pub mod Laws
-pub mod Questions
-pub mod Telling
-pub mod Nothing
