@@ -134,8 +134,14 @@ def refused_of_project(project: Project, site: Site) -> list[str]:
             if isinstance(node, tree.Text) and node.value != "c":
                 texts.append(f"project: the language {node.value}: C alone is built here")
     for node in tree.inside(site.call):
-        if isinstance(node, tree.Call) and node is not site.call:
+        if isinstance(node, tree.Call) and node is not site.call and is_asked_too_early(node):
             texts.append(project.doubts.get(node, f"project: {node.name} can't be called in its arguments"))
         if isinstance(node, tree.Text) and node.value.replace(" ", "") == "default_library=both":
             texts.append("project: default_library=both: shared_library and static_library of one name")
     return texts
+
+
+def is_asked_too_early(call: tree.Call) -> bool:
+    """Whether a call can't stand in the arguments of `project`: a function, or a method of `meson`."""
+    receiver = tree.plain(call.receiver) if call.receiver else None
+    return receiver is None or (isinstance(receiver, tree.Name) and receiver.text == "meson")

@@ -8,7 +8,7 @@ from collections.abc import Callable, Iterable, Iterator
 from porting import tree
 from porting.edits import Change, indent_at, indented, line_start, whole_lines, with_item, without_item
 from porting.project import File, Project, Site
-from porting.values import texts_of
+from porting.values import kind_of, texts_of
 
 TARGETS = ("executable", "static_library", "shared_library", "library", "both_libraries", "shared_module", "build_target")
 # What only the real Meson does. `meson` is a variable of this program and none of the real one.
@@ -154,6 +154,12 @@ def compiler_text(project: Project, site: Site) -> str:
             if getattr(value, "kind", "") == "compiler" and getattr(value, "name", "") == "c":
                 return name
     return "meson.get_compiler('c')"
+
+
+def of_compiler(project: Project, *names: str) -> Iterator[Site]:
+    for site in project.methods(*names):
+        if site.call.receiver and kind_of(project.known.value(site.call.receiver)) == "compiler":
+            yield site
 
 
 def comparison_of(site: Site) -> tree.Binary | None:

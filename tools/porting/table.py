@@ -1,7 +1,7 @@
 """The rules, in the order in which they are carried out."""
 from __future__ import annotations
 
-from porting import calls, commands, compiler, dependencies, installs, keywords, options, pkgconfig, scripts, test_calls
+from porting import calls, commands, compiler, dependencies, installs, keywords, options, pkgconfig, scripts, sources, test_calls
 from porting.rule import Rule
 
 RULES = (
@@ -21,7 +21,7 @@ RULES = (
     Rule("option-file", "`deprecated:` of an option; integers without a value", options.deprecated_options),
     Rule("partial-dependency", "partial_dependency, as_system: the dependency itself", dependencies.partial_dependency),
     Rule("type-name", "type_name of a dependency: what it is, where it is found", dependencies.names_of_types),
-    Rule("sources", "compiles, links: has_type, has_function, with the source before it", compiler.sources),
+    Rule("sources", "compiles, links: has_type, has_function, with the source before it", sources.sources),
     Rule("attributes", "has_function_attribute: has_type", compiler.attributes),
     Rule("defines", "has_define: has_type", compiler.defines),
     Rule("link-arguments", "get_supported_link_arguments: has_link_argument in a loop", compiler.link_arguments),
