@@ -61,21 +61,37 @@ def attributes(project: Project) -> Iterator[Change]:
 
 
 def defines(project: Project) -> Iterator[Change]:
-    """`has_define` is a source that compiles where the name is defined."""
+    """`has_define` is a source that compiles where the name is defined, `get_define` beside '' one where it stands for something."""
     names = Names(project)
-    for site in of_compiler(project, "has_define"):
+    for site in of_compiler(project, "has_define", "get_define"):
         macro = text_of(project, site.call.arguments[0]) if site.call.arguments else None
-        prefix = site.call.keywords.get("prefix")
-        if macro is None:
+        outer = comparison_of(site) if site.call.name == "get_define" else None
+        is_beside_nothing = outer is not None and outer.operator in ("==", "!=") and isinstance(outer.right, tree.Text) and outer.right.value == ""
+        if macro is None or (site.call.name == "get_define" and not is_beside_nothing):
             continue
-        name = names.free("has_define_" + identifier(macro))
-        text = escaped(f"\n#ifndef {macro}\n#error it is not defined\n#endif\ntypedef int {name};\n")
-        edits = [renamed(site, "has_type"), replaced(site, site.call.arguments[0], escaped(name))]
-        if prefix is None:
-            edits[1] = replaced(site, site.call.arguments[0], f"{escaped(name)}, prefix: {text}")
-        else:
-            edits.append(replaced(site, prefix.value, prefix_text(site, prefix.value, text)))
-        yield site.change(f"has_define becomes has_type {name}", *edits)
+        name = names.free(f"{site.call.name}_{identifier(macro)}")
+        edits = [renamed(site, "has_type"), replaced(site, site.call.arguments[0], escaped(name)), *after_prefix(site, defined(name, macro, outer))]
+        if outer is not None:
+            edits.append((site.call.end, outer.end, "" if outer.operator == "!=" else " == false"))
+        yield site.change(f"{site.call.name} becomes has_type {name}", *edits)
+
+
+def defined(name: str, macro: str, outer: tree.Binary | None) -> str:
+    """A source that has a type of this name where a macro is defined, or where it stands for something."""
+    first = f"\n#ifndef {macro}\n#error it is not defined\n#endif\n"
+    if outer is None:
+        return escaped(f"{first}typedef int {name};\n")
+    return escaped(f"{first}#define check_text(x) #x\n#define check_text_of(x) check_text(x)\n"
+                   f"typedef char {name}[sizeof(check_text_of({macro})) > 1 ? 1 : -1];\n")
+
+
+def after_prefix(site: Site, text: str) -> list[tuple[int, int, str]]:
+    """The edits that put a text, which is a literal, behind the prefix of a check."""
+    prefix = site.call.keywords.get("prefix")
+    if prefix is not None:
+        return [replaced(site, prefix.value, prefix_text(site, prefix.value, text))]
+    end = site.call.arguments[0].end
+    return [(end, end, f", prefix: {text}")]
 
 
 def prefix_text(site: Site, node: tree.Node, text: str) -> str:

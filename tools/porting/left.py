@@ -104,6 +104,8 @@ def refused(project: Project, site: Site) -> list[str]:
     call, texts = site.call, []
     if call.receiver is None and call.name in FUNCTIONS:
         texts.append(f"{shown_name(project, site)}: {FUNCTIONS[call.name]}")
+    if isinstance(call.receiver, tree.Name) and call.receiver.text in modules_left(project):
+        texts.append(f"{call.receiver.text}.{call.name}: the module is left to the real Meson")
     if call.receiver is not None:
         for choice in choices_of(project.known.value(call.receiver)):
             advice = METHODS.get(kind_of(choice), {}).get(call.name)
@@ -145,3 +147,10 @@ def is_asked_too_early(call: tree.Call) -> bool:
     """Whether a call can't stand in the arguments of `project`: a function, or a method of `meson`."""
     receiver = tree.plain(call.receiver) if call.receiver else None
     return receiver is None or (isinstance(receiver, tree.Name) and receiver.text == "meson")
+
+
+def modules_left(project: Project) -> set[str]:
+    """The variables of modules that are imported by the real Meson alone."""
+    return {it.name for path in project.known.entered for it in tree.statements_in(project.files[path].body)
+            if isinstance(it, tree.Assignment) and isinstance(it.value, tree.Call) and it.value.name == "import"
+            and it not in project.known.reached}

@@ -12,7 +12,8 @@ from porting.values import kind_of, texts_of
 
 TARGETS = ("executable", "static_library", "shared_library", "library", "both_libraries", "shared_module", "build_target")
 # What only the real Meson does. `meson` is a variable of this program and none of the real one.
-REAL_ALONE = "if not is_variable('meson')"
+REAL = "not is_variable('meson')"
+REAL_ALONE = f"if {REAL}"
 LIBRARIES = ("static_library", "shared_library", "library", "both_libraries")
 
 

@@ -9,9 +9,9 @@ from porting import tree
 from porting.edits import Change
 from porting.lexer import escaped
 from porting.project import Project, Site
-from porting.rule import (assigned_name, before_statement, can_hoist, free_name, identifier, in_place_of_statement,
+from porting.rule import (TARGETS, add_argument, assigned_name, before_statement, can_hoist, free_name, identifier, in_place_of_statement,
                           renamed, replaced, text_of, texts_at)
-from porting.values import Thing, choices_of, flat
+from porting.values import Many, Thing, choices_of, flat
 
 INTERPRETERS = {"python": "python3", "python3": "python3", "sh": "sh", "bash": "bash", "perl": "perl", "awk": "awk", "ruby": "ruby"}
 PLACEHOLDER = re.compile(r"@[-A-Za-z0-9_]+@|^\s*#mesondefine", re.MULTILINE)
@@ -28,6 +28,17 @@ def interpreter_of(path: str) -> str | None:
     names = [os.path.basename(it) for it in words if os.path.basename(it) != "env" and not it.startswith("-")]
     found = INTERPRETERS.get(names[0]) if names else None
     return found or ("python3" if path.endswith(".py") else "sh" if path.endswith(".sh") else None)
+
+
+def named_scripts(project: Project) -> Iterator[Change]:
+    """A command whose first word is the path of a script of the project, which the real Meson looks for."""
+    for site in project.functions("custom_target", "run_target"):
+        word = site.call.keywords.get("command")
+        command = tree.plain(word.value) if word else None
+        first = tree.plain(command.items[0]) if isinstance(command, tree.List) and command.items else command
+        name = text_of(project, first)
+        if name and first is not None and os.path.isfile(os.path.join(project.root, site.folder, name)):
+            yield site.change(f"{site.call.name}: {name} is looked for", replaced(site, first, f"find_program({site.file.source(first)})"))
 
 
 def unmarked_scripts(project: Project) -> Iterator[Change]:
@@ -143,6 +154,33 @@ def copied_by_module(project: Project, site: Site) -> Change:
     text = (f"custom_target({name}, input: {arguments[0]}, output: {output}, command: ['cp', '@INPUT@', '@OUTPUT@'], "
             f"build_by_default: true{kept})")
     return site.change("fs.copyfile becomes a custom_target with `cp`", replaced(site, site.call, text))
+
+
+def commanded_files(project: Project) -> Iterator[Change]:
+    """A file that a command makes while configuring is made while building, where it is a source of a target."""
+    for site in project.functions("configure_file"):
+        output = site.call.keywords.get("output")
+        if "command" not in site.call.keywords or output is None or not is_source(project, site.call):
+            continue
+        known = text_of(project, output.value)
+        start = site.call.items[0].start
+        name = escaped(known) if known and "@" not in known else site.file.source(output.value)
+        edits = [renamed(site, "custom_target"), (start, start, f"{name}, ")]
+        if "install_dir" in site.call.keywords and "install" not in site.call.keywords:
+            edits.append(add_argument(site, "install: true"))
+        change = site.change("configure_file: `command:` becomes a custom_target", *edits)
+        change.notes = [f"{name} is made while building: what includes it has to name it among its sources"]
+        yield change
+
+
+def is_source(project: Project, call: tree.Call) -> bool:
+    """Whether what a call gives is a source of a target."""
+    for site in project.functions(*TARGETS, "declare_dependency"):
+        for thing in project.known.things[site.call]:
+            items = [it for value in [*thing.arguments[1:], thing.keywords.get("sources", Many([]))] for it in flat(value)]
+            if any(isinstance(it.value, Thing) and it.value.call is call for it in items):
+                return True
+    return False
 
 
 def generators(project: Project) -> Iterator[Change]:

@@ -1,7 +1,7 @@
 """The rules, in the order in which they are carried out."""
 from __future__ import annotations
 
-from porting import calls, commands, compiler, dependencies, installs, keywords, options, pkgconfig, scripts, sources, test_calls
+from porting import calls, commands, compiler, dependencies, installs, keywords, modules, options, pkgconfig, scripts, sources, test_calls
 from porting.rule import Rule
 
 RULES = (
@@ -14,7 +14,7 @@ RULES = (
     Rule("lists", "lists of texts where a call takes texts one by one", calls.lists_in_calls),
     Rule("files", "files() of files: the files", calls.files_of_files),
     Rule("formatted", "a file that format puts into a text: its path", calls.files_in_texts),
-    Rule("python", "import('python').find_installation(): find_program", calls.python),
+    Rule("python", "import('python').find_installation(): find_program", modules.python),
     Rule("default-options", "values of default_options that no option has here: the nearest", keywords.default_options),
     Rule("folders", "libexecdir, localedir and other folders: options of the project", options.folders),
     Rule("built-in-options", "b_ndebug and other options: the value that the real Meson begins with", options.others),
@@ -40,10 +40,12 @@ RULES = (
     Rule("benchmark", "benchmark: a test of the suite 'benchmark'", test_calls.benchmark),
     Rule("generator", "generator: a custom_target for each input", scripts.generators),
     Rule("copy", "configure_file(copy: true): an empty configuration, or cp", scripts.copied_files),
+    Rule("made-files", "configure_file(command:): a custom_target, where it is a source", scripts.commanded_files),
     Rule("install-subdir", "install_subdir: install_data with the files by name", installs.install_subdir),
     Rule("test-program", "files() of one as a test's program: that one", test_calls.test_programs),
     Rule("test-arguments", "a program among a test's arguments: its path", test_calls.programs_as_arguments),
     Rule("workdir", "`workdir:` of a test: env -C", test_calls.workdir),
+    Rule("scripts", "a script of the project that a command begins with: find_program", scripts.named_scripts),
     Rule("exec-bit", "a script without its exec bit: run by its interpreter", scripts.unmarked_scripts),
     Rule("visibility", "`gnu_symbol_visibility:`: `c_args:`", keywords.visibility),
     Rule("override-options", "`override_options:`: `c_args:`", keywords.override_options),
@@ -63,7 +65,9 @@ RULES = (
     Rule("overrides", "override_dependency, override_find_program: behind is_subproject()", calls.overrides),
     Rule("steps", "add_install_script, install_symlink and their like: left to the real Meson", installs.steps),
     Rule("summary", "summary, debug: message", calls.summary),
-    Rule("imports", "a module that nothing uses: dropped", calls.unused_imports),
+    Rule("languages-added", "add_languages: of another language than C asked in the real Meson alone", modules.languages),
+    Rule("subprojects", "subproject(required: false): missing here", modules.subprojects),
+    Rule("imports", "a module that nothing uses, or that an option alone needs: dropped, or left to the real Meson", modules.unused_imports),
     Rule("install-modes", "`install_mode:` of another mode: dropped; a step of the package", keywords.other_modes, is_sure=False),
     Rule("test-protocol", "`protocol: 'tap'` of a test: dropped, so that its status alone decides", keywords.test_protocol, is_sure=False),
 )
