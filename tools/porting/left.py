@@ -5,7 +5,7 @@ import dataclasses
 
 from porting import tree
 from porting.project import Project, Site
-from porting.values import Thing, choices_of, kind_of
+from porting.values import Thing, choices_of, flat, kind_of
 
 FUNCTIONS = {
     "subproject": "install what it stands on first, and ask for it by dependency",
@@ -104,6 +104,8 @@ def refused(project: Project, site: Site) -> list[str]:
     call, texts = site.call, []
     if call.receiver is None and call.name in FUNCTIONS:
         texts.append(f"{shown_name(project, site)}: {FUNCTIONS[call.name]}")
+    if call.receiver is None and call.name == "files" and any(isinstance(it, str) and it.startswith("/") for it in paths_of(project, call)):
+        texts.append("files: a path outside of the project: an option, whose value is the path, in a command")
     if isinstance(call.receiver, tree.Name) and call.receiver.text in modules_left(project):
         texts.append(f"{call.receiver.text}.{call.name}: the module is left to the real Meson")
     if call.receiver is not None:
@@ -154,3 +156,7 @@ def modules_left(project: Project) -> set[str]:
     return {it.name for path in project.known.entered for it in tree.statements_in(project.files[path].body)
             if isinstance(it, tree.Assignment) and isinstance(it.value, tree.Call) and it.value.name == "import"
             and it not in project.known.reached}
+
+
+def paths_of(project: Project, call: tree.Call) -> list[object]:
+    return [choice for it in call.arguments for item in flat(project.known.value(it)) for choice in choices_of(item.value)]

@@ -60,6 +60,14 @@ def added_to_list(site: Site, keyword: str, item: str) -> tuple[int, int, str]:
     return value.start, value.end, f"[{item}, {site.file.source(value)}]"
 
 
+def added_behind(site: Site, keyword: str, items: str) -> tuple[int, int, str]:
+    """The edit that puts items behind a keyword's list, which may be missing."""
+    found = site.call.keywords.get(keyword)
+    if found is None:
+        return add_argument(site, f"{keyword}: [{items}]")
+    return found.value.start, found.value.end, f"[{site.file.source(found.value)}, {items}]"
+
+
 def can_hoist(site: Site) -> bool:
     """Whether statements may be put before that of a call: its condition may stand behind `elif`."""
     statement = site.statement
