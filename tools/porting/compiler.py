@@ -66,14 +66,19 @@ def defines(project: Project) -> Iterator[Change]:
     for site in of_compiler(project, "has_define", "get_define"):
         macro = text_of(project, site.call.arguments[0]) if site.call.arguments else None
         outer = comparison_of(site) if site.call.name == "get_define" else None
-        is_beside_nothing = outer is not None and outer.operator in ("==", "!=") and isinstance(outer.right, tree.Text) and outer.right.value == ""
-        if macro is None or (site.call.name == "get_define" and not is_beside_nothing):
+        if macro is None or (site.call.name == "get_define" and not is_beside_nothing(outer)):
             continue
         name = names.free(f"{site.call.name}_{identifier(macro)}")
-        edits = [renamed(site, "has_type"), replaced(site, site.call.arguments[0], escaped(name)), *after_prefix(site, defined(name, macro, outer))]
+        edits = [renamed(site, "has_type"), replaced(site, site.call.arguments[0], escaped(name))]
+        edits += after_prefix(site, defined(name, macro, outer))
         if outer is not None:
             edits.append((site.call.end, outer.end, "" if outer.operator == "!=" else " == false"))
         yield site.change(f"{site.call.name} becomes has_type {name}", *edits)
+
+
+def is_beside_nothing(outer: tree.Binary | None) -> bool:
+    """Whether a comparison is one with the empty text."""
+    return outer is not None and outer.operator in ("==", "!=") and isinstance(outer.right, tree.Text) and outer.right.value == ""
 
 
 def defined(name: str, macro: str, outer: tree.Binary | None) -> str:

@@ -67,4 +67,5 @@ def link_order(project: Project) -> Iterator[Change]:
         paths = [f"{site.file.source(node)}.full_path()" for node, it in known if isinstance(it, Thing) and it.function == "static_library"]
         before = site.file.source(site.call.keywords["link_args"]) if "link_args" in site.call.keywords else ""
         if len(paths) > 1 and not all(it in before for it in paths):
-            yield site.change(f"{site.call.name}: its static libraries are named once more", added_behind(site, "link_args", ", ".join(paths)))
+            edit = added_behind(site, "link_args", ", ".join(paths))
+            yield site.change(f"{site.call.name}: its static libraries are named once more", edit)

@@ -79,12 +79,12 @@ def sources(project: Project) -> Iterator[Change]:
         plain = names.free(wanted_name(project, site))
         name = Named(plain, f"{escaped(plain + '_')} + {ending}" if ending else escaped(plain))
         prefix = linked(site, code, name) if is_link else compiled(site, code, name)
-        edits = [renamed(site, "has_function" if is_link else "has_type"),
-                 replaced(site, site.call.arguments[0], f"{name.source}, prefix: {prefix}")]
+        method = "has_function" if is_link else "has_type"
+        edits = [renamed(site, method), replaced(site, site.call.arguments[0], f"{name.source}, prefix: {prefix}")]
         if "name" in site.call.keywords:
             start, end = without_item(site.file.text, site.call, site.call.keywords["name"])
             edits.append((start, end, ""))
-        change = site.change(f"{site.call.name} becomes {'has_function' if is_link else 'has_type'} {plain}, with the source before it", *edits)
+        change = site.change(f"{site.call.name} becomes {method} {plain}, with the source before it", *edits)
         if ending:
             change.notes = ["the name of the check is made in a loop: look whether the machine file has them all"]
         yield change
@@ -142,7 +142,7 @@ def linked(site: Site, code: Source, name: Named) -> str:
 
 
 def around(site: Site, code: Source, before: str, after: str, name: Named, behind: str) -> str:
-    """A source with text put round it: a literal where it is one, else a sum. The name stands behind the first of the texts that are there."""
+    """A source with text put round it, of which the first that is there ends with the name: a literal where it is one, else a sum."""
     before, after = (before and f"{before}{MARK}{behind}", after) if before else ("", f"{after}{MARK}{behind}")
     node = code.node
     if name.is_plain and isinstance(node, tree.Text) and not node.has_names:

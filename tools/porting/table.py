@@ -67,9 +67,10 @@ RULES = (
     Rule("summary", "summary, debug: message", calls.summary),
     Rule("languages-added", "add_languages: of another language than C asked in the real Meson alone", modules.languages),
     Rule("subprojects", "subproject(required: false): missing here", modules.subprojects),
-    Rule("imports", "a module that nothing uses, or that an option alone needs: dropped, or left to the real Meson", modules.unused_imports),
+    Rule("imports", "a module that nothing uses: dropped; one that an option alone needs: left to the real Meson",
+         modules.unused_imports),
     Rule("install-modes", "`install_mode:` of another mode: dropped; a step of the package", keywords.other_modes, is_sure=False),
-    Rule("link-order", "static libraries of one target: named once more in `link_args:`, where they use one another", dependencies.link_order,
+    Rule("link-order", "static libraries of one target that use one another: named once more in `link_args:`", dependencies.link_order,
          is_sure=False),
     Rule("test-protocol", "`protocol: 'tap'` of a test: dropped, so that its status alone decides", keywords.test_protocol, is_sure=False),
 )
