@@ -8,8 +8,8 @@ from porting import tree
 from porting.edits import Change, indent_at, without_item
 from porting.lexer import escaped
 from porting.project import Project, Site
-from porting.rule import (REAL_ALONE, assigned_name, before_statement, can_hoist, free_name, guarded, in_place_of_statement,
-                          is_whole_statement, renamed, replaced, text_of, uses_of)
+from porting.rule import (REAL_ALONE, assigned_name, before_statement, can_hoist, free_name, guarded, 
+                          is_whole_statement, renamed, replaced, text_of)
 from porting.values import Many, Table, Thing, flat, kind_of
 
 OBJECTS_FOUND = ("dependency", "library", "internal", "program")

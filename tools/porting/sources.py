@@ -12,7 +12,7 @@ from porting.lexer import escaped
 from porting.project import Project, Site
 from porting.rounds import ending_of
 from porting.rule import identifier, of_compiler, path_from, renamed, replaced, text_of
-from porting.values import Thing, choices_of, flat, kind_of
+from porting.values import Thing, choices_of, flat
 
 # Keywords that a check keeps.
 KEPT = {"args", "dependencies", "include_directories", "required"}

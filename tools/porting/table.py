@@ -1,7 +1,8 @@
 """The rules, in the order in which they are carried out."""
 from __future__ import annotations
 
-from porting import calls, commands, compiler, dependencies, installs, keywords, modules, options, pkgconfig, scripts, sources, test_calls
+from porting import (calls, commands, compiler, dependencies, generators, installs, keywords, modules, options, pkgconfig, scripts, sources,
+                     test_calls)
 from porting.rule import Rule
 
 RULES = (
@@ -38,7 +39,7 @@ RULES = (
     Rule("vcs-tag", "vcs_tag: configure_file with its fallback", installs.vcs_tag),
     Rule("environment", "environment: a dictionary", test_calls.environment),
     Rule("benchmark", "benchmark: a test of the suite 'benchmark'", test_calls.benchmark),
-    Rule("generator", "generator: a custom_target for each input", scripts.generators),
+    Rule("generator", "generator: a custom_target for each input", generators.generators),
     Rule("copy", "configure_file(copy: true): an empty configuration, or cp", scripts.copied_files),
     Rule("made-files", "configure_file(command:): a custom_target, where it is a source", scripts.commanded_files),
     Rule("install-subdir", "install_subdir: install_data with the files by name", installs.install_subdir),
