@@ -8,7 +8,7 @@ from porting import tree
 from porting.edits import Change, indent_at, without_item
 from porting.lexer import escaped
 from porting.project import Project, Site
-from porting.rule import (REAL_ALONE, assigned_name, before_statement, can_hoist, free_name, guarded, 
+from porting.rule import (REAL_ALONE, assigned_name, before_statement, can_hoist, free_name, guarded,
                           is_whole_statement, renamed, replaced, text_of)
 from porting.values import Many, Table, Thing, flat, kind_of
 
