@@ -3,6 +3,7 @@ import difflib
 import json
 import re
 
+from asked import asked_differs, questions_of
 from form import FormError, HOLE, fault_of, written_out
 
 # The words of each fault, behind its number.
@@ -42,6 +43,8 @@ class Expected:
         self.edges, self.no_edges = [], []
         self.values = []
         self.looks = None
+        # Whether the run tells its questions; the texts of those behind the call of 'project', and of those of that call.
+        self.tells, self.asked, self.asked_by_project = False, None, None
         # The paths below which nothing may change.
         self.stays = []
         self.says = False
@@ -80,6 +83,8 @@ class Expected:
             self.outputs.append(("build.ninja", word, line))
         elif word == "looks":
             self.looks = {out(it).decode() for it in text.split()}
+        elif word == "asks":
+            self.take_questions(text, out(content).decode(), out)
         elif word == "stays":
             self.says = True
             self.stays += [out(it).decode() for it in text.split()]
@@ -124,6 +129,22 @@ class Expected:
         self.outputs.append((out(path).decode(), how, out(content)))
         self.says = True
 
+    def take_questions(self, text, content, out):
+        """Questions behind the call of 'project', or with the word 'project' those of that call; several directives add up."""
+        self.says, self.tells, self.log = True, True, None
+        lines = [it for it in content.split("\n") if it] or [out(text.replace("¶", "\n")).decode()]
+        if text == "project" and content:
+            self.asked_by_project = (self.asked_by_project or []) + lines
+        else:
+            self.asked = (self.asked or []) + lines
+
+    def questions_differ(self, log):
+        """What differs of the questions told, where the case says which must come."""
+        if not self.tells:
+            return []
+        wanted = [None if texts is None else questions_of(texts) for texts in (self.asked, self.asked_by_project)]
+        return asked_differs(*wanted, log)
+
     def take_none(self, text, out):
         kind, _, what = text.partition(" ")
         if kind == "out":
@@ -148,6 +169,8 @@ class Expected:
         found += [f"there is an output {it}" for it in absent if it in came.outputs]
         found += [f"there is a {came.others[it]} at the place of the output {it}" for it in self.absent if it in came.others]
         found += came.changes
+        found += self.questions_differ(came.log)
+        found += [f"there is an output {it}, and questions write none" for it in sorted(came.outputs) if self.tells]
         found += self.edges_differ(came.outputs.get("build.ninja", b""))
         found += self.values_differ(came.outputs.get(DOCUMENT))
         if self.looks is not None and came.looks is not None and self.looks != came.looks:
@@ -251,7 +274,7 @@ def filled(text, columns):
 
 def result_parts(case):
     """The directives that a row's result stands for: a word and the rest of its line."""
-    words = "log|fault|status|complaint|has|lacks|json|out|no|edge|looks|stays"
+    words = "log|fault|status|complaint|has|lacks|json|out|no|edge|looks|stays|asks"
     parts = re.split(rf" & (?=(?:ok$|E\d+(?:$| at |: )|(?:{words}) ))", case.result)
     made = []
     for number, part in enumerate(parts):

@@ -57,7 +57,7 @@ class Room:
         self.root = os.path.join(folder, "s")
         self.names = {"root": self.root}
         self.files, self.folders, self.words, self.command = {}, [], [], None
-        self.machine, self.build, self.inside = None, "build", ""
+        self.machine, self.build, self.inside, self.task = None, "build", "", b"setup"
         # What is no plain file: of each its kind, its path and what it leads to. Streams by their numbers; the folder that is locked.
         self.things, self.streams, self.locked, self.is_piped = [], {"closed": [], "full": []}, None, False
         self.expected = Expected()
@@ -106,6 +106,8 @@ class Room:
             self.build = path(text)
         elif word == "command":
             self.command = out(content).split(b"\n")[:-1] if content else out(text).split()
+        elif word == "questions":
+            self.task, self.expected.tells, self.expected.log = b"questions", True, None
         elif word == "fail":
             self.check_fail(text)
         elif word not in MODES:
@@ -139,7 +141,7 @@ class Room:
         """The words of the command line; a machine file that comes through a pipe has that pipe's number."""
         if self.command is not None:
             return self.command
-        line = [b"setup", *self.words]
+        line = [self.task, *self.words]
         if self.machine is not None:
             line += [b"--native-file", f"/dev/fd/{pipe[0]}".encode() if pipe else os.path.join(self.folder, "machine").encode()]
         return [*line, os.fsencode(self.build)]

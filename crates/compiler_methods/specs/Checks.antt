@@ -11,8 +11,10 @@ use Rattle.data.specs.declared.object.Object.TheVariants as objects
 use Rattle.data.specs.declared.refusal.Refusal.{Refusal}
 use Rattle.data.specs.declared.refusal.Refusal.TheVariants as operations
 use Rattle.basics.specs.declared.faults.refusal.Refusal.TheVariants as refusals
+use Rattle.machine_file.specs.Questions.{check_topic}
+use Rattle.resources.specs.Beside.{call_question}
 use Rattle.resources.specs.Found.{found, missing}
-use Rattle.world.specs.Deed.{Deed, give, read, ◌>>=◌, answered, need}
+use Rattle.world.specs.Deed.{Deed, give, consult, ◌>>=◌, answered, need}
 use Rattle.compiler_methods.specs.Said.{is_true}
 
 -- whether it is so: what is required and is not so is E17 with a name, and what is not looked up is false
@@ -23,11 +25,17 @@ required_as requirements.Required is_so name = do
 required_as requirements.Optional is_so name = give is_so
 required_as requirements.Disabled is_so name = give false
 
+-- whether the check of a method of the texts of a call is true
+unfoldable pub is_checked : (method : List ℕ) → ArgumentsData → Deed Bool
+is_checked method a = do
+  answer ← consult (call_question (check_topic method (flat_all a.positional)) a)
+  give (is_true answer)
+
 -- the answer of a check to its texts, of which the first names it; the keyword `required` may say what is done where it is false
 unfoldable pub checked_for : (default : Requirement) → (method : List ℕ) → ArgumentsData → Deed Bool
 checked_for default method a = do
-  facts ← read
-  required_as (requirement default a) (is_true facts.machine method (flat_all a.positional)) (text_at 0 a)
+  is_so ← is_checked method a
+  required_as (requirement default a) is_so (text_at 0 a)
 
 -- a check, as `has_function(name)`
 unfoldable pub check : (method : List ℕ) → ArgumentsData → Deed (Option Data)

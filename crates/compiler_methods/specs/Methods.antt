@@ -1,5 +1,5 @@
--- The methods of the C compiler, on their arguments. None of them changes anything: the machine file answers them all.
-use Rattle.std.specs.Prelude.{ℕ, Bool, List, [], ◌∷◌, Option, Some, None, is_some, codes, if◌then◌else◌}
+-- The methods of the C compiler, on their arguments. None of them changes anything: the machine file is asked, and answers them all.
+use Rattle.std.specs.Prelude.{ℕ, Bool, List, [], ◌∷◌, Option, Some, None, is_some, if◌then◌else◌}
 use Rattle.arguments.specs.Arguments.{ArgumentsData}
 use Rattle.data.specs.Flat.{flat_all}
 use Rattle.arguments.specs.Given.{text_or_none}
@@ -8,53 +8,52 @@ use Rattle.arguments.specs.Row.{checked}
 use Rattle.data.specs.Data.{Data, integer, list, text, Items, no_items, item, items_append}
 use Rattle.data.specs.Limits.{within}
 use Rattle.basics.specs.declared.faults.refusal.Refusal.TheVariants as refusals
-use Rattle.machine_file.specs.Files.{Section}
-use Rattle.world.specs.Deed.{Deed, give, refuse, read, ◌>>=◌, answered, fitting}
+use Rattle.machine_file.specs.Questions.{Answer, check_topic, plain}
+use Rattle.resources.specs.Beside.{call_question}
+use Rattle.world.specs.Deed.{Deed, give, refuse, consult, ◌>>=◌, answered, fitting}
 use Rattle.compiler_methods.specs.Checks.{check, find_library}
 use Rattle.compiler_methods.specs.Names.{named}
 use Rattle.compiler_methods.specs.Rows.{row_of}
-use Rattle.compiler_methods.specs.Said.{id_of, is_true, number_of, version_of}
+use Rattle.compiler_methods.specs.Said.{argument_topic, id_of, id_topic, is_true, number_of, version_of, version_topic}
 use Rattle.compiler_methods.specs.declared.names.CompilerMethod.{CompilerMethod}
 use Rattle.compiler_methods.specs.declared.names.CompilerMethod.TheVariants as methods
 
 -- `get_id()`
 unfoldable pub get_id : Deed (Option Data)
 get_id = do
-  facts ← read
-  d ← answered (within (text (id_of facts.machine)))
+  answer ← consult (plain id_topic)
+  d ← answered (within (text (id_of answer)))
   give (Some d)
 
 -- `version()`
 unfoldable pub version : Deed (Option Data)
 version = do
-  facts ← read
-  d ← answered (within (text (version_of facts.machine)))
+  answer ← consult (plain version_topic)
+  d ← answered (within (text (version_of answer)))
   give (Some d)
 
 -- `sizeof(type)` and `alignment(type)`
 unfoldable pub number : (method : List ℕ) → ArgumentsData → Deed (Option Data)
 number method a = do
-  facts ← read
-  give (Some (integer (number_of facts.machine method (flat_all a.positional))))
+  answer ← consult (call_question (check_topic method (flat_all a.positional)) a)
+  give (Some (integer (number_of answer)))
 
--- whether the compiler takes an argument
-abbrev pub is_supported : List Section → Data → Bool
-is_supported machine d = is_true machine (codes "has_argument") (text_or_none (Some d) ∷ [])
+-- the argument itself, where the compiler takes it
+abbrev pub kept : Data → Answer → Items
+kept d answer = if is_true answer then item d no_items else no_items
 
--- the argument itself, where it takes it
-abbrev pub kept : List Section → Data → Items
-kept machine d = if is_supported machine d then item d no_items else no_items
-
--- those that it takes, in order, each as often as it stands there
-abbrev pub supported : List Section → List Data → Items
-supported machine [] = no_items
-supported machine (d ∷ ds) = items_append (kept machine d) (supported machine ds)
+-- those that it takes, behind those taken before, in order, each as often as it stands there
+unfoldable pub supported : (taken : Items) → List Data → Deed Items
+supported taken [] = give taken
+supported taken (d ∷ ds) = do
+  answer ← consult (plain (argument_topic (text_or_none (Some d))))
+  supported (items_append taken (kept d answer)) ds
 
 -- `get_supported_arguments(flat texts..)`
 unfoldable pub get_supported_arguments : ArgumentsData → Deed (Option Data)
 get_supported_arguments a = do
-  facts ← read
-  d ← answered (within (list (supported facts.machine (leaves_from 0 a))))
+  taken ← supported no_items (leaves_from 0 a)
+  d ← answered (within (list taken))
   give (Some d)
 
 -- what a method does with arguments that its row has let through

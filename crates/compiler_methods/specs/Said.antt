@@ -1,21 +1,34 @@
 -- What the machine file says in place of a compiler that is asked.
-use Rattle.std.specs.Prelude.{ℕ, ℤ, negsuc, Bool, false, List, unwrap_or, codes}
+use Rattle.std.specs.Prelude.{ℕ, ℤ, negsuc, Bool, false, List, [], ◌∷◌, unwrap_or, codes}
 use Rattle.std.specs.Option.{option_and_then}
-use Rattle.machine_file.specs.Files.{Section}
-use Rattle.machine_file.specs.Lookups.{check_at, text_or}
-use Rattle.machine_file.specs.Readers.{boolean_said, integer_said}
+use Rattle.machine_file.specs.Questions.{Answer, Topic, Key, check_topic, value_of_answer}
+use Rattle.machine_file.specs.Readers.{boolean_said, integer_said, text_said}
 
--- which compiler it is: `id` and `version` of `[compiler]`
-abbrev pub id_of : List Section → List ℕ
-id_of machine = text_or machine (codes "compiler") (codes "id") (codes "gcc")
+-- which compiler it is, and its version: `id` and `version` of `[compiler]`
+abbrev pub id_topic : Topic
+id_topic = Key (codes "compiler") (codes "id")
 
-abbrev pub version_of : List Section → List ℕ
-version_of machine = text_or machine (codes "compiler") (codes "version") (codes "unknown")
+abbrev pub version_topic : Topic
+version_topic = Key (codes "compiler") (codes "version")
+
+-- the text of an answer, or else this one
+abbrev pub said_or : (default : List ℕ) → Answer → List ℕ
+said_or default answer = unwrap_or (option_and_then text_said (value_of_answer answer)) default
+
+abbrev pub id_of : Answer → List ℕ
+id_of answer = said_or (codes "gcc") answer
+
+abbrev pub version_of : Answer → List ℕ
+version_of answer = said_or (codes "unknown") answer
 
 -- whether a check is true: `[checks]` has the method and what it is asked with; false where nothing is said
-abbrev pub is_true : List Section → List ℕ → List (List ℕ) → Bool
-is_true machine method texts = unwrap_or (option_and_then boolean_said (check_at machine method texts)) false
+abbrev pub is_true : Answer → Bool
+is_true answer = unwrap_or (option_and_then boolean_said (value_of_answer answer)) false
 
 -- the number of `sizeof` or `alignment`: -1 where nothing is said
-abbrev pub number_of : List Section → List ℕ → List (List ℕ) → ℤ
-number_of machine method texts = unwrap_or (option_and_then integer_said (check_at machine method texts)) (negsuc 0)
+abbrev pub number_of : Answer → ℤ
+number_of answer = unwrap_or (option_and_then integer_said (value_of_answer answer)) (negsuc 0)
+
+-- whether the compiler takes an argument
+abbrev pub argument_topic : List ℕ → Topic
+argument_topic argument = check_topic (codes "has_argument") (argument ∷ [])

@@ -3,43 +3,46 @@ ghost use Rattle.std.specs.Prelude.{◌≡◌, IfOk, OnOk, Some, map, option_map
 ghost use Rattle.arguments.specs.Arguments.{arguments_data};
 ghost use Rattle.arguments.specs.Given.{text_or_none};
 ghost use Rattle.arguments.specs.Row.{checked};
-ghost use Rattle.data.specs.Data.{integer, items_append, list, text};
+ghost use Rattle.data.specs.Data.{integer, items_append, list, no_items, text};
 ghost use Rattle.data.specs.Limits.{within};
 ghost use Rattle.data.specs.Tables.{Answers};
 ghost use Rattle.data.specs.View.{data_of, items_of};
+ghost use Rattle.machine_file.specs.Questions.{answer_to, check_topic, plain};
 ghost use Rattle.machine_file.specs.View.{machine_in};
 ghost use Rattle.world.specs.Answering.{Carries};
 ghost use Rattle.world.specs.Caller.{state_of};
-ghost use Rattle.world.specs.Deed.{fitting};
-ghost use Rattle.compiler_methods.specs.Methods.{called, compiler_method, does, get_id, get_supported_arguments, is_supported, kept, number};
+ghost use Rattle.world.specs.Deed.{consult, fitting};
+ghost use Rattle.compiler_methods.specs.Methods.{called, compiler_method, does, get_id, get_supported_arguments, kept, number};
 ghost use Rattle.compiler_methods.specs.Methods.{supported, version};
 ghost use Rattle.compiler_methods.specs.Rows.{row_of};
-ghost use Rattle.compiler_methods.specs.Said.{number_of};
+ghost use Rattle.compiler_methods.specs.Said.{argument_topic, is_true, number_of};
 
-use crate::checks::{check, find_library};
+use crate::checks::{ask_check, check, find_library};
 use crate::names::CompilerMethod;
 use crate::rows::row;
 use crate::said::{id_of, is_true, number_of, version_of};
 use arguments::{Arguments, check as check_row};
 use data::{List, Refusal, Value};
-use machine_file::Machine;
+use machine_file::{Machine, Question, Topic};
 use ports::{Outputs, Tree};
 use std::alloc::{AllocError, Global};
 use world::{Caller, Stop};
 
 // `get_id()`
-fn get_id<T: Tree, O: Outputs>(caller: &Caller<'_, T, O>) -> Result<Option<Value>, Stop>
-    ensures { Carries (option_map data_of) get_id (state_of T.seen O.seen caller.now) result (state_of T.seen O.seen caller.now) }
+fn get_id<T: Tree, O: Outputs>(caller: &mut Caller<'_, T, O>) -> Result<Option<Value>, Stop>
+    ensures { Carries (option_map data_of) get_id (state_of T.seen O.seen caller.old) result (state_of T.seen O.seen caller.new) }
 {
+    caller.ask_key("compiler", "id")?;
     let answer = Value::of_str(caller.alloc, id_of(caller.store.machine()))?;
     let value = caller.answered(answer)?;
     Ok(Some(value))
 }
 
 // `version()`
-fn version<T: Tree, O: Outputs>(caller: &Caller<'_, T, O>) -> Result<Option<Value>, Stop>
-    ensures { Carries (option_map data_of) version (state_of T.seen O.seen caller.now) result (state_of T.seen O.seen caller.now) }
+fn version<T: Tree, O: Outputs>(caller: &mut Caller<'_, T, O>) -> Result<Option<Value>, Stop>
+    ensures { Carries (option_map data_of) version (state_of T.seen O.seen caller.old) result (state_of T.seen O.seen caller.new) }
 {
+    caller.ask_key("compiler", "version")?;
     let answer = Value::of_str(caller.alloc, version_of(caller.store.machine()))?;
     let value = caller.answered(answer)?;
     Ok(Some(value))
@@ -57,7 +60,8 @@ fn number_value(
     method: &str,
     texts: &[&str],
 ) -> Result<Value, AllocError>
-    ensures { IfOk result (λ v. data_of v ≡ integer (number_of (machine_in machine.now) method.now (map (λ t. t.now) texts.now))) }
+    ensures { IfOk result (λ v. data_of v
+        ≡ integer (number_of (answer_to (machine_in machine.now) (check_topic method.now (map (λ t. t.now) texts.now))))) }
 {
     let number = number_of(alloc, machine, method, texts)?;
     Ok(integer_value(number))
@@ -65,14 +69,15 @@ fn number_value(
 
 // `sizeof(type)` and `alignment(type)`: -1 where the machine file says nothing.
 fn number<T: Tree, O: Outputs>(
-    caller: &Caller<'_, T, O>,
+    caller: &mut Caller<'_, T, O>,
     method: &str,
     arguments: &Arguments,
 ) -> Result<Option<Value>, Stop>
-    ensures { Carries (option_map data_of) (number method.now (arguments_data arguments.now)) (state_of T.seen O.seen caller.now) result
-        (state_of T.seen O.seen caller.now) }
+    ensures { Carries (option_map data_of) (number method.now (arguments_data arguments.now)) (state_of T.seen O.seen caller.old) result
+        (state_of T.seen O.seen caller.new) }
 {
     let texts = arguments.all_texts(caller.alloc)?;
+    ask_check(caller, method, &texts, arguments)?;
     let number = number_value(caller.alloc, caller.store.machine(), method, &texts)?;
     Ok(Some(number))
 }
@@ -88,8 +93,23 @@ fn text_of(value: &Value) -> &str
     }
 }
 
+// Asks whether the compiler takes a value as an argument.
+fn ask_argument<T: Tree, O: Outputs>(
+    caller: &mut Caller<'_, T, O>,
+    value: &Value,
+) -> Result<(), Stop>
+    ensures deed { Carries (λ u. answer_to caller.old.store.now.machine (argument_topic (text_or_none (Some (data_of value.now)))))
+        (consult (plain (argument_topic (text_or_none (Some (data_of value.now)))))) (state_of T.seen O.seen caller.old) result
+        (state_of T.seen O.seen caller.new) }
+    ensures machine { caller.new.store.now.machine ≡ caller.old.store.now.machine }
+{
+    let topic = Topic::check(caller.alloc, "has_argument", &[text_of(value)])?;
+    caller.ask(Question::plain(caller.alloc, topic))
+}
+
 fn is_supported(alloc: Global, machine: &Machine, value: &Value) -> Result<bool, AllocError>
-    ensures { IfOk result (λ b. b ≡ is_supported (machine_in machine.now) (data_of value.now)) }
+    ensures { IfOk result (λ b. b
+        ≡ is_true (answer_to (machine_in machine.now) (argument_topic (text_or_none (Some (data_of value.now)))))) }
 {
     is_true(alloc, machine, "has_argument", &[text_of(value)])
 }
@@ -101,8 +121,8 @@ fn keep(
     taken: &mut Vec<Value>,
     value: &Value,
 ) -> Result<(), AllocError>
-    ensures { OnOk result (items_of taken.new.items
-        ≡ items_append (items_of taken.old.items) (kept (machine_in machine.now) (data_of value.now))) }
+    ensures { OnOk result (items_of taken.new.items ≡ items_append (items_of taken.old.items)
+        (kept (data_of value.now) (answer_to (machine_in machine.now) (argument_topic (text_or_none (Some (data_of value.now))))))) }
 {
     if is_supported(alloc, machine, value)? {
         taken.push(value.clone()?)?;
@@ -111,26 +131,26 @@ fn keep(
 }
 
 // Those of the values that the compiler takes.
-fn supported(alloc: Global, machine: &Machine, values: &[&Value]) -> Result<Vec<Value>, AllocError>
-    ensures { IfOk result (λ vs. items_of vs.items ≡ supported (machine_in machine.now) (map (λ v. data_of v.now) values.now)) }
+fn supported<T: Tree, O: Outputs>(
+    caller: &mut Caller<'_, T, O>,
+    values: &[&Value],
+) -> Result<Vec<Value>, Stop>
+    ensures { Carries (λ vs. items_of vs.items) (supported no_items (map (λ v. data_of v.now) values.now))
+        (state_of T.seen O.seen caller.old) result (state_of T.seen O.seen caller.new) }
 {
-    let mut taken = Vec::new(alloc);
+    let mut taken = Vec::new(caller.alloc);
     for value in values {
-        keep(alloc, machine, &mut taken, value)?;
+        ask_argument(caller, value)?;
+        keep(caller.alloc, caller.store.machine(), &mut taken, value)?;
     }
     Ok(taken)
 }
 
-// The list of them.
-fn supported_list(
-    alloc: Global,
-    machine: &Machine,
-    values: &[&Value],
-) -> Result<Result<Value, Refusal>, AllocError>
-    ensures { IfOk result (λ r. Answers
-        (within (list (supported (machine_in machine.now) (map (λ v. data_of v.now) values.now)))) r) }
+// The list of some values.
+fn list_of(alloc: Global, values: Vec<Value>) -> Result<Result<Value, Refusal>, AllocError>
+    ensures { IfOk result (λ r. Answers (within (list (items_of values.items))) r) }
 {
-    match List::from_items(supported(alloc, machine, values)?) {
+    match List::from_items(values) {
         Ok(list) => Ok(Ok(Value::of_list(alloc, list)?)),
         Err(refusal) => Ok(Err(refusal)),
     }
@@ -138,14 +158,15 @@ fn supported_list(
 
 // `get_supported_arguments(flat texts..)`
 fn get_supported_arguments<T: Tree, O: Outputs>(
-    caller: &Caller<'_, T, O>,
+    caller: &mut Caller<'_, T, O>,
     arguments: &Arguments,
 ) -> Result<Option<Value>, Stop>
-    ensures { Carries (option_map data_of) (get_supported_arguments (arguments_data arguments.now)) (state_of T.seen O.seen caller.now)
-        result (state_of T.seen O.seen caller.now) }
+    ensures { Carries (option_map data_of) (get_supported_arguments (arguments_data arguments.now)) (state_of T.seen O.seen caller.old)
+        result (state_of T.seen O.seen caller.new) }
 {
     let values = arguments.leaves_behind(caller.alloc, 0)?;
-    let answer = supported_list(caller.alloc, caller.store.machine(), &values)?;
+    let taken = supported(caller, &values)?;
+    let answer = list_of(caller.alloc, taken)?;
     let value = caller.answered(answer)?;
     Ok(Some(value))
 }
@@ -167,13 +188,13 @@ fn fit<T: Tree, O: Outputs>(
 
 // What a method does with arguments that its row has let through.
 fn act<T: Tree, O: Outputs>(
-    caller: &Caller<'_, T, O>,
+    caller: &mut Caller<'_, T, O>,
     method: CompilerMethod,
     name: &str,
     arguments: &Arguments,
 ) -> Result<Option<Value>, Stop>
-    ensures { Carries (option_map data_of) (does method name.now (arguments_data arguments.now)) (state_of T.seen O.seen caller.now) result
-        (state_of T.seen O.seen caller.now) }
+    ensures { Carries (option_map data_of) (does method name.now (arguments_data arguments.now)) (state_of T.seen O.seen caller.old) result
+        (state_of T.seen O.seen caller.new) }
 {
     match method {
         CompilerMethod::Check => check(caller, name, arguments),
@@ -187,14 +208,14 @@ fn act<T: Tree, O: Outputs>(
 }
 
 fn called<T: Tree, O: Outputs>(
-    caller: &Caller<'_, T, O>,
+    caller: &mut Caller<'_, T, O>,
     method: CompilerMethod,
     name: &str,
     arguments: &Arguments,
 ) -> Result<Option<Value>, Stop>
     ensures { Carries (option_map data_of) (called method name.now (arguments_data arguments.now))
-        (state_of T.seen O.seen caller.now) result
-        (state_of T.seen O.seen caller.now) }
+        (state_of T.seen O.seen caller.old) result
+        (state_of T.seen O.seen caller.new) }
 {
     fit(caller, method, arguments)?;
     act(caller, method, name, arguments)
@@ -203,12 +224,12 @@ fn called<T: Tree, O: Outputs>(
 /// The method with a name on its arguments, which its row looks at first. The name is one for which
 /// [`has_compiler_method`](crate::has_compiler_method) is true; of any other it is E8.
 pub fn compiler_method<T: Tree, O: Outputs>(
-    caller: &Caller<'_, T, O>,
+    caller: &mut Caller<'_, T, O>,
     name: &str,
     arguments: &Arguments,
 ) -> Result<Option<Value>, Stop>
-    ensures { Carries (option_map data_of) (compiler_method name.now (arguments_data arguments.now)) (state_of T.seen O.seen caller.now)
-        result (state_of T.seen O.seen caller.now) }
+    ensures { Carries (option_map data_of) (compiler_method name.now (arguments_data arguments.now)) (state_of T.seen O.seen caller.old)
+        result (state_of T.seen O.seen caller.new) }
 {
     match CompilerMethod::named(name) {
         Some(method) => called(caller, method, name, arguments),

@@ -1,20 +1,24 @@
 //! The checks of the compiler, and `find_library`.
-ghost use Rattle.std.specs.Prelude.{◌≡◌, IfOk, Some, option_and_then, option_map, string_bytes};
+ghost use Rattle.std.specs.Prelude.{◌≡◌, IfOk, Some, map, option_and_then, option_map, string_bytes};
 ghost use Rattle.arguments.specs.Arguments.{arguments_data};
 ghost use Rattle.arguments.specs.Given.{argument};
 ghost use Rattle.data.specs.Data.{text_in};
 ghost use Rattle.data.specs.Tables.{Answers};
 ghost use Rattle.data.specs.View.{data_of};
+ghost use Rattle.machine_file.specs.Questions.{answer_to, check_topic};
+ghost use Rattle.resources.specs.Beside.{call_question};
 ghost use Rattle.world.specs.Answering.{Carries};
 ghost use Rattle.world.specs.Caller.{state_of};
-ghost use Rattle.compiler_methods.specs.Checks.{check, checked_for, dependency_data, find_library, library, library_argument};
-ghost use Rattle.compiler_methods.specs.Checks.{library_named, required_as};
+ghost use Rattle.world.specs.Deed.{consult};
+ghost use Rattle.compiler_methods.specs.Checks.{check, checked_for, dependency_data, find_library, is_checked, library};
+ghost use Rattle.compiler_methods.specs.Checks.{library_argument, library_named, required_as};
 
 use crate::said::is_true;
 use arguments::{Arguments, Requirement};
 use data::{Dependency, Object, Refusal, Text, Value};
+use machine_file::Topic;
 use ports::{Outputs, Tree};
-use resources::{found_dependency, missing_dependency};
+use resources::{call_question, found_dependency, missing_dependency};
 use std::alloc::{AllocError, Global};
 use world::{Caller, Stop};
 
@@ -38,30 +42,61 @@ fn required_as<T: Tree, O: Outputs>(
     }
 }
 
+/// Asks for a check of these texts, beside which a call says what its arguments do.
+pub fn ask_check<T: Tree, O: Outputs>(
+    caller: &mut Caller<'_, T, O>,
+    method: &str,
+    texts: &[&str],
+    arguments: &Arguments,
+) -> Result<(), Stop>
+    ensures deed { Carries (λ u. answer_to caller.old.store.now.machine (check_topic method.now (map (λ t. t.now) texts.now)))
+        (consult (call_question (check_topic method.now (map (λ t. t.now) texts.now)) (arguments_data arguments.now)))
+        (state_of T.seen O.seen caller.old) result (state_of T.seen O.seen caller.new) }
+    ensures machine { caller.new.store.now.machine ≡ caller.old.store.now.machine }
+{
+    let topic = Topic::check(caller.alloc, method, texts)?;
+    let question = call_question(caller.alloc, topic, arguments)?;
+    caller.ask(question)
+}
+
+// Whether the check of a method of the texts of a call is true.
+fn is_checked<T: Tree, O: Outputs>(
+    caller: &mut Caller<'_, T, O>,
+    method: &str,
+    arguments: &Arguments,
+) -> Result<bool, Stop>
+    ensures { Carries (λ b. b) (is_checked method.now (arguments_data arguments.now)) (state_of T.seen O.seen caller.old) result
+        (state_of T.seen O.seen caller.new) }
+{
+    let texts = arguments.all_texts(caller.alloc)?;
+    ask_check(caller, method, &texts, arguments)?;
+    let is_so = is_true(caller.alloc, caller.store.machine(), method, &texts)?;
+    Ok(is_so)
+}
+
 // The answer of a check to its texts, or E17 where it has to be true and is not.
 fn checked_for<T: Tree, O: Outputs>(
-    caller: &Caller<'_, T, O>,
+    caller: &mut Caller<'_, T, O>,
     default: Requirement,
     method: &str,
     arguments: &Arguments,
 ) -> Result<bool, Stop>
-    ensures { Carries (λ b. b) (checked_for default method.now (arguments_data arguments.now)) (state_of T.seen O.seen caller.now) result
-        (state_of T.seen O.seen caller.now) }
+    ensures { Carries (λ b. b) (checked_for default method.now (arguments_data arguments.now)) (state_of T.seen O.seen caller.old) result
+        (state_of T.seen O.seen caller.new) }
 {
-    let texts = arguments.all_texts(caller.alloc)?;
-    let is_so = is_true(caller.alloc, caller.store.machine(), method, &texts)?;
+    let is_so = is_checked(caller, method, arguments)?;
     let requirement = arguments.requirement(default);
     required_as(caller, requirement, is_so, arguments.text_at(0))
 }
 
 /// A check, as `has_function(name)`: false where it is not required and the machine file says nothing.
 pub fn check<T: Tree, O: Outputs>(
-    caller: &Caller<'_, T, O>,
+    caller: &mut Caller<'_, T, O>,
     method: &str,
     arguments: &Arguments,
 ) -> Result<Option<Value>, Stop>
-    ensures { Carries (option_map data_of) (check method.now (arguments_data arguments.now)) (state_of T.seen O.seen caller.now) result
-        (state_of T.seen O.seen caller.now) }
+    ensures { Carries (option_map data_of) (check method.now (arguments_data arguments.now)) (state_of T.seen O.seen caller.old) result
+        (state_of T.seen O.seen caller.new) }
 {
     let is_so = checked_for(caller, Requirement::Optional, method, arguments)?;
     Ok(Some(Value::Boolean(is_so)))
@@ -131,11 +166,11 @@ fn library_named(
 /// `find_library(name)`: a dependency without a version, found with `-lNAME` for the linker where the check of that name is true. It is
 /// E17 where it is required, as it is where nothing else is said, and not found.
 pub fn find_library<T: Tree, O: Outputs>(
-    caller: &Caller<'_, T, O>,
+    caller: &mut Caller<'_, T, O>,
     arguments: &Arguments,
 ) -> Result<Option<Value>, Stop>
-    ensures { Carries (option_map data_of) (find_library (arguments_data arguments.now)) (state_of T.seen O.seen caller.now) result
-        (state_of T.seen O.seen caller.now) }
+    ensures { Carries (option_map data_of) (find_library (arguments_data arguments.now)) (state_of T.seen O.seen caller.old) result
+        (state_of T.seen O.seen caller.new) }
 {
     let is_so = checked_for(caller, Requirement::Required, "find_library", arguments)?;
     let answer = library_named(caller.alloc, is_so, first_text(arguments))?;

@@ -52,7 +52,7 @@ pub of_stop : {A B C D : Type 0} {view : C → A} {view' : D → B} {d : Files �
     → CarriesOf view d s0 (Err s) s1 → IsErrAnd result (λ e. e ≡ s) → CarriesOf view' (λ files. then (d files) (next files)) s0 result s1
 of_stop {view = view} {view' = view'} {d = d} {next = next} {s0 = s0} {s1 = s1} {s = s} {result = result} p is = record {
   gives = λ files n h.
-      stopped view view' (perform files (d files) s0.world) (λ a. perform files (next files a)) s s1.world s1.world (seen_at s0 n) (seen_at s1 n) result is (p.gives files n h);
+      stopped view view' (perform files (d files) s0.world) (λ a. perform files (next files a)) s s1.world s1.world (seen_at s0 n) (seen_at s1 n) result is refl (p.gives files n h);
   stays = p.stays;
   device = fails_stop is p.device;
   same = p.same;
@@ -104,7 +104,7 @@ pub of_unasked : {B D : Type 0} {view : D → B} (path : Path) (k : List ℕ →
 of_unasked {view = view} path k {s0 = s0} {s1 = s1} {s = s} {result = result} p is = record {
   gives = λ files n h.
       subst (λ r. Gives view r result s1.world (seen_at s0 n) (seen_at s1 n)) (sym (asked_run files path k s0.world))
-      (stopped (λ (u : Unit {0}). u) view (perform files (required path) s0.world) (λ (u : Unit {0}). perform files (k (bytes_at files path))) s s1.world s1.world (seen_at s0 n) (seen_at s1 n) result is (p.gives files n h));
+      (stopped (λ (u : Unit {0}). u) view (perform files (required path) s0.world) (λ (u : Unit {0}). perform files (k (bytes_at files path))) s s1.world s1.world (seen_at s0 n) (seen_at s1 n) result is refl (p.gives files n h));
   stays = p.stays;
   device = fails_stop is p.device;
   same = p.same;
@@ -113,11 +113,11 @@ of_unasked {view = view} path k {s0 = s0} {s1 = s1} {s = s} {result = result} p 
 -- ---- a template that is written
 
 -- a line of it is refused
-line_refused : (path : Path) (line : ℕ) (refusal : Refusal) (s : Stop) (w w1 : World) (old : Seen) → IsRefusal s (plain_fault path line refusal)
-    → (files : Files) → Gives (λ (u : Unit {0}). u) (perform files (refuse_line path line refusal) w) (Err s) w1 old old
+line_refused : (path : Path) (line : ℕ) (refusal : Refusal) (s : Stop) (w : World) (old : Seen) → IsRefusal s (plain_fault path line refusal)
+    → (files : Files) → Gives (λ (u : Unit {0}). u) (perform files (refuse_line path line refusal) w) (Err s) w old old
 unfolding refuse_line
-line_refused path line refusal s w w1 old is files =
-    refused_as (λ (u : Unit {0}). u) (perform files (refuse_line path line refusal) w) (plain_fault path line refusal) s (with_facts w (at_line path line w.facts)) w1 old refl is
+line_refused path line refusal s w old is files =
+    refused_as (λ (u : Unit {0}). u) (perform files (refuse_line path line refusal) w) (plain_fault path line refusal) s (with_facts w (at_line path line w.facts)) w old refl is refl
 
 -- what is left of it once its lines are told
 rest_given : (entries : Entries) (path : Path) (bytes : List ℕ) (found : Option (ℕ × LineRefusal)) (files : Files) (w : World) (old new : Seen) (result : Result (Unit {0}) Stop)
@@ -179,7 +179,7 @@ written_refused entries path line r s {w = w} {names = names} {tree = tree} {out
       let old : Seen = seen out n names in
       let new : Seen = seen out1 n names in
       rest_given entries path (bytes_at files path) (Some (line, r)) files w old new (Err s) (subst (λ fs. Sends out out1 (template_steps entries path (bytes_at fs path)) true) h.files (sent h.steady)) refl refl
-      (subst (λ fs. template_fault (bytes_at fs path) ≡ Some (line, r)) h.files (found h.steady)) (line_refused path line (of_line r) s w w new is files);
+      (subst (λ fs. template_fault (bytes_at fs path) ≡ Some (line, r)) h.files (found h.steady)) (line_refused path line (of_line r) s w new is files);
   stays = stays;
   device = none_failed (Err s) (λ n. failures_after-refusal (Unit {0}) n s (plain_fault path line (of_line r)) is) failed;
   same = refl;

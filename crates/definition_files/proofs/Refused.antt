@@ -17,7 +17,7 @@ pub carries_refused_at : {A B : Type 0} {view : B → A} (file : List ℕ) (line
     → Carries view (refuse_at file line refusal) s (Err (stops.Refused fault)) s
 unfolding refuse_at
 carries_refused_at {view = view} file line refusal {s = s} fault is = record {
-  gives = λ files n h. refused_later view (plain_fault file line refusal) (stops.Refused fault) (with_facts s.world (with_place file [] line s.world.facts)) s.world (seen_at s n) (begun _ (seen_at s n)) is;
+  gives = λ files n h. refused_later view (plain_fault file line refusal) (stops.Refused fault) (with_facts s.world (with_place file [] line s.world.facts)) s.world (seen_at s n) (begun _ (seen_at s n)) is refl;
   stays = stays_here s.tree;
   device = no_failure (λ n. refl);
   same = refl;

@@ -11,6 +11,7 @@ use Rattle.build_file.specs.Concluding.{Agrees, Whole, done_with, failed_devices
 use Rattle.build_file.specs.declared.concluding.Status.{Status}
 use Rattle.build_file.specs.declared.concluding.Status.TheVariants as statuses
 use Rattle.world.specs.Gives.{failures_after}
+use Rattle.world.specs.Look.{ran_over}
 use Rattle.world.specs.Run.{Outcome, Run, ran, Done, Faulted, marks_of, outcome_of, world_after}
 use Rattle.world.specs.Store.{Kept}
 use Rattle.world.specs.Trace.{Begins, Seen, steps_of}
@@ -18,6 +19,7 @@ use Rattle.world.specs.declared.stop.Stop.{Stop}
 use Rattle.world.specs.declared.stop.Stop.TheVariants as stops
 use Rattle.world.proofs.Marks.{steps_of-append}
 use Rattle.interp.specs.Evaluated.{Evaluated}
+use Rattle.interp.specs.Evaluation.{MachineSaid, sections_of}
 use Rattle.hawkottoman.specs.Setup.{Keeps, OnDone, OnEnd, OnProject, Settles, whole_of}
 
 -- the steps of a run begin with what its marks tell
@@ -32,6 +34,11 @@ begun_steps r old new b =
     let is : steps_of b.made ++ (steps_of b.left ++ rest.0) ≡ (whole_of r).steps
     = sym (append_assoc (steps_of b.made) (steps_of b.left) rest.0) ∙ ap (λ x. x ++ rest.0) (sym (steps_of-append b.made b.left) ∙ ap steps_of (sym b.all)) ∙ sym rest.1 in
     subst (λ x. Sends old.out new.out x false) is (sends_stop (steps_of b.left ++ rest.0) (sends_part b.written.sent))
+
+-- a run tells the same over another machine file
+pub over_whole : (said : MachineSaid) (r : Run (Unit {0})) → whole_of (ran_over (sections_of said) r) ≡ whole_of r
+over_whole said (ran (Done x) w ms) = refl
+over_whole said (ran (Faulted f) w ms) = refl
 
 -- what is told first, and then how a run ends
 told : {steps : List Step} {run : Whole} {status : Status} {old mid new : OutputState} → Sends old mid steps true → Agrees run status mid new → Agrees (told_before steps run) status old new

@@ -7,19 +7,13 @@ use Rattle.build_file.specs.Concluding.{Agrees, Whole, done_with, failed_devices
 use Rattle.build_file.specs.declared.concluding.Status.{Status}
 use Rattle.build_file.specs.declared.concluding.Status.TheVariants as statuses
 use Rattle.world.specs.Deed.{Files}
-use Rattle.world.specs.Plan.{carry}
 use Rattle.world.specs.Run.{Run, ran, Done, Faulted, world_after}
 use Rattle.world.specs.Settings.{SettingsData}
-use Rattle.world.specs.Start.{first_world}
 use Rattle.world.specs.Store.{Kept}
 use Rattle.world.specs.Trace.{steps_of}
 use Rattle.world.specs.declared.stop.Stop.{Stop}
 use Rattle.world.specs.declared.stop.Stop.TheVariants as stops
-use Rattle.interp.specs.Evaluation.{MachineSaid, evaluation}
-
--- the evaluation of these files, settings and what a machine file says, from its first world on
-unfoldable pub evaluated : Files → SettingsData → MachineSaid → Run (Unit {0})
-evaluated files s said = carry files (evaluation said) (first_world s)
+use Rattle.interp.specs.Evaluation.{MachineSaid, evaluated}
 
 -- what was told by the evaluation, and then all outputs of the project on success, or the line of its fault
 abbrev pub whole_of : Run (Unit {0}) → Whole

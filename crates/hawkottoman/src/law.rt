@@ -2,7 +2,8 @@
 ghost use Rattle.interp.specs.Laws.{MachineFilesSay};
 ghost use Rattle.hawkottoman.specs.Laws.{DependsOnLooked};
 
-/// Of any two trees of files that agree on the paths looked at by the run of the first, both runs are equal.
+/// Of any two trees of files that agree on the paths looked at by the run of the first, and two machine files that agree on the questions
+/// that it asks, both runs are equal.
 pub fn depends_on_looked()
     ensures { DependsOnLooked }
 {

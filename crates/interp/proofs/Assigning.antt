@@ -60,19 +60,19 @@ over f name o q = over_by (bytes_eq name q) (f q) o
 overwritten : (name : List ℕ) (o : Option Data) (w : World) → changing (with_variable name o) (changing (with_variable name None) w) ≡ changing (with_variable name o) w
 overwritten name o w = λ i. with_facts w (with_variables (λ q. over w.facts.variables name o q i) w.facts)
 
-faulted_gives : {A B : Type 0} (view : B → A) (f : FaultData) (w1 w2 v : World) (result : Result B Stop) (old new : Seen)
+faulted_gives : {A B : Type 0} (view : B → A) (f : FaultData) (w1 w2 v : World) (result : Result B Stop) (old new : Seen) → w1.asked ≡ w2.asked
     → Gives view (ran (Faulted f) w1 []) result v old new → Gives view (ran (Faulted f) w2 []) result v old new
-faulted_gives view f w1 w2 v (Ok x) old new g = absurd (let h : Faulted f ≡ Done (view x) = ap outcome_of g.is in cc)
-faulted_gives view f w1 w2 v (Err (stops.Refused fault)) old new g = record { is = g.is; written = g.written }
-faulted_gives view f w1 w2 v (Err stops.Device) old new g = g
-faulted_gives view f w1 w2 v (Err stops.Memory) old new g = g
+faulted_gives view f w1 w2 v (Ok x) old new same g = absurd (let h : Faulted f ≡ Done (view x) = ap outcome_of g.is in cc)
+faulted_gives view f w1 w2 v (Err (stops.Refused fault)) old new same g = record { is = g.is; asks = g.asks ∙ same; written = g.written }
+faulted_gives view f w1 w2 v (Err stops.Device) old new same g = g
+faulted_gives view f w1 w2 v (Err stops.Memory) old new same g = g
 
 over_by_name : (b : Bool) (files : Files) (line : ℕ) (name : List ℕ) (d : Data) (w v : World) (result : Result (Unit {0}) Stop) (old new : Seen)
     → Gives (λ (u : Unit {0}). u) (carry files (next (give d) (λ sum. assigned_by b line name sum)) (changing (with_variable name None) w)) result v old new
     → Gives (λ (u : Unit {0}). u) (carry files (next (give d) (λ sum. assigned_by b line name sum)) w) result v old new
 over_by_name true files line name d w v result old new g =
     faulted_gives (λ (u : Unit {0}). u) (record { file = w.facts.file; line = line; refusal = refusals.Arguments; detail = [] })
-    (changing (with_line line) (changing (with_variable name None) w)) (changing (with_line line) w) v result old new g
+    (changing (with_line line) (changing (with_variable name None) w)) (changing (with_line line) w) v result old new refl g
 over_by_name false files line name d w v result old new g =
     gives_at (λ (u : Unit {0}). u) (λ x. ran (Done tt) x []) result v old new (overwritten name (Some d) w) g
 
@@ -82,7 +82,7 @@ over_gives : (r : Result Data OperationRefusal) (files : Files) (line : ℕ) (na
 over_gives (Ok d) files line name w v result old new g = over_by_name (is_predefined name) files line name d w v result old new g
 over_gives (Err refusal) files line name w v result old new g =
     faulted_gives (λ (u : Unit {0}). u) (record { file = w.facts.file; line = line; refusal = of_operation refusal; detail = [] })
-    (changing (with_line line) (changing (with_variable name None) w)) (changing (with_line line) w) v result old new g
+    (changing (with_line line) (changing (with_variable name None) w)) (changing (with_line line) w) v result old new refl g
 
 -- a sum is assigned to the variable whose value was taken out of it, as if that still had it
 pub given_over : (line : ℕ) (name : List ℕ) (d e : Data) {files : Files} {w w1 : World} {names names1 : List (List ℕ)} {tree : TreeState} {out : OutputState} {n : ℕ} {result : Result (Unit {0}) Stop} {s : Stand}

@@ -34,12 +34,13 @@ use Rattle.paths.specs.Paths.{folder_below}
 use Rattle.language_calls.specs.declared.function.Function.{Function}
 use Rattle.language_calls.specs.declared.function.Function.TheVariants as functions
 use Rattle.ports.specs.Tree.{file_at}
-use Rattle.world.specs.World.{World, Facts, looking, entering, with_facts, with_machine, with_place}
-use Rattle.world.specs.Run.{Run, ran, follow, after, Done, Faulted}
+use Rattle.world.specs.World.{World, Facts, looking, entering, with_facts, with_place}
+use Rattle.world.specs.Run.{Run, ran, follow, after, Done, Faulted, marks_of}
 use Rattle.world.specs.Deed.{Files, Deed, read, refuse as refuse_deed, then as andthen, perform, need}
 use Rattle.world.specs.Plan.{Plan, deed, ruled, entered, next as next_plan, carry, answered, refuse, give}
 use Rattle.world.specs.Costs.{definition_file, is_opened, unopened, spent}
 use Rattle.world.specs.Start.{first_world}
+use Rattle.world.specs.Trace.{ends_of}
 use Rattle.world.proofs.Costs.{Takes, more as more_in, free as free_in, none as none_in, chain as chain_in, rules as rules_in, opens, paid, paid-after, spent-after, spent-paid, deed-costs}
 use Rattle.interp.specs.declared.meaning.Meaning.{Meaning}
 use Rattle.interp.specs.declared.meaning.Meaning.TheVariants.{Combines, Connects}
@@ -57,7 +58,7 @@ use Rattle.interp.specs.Entering.{WayData, Ends, Enters, action_of, by_way, fitt
 use Rattle.interp.specs.Statements.{configuration_in, own_by, own, added, appended, summed, assigned_by, assigned, Round, looped, item_rounds, entry_rounds, bound, on_next, after_round, rounds_of, walked, stated, does, branches_of, do_all}
 use Rattle.interp.specs.Folders.{opened_by, opened, fresh_by, fresh, go_back, folder}
 use Rattle.definition_files.specs.Files.{most_bytes, refuse_line, tree_or_fault, spelled_by, spelled}
-use Rattle.interp.specs.Evaluation.{begun_by, is_project, begins, begins_all, root, MachineSaid, take_machine, evaluation}
+use Rattle.interp.specs.Evaluation.{begun_by, is_project, begins, begins_all, root, MachineSaid, sections_of, definitions, evaluated, evaluation}
 use Rattle.interp.specs.Laws.{StepsWithinCost}
 use Rattle.interp.proofs.Paths.{not_opened, is_definition}
 use Rattle.definition_files.specs.Places.{refuse_at}
@@ -520,20 +521,22 @@ module _ (files : Files) where
   root-cost : (ss : Statements) → Takes file_cost files (statements_cost ss) (root ss)
   root-cost ss = first (begins_all-cost ss) (λ u. all-cost (folder 63) (folder-cost 63) ss)
 
-  opened-cost : (w : World) → is_opened w.entered (definition_file []) ≡ false → spent file_cost files (carry files (next_plan (opened []) (λ body. next_plan (ruled (root body)) (λ u. give (tt {0})))) w) ≤ unopened file_cost files w.entered
-  opened-cost w new = body-paid [] (λ body. next_plan (ruled (root body)) (λ u. give (tt {0}))) (λ body. last (rules (root-cost body)) (λ u. none _)) w new
+  definitions-cost : (w : World) → is_opened w.entered (definition_file []) ≡ false → spent file_cost files (carry files definitions w) ≤ unopened file_cost files w.entered
+  definitions-cost w new = body-paid [] (λ body. next_plan (ruled (root body)) (λ u. give (tt {0}))) (λ body. last (rules (root-cost body)) (λ u. none _)) w new
 
   begun_run : (said : MachineSaid) (w : World) → w.entered ≡ [] → spent file_cost files (carry files (evaluation said) w) ≤ unopened file_cost files w.entered
-  unfolding take_machine refuse_at
-  begun_run (Ok sections) w none_entered =
-      let v = with_facts w (with_machine sections w.facts) in
-      omega (arith, spent-after file_cost files [] (carry files (next_plan (opened []) (λ body. next_plan (ruled (root body)) (λ u. give (tt {0})))) v), opened-cost v (ap (λ l. is_opened l (definition_file [])) none_entered))
+  unfolding refuse_at
+  begun_run (Ok sections) w none_entered = definitions-cost w (ap (λ l. is_opened l (definition_file [])) none_entered)
   begun_run (Err fault) w none_entered = omega arith
 
 unopened-none : (files : Files) → unopened file_cost files [] ≡ tree_cost files
 unopened-none [] = refl
 unopened-none (f ∷ fs) = ap (λ n. file_cost f + n) (unopened-none fs)
 
+within_cost : (files : Files) (said : MachineSaid) (w : World) → w.entered ≡ [] → ends_of (marks_of (carry files (evaluation said) w)) ≤ tree_cost files
+within_cost files said w none_entered =
+    omega (arith, begun_run files said w none_entered, ap (unopened file_cost files) none_entered, unopened-none files)
+
 pub steps_within_cost : StepsWithinCost
-steps_within_cost files settings said =
-    omega (arith, begun_run files said (first_world settings) refl, unopened-none files)
+unfolding evaluated
+steps_within_cost files settings said = within_cost files said (first_world settings (sections_of said)) refl

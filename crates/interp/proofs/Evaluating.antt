@@ -34,7 +34,7 @@ given_then {view = view} {view' = view'} {files = files} {p = p} {others = other
 pub given_stop : {A B C D : Type 0} {view : C → A} {view' : D → B} {files : Files} {p : Plan A} {others : A → Plan B} {s0 s1 : Stand} {s : Stop} {result : Result D Stop}
     → Given view files p s0 (Err s) s1 → IsErrAnd result (λ e. e ≡ s) → Given view' files (next p others) s0 result s1
 given_stop {view = view} {view' = view'} {files = files} {p = p} {others = others} {s0 = s0} {s1 = s1} {s = s} {result = result} g is = record {
-  gives = stopped_later view view' (carry files p s0.world) (λ a. carry files (others a)) s s1.world s1.world (seen_of s1) result (begun _ (seen_of s0)) is g.gives;
+  gives = stopped_later view view' (carry files p s0.world) (λ a. carry files (others a)) s s1.world s1.world (seen_of s1) result (begun _ (seen_of s0)) is refl g.gives;
   holds = g.holds;
 }
 
@@ -57,7 +57,7 @@ refused_gives : {A B : Type 0} (view : B → A) (files : Files) (line : ℕ) (re
     → Refuses (record { file = w.facts.file; line = line; refusal = refusal; detail = detail }) result → Gives view (carry files (refuse line refusal detail) w) result w old old
 refused_gives view files line refusal detail w (Ok x) old is = absurd is
 refused_gives view files line refusal detail w (Err s) old is =
-    refused_later view (record { file = w.facts.file; line = line; refusal = refusal; detail = detail }) s (with_facts w (with_line line w.facts)) w old (begun _ old) is
+    refused_later view (record { file = w.facts.file; line = line; refusal = refusal; detail = detail }) s (with_facts w (with_line line w.facts)) w old (begun _ old) is refl
 
 -- it is refused
 pub given_refuse : {A B : Type 0} {view : B → A} {files : Files} {line : ℕ} {refusal : Refusal} {detail : List ℕ} {s : Stand} {result : Result B Stop}

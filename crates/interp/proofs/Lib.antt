@@ -2,6 +2,7 @@ pub mod Assigning
 pub mod Blocks
 pub mod Coming
 mod Costs
+mod Depending
 pub mod Ending
 pub mod Evaluating
 pub mod Filling
@@ -14,7 +15,7 @@ pub mod Places
 pub mod Reading
 pub mod Spelling
 pub mod Stack
-mod Starting
+pub mod Starting
 mod Ticking
 mod Values
 mod Walking

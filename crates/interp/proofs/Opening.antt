@@ -39,17 +39,17 @@ given_entered {view = view} {files = files} {others = others} {s0 = s0} {s1 = s1
   holds = g.holds;
 }
 
-refused_here : {A B : Type 0} (view : B → A) (files : Files) (refusal : Refusal) (detail : List ℕ) (w w1 : World) (result : Result B Stop) (old : Seen)
-    → Refuses (fault_here w refusal detail) result → Gives view (carry files (deed (refuse_deed refusal detail)) w) result w1 old old
-refused_here view files refusal detail w w1 (Ok x) old is = absurd is
-refused_here view files refusal detail w w1 (Err s) old is = refused_later view (fault_here w refusal detail) s w w1 old (begun _ old) is
+refused_here : {A B : Type 0} (view : B → A) (files : Files) (refusal : Refusal) (detail : List ℕ) (w : World) (result : Result B Stop) (old : Seen)
+    → Refuses (fault_here w refusal detail) result → Gives view (carry files (deed (refuse_deed refusal detail)) w) result w old old
+refused_here view files refusal detail w (Ok x) old is = absurd is
+refused_here view files refusal detail w (Err s) old is = refused_later view (fault_here w refusal detail) s w w old (begun _ old) is refl
 
 -- it is refused at the present place
 pub given_here : {A B : Type 0} {view : B → A} {files : Files} {line : ℕ} {refusal : Refusal} {detail : List ℕ} {s : Stand} {result : Result B Stop}
     → Holds s.tree files → line ≡ s.world.facts.line → Refuses (record { file = s.world.facts.file; line = line; refusal = refusal; detail = detail }) result
     → Given view files (deed (refuse_deed refusal detail)) s result s
 given_here {view = view} {files = files} {refusal = refusal} {detail = detail} {s = s} {result = result} h here is = record {
-  gives = refused_here view files refusal detail s.world s.world result (seen_of s)
+  gives = refused_here view files refusal detail s.world result (seen_of s)
       (subst (λ l. Refuses (record { file = s.world.facts.file; line = l; refusal = refusal; detail = detail }) result) here is);
   holds = h;
 }

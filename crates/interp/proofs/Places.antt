@@ -39,7 +39,7 @@ pub given_refused_here : {A B : Type 0} {view : B → A} {files : Files} {refusa
     → Refuses (fault_here s.world refusal detail) result → Given view files (deed (refuse refusal detail)) s result s
 given_refused_here (Ok x) h is = absurd is
 given_refused_here {view = view} {files = files} {refusal = refusal} {detail = detail} {s = s} (Err e) h is = record {
-  gives = refused_later view (fault_here s.world refusal detail) e s.world s.world (seen_of s) (begun (carry files (deed (refuse refusal detail)) s.world) (seen_of s)) is;
+  gives = refused_later view (fault_here s.world refusal detail) e s.world s.world (seen_of s) (begun (carry files (deed (refuse refusal detail)) s.world) (seen_of s)) is refl;
   holds = h;
 }
 

@@ -12,6 +12,7 @@ use Rattle.code.proofs.Trees.{less}
 use Rattle.interp.specs.Blocks.{expressions_by, statements_by}
 use Rattle.std.proofs.lemmas.Bool.{false≢true, eqb-true}
 use Rattle.machine_file.specs.Fault.{told}
+use Rattle.machine_file.specs.Files.{Section}
 use Rattle.definition_files.specs.Places.{refuse_at}
 use Rattle.world.specs.Settings.{SettingsData}
 use Rattle.world.specs.Start.{first_world}
@@ -20,17 +21,17 @@ use Rattle.ports.specs.Outputs.{OutputState}
 use Rattle.world.specs.Store.{Kept, world_of}
 use Rattle.interp.specs.Evaluated.{Evaluated}
 use Rattle.interp.proofs.Ticking.{evaluated_done, evaluated_none, evaluated_stop, unnamed}
-use Rattle.world.specs.Gives.{Ends, Gives}
-use Rattle.world.specs.Run.{Done}
+use Rattle.world.specs.Gives.{Ends, Gives, is_ended}
+use Rattle.world.specs.Run.{Done, world_after}
 use Rattle.world.specs.Plan.{carry}
 use Rattle.world.specs.Trace.{Seen, seen}
-use Rattle.world.specs.World.{World, with_facts, with_machine, with_place}
+use Rattle.world.specs.World.{World, with_facts, with_place}
 use Rattle.world.specs.declared.stop.Stop.{Stop}
 use Rattle.world.specs.declared.stop.Stop.TheVariants as stops
-use Rattle.world.proofs.Follow.{after-nil, begun, refused_later}
+use Rattle.world.proofs.Follow.{begun, refused_later}
 use Rattle.grammar.specs.Tree.{StatementTree, AssignTree, AppendTree, ValueTree, BreakTree, ContinueTree, IfTree, ForeachTree, Statements, NoStatement, MoreStatements}
-use Rattle.interp.specs.Beginnings.{RootGives, Starts, begun_at, definitions, line_before, line_unless, other_line}
-use Rattle.interp.specs.Evaluation.{MachineSaid, begins, begins_all, begun_by, evaluation, is_project, take_machine}
+use Rattle.interp.specs.Beginnings.{Reads, RootGives, Starts, begun_at, line_before, line_unless, other_line}
+use Rattle.interp.specs.Evaluation.{MachineSaid, begins, begins_all, begun_by, definitions, evaluated, is_project}
 use Rattle.interp.proofs.Blocks.{number_below}
 use Rattle.interp.specs.declared.block.Block.TheVariants as blocks
 
@@ -79,38 +80,76 @@ first_below c number rest is = number_below c blocks.File (number ∷ rest) 0 0 
 
 -- the world in which the root file is evaluated, and the whole evaluation
 pub started : (files : Files) (s : SettingsData) (said : MachineSaid) (kept : Kept) → Starts s said (Ok kept)
-    → carry files definitions (world_of kept) ≡ carry files (evaluation said) (first_world s)
-unfolding take_machine
-started files s (Ok sections) kept is = ap (carry files definitions) is ∙ sym (after-nil (carry files definitions (with_facts (first_world s) (with_machine sections (first_world s).facts))))
+    → carry files definitions (world_of kept) ≡ evaluated files s said
+unfolding evaluated
+started files s (Ok sections) kept is = ap (carry files definitions) is
 started files s (Err fault) kept is = absurd is
+
+-- what stops where the machine file is read stops the start
+unread : {A : Type 0} (view : A → List Section) (s : SettingsData) (said : MachineSaid) (e : Stop) → Reads view said (Err e) → Starts s said (Err e)
+unread view s (Ok sections) (stops.Refused f) h = absurd h
+unread view s (Err g) (stops.Refused f) h = h
+unread view s (Ok sections) stops.Device h = absurd h
+unread view s (Err g) stops.Device h = absurd h
+unread view s (Ok sections) stops.Memory h = tt
+unread view s (Err g) stops.Memory h = tt
+
+pub not_read : {A : Type 0} (view : A → List Section) (s : SettingsData) (said : MachineSaid) (e : Stop) (result : Result Kept Stop) → IsErrAnd result (λ r. r ≡ e)
+    → Reads view said (Err e) → Starts s said result
+not_read view s said e (Ok k) is h = absurd is
+not_read view s said e (Err d) is h = subst (λ x. Starts s said (Err x)) (sym is) (unread view s said e h)
+
+-- no memory for the first world
+pub no_world : (s : SettingsData) (said : MachineSaid) (result : Result Kept Stop) → IsErrAnd result (λ r. r ≡ stops.Memory) → Starts s said result
+no_world s said (Ok k) is = absurd is
+no_world s said (Err d) is = subst (λ x. Starts s said (Err x)) (sym is) (none s said)
+  where
+    none : (s : SettingsData) (said : MachineSaid) → Starts s said (Err stops.Memory)
+    none s (Ok sections) = tt
+    none s (Err g) = tt
+
+-- the first world over what was read
+pub was_read : {A : Type 0} (view : A → List Section) (s : SettingsData) (said : MachineSaid) (x : A) (k : Kept) → Reads view said (Ok x) → world_of k ≡ first_world s (view x)
+    → Starts s said (Ok k)
+was_read view s (Ok sections) x k h e = e ∙ ap (first_world s) h
+was_read view s (Err g) x k h e = absurd h
 
 -- a machine file that is refused, or no memory
 pub not_started : (files : Files) (s : SettingsData) (said : MachineSaid) (e : Stop) (result : Result Kept Stop) (out : OutputState) (n : ℕ) → IsErrAnd result (λ r. r ≡ e)
-    → Starts s said (Err e) → Evaluated (carry files (evaluation said) (first_world s)) result (seen out n []) (seen out n [])
-unfolding take_machine refuse_at
-not_started files s said stops.Memory result out n is h = evaluated_none (carry files (evaluation said) (first_world s)) (seen out n []) result is
+    → Starts s said (Err e) → Evaluated (evaluated files s said) result (seen out n []) (seen out n [])
+unfolding evaluated refuse_at
+not_started files s said stops.Memory result out n is h = evaluated_none (evaluated files s said) (seen out n []) result is
 not_started files s said stops.Device result out n is h = absurd h
 not_started files s (Ok sections) (stops.Refused f) result out n is h = absurd h
 not_started files s (Err fault) (stops.Refused f) result out n is h =
-    let w = first_world s in
-    evaluated_stop (carry files (evaluation (Err fault)) w) (stops.Refused f) result w (seen out n []) (seen out n []) is
+    let w = first_world s [] in
+    evaluated_stop (evaluated files s (Err fault)) (stops.Refused f) result w (seen out n []) (seen out n []) is
     (refused_later (λ (u : Unit {0}). u) (told fault) (stops.Refused f) (with_facts w (with_place (codes "<machine file>") [] fault.line w.facts)) w (seen out n [])
-    (begun (carry files (evaluation (Err fault)) w) (seen out n [])) h)
+    (begun (evaluated files s (Err fault)) (seen out n [])) h refl)
 
 -- the root file ended
 pub whole_done : (files : Files) (s : SettingsData) (said : MachineSaid) (kept k : Kept) (old new : Seen) → Starts s said (Ok kept)
-    → Ends (carry files definitions (world_of kept)) (Done tt) (world_of k) old new → Evaluated (carry files (evaluation said) (first_world s)) (Ok k) (unnamed old) (unnamed new)
+    → Ends (carry files definitions (world_of kept)) (Done tt) (world_of k) old new → Evaluated (evaluated files s said) (Ok k) (unnamed old) (unnamed new)
 whole_done files s said kept k old new is g =
-    evaluated_done (carry files (evaluation said) (first_world s)) k old new
+    evaluated_done (evaluated files s said) k old new
     (subst (λ r. Ends r (Done tt) (world_of k) old new) (started files s said kept is) g)
 
 -- or it stopped
 pub whole_stopped : (files : Files) (s : SettingsData) (said : MachineSaid) (kept : Kept) (w : World) (e : Stop) (result : Result Kept Stop) (old new : Seen) → Starts s said (Ok kept)
     → IsErrAnd result (λ r. r ≡ e) → Gives {A = Unit {0}} {B = Unit {0}} (λ r. r) (carry files definitions (world_of kept)) (Err e) w old new
-    → Evaluated (carry files (evaluation said) (first_world s)) result (unnamed old) (unnamed new)
+    → Evaluated (evaluated files s said) result (unnamed old) (unnamed new)
 whole_stopped files s said kept w e result old new is stop g =
-    evaluated_stop (carry files (evaluation said) (first_world s)) e result w old new stop
+    evaluated_stop (evaluated files s said) e result w old new stop
     (subst (λ x. Gives {A = Unit {0}} {B = Unit {0}} (λ r. r) x (Err e) w old new) (started files s said kept is) g)
+
+-- the questions in the store are all that the run asked, where that came to its end
+pub all_asked : (files : Files) (s : SettingsData) (said : MachineSaid) (kept k : Kept) (result : Result (Unit {0}) Stop) (old new : Seen) → Starts s said (Ok kept)
+    → Gives {A = Unit {0}} {B = Unit {0}} (λ r. r) (carry files definitions (world_of kept)) result (world_of k) old new → is_ended result ≡ 1
+    → k.asked ≡ (world_after (evaluated files s said)).asked
+all_asked files s said kept k (Ok u) old new is g e = ap (λ r. (world_after r).asked) (sym g.is ∙ started files s said kept is)
+all_asked files s said kept k (Err (stops.Refused fault)) old new is g e = g.asks ∙ ap (λ r. (world_after r).asked) (started files s said kept is)
+all_asked files s said kept k (Err stops.Device) old new is g e = absurd (let h : 0 ≡ 1 = e in cc)
+all_asked files s said kept k (Err stops.Memory) old new is g e = absurd (let h : 0 ≡ 1 = e in cc)
 
 -- the first number of a list
 pub first_is : (xs : List ℕ) (n : ℕ) → Some n ≡ slice_get xs 0 → (rest : List ℕ) × (xs ≡ n ∷ rest)

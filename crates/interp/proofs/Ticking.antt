@@ -29,7 +29,7 @@ pub evaluated_done : (run : Run (Unit {0})) (k : Kept) (old new : Seen) → Ends
 evaluated_done run k old new g = record { is = g.is; written = adds_unnamed (marks_of run) old new g.written }
 
 stopped : (run : Run (Unit {0})) (e : Stop) (w : World) (old new : Seen) → Gives {A = Unit {0}} {B = Unit {0}} (λ u. u) run (Err e) w old new → Evaluated run (Err e) (unnamed old) (unnamed new)
-stopped run (stops.Refused fault) w old new g = record { is = g.is; written = adds_unnamed (marks_of run) old new g.written }
+stopped run (stops.Refused fault) w old new g = record { is = g.is; asks = refl; written = adds_unnamed (marks_of run) old new g.written }
 stopped run stops.Device w old new g = begins_unnamed (marks_of run) old new g
 stopped run stops.Memory w old new g = begins_unnamed (marks_of run) old new g
 

@@ -1,22 +1,21 @@
 -- How an evaluation begins.
-use Rattle.std.specs.Prelude.{◌≡◌, ℕ, Bool, true, false, [], Option, Some, None, Result, Ok, Err}
+use Rattle.std.specs.Prelude.{◌≡◌, ℕ, Bool, true, false, List, [], Option, Some, None, Result, Ok, Err}
 use Rattle.grammar.specs.Tree.{StatementTree, AssignTree, AppendTree, ValueTree, BreakTree, ContinueTree, IfTree, ForeachTree, Statements, NoStatement, MoreStatements}
 use Rattle.basics.specs.View.{fault_view}
 use Rattle.basics.specs.declared.faults.refusal.Refusal.TheVariants as refusals
 use Rattle.machine_file.specs.Fault.{told}
+use Rattle.machine_file.specs.Files.{Section}
 use Rattle.ports.specs.Outputs.{OutputState}
 use Rattle.world.specs.Deed.{Files}
 use Rattle.world.specs.Gives.{Gives}
-use Rattle.world.specs.Plan.{Plan, ruled, ◌>>=◌, carry, give, refuse}
+use Rattle.world.specs.Plan.{Plan, carry, give, refuse}
 use Rattle.world.specs.Settings.{SettingsData}
 use Rattle.world.specs.Start.{first_world}
-use Rattle.world.specs.Store.{Kept, changing, world_of}
+use Rattle.world.specs.Store.{Kept, world_of}
 use Rattle.world.specs.Trace.{seen}
-use Rattle.world.specs.World.{with_machine}
 use Rattle.world.specs.declared.stop.Stop.{Stop}
 use Rattle.world.specs.declared.stop.Stop.TheVariants as stops
-use Rattle.interp.specs.Evaluation.{MachineSaid, is_project, root}
-use Rattle.interp.specs.Folders.{opened}
+use Rattle.interp.specs.Evaluation.{MachineSaid, definitions, is_project}
 
 -- the line of a statement that is no call of `project`
 abbrev pub line_unless : ℕ → Bool → Option ℕ
@@ -42,21 +41,23 @@ abbrev pub begun_at : Option ℕ → Plan (Unit {0})
 begun_at None = give tt
 begun_at (Some line) = refuse line refusals.ProjectCall []
 
--- the world before the root file: the machine file was read, which says this, or is refused
+-- a machine file was read that says this, or it is refused
+abbrev pub Reads : {A : Type 0} → (A → List Section) → MachineSaid → Result A Stop → Type 0
+Reads view (Ok sections) (Ok x) = view x ≡ sections
+Reads view (Ok sections) (Err (stops.Refused fault)) = ⊥
+Reads view (Err f) (Ok x) = ⊥
+Reads view (Err f) (Err (stops.Refused fault)) = fault_view fault ≡ told f
+Reads view said (Err stops.Device) = ⊥
+Reads view said (Err stops.Memory) = Unit {0}
+
+-- the world before the root file, over a machine file that says this, or it is refused
 abbrev pub Starts : SettingsData → MachineSaid → Result Kept Stop → Type 0
-Starts s (Ok sections) (Ok kept) = world_of kept ≡ changing (with_machine sections) (first_world s)
+Starts s (Ok sections) (Ok kept) = world_of kept ≡ first_world s sections
 Starts s (Ok sections) (Err (stops.Refused fault)) = ⊥
 Starts s (Err f) (Ok kept) = ⊥
 Starts s (Err f) (Err (stops.Refused fault)) = fault_view fault ≡ told f
 Starts s said (Err stops.Device) = ⊥
 Starts s said (Err stops.Memory) = Unit {0}
-
--- an evaluation without its machine file
-abbrev pub definitions : Plan (Unit {0})
-definitions = do
-  body ← opened []
-  _ ← ruled (root body)
-  give tt
 
 -- over these files, a call did from one store to another what the root file does
 pub record RootGives (files : Files) (old : Kept) (out : OutputState) (ticks : ℕ) (result : Result (Unit {0})

@@ -10,9 +10,11 @@ use Rattle.machine_file.specs.Files.{Section}
 use Rattle.machine_file.specs.Lines.{file_lines}
 use Rattle.machine_file.specs.Reads.{AreSections}
 use Rattle.machine_file.specs.declared.fault.MachineFault.{MachineFault}
-use Rattle.world.specs.Deed.{Deed, change}
-use Rattle.world.specs.World.{with_machine}
-use Rattle.world.specs.Plan.{Plan, deed, ruled, ◌>>=◌, give, refuse}
+use Rattle.world.specs.Deed.{Files}
+use Rattle.world.specs.Plan.{Plan, carry, deed, ruled, ◌>>=◌, give, refuse}
+use Rattle.world.specs.Run.{Run}
+use Rattle.world.specs.Settings.{SettingsData}
+use Rattle.world.specs.Start.{first_world}
 use Rattle.interp.specs.Folders.{opened, folder}
 use Rattle.interp.specs.declared.flow.Flow.{Flow}
 use Rattle.interp.specs.Statements.{do_all}
@@ -55,15 +57,23 @@ abbrev pub IsSaid : List ℕ → MachineSaid → Type 0
 IsSaid bytes (Ok sections) = IsUtf8 bytes × AreSections (file_lines bytes) sections
 IsSaid bytes (Err fault) = IsFault fault.refusal bytes fault.line
 
--- what the machine file says is known from then on; a fault is at its line of `<machine file>`
-unfoldable pub take_machine : MachineSaid → Deed (Unit {0})
-take_machine (Ok sections) = change (with_machine sections)
-take_machine (Err fault) = refuse_at (codes "<machine file>") fault.line fault.refusal
+-- its sections; none where it has a fault
+abbrev pub sections_of : MachineSaid → List Section
+sections_of (Ok sections) = sections
+sections_of (Err fault) = []
 
--- the machine file, which says this, and then the root file
-abbrev pub evaluation : MachineSaid → Plan (Unit {0})
-evaluation said = do
-  _ ← deed (take_machine said)
+-- what definition files do, from the root file on
+abbrev pub definitions : Plan (Unit {0})
+definitions = do
   body ← opened []
   _ ← ruled (root body)
   give tt
+
+-- the definition files are evaluated where the machine file has sections; its fault is at its line of `<machine file>`
+abbrev pub evaluation : MachineSaid → Plan (Unit {0})
+evaluation (Ok sections) = definitions
+evaluation (Err fault) = deed (refuse_at (codes "<machine file>") fault.line fault.refusal)
+
+-- the whole evaluation of these files, with these settings, over a machine file that says this
+unfoldable pub evaluated : Files → SettingsData → MachineSaid → Run (Unit {0})
+evaluated files s said = carry files (evaluation said) (first_world s (sections_of said))

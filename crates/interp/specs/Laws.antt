@@ -1,26 +1,33 @@
 -- What holds of every evaluation.
-use Rattle.std.specs.Prelude.{◌≡◌, ℕ, ◌≤◌, List}
+use Rattle.std.specs.Prelude.{◌≡◌, ℕ, ◌≤◌, List, Ok, Err}
 use Rattle.world.specs.Deed.{Files}
-use Rattle.world.specs.Look.{Agree}
-use Rattle.world.specs.Plan.{carry}
+use Rattle.world.specs.Look.{Agree, AgreeOn, ran_over}
 use Rattle.world.specs.Run.{marks_of, world_after}
 use Rattle.world.specs.Settings.{SettingsData}
-use Rattle.world.specs.Start.{first_world}
 use Rattle.world.specs.Trace.{ends_of}
+use Rattle.world.specs.World.{Asked}
 use Rattle.interp.specs.Cost.{tree_cost}
-use Rattle.interp.specs.Evaluation.{IsSaid, MachineSaid, evaluation}
+use Rattle.interp.specs.Evaluation.{IsSaid, MachineSaid, evaluated, sections_of}
 
--- Of any two trees of files that agree on the paths looked at by the evaluation of the first, both evaluations are equal: in outcome, in
--- the world after it, and in the marks.
+-- two machine files agree on these questions: both have sections, which answer them the same, or both have the same fault
+abbrev pub SayAlike : MachineSaid → MachineSaid → List Asked → Type 0
+SayAlike (Ok sections) (Ok others) asked = AgreeOn sections others asked
+SayAlike (Ok sections) (Err fault) asked = ⊥
+SayAlike (Err fault) (Ok others) asked = ⊥
+SayAlike (Err fault) (Err other) asked = other ≡ fault
+
+-- Of any two trees of files that agree on the paths looked at by the evaluation of the first, and two machine files that agree on the
+-- questions that it asks, both evaluations are equal: in outcome, in the marks, and in the world after it, but for what stands beside the
+-- answers in the machine file.
 abbrev pub DependsOnLooked : Type 0
-DependsOnLooked = (f g : Files) (settings : SettingsData) (said : MachineSaid)
-    → Agree f g (world_after (carry f (evaluation said) (first_world settings))).looked
-    → carry g (evaluation said) (first_world settings) ≡ carry f (evaluation said) (first_world settings)
+DependsOnLooked = (f g : Files) (settings : SettingsData) (said other : MachineSaid)
+    → Agree f g (world_after (evaluated f settings said)).looked → SayAlike said other (world_after (evaluated f settings said)).asked
+    → evaluated g settings other ≡ ran_over (sections_of other) (evaluated f settings said)
 
 -- an evaluation ends no more rules than its tree of files costs
 abbrev pub StepsWithinCost : Type 0
 StepsWithinCost = (files : Files) (settings : SettingsData) (said : MachineSaid)
-    → ends_of (marks_of (carry files (evaluation said) (first_world settings))) ≤ tree_cost files
+    → ends_of (marks_of (evaluated files settings said)) ≤ tree_cost files
 
 -- Bytes are read as a machine file that says one thing, and no other.
 pub record MachineFilesSay : Type 0 where

@@ -1,17 +1,18 @@
 //! A whole evaluation.
 ghost use Rattle.std.specs.Prelude.{◌≡◌, ℕ, [], IfOk, length};
+ghost use Rattle.std.specs.Rc.{rc_value};
+ghost use Rattle.machine_file.specs.View.{machine_in};
 ghost use Rattle.ports.specs.Endings.{HasRoom};
 ghost use Rattle.world.specs.Deed.{Files};
 ghost use Rattle.world.specs.Gives.{Holds, failures_after};
-ghost use Rattle.world.specs.Plan.{carry, ruled};
+ghost use Rattle.world.specs.Plan.{ruled};
 ghost use Rattle.world.specs.SettingsView.{settings_view};
-ghost use Rattle.world.specs.Start.{first_world};
 ghost use Rattle.world.specs.Trace.{seen};
-ghost use Rattle.interp.specs.Beginnings.{RootGives, Starts, definitions};
+ghost use Rattle.interp.specs.Beginnings.{Reads, RootGives, Starts};
 ghost use Rattle.interp.specs.Blocks.{file_by};
 ghost use Rattle.interp.specs.Cost.{tree_cost};
 ghost use Rattle.interp.specs.Evaluated.{Evaluated, FailsOnce, Ticked};
-ghost use Rattle.interp.specs.Evaluation.{IsSaid, MachineSaid, evaluation, root};
+ghost use Rattle.interp.specs.Evaluation.{IsSaid, MachineSaid, definitions, evaluated, root};
 
 use crate::beginning::line_before_project;
 use crate::evaluator::Evaluator;
@@ -21,6 +22,7 @@ use code::Code;
 use machine_file::Machine;
 use ports::{Outputs, Tree};
 use std::alloc::Global;
+use std::rc::Rc;
 use std::sync::ledger::Ledger;
 use world::{Settings, Steps, Stop, Store, ended, ends_keep_up};
 
@@ -101,8 +103,9 @@ impl<'a, T: Tree, O: Outputs, L: Ledger> Evaluator<'a, T, O, L> {
     }
 }
 
-// The root file, in the world that a store keeps.
-fn definitions<T: Tree, O: Outputs, L: Ledger>(
+/// Evaluates the definitions of a tree, from its root file on, in a new world. What was done stands in the store, also after a fault: the
+/// questions that were asked of the machine file until then are [`Store::asked`].
+pub fn definitions<T: Tree, O: Outputs, L: Ledger>(
     alloc: Global,
     store: &mut Store,
     tree: &mut T,
@@ -120,19 +123,26 @@ fn definitions<T: Tree, O: Outputs, L: Ledger>(
     evaluator.definitions()
 }
 
-// The world in which the root file is evaluated: what the machine file says is known.
+/// The machine file that these bytes spell. A file that is none is the fault; nothing was looked at then.
+pub fn read_machine(alloc: Global, bytes: &[u8]) -> Result<Rc<Machine>, Stop>
+    ensures reads { (said : MachineSaid) → IsSaid bytes.now said → Reads (λ m. machine_in (rc_value m)) said result }
+    ensures quiet { (n : ℕ) → failures_after n result ≡ n }
+{
+    match Machine::read(alloc, bytes)? {
+        Ok(machine) => Ok(Rc::new(alloc, machine)?),
+        Err(fault) => Err(Stop::Refused(fault.told(alloc)?)),
+    }
+}
+
+// The world in which the root file is evaluated, over the machine file.
 fn start(alloc: Global, inputs: &Inputs<'_>) -> Result<Store, Stop>
     ensures starts { (said : MachineSaid) → IsSaid inputs.now.machine.now said
         → Starts (settings_view inputs.now.settings.now) said result }
     ensures entered { IfOk result (λ s. s.entered ≡ []) }
     ensures quiet { (n : ℕ) → failures_after n result ≡ n }
 {
-    let machine = match Machine::read(alloc, inputs.machine)? {
-        Ok(machine) => machine,
-        Err(fault) => return Err(Stop::Refused(fault.told(alloc)?)),
-    };
-    let mut store = Store::new(alloc, inputs.settings.copy(alloc)?)?;
-    store.set_machine(machine);
+    let machine = read_machine(alloc, inputs.machine)?;
+    let store = Store::new(alloc, inputs.settings.copy(alloc)?, machine)?;
     Ok(store)
 }
 
@@ -147,10 +157,10 @@ pub fn evaluate<T: Tree, O: Outputs, L: Ledger>(
     requires tree { HasRoom (T.seen tree.old).failures }
     requires out { HasRoom (O.seen out.old).failures }
     ensures gives { (files : Files) (said : MachineSaid) → Holds (T.seen tree.old) files → IsSaid inputs.now.machine.now said
-        → Evaluated (carry files (evaluation said) (first_world (settings_view inputs.now.settings.now))) result
+        → Evaluated (evaluated files (settings_view inputs.now.settings.now) said) result
         (seen (O.seen out.old) steps.old []) (seen (O.seen out.new) steps.new []) }
     ensures ticks { (files : Files) (said : MachineSaid) → Holds (T.seen tree.old) files → IsSaid inputs.now.machine.now said
-        → Ticked (carry files (evaluation said) (first_world (settings_view inputs.now.settings.now))) (tree_cost files) result
+        → Ticked (evaluated files (settings_view inputs.now.settings.now) said) (tree_cost files) result
         (seen (O.seen out.old) steps.old []) (seen (O.seen out.new) steps.new []) }
     ensures device { FailsOnce (T.seen tree.old) (O.seen out.old) result (T.seen tree.new) (O.seen out.new) }
 {

@@ -1,7 +1,8 @@
 //! What holds of every evaluation.
 ghost use Rattle.interp.specs.Laws.{DependsOnLooked, MachineFilesSay, StepsWithinCost};
 
-/// Of any two trees of files that agree on the paths looked at by the evaluation of the first, both evaluations are equal.
+/// Of any two trees of files that agree on the paths looked at by the evaluation of the first, and two machine files that agree on the
+/// questions that it asks, both evaluations are equal, but for the machine file that stands in the last world.
 pub fn depends_on_looked()
     ensures { DependsOnLooked }
 {}

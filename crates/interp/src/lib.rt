@@ -38,6 +38,6 @@ mod running;
 mod stated;
 mod unwinding;
 
-pub use evaluation::{Inputs, evaluate};
+pub use evaluation::{Inputs, definitions, evaluate, read_machine};
 pub use evaluator::Evaluator;
 pub use law::{depends_on_looked, machine_files_say, steps_within_cost};

@@ -1,2 +1,5 @@
 pub mod Document
 pub mod Fields
+pub mod MembersView
+pub mod Questions
+pub mod QuestionsView

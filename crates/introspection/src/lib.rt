@@ -1,11 +1,14 @@
 //! The introspection document of a project: a JSON value that shows its options, the files that were looked at, its dependencies, installed
 //! files, targets and tests to other programs.
 //!
-//! [`introspect`] gives the value, and [`document_text`] its text.
+//! [`introspect`] gives the value, and [`document_text`] its text. [`question_lines`] gives what a run asks a machine file, line by line.
 #![tactic(auto)]
 
 mod document;
 mod entries;
+mod ordered;
+mod questions;
 mod shown;
 
 pub use document::{document_text, introspect};
+pub use questions::{QuestionLine, Reply, question_lines};

@@ -10,3 +10,5 @@ pub mod View
 pub mod Answers
 pub mod Lookups
 pub mod Readers
+pub mod Questions
+pub mod QuestionsView

@@ -22,6 +22,7 @@ pub mod fault;
 mod line;
 mod machine;
 mod number;
+mod question;
 mod reading;
 mod section;
 mod state;
@@ -30,5 +31,6 @@ mod value;
 
 pub use machine::{Entry, Machine, Section};
 pub use number::integer_of;
+pub use question::{Aside, Question, Topic};
 pub use text::{Blanks, cut_first, trimmed};
 pub use value::{MachineValue, read_value};

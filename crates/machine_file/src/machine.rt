@@ -1,10 +1,10 @@
 //! What a machine file says.
 
-ghost use Rattle.std.specs.Prelude.{◌≡◌, ◌==◌, [], IfOk, length, map, slice_get, string_bytes};
+ghost use Rattle.std.specs.Prelude.{◌≡◌, ◌==◌, [], IfOk, length, map, slice_get};
 ghost use Rattle.std.specs.Option.{option_map};
-ghost use Rattle.machine_file.specs.Lookups.{check_key};
 
 use crate::fault::MachineFault;
+use crate::question::check_key;
 use crate::reading::read_lines;
 use crate::value::MachineValue;
 use basics::faults::Refusal;
@@ -184,16 +184,4 @@ impl Machine {
         let key = check_key(alloc, method, arguments)?;
         Ok(self.get("checks", key.as_str()))
     }
-}
-
-// The key of a check: the method, and each argument behind a space.
-fn check_key(alloc: Global, method: &str, arguments: &[&str]) -> Result<String, AllocError>
-    ensures { IfOk result (λ key. string_bytes key ≡ check_key method.now (map (λ a. a.now) arguments.now)) }
-{
-    let mut key = String::from_str(alloc, method)?;
-    for argument in arguments {
-        key.push_str(" ")?;
-        key.push_str(argument)?;
-    }
-    Ok(key)
 }

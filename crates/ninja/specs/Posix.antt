@@ -23,9 +23,13 @@ is_visible b = nat_le 33 b && nat_le b 126
 abbrev pub is_literal : ℕ → Bool
 is_literal b = is_visible b && not (has_meaning b || may_have_meaning b)
 
+abbrev pub reserved_words : List (List ℕ)
+reserved_words =
+    codes "!" ∷ codes "{" ∷ codes "}" ∷ codes "case" ∷ codes "do" ∷ codes "done" ∷ codes "elif" ∷ codes "else" ∷ codes "esac" ∷ codes "fi"
+    ∷ codes "for" ∷ codes "if" ∷ codes "in" ∷ codes "then" ∷ codes "until" ∷ codes "while" ∷ []
+
 abbrev pub is_reserved_word : List ℕ → Bool
-is_reserved_word word = is_one_of (codes "!" ∷ codes "{" ∷ codes "}" ∷ codes "case" ∷ codes "do" ∷ codes "done" ∷ codes "elif" ∷ codes "else"
-    ∷ codes "esac" ∷ codes "fi" ∷ codes "for" ∷ codes "if" ∷ codes "in" ∷ codes "then" ∷ codes "until" ∷ codes "while" ∷ []) word
+is_reserved_word word = is_one_of reserved_words word
 
 -- a word with an `=` outside quotes may be an assignment where it stands before the command's name
 abbrev pub may_assign : List ℕ → Bool

@@ -1,8 +1,10 @@
 -- What a Ninja file says, by the Ninja manual.
-use Rattle.std.specs.Prelude.{ℕ, zero, suc, Bool, true, false, cond, ◌||◌, ◌&&◌, not, List, [], ◌∷◌, ◌++◌, length, Option, Some, None, codes, unwrap_or}
+use Rattle.std.specs.Prelude.{ℕ, zero, suc, Bool, true, false, cond, ◌||◌, ◌&&◌, List, [], ◌∷◌, ◌++◌, length, codes, unwrap_or}
+use Rattle.std.specs.Prelude.{Option, Some, None}
 use Rattle.ninja.specs.Pieces.{Piece, Plain, Escaped, Variable, Scope, pieces_of, expansion}
 use Rattle.ninja.specs.Bytes.{same_bytes}
-use Rattle.ninja.specs.Lines.{is_plain, lines_of, without_blanks, begins_blank, name_at, plain_name, is_name, Token, Path, Colon, Bar, Bars, tokens_of}
+use Rattle.ninja.specs.Lines.{is_plain, lines_of, without_blanks, begins_blank, name_at, plain_name, is_name}
+use Rattle.ninja.specs.Lines.{Token, Path, Colon, Bar, Bars, tokens_of}
 
 infixl 10 ◌>>=◌
 abbrev pub ◌>>=◌ : {A B : Type 0} → Option A → (A → Option B) → Option B

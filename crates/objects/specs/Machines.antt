@@ -1,13 +1,15 @@
 -- The methods of a machine: the type `build_machine` of the page "Reference manual".
-use Rattle.std.specs.Prelude.{ℕ, List, Option, Some, None, Result, Err, codes, bytes_eq, if◌then◌else◌}
+use Rattle.std.specs.Prelude.{ℕ, List, [], Option, Some, None, codes, bytes_eq, if◌then◌else◌}
+use Rattle.arguments.specs.Arguments.{ArgumentsData}
+use Rattle.arguments.specs.Row.{checked, row}
+use Rattle.basics.specs.declared.faults.refusal.Refusal.TheVariants as refusals
+use Rattle.compiler_methods.specs.Said.{said_or}
 use Rattle.data.specs.Data.{Data, text}
 use Rattle.data.specs.Limits.{within}
-use Rattle.data.specs.declared.refusal.Refusal.{Refusal}
-use Rattle.data.specs.declared.refusal.Refusal.TheVariants as refusal
-use Rattle.machine_file.specs.Files.{Section}
-use Rattle.machine_file.specs.Lookups.{text_or}
+use Rattle.machine_file.specs.Questions.{Topic, Key, plain}
 use Rattle.objects.specs.declared.machines.MachineMethod.{MachineMethod}
 use Rattle.objects.specs.declared.machines.MachineMethod.TheVariants.{Cpu, CpuFamily, Endian, System}
+use Rattle.world.specs.Deed.{Deed, give, refuse, consult, ◌>>=◌, answered, fitting}
 
 -- the method of a name
 abbrev pub named : List ℕ → Option MachineMethod
@@ -18,17 +20,36 @@ named name =
     else if bytes_eq name (codes "system") then Some System
     else None
 
--- what the section `host_machine` of the machine file has at the method's key, or what stands in its place
-abbrev pub text_of : MachineMethod → List Section → List ℕ
-text_of Cpu machine = text_or machine (codes "host_machine") (codes "cpu") (codes "x86_64")
-text_of CpuFamily machine = text_or machine (codes "host_machine") (codes "cpu_family") (codes "x86_64")
-text_of Endian machine = text_or machine (codes "host_machine") (codes "endian") (codes "little")
-text_of System machine = text_or machine (codes "host_machine") (codes "system") (codes "linux")
+-- the method's key in the section `host_machine` of the machine file
+abbrev pub key_of : MachineMethod → List ℕ
+key_of Cpu = codes "cpu"
+key_of CpuFamily = codes "cpu_family"
+key_of Endian = codes "endian"
+key_of System = codes "system"
+
+abbrev pub topic_of : MachineMethod → Topic
+topic_of method = Key (codes "host_machine") (key_of method)
+
+-- what stands in place of an answer
+abbrev pub default_of : MachineMethod → List ℕ
+default_of Cpu = codes "x86_64"
+default_of CpuFamily = codes "x86_64"
+default_of Endian = codes "little"
+default_of System = codes "linux"
 
 -- what a method gives; it is refused where that is too long for a text
-abbrev pub answer_by : Option MachineMethod → List Section → Result Data Refusal
-answer_by None machine = Err refusal.UnknownMethod
-answer_by (Some method) machine = within (text (text_of method machine))
+unfoldable pub told : MachineMethod → Deed (Option Data)
+told method = do
+  answer ← consult (plain (topic_of method))
+  d ← answered (within (text (said_or (default_of method) answer)))
+  give (Some d)
 
-abbrev pub answer : List Section → List ℕ → Result Data Refusal
-answer machine name = answer_by (named name) machine
+abbrev pub told_by : Option MachineMethod → Deed (Option Data)
+told_by None = refuse refusals.UnknownFunction []
+told_by (Some method) = told method
+
+-- the method with a name, on arguments that its row looks at first
+unfoldable pub machine_method : List ℕ → ArgumentsData → Deed (Option Data)
+machine_method name a = do
+  _ ← fitting (checked (row [] 0 []) a)
+  told_by (named name)

@@ -41,7 +41,6 @@ told_of facts (objects.Program p) name a = programs.answer facts.settings.source
 told_of facts (objects.BuildTarget number) name a = targets.build_answer facts number name
 told_of facts (objects.CustomTarget number outputs) name a = targets.custom_answer facts number outputs name
 told_of facts (objects.CustomOutput target output) name a = targets.output_answer facts target output name
-told_of facts objects.Machine name a = machines.answer facts.machine name
 told_of facts objects.Meson name a = meson.answer facts name a
 told_of facts _ name a = Err refusal.UnknownMethod
 
@@ -56,5 +55,6 @@ tell o name a = do
 -- a method of an object on its arguments: it gives a value, or nothing
 unfoldable pub object_method : Object → List ℕ → ArgumentsData → Deed (Option Data)
 object_method objects.Compiler name a = compilers.compiler_method name a
+object_method objects.Machine name a = machines.machine_method name a
 object_method (objects.ConfigurationData number) name a = configurations.configuration_method number name a
 object_method o name a = tell o name a

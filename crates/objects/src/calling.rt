@@ -8,6 +8,7 @@ ghost use Rattle.data.specs.View.{data_of};
 ghost use Rattle.world.specs.Answering.{Carries, HasRoom};
 ghost use Rattle.world.specs.Caller.{state_of};
 ghost use Rattle.world.specs.Deed.{fitting};
+ghost use Rattle.objects.specs.Machines.{machine_method};
 ghost use Rattle.objects.specs.Methods.{has_method, object_method, tell, told_of};
 ghost use Rattle.objects.specs.Rows.{row_of};
 ghost use Rattle.world.specs.Store.{world_of};
@@ -66,7 +67,6 @@ fn told_of(
         Object::CustomOutput { target, output } => {
             output_answer(alloc, store, *target, *output, name)
         }
-        Object::Machine => machine_answer(alloc, store, name),
         Object::Meson => meson_answer(alloc, store, name, arguments),
         _ => Ok(Err(Refusal::UnknownMethod)),
     }
@@ -123,6 +123,19 @@ fn tell<T: Tree, O: Outputs>(
     Ok(Some(value))
 }
 
+// The method of a machine with a name.
+fn machine_method<T: Tree, O: Outputs>(
+    caller: &mut Caller<'_, T, O>,
+    name: &str,
+    arguments: &Arguments,
+) -> Result<Option<Value>, Stop>
+    ensures { Carries (option_map data_of) (machine_method name.now (arguments_data arguments.now))
+        (state_of T.seen O.seen caller.old) result (state_of T.seen O.seen caller.new) }
+{
+    fit(caller, &Row::of(&[], 0, &[]), arguments)?;
+    machine_answer(caller, name)
+}
+
 /// A method of an object on its arguments, which its row looks at first: it gives a value, or nothing. The name is one for which
 /// [`has_object_method`] is true; of any other it is E8.
 pub fn object_method<T: Tree, O: Outputs>(
@@ -137,6 +150,7 @@ pub fn object_method<T: Tree, O: Outputs>(
 {
     match object {
         Object::Compiler => compiler_method(caller, name, arguments),
+        Object::Machine => machine_method(caller, name, arguments),
         Object::ConfigurationData(number) => {
             configuration_method(caller, *number, name, arguments)
         }

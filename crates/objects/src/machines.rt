@@ -1,16 +1,18 @@
 //! The methods of a machine: the type `build_machine` of the page "Reference manual".
-ghost use Rattle.std.specs.Prelude.{◌≡◌, IfOk};
-ghost use Rattle.data.specs.Data.{text};
-ghost use Rattle.data.specs.Limits.{within};
-ghost use Rattle.data.specs.Tables.{Answers};
+ghost use Rattle.std.specs.Prelude.{◌≡◌, option_map};
+ghost use Rattle.compiler_methods.specs.Said.{said_or};
+ghost use Rattle.data.specs.View.{data_of};
+ghost use Rattle.machine_file.specs.Questions.{answer_to};
 ghost use Rattle.machine_file.specs.View.{machine_in};
-ghost use Rattle.objects.specs.Machines.{answer, named, text_of};
-ghost use Rattle.world.specs.Store.{world_of};
+ghost use Rattle.objects.specs.Machines.{default_of, key_of, named, told, told_by, topic_of};
+ghost use Rattle.world.specs.Answering.{Carries};
+ghost use Rattle.world.specs.Caller.{state_of};
 
-use data::{Refusal, Value};
+use basics::faults::Refusal;
+use data::Value;
 use machine_file::Machine;
-use std::alloc::{AllocError, Global};
-use world::Store;
+use ports::{Outputs, Tree};
+use world::{Caller, Stop};
 
 /// A method of machines.
 #[derive(Clone, Copy)]
@@ -34,41 +36,60 @@ impl MachineMethod {
             _ => None,
         }
     }
-}
 
-// What the machine file says by the method's key, or what stands in its place.
-fn text_of(method: MachineMethod, machine: &Machine) -> &str
-    ensures { result.now ≡ text_of method (machine_in machine.now) }
-{
-    match method {
-        MachineMethod::Cpu => machine.text_or("host_machine", "cpu", "x86_64"),
-        MachineMethod::CpuFamily => machine.text_or("host_machine", "cpu_family", "x86_64"),
-        MachineMethod::Endian => machine.text_or("host_machine", "endian", "little"),
-        MachineMethod::System => machine.text_or("host_machine", "system", "linux"),
+    // The method's key in the section `host_machine` of the machine file.
+    fn key(self) -> &'static str
+        ensures { result.now ≡ key_of self }
+    {
+        match self {
+            MachineMethod::Cpu => "cpu",
+            MachineMethod::CpuFamily => "cpu_family",
+            MachineMethod::Endian => "endian",
+            MachineMethod::System => "system",
+        }
+    }
+
+    // What stands in place of an answer.
+    fn default(self) -> &'static str
+        ensures { result.now ≡ default_of self }
+    {
+        match self {
+            MachineMethod::Cpu => "x86_64",
+            MachineMethod::CpuFamily => "x86_64",
+            MachineMethod::Endian => "little",
+            MachineMethod::System => "linux",
+        }
+    }
+
+    // What the machine file answers, or what stands in its place.
+    fn text(self, machine: &Machine) -> &str
+        ensures { result.now ≡ said_or (default_of self) (answer_to (machine_in machine.now) (topic_of self)) }
+    {
+        machine.text_or("host_machine", self.key(), self.default())
+    }
+
+    // What the method gives.
+    fn told<T: Tree, O: Outputs>(self, caller: &mut Caller<'_, T, O>) -> Result<Option<Value>, Stop>
+        ensures { Carries (option_map data_of) (told self) (state_of T.seen O.seen caller.old) result (state_of T.seen O.seen caller.new) }
+    {
+        caller.ask_key("host_machine", self.key())?;
+        let answer = Value::of_str(caller.alloc, self.text(caller.store.machine()))?;
+        let value = caller.answered(answer)?;
+        Ok(Some(value))
     }
 }
 
-fn told_of(
-    alloc: Global,
-    store: &Store,
-    method: MachineMethod,
-) -> Result<Result<Value, Refusal>, AllocError>
-    ensures { IfOk result (λ r. Answers (within (text (text_of method (world_of store.now).facts.machine))) r) }
-{
-    Value::of_str(alloc, text_of(method, store.machine()))
-}
-
 /// What the method with a name gives for the build, host or target machine: `system`, `cpu_family`, `cpu` and `endian`, as the machine
-/// file has them; E22 where that one is too long.
-pub fn machine_answer(
-    alloc: Global,
-    store: &Store,
+/// file has them; E8 where there is none of that name, E22 where what it gives is too long.
+pub fn machine_answer<T: Tree, O: Outputs>(
+    caller: &mut Caller<'_, T, O>,
     name: &str,
-) -> Result<Result<Value, Refusal>, AllocError>
-    ensures { IfOk result (λ r. Answers (answer (world_of store.now).facts.machine name.now) r) }
+) -> Result<Option<Value>, Stop>
+    ensures { Carries (option_map data_of) (told_by (named name.now)) (state_of T.seen O.seen caller.old) result
+        (state_of T.seen O.seen caller.new) }
 {
     match MachineMethod::named(name) {
-        Some(method) => told_of(alloc, store, method),
-        None => Ok(Err(Refusal::UnknownMethod)),
+        Some(method) => method.told(caller),
+        None => caller.refuse(Refusal::UnknownFunction, ""),
     }
 }

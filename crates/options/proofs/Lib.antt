@@ -8,3 +8,4 @@ pub mod KnownKinds
 pub mod VerdictFits
 pub mod FinalValues
 pub mod LastPlaces
+pub mod OptionSections

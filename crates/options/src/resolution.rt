@@ -1,6 +1,7 @@
 //! The values that options have in the end.
 
 ghost use Rattle.std.specs.Prelude.{◌≡◌, IfOk};
+ghost use Rattle.machine_file.specs.Questions.{options_at};
 ghost use Rattle.machine_file.specs.View.{machine_in};
 ghost use Rattle.option_file.specs.View.{options_in as declared_in};
 ghost use Rattle.option_values.specs.View.{strings_in};
@@ -67,6 +68,7 @@ fn ended(alloc: Global, state: State) -> Result<Resolved, AllocError>
 /// Of several values that an option is given the last one holds, in this order; each has to be a value of its option, and the
 /// first that is none is the fault. A name in `default_options` that no option has is handed back, for a warning, and any other
 /// such name is a fault. What is given nowhere has its default, or what `buildtype`, `prefix` and `auto_features` say of it.
+/// Of the machine file its sections of options alone are read.
 /// The rules are those of the Meson manual's pages "Build options" and "Built-in options".
 pub fn resolve(
     alloc: Global,
@@ -76,7 +78,7 @@ pub fn resolve(
     words: &[String],
 ) -> Result<Resolved, AllocError>
     ensures { IfOk result (λ r. resolved_in r
-        ≡ resolved (declared_in declared.now) (defaults_in defaults.now) (machine_in machine.now) (strings_in words.now)) }
+        ≡ resolved (declared_in declared.now) (defaults_in defaults.now) (options_at (machine_in machine.now)) (strings_in words.now)) }
 {
     let known = Known::new(alloc, declared)?;
     let mut state = at_first(alloc)?;

@@ -8,7 +8,8 @@ ghost use Rattle.targets.specs.Libraries.{links_libraries as links_all};
 ghost use Rattle.targets.specs.Sources.{is_c as is_c_path, has_foreign};
 ghost use Rattle.project.specs.World.{reserved, is_made_in};
 ghost use Rattle.project.specs.Adding.{has_slash, is_file_name, begins_with_dash, is_folder, sources_of, is_made_source, is_present};
-ghost use Rattle.project.specs.Adding.{has_c_in, has_c, is_target_name, names_fit, optional_file_name, build_fits, custom_fits, length_in, length_of};
+ghost use Rattle.project.specs.Adding.{is_target_name};
+ghost use Rattle.project.specs.Adding.{has_c_in, has_c, names_fit, optional_file_name, build_fits, custom_fits, length_in, length_of};
 ghost use Rattle.project.specs.Adding.{is_short, is_within, is_build};
 
 use basics::tables::SipSet;

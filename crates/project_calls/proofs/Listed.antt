@@ -1,7 +1,8 @@
 -- Options that are listed one after another.
-use Rattle.std.proofs.Common.{◌≡◌, ℕ, ◌+◌, ◌<◌, List, [], ◌∷◌, ◌++◌, length, map, take, get_or, Option, Some, None, option_map, slice_get, refl, sym, ap, ◌∙◌, arith}
+use Rattle.std.proofs.Common.{◌≡◌, ℕ, ◌+◌, ◌<◌, List, [], ◌∷◌, ◌++◌, length, map, take, get_or, Option, Some, None, option_map, slice_get, String, Global, string_bytes, refl, sym, ap, ◌∙◌, arith}
 use Rattle.std.proofs.lemmas.List.{take_more, map-append}
 use Rattle.std.proofs.lemmas.Option.{get_or_from_slice_get, slice_get_within, slice_get-get_or}
+use Rattle.option_file.specs.Declarations.{Declaration}
 use Rattle.option_values.specs.Values.{Value}
 use Rattle.options.specs.Resolves.{named_value}
 use Rattle.options.specs.Settings.{Setting}
@@ -32,3 +33,10 @@ none_by f (x ∷ xs) i None is e lt = let n : None ≡ Some (get_or (x ∷ xs) i
 -- there is an option at each number below the count
 pub is_listed : {C : Type 0} (ss : List Setting) (i : ℕ) → None ≡ option_map named_value (slice_get ss i) → i < length ss → C
 is_listed ss i e lt = absurd (none_by named_value ss i (slice_get ss i) refl e lt)
+
+-- one name more
+pub named_more : (ns : List (String Global)) {new : List (String Global)} (n : String Global) (ds : List Declaration) (i : ℕ) (d : Declaration) → new ≡ ns ++ n ∷ [] → string_bytes n ≡ d.name
+    → map string_bytes ns ≡ map (λ (e : Declaration). e.name) (take i ds) → Some d ≡ slice_get ds i → map string_bytes new ≡ map (λ (e : Declaration). e.name) (take (i + 1) ds)
+named_more ns n ds i d is name before found =
+    ap (map string_bytes) is ∙ map-append string_bytes ns (n ∷ []) ∙ ap (λ x. map string_bytes ns ++ x ∷ []) name ∙ ap (λ xs. xs ++ d.name ∷ []) before
+    ∙ sym (more_by (λ (e : Declaration). e.name) ds i d.name (slice_get ds i) refl (ap (option_map (λ (e : Declaration). e.name)) found))

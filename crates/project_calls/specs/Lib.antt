@@ -8,3 +8,5 @@ pub mod Rows
 pub mod Entries
 pub mod Flags
 pub mod Programs
+pub mod ProgramsView
+pub mod Resolution

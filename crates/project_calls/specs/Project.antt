@@ -9,16 +9,16 @@ use Rattle.basics.specs.declared.faults.refusal.Refusal.TheVariants as refusals
 use Rattle.arguments.specs.Arguments.{ArgumentsData}
 use Rattle.arguments.specs.Given.{keyword, text_at, texts, texts_from}
 use Rattle.definition_files.specs.Places.{refuse_at}
-use Rattle.option_file.specs.Declarations.{Declaration}
 use Rattle.options.specs.Faults.{file_of, line_of}
-use Rattle.options.specs.Resolves.{Resolution, resolved}
+use Rattle.options.specs.Resolves.{Resolution}
 use Rattle.options.specs.Settings.{Setting}
 use Rattle.options.specs.declared.fault.OptionFault.{OptionFault}
-use Rattle.project_calls.specs.Defaults.{defaults_of, printed_values}
+use Rattle.project_calls.specs.Defaults.{printed_values}
 use Rattle.project_calls.specs.OptionFile.{option_file}
 use Rattle.project_calls.specs.Entries.{entries_in}
 use Rattle.project_calls.specs.Flags.{flags_in}
-use Rattle.project_calls.specs.Programs.{program}
+use Rattle.project_calls.specs.Programs.{ProgramsData, programs}
+use Rattle.project_calls.specs.Resolution.{resolution}
 use Rattle.targets.specs.Data.{FactsData}
 use Rattle.world.specs.World.{Facts, begun, with_options}
 use Rattle.world.specs.Deed.{Deed, give, refuse, read, change, ◌>>=◌, answered, fitting, say}
@@ -33,11 +33,6 @@ languages_refusal [] = Err refusals.ProjectCall
 languages_refusal (l ∷ ls) = if list_all (bytes_eq (codes "c")) (l ∷ ls) then Ok tt else Err refusals.LeftOut
 
 -- ---- the options
-
--- what the options come to: those that are built in or declared, with the defaults of the call, what the machine file says, and the words
--- of the command line
-abbrev pub resolution : ArgumentsData → List (List ℕ) → List Declaration → Facts → Resolution
-resolution a printed declared facts = resolved declared (defaults_of a printed) facts.machine facts.settings.words
 
 -- the user is warned of names that no option has
 unfoldable pub warned : List (List ℕ) → Deed (Unit {0})
@@ -57,28 +52,30 @@ abbrev pub version_of : ArgumentsData → List ℕ
 version_of a = unwrap_or (option_and_then text_in (keyword (codes "version") a)) (codes "undefined")
 
 -- the arguments of the call, the folders, the programs of the machine and the options
-abbrev pub facts_of : ArgumentsData → List Setting → Facts → FactsData
-facts_of a options facts = record {
+abbrev pub facts_of : ArgumentsData → List Setting → ProgramsData → Facts → FactsData
+facts_of a options programs facts = record {
   name = text_at 0 a;
   version = version_of a;
   license = texts (codes "license") a;
   depth = facts.settings.depth;
   source_root = facts.settings.source_root;
   build_root = facts.settings.build_root;
-  compiler = program facts.machine (codes "c") (codes "cc");
-  archiver = program facts.machine (codes "ar") (codes "ar");
+  compiler = programs.compiler;
+  archiver = programs.archiver;
   flags = flags_in options;
   options = entries_in options;
 }
 
--- the warnings, and then the options are set, and the project begins
+-- the warnings, the programs, and then the options are set, and the project begins
 unfoldable pub begin : ArgumentsData → List ℕ → Resolution → Deed (Unit {0})
 begin a path r = do
   _ ← warned r.unknown
+  call ← read
+  options ← settled path r.outcome call.line
+  found ← programs
   facts ← read
-  options ← settled path r.outcome facts.line
   _ ← change (with_options options)
-  change (begun (facts_of a options facts))
+  change (begun (facts_of a options found facts))
 
 -- the first call: its arguments, the option file, the options
 unfoldable pub first_project : ArgumentsData → Deed (Option Data)
@@ -86,8 +83,8 @@ first_project a = do
   printed ← answered (printed_values a)
   _ ← fitting (languages_refusal (texts_behind a))
   file ← option_file
-  facts ← read
-  _ ← begin a file.path (resolution a printed file.declared facts)
+  options ← resolution a printed file.declared
+  _ ← begin a file.path options
   give None
 
 unfoldable pub project_by : Bool → ArgumentsData → Deed (Option Data)

@@ -7,6 +7,7 @@ mod flags;
 mod option_call;
 mod programs;
 mod project_call;
+mod resolution;
 mod rows;
 mod shown_options;
 mod values;

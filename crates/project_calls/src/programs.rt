@@ -1,13 +1,26 @@
 //! The programs of a machine.
-ghost use Rattle.std.specs.Prelude.{◌≡◌, IfOk};
+ghost use Rattle.std.specs.Prelude.{◌≡◌, IfOk, codes};
 ghost use Rattle.edge.specs.Texts.{texts};
+ghost use Rattle.machine_file.specs.Questions.{Key, answer_to};
 ghost use Rattle.machine_file.specs.Readers.{words_said};
 ghost use Rattle.machine_file.specs.View.{machine_in, value_in};
-ghost use Rattle.project_calls.specs.Programs.{program};
+ghost use Rattle.world.specs.Answering.{Carries};
+ghost use Rattle.world.specs.Caller.{state_of};
+ghost use Rattle.project_calls.specs.Programs.{program, program_by, programs};
+ghost use Rattle.project_calls.specs.ProgramsView.{programs_in};
 
 use edge::{copies, strings};
 use machine_file::{Machine, MachineValue};
+use ports::{Outputs, Tree};
 use std::alloc::{AllocError, Global};
+use world::{Caller, Stop};
+
+/// The programs that every build has, each by its words.
+#[derive(Drop)]
+pub struct Programs {
+    pub compiler: Vec<String>,
+    pub archiver: Vec<String>,
+}
 
 fn words_of(alloc: Global, value: &MachineValue) -> Result<Vec<String>, AllocError>
     ensures { IfOk result (λ v. texts v.items ≡ words_said (value_in value.now)) }
@@ -19,17 +32,41 @@ fn words_of(alloc: Global, value: &MachineValue) -> Result<Vec<String>, AllocErr
     }
 }
 
-/// The words of a program, as `[binaries]` of the machine file has it, or the one word that stands for it elsewhere.
-pub fn program(
+// The words of a program, as `[binaries]` of the machine file has it, or the one word that stands for it elsewhere.
+fn words_or(
     alloc: Global,
     machine: &Machine,
     name: &str,
     default: &str,
 ) -> Result<Vec<String>, AllocError>
-    ensures { IfOk result (λ v. texts v.items ≡ program (machine_in machine.now) name.now default.now) }
+    ensures { IfOk result (λ v. texts v.items
+        ≡ program_by (answer_to (machine_in machine.now) (Key (codes "binaries") name.now)) default.now) }
 {
     match machine.get("binaries", name) {
         Some(value) => words_of(alloc, value),
         None => strings(alloc, &[default]),
     }
+}
+
+// The same; the machine file is asked.
+fn program<T: Tree, O: Outputs>(
+    caller: &mut Caller<'_, T, O>,
+    name: &str,
+    default: &str,
+) -> Result<Vec<String>, Stop>
+    ensures { Carries (λ v. texts v.items) (program name.now default.now) (state_of T.seen O.seen caller.old) result
+        (state_of T.seen O.seen caller.new) }
+{
+    caller.ask_key("binaries", name)?;
+    let words = words_or(caller.alloc, caller.store.machine(), name, default)?;
+    Ok(words)
+}
+
+/// The compiler and the archiver, for which the machine file is asked one after the other.
+pub fn ask_programs<T: Tree, O: Outputs>(caller: &mut Caller<'_, T, O>) -> Result<Programs, Stop>
+    ensures { Carries programs_in programs (state_of T.seen O.seen caller.old) result (state_of T.seen O.seen caller.new) }
+{
+    let compiler = program(caller, "c", "cc")?;
+    let archiver = program(caller, "ar", "ar")?;
+    Ok(Programs { compiler, archiver })
 }

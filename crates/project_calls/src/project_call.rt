@@ -4,7 +4,6 @@ ghost use Rattle.std.specs.List.{list_all};
 ghost use Rattle.data.specs.Data.{text_in};
 ghost use Rattle.data.specs.View.{data_of};
 ghost use Rattle.arguments.specs.Arguments.{arguments_data};
-ghost use Rattle.option_file.specs.View.{options_in as declared_in};
 ghost use Rattle.option_values.specs.View.{strings_in};
 ghost use Rattle.options.specs.View.{options_in, outcome_in, resolved_in};
 ghost use Rattle.targets.specs.View.{facts_view};
@@ -14,18 +13,20 @@ ghost use Rattle.world.specs.Deed.{answered, fitting};
 ghost use Rattle.world.specs.Store.{world_of};
 ghost use Rattle.project_calls.specs.Defaults.{printed_values};
 ghost use Rattle.project_calls.specs.DefaultsView.{strings_of};
-ghost use Rattle.project_calls.specs.Project.{begin, facts_of, first_project, languages_refusal, project, project_by, resolution};
+ghost use Rattle.project_calls.specs.Project.{begin, facts_of, first_project, languages_refusal, project, project_by};
 ghost use Rattle.project_calls.specs.Project.{settled, texts_behind, version_of, warned};
+ghost use Rattle.project_calls.specs.ProgramsView.{programs_in};
 
 use crate::declaring::option_file;
-use crate::defaults::{defaults, keys_given, printed_all, values_given};
+use crate::defaults::{printed_all, values_given};
 use crate::flags::flags_of;
-use crate::programs::program;
+use crate::programs::{Programs, ask_programs};
+use crate::resolution::resolution;
 use crate::shown_options::option_entries;
 use arguments::Arguments;
 use basics::faults::Refusal;
 use data::Value;
-use options::{Declared, OptionFault, Options, Resolved, resolve};
+use options::{OptionFault, Options, Resolved};
 use ports::{Outputs, Tree};
 use std::alloc::{AllocError, Global};
 use targets::Facts;
@@ -97,24 +98,6 @@ fn settle<T: Tree, O: Outputs>(
     }
 }
 
-// What the options come to, of which these are declared.
-fn resolution(
-    alloc: Global,
-    arguments: &Arguments,
-    printed: &[String],
-    declared: &Declared,
-    store: &Store,
-) -> Result<Resolved, AllocError>
-    ensures { IfOk result (λ r. resolved_in r
-        ≡ resolution (arguments_data arguments.now) (strings_in printed.now) (declared_in declared.now)
-        (world_of store.now).facts) }
-{
-    let texts = arguments.texts(alloc, "default_options")?;
-    let defaults = defaults(alloc, &texts, keys_given(arguments), printed)?;
-    let settings = store.settings();
-    resolve(alloc, declared, &defaults, store.machine(), &settings.words)
-}
-
 fn version_of(arguments: &Arguments) -> &str
     ensures { result.now ≡ version_of (arguments_data arguments.now) }
 {
@@ -133,16 +116,18 @@ fn text_or_undefined(value: &Value) -> &str
     }
 }
 
-// What the arguments, the options and the machine file say of the project.
+// What the arguments, the options and the programs say of the project.
 fn facts_of(
     alloc: Global,
     arguments: &Arguments,
     options: &Options,
+    programs: Programs,
     store: &Store,
 ) -> Result<Facts, AllocError>
     ensures { IfOk result (λ f. facts_view f
-        ≡ facts_of (arguments_data arguments.now) (options_in options.now) (world_of store.now).facts) }
+        ≡ facts_of (arguments_data arguments.now) (options_in options.now) (programs_in programs) (world_of store.now).facts) }
 {
+    let Programs { compiler, archiver } = programs;
     let settings = store.settings();
     Ok(Facts {
         name: String::from_str(alloc, arguments.text_at(0))?,
@@ -151,14 +136,14 @@ fn facts_of(
         depth: settings.depth,
         source_root: String::from_str(alloc, settings.source_root.as_str())?,
         build_root: String::from_str(alloc, settings.build_root.as_str())?,
-        compiler: program(alloc, store.machine(), "c", "cc")?,
-        archiver: program(alloc, store.machine(), "ar", "ar")?,
+        compiler,
+        archiver,
         flags: flags_of(alloc, options)?,
         options: option_entries(alloc, options)?,
     })
 }
 
-// Warns, sets the options, and begins the project.
+// Warns, asks for the programs, sets the options, and begins the project.
 fn begin<T: Tree, O: Outputs>(
     caller: &mut Caller<'_, T, O>,
     arguments: &Arguments,
@@ -172,7 +157,8 @@ fn begin<T: Tree, O: Outputs>(
     let Resolved { unknown, outcome } = resolved;
     warn(caller, &unknown)?;
     let options = settle(caller, path, outcome)?;
-    let facts = facts_of(caller.alloc, arguments, &options, caller.store)?;
+    let programs = ask_programs(caller)?;
+    let facts = facts_of(caller.alloc, arguments, &options, programs, caller.store)?;
     caller.store.set_options(options);
     caller.begin(facts)
 }
@@ -214,13 +200,7 @@ fn first_project<T: Tree, O: Outputs>(
     let printed = printed_defaults(caller, arguments)?;
     require_c(caller, arguments)?;
     let file = option_file(caller)?;
-    let resolved = resolution(
-        caller.alloc,
-        arguments,
-        &printed,
-        &file.declared,
-        caller.store,
-    )?;
+    let resolved = resolution(caller, arguments, &printed, &file.declared)?;
     begin(caller, arguments, file.path, resolved)?;
     Ok(None)
 }

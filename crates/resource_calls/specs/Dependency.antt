@@ -1,5 +1,5 @@
 -- `dependency`: what the machine file has.
-use Rattle.std.specs.Prelude.{ℕ, List, Option, Some, None, codes, option_map, Result}
+use Rattle.std.specs.Prelude.{ℕ, List, [], ◌∷◌, Option, Some, None, codes, Result}
 use Rattle.arguments.specs.Arguments.{ArgumentsData}
 use Rattle.data.specs.Flat.{flat_all}
 use Rattle.arguments.specs.Given.{text_at, texts}
@@ -10,13 +10,14 @@ use Rattle.data.specs.declared.object.Dependency.{Dependency}
 use Rattle.data.specs.declared.object.Object.TheVariants as objects
 use Rattle.data.specs.declared.refusal.Refusal.{Refusal}
 use Rattle.basics.specs.declared.faults.refusal.Refusal.TheVariants as refusals
-use Rattle.machine_file.specs.Files.{Entry, Section}
+use Rattle.machine_file.specs.Questions.{dependency_topic}
 use Rattle.project.specs.World.{AnswerData}
-use Rattle.resources.specs.Fitting.{first_fitting, said_dependency}
+use Rattle.resources.specs.Beside.{call_question}
+use Rattle.resources.specs.Fitting.{dependency_that_fits}
 use Rattle.resources.specs.Found.{missing}
 use Rattle.resource_calls.specs.Required.{missing_object, required_by}
 use Rattle.world.specs.Declaring.{add_dependency}
-use Rattle.world.specs.Deed.{Deed, give, refuse, read, ◌>>=◌, answered}
+use Rattle.world.specs.Deed.{Deed, give, refuse, consult, ◌>>=◌, answered}
 
 -- ---- what is noted
 
@@ -25,17 +26,32 @@ answer_of d = record { name = d.name; version = d.version; is_found = d.is_found
 
 -- ---- the call
 
-abbrev pub said_of : List ℕ × List Entry → Result Dependency Refusal
-said_of fitting = said_dependency fitting.0 fitting.1
+-- the dependency of a name, where the machine file has a section of it whose version meets the conditions of the call
+unfoldable pub ask_dependency : List ℕ → ArgumentsData → Deed (Option (Result Dependency Refusal))
+ask_dependency name a = do
+  answer ← consult (call_question (dependency_topic name) a)
+  give (dependency_that_fits (texts (codes "version") a) name answer)
 
--- what is said of the first name that fits
-abbrev pub first_said : List Section → ArgumentsData → Option (Result Dependency Refusal)
-first_said sections a = option_map said_of (first_fitting sections (texts (codes "version") a) (flat_all a.positional))
+-- the same; for the empty name nothing is asked, and there is none
+unfoldable pub dependency_named : List ℕ → ArgumentsData → Deed (Option (Result Dependency Refusal))
+dependency_named [] a = give None
+dependency_named (b ∷ name) a = ask_dependency (b ∷ name) a
 
--- the same: none where nothing is looked up
-abbrev pub fitting_dependency : Requirement → List Section → ArgumentsData → Option (Result Dependency Refusal)
-fitting_dependency requirements.Disabled sections a = None
-fitting_dependency _ sections a = first_said sections a
+abbrev pub said_or : Option (Result Dependency Refusal) → Deed (Option (Result Dependency Refusal)) → Deed (Option (Result Dependency Refusal))
+said_or (Some said) others = give (Some said)
+said_or None others = others
+
+-- what is said of the first name that fits: names are asked for one after another
+unfoldable pub first_said : ArgumentsData → List (List ℕ) → Deed (Option (Result Dependency Refusal))
+first_said a [] = give None
+first_said a (name ∷ names) = do
+  said ← dependency_named name a
+  said_or said (first_said a names)
+
+-- the same: where a feature is disabled nothing is asked for
+unfoldable pub fitting_dependency : Requirement → ArgumentsData → Deed (Option (Result Dependency Refusal))
+fitting_dependency requirements.Disabled a = give None
+fitting_dependency _ a = first_said a (flat_all a.positional)
 
 -- a dependency that fits is noted and given; E22 where what the machine file says of it is too large
 unfoldable pub give_found : Result Dependency Refusal → Deed (Option Data)
@@ -63,5 +79,5 @@ give_fitting a None = none_fits (required_by a) a
 -- `dependency(names..)`
 unfoldable pub dependency : ArgumentsData → Deed (Option Data)
 dependency a = do
-  facts ← read
-  give_fitting a (fitting_dependency (required_by a) facts.machine a)
+  said ← fitting_dependency (required_by a) a
+  give_fitting a said

@@ -1,5 +1,5 @@
 -- `find_program`: a program of the machine file, or a file of the tree.
-use Rattle.std.specs.Prelude.{Bool, true, false, List, [], ◌∷◌, Option, Some, None, option_map, ok_or, Result}
+use Rattle.std.specs.Prelude.{Bool, true, false, List, [], ◌∷◌, Option, Some, None, codes, option_map, ok_or, Result}
 use Rattle.arguments.specs.Arguments.{ArgumentsData}
 use Rattle.data.specs.Flat.{flat_all}
 use Rattle.arguments.specs.Given.{text_at}
@@ -14,9 +14,10 @@ use Rattle.data.specs.declared.refusal.Refusal.{Refusal}
 use Rattle.edge.specs.Texts.{Path, Text}
 use Rattle.basics.specs.declared.faults.refusal.Refusal.TheVariants as refusals
 use Rattle.paths.specs.Paths.{tree_path}
+use Rattle.machine_file.specs.Questions.{Key, plain}
 use Rattle.resources.specs.Fitting.{program_words}
 use Rattle.resources.specs.Found.{within_texts}
-use Rattle.world.specs.Deed.{Deed, give, refuse, read, ◌>>=◌, answered, fitting, there}
+use Rattle.world.specs.Deed.{Deed, give, refuse, read, consult, ◌>>=◌, answered, fitting, there}
 use Rattle.resource_calls.specs.Required.{missing_object, required_by}
 
 -- the words that `[binaries]` of the machine file has
@@ -56,8 +57,8 @@ words_or_file None name = file_named name
 -- the program of a name: the machine file's, else a file
 unfoldable pub program_named : Text → Deed (Option Program)
 program_named name = do
-  facts ← read
-  words_or_file (option_map within_texts (program_words facts.machine name)) name
+  answer ← consult (plain (Key (codes "binaries") name))
+  words_or_file (option_map within_texts (program_words answer)) name
 
 abbrev pub or_else : Option Program → Deed (Option Program) → Deed (Option Program)
 or_else (Some p) others = give (Some p)

@@ -1,55 +1,117 @@
 //! `dependency`: <https://mesonbuild.com/Reference-manual_functions.html#dependency>.
-ghost use Rattle.std.specs.Prelude.{◌≡◌, IfOk, option_map};
+ghost use Rattle.std.specs.Prelude.{◌≡◌, IfOk, map, option_map};
 ghost use Rattle.arguments.specs.Arguments.{arguments_data};
+ghost use Rattle.data.specs.Flat.{flat_all};
 ghost use Rattle.data.specs.View.{data_of};
-ghost use Rattle.machine_file.specs.View.{machine_in};
+ghost use Rattle.machine_file.specs.Questions.{answer_to, dependency_topic};
 ghost use Rattle.project.specs.View.{answer_view};
+ghost use Rattle.resources.specs.Beside.{call_question};
 ghost use Rattle.world.specs.Answering.{Carries, HasRoom};
 ghost use Rattle.world.specs.Caller.{state_of};
 ghost use Rattle.world.specs.Declaring.{add_dependency};
-ghost use Rattle.resource_calls.specs.Dependency.{answer_of, dependency, first_said, fitting_dependency, give_found, give_missing};
-ghost use Rattle.resource_calls.specs.Dependency.{none_fits};
+ghost use Rattle.world.specs.Deed.{consult};
+ghost use Rattle.resource_calls.specs.Dependency.{answer_of, ask_dependency, dependency, dependency_named, first_said, fitting_dependency};
+ghost use Rattle.resource_calls.specs.Dependency.{give_found, give_missing, none_fits};
 ghost use Rattle.resource_calls.specs.Required.{required_by};
 
 use crate::required::{missing_object, required_by};
 use arguments::{Arguments, Requirement};
 use basics::faults::Refusal;
 use data::{Dependency, Object, Value};
-use machine_file::Machine;
+use machine_file::Topic;
 use ports::{Outputs, Tree};
 use project::Answer;
-use resources::{Fitting, first_fitting, missing_dependency, said_dependency};
+use resources::{call_question, dependency_that_fits, missing_dependency};
 use std::alloc::{AllocError, Global};
 use world::{Caller, Stop};
 
-// What the machine file says of the first name that fits; none where nothing is looked up.
-fn fitting_dependency(
-    alloc: Global,
-    machine: &Machine,
+// Asks for the dependency of a name, beside which a call says what its arguments do.
+fn ask_for<T: Tree, O: Outputs>(
+    caller: &mut Caller<'_, T, O>,
+    name: &str,
     arguments: &Arguments,
-) -> Result<Option<Result<Dependency, data::Refusal>>, AllocError>
-    ensures { IfOk result (λ said. said ≡ (let a = arguments_data arguments.now in
-        fitting_dependency (required_by a) (machine_in machine.now) a)) }
+) -> Result<(), Stop>
+    ensures deed { Carries (λ u. answer_to caller.old.store.now.machine (dependency_topic name.now))
+        (consult (call_question (dependency_topic name.now) (arguments_data arguments.now)))
+        (state_of T.seen O.seen caller.old) result (state_of T.seen O.seen caller.new) }
+    ensures machine { caller.new.store.now.machine ≡ caller.old.store.now.machine }
 {
-    match required_by(arguments) {
-        Requirement::Disabled => Ok(None),
-        Requirement::Required | Requirement::Optional => first_said(alloc, machine, arguments),
+    let topic = Topic::dependency(caller.alloc, name)?;
+    let question = call_question(caller.alloc, topic, arguments)?;
+    caller.ask(question)
+}
+
+// The dependency of a name that the machine file has in a version that fits.
+fn ask_dependency<T: Tree, O: Outputs>(
+    caller: &mut Caller<'_, T, O>,
+    name: &str,
+    arguments: &Arguments,
+) -> Result<Option<Result<Dependency, data::Refusal>>, Stop>
+    ensures { Carries (λ d. d) (ask_dependency name.now (arguments_data arguments.now))
+        (state_of T.seen O.seen caller.old) result (state_of T.seen O.seen caller.new) }
+{
+    ask_for(caller, name, arguments)?;
+    let conditions = arguments.texts(caller.alloc, "version")?;
+    let said = dependency_that_fits(caller.alloc, caller.store.machine(), name, &conditions)?;
+    Ok(said)
+}
+
+// The same; for the empty name nothing is asked.
+fn dependency_named<T: Tree, O: Outputs>(
+    caller: &mut Caller<'_, T, O>,
+    name: &str,
+    arguments: &Arguments,
+) -> Result<Option<Result<Dependency, data::Refusal>>, Stop>
+    ensures { Carries (λ d. d) (dependency_named name.now (arguments_data arguments.now))
+        (state_of T.seen O.seen caller.old) result (state_of T.seen O.seen caller.new) }
+{
+    if name.is_empty() {
+        Ok(None)
+    } else {
+        ask_dependency(caller, name, arguments)
     }
 }
 
-// What the machine file says of the first name that fits.
-fn first_said(
-    alloc: Global,
-    machine: &Machine,
+// What the machine file says of the first of these names that fits.
+fn first_said<T: Tree, O: Outputs>(
+    caller: &mut Caller<'_, T, O>,
+    names: &[&str],
     arguments: &Arguments,
-) -> Result<Option<Result<Dependency, data::Refusal>>, AllocError>
-    ensures { IfOk result (λ said. said ≡ first_said (machine_in machine.now) (arguments_data arguments.now)) }
+) -> Result<Option<Result<Dependency, data::Refusal>>, Stop>
+    ensures { Carries (λ d. d) (first_said (arguments_data arguments.now) (map (λ n. n.now) names.now))
+        (state_of T.seen O.seen caller.old) result (state_of T.seen O.seen caller.new) }
 {
-    let conditions = arguments.texts(alloc, "version")?;
-    let names = arguments.all_texts(alloc)?;
-    match first_fitting(alloc, machine, &names, &conditions)? {
-        Some(Fitting { name, section }) => Ok(Some(said_dependency(alloc, name, section)?)),
-        None => Ok(None),
+    for name in names {
+        let said = dependency_named(caller, name, arguments)?;
+        if let Some(dependency) = said {
+            return Ok(Some(dependency));
+        }
+    }
+    Ok(None)
+}
+
+fn first_given<T: Tree, O: Outputs>(
+    caller: &mut Caller<'_, T, O>,
+    arguments: &Arguments,
+) -> Result<Option<Result<Dependency, data::Refusal>>, Stop>
+    ensures { Carries (λ d. d) (let a = arguments_data arguments.now in first_said a (flat_all a.positional))
+        (state_of T.seen O.seen caller.old) result (state_of T.seen O.seen caller.new) }
+{
+    let names = arguments.all_texts(caller.alloc)?;
+    first_said(caller, &names, arguments)
+}
+
+// What the machine file says of the first name that fits; where a feature is disabled nothing is asked for.
+fn fitting_dependency<T: Tree, O: Outputs>(
+    caller: &mut Caller<'_, T, O>,
+    arguments: &Arguments,
+) -> Result<Option<Result<Dependency, data::Refusal>>, Stop>
+    ensures { let a = arguments_data arguments.now in Carries (λ d. d) (fitting_dependency (required_by a) a)
+        (state_of T.seen O.seen caller.old) result (state_of T.seen O.seen caller.new) }
+{
+    match required_by(arguments) {
+        Requirement::Disabled => Ok(None),
+        Requirement::Required | Requirement::Optional => first_given(caller, arguments),
     }
 }
 
@@ -129,7 +191,7 @@ pub fn dependency<T: Tree, O: Outputs>(
     ensures { Carries (option_map data_of) (dependency (arguments_data arguments.now))
         (state_of T.seen O.seen caller.old) result (state_of T.seen O.seen caller.new) }
 {
-    let found = fitting_dependency(caller.alloc, caller.store.machine(), arguments)?;
+    let found = fitting_dependency(caller, arguments)?;
     match found {
         Some(said) => give_found(caller, said),
         None => none_fits(caller, arguments),

@@ -97,6 +97,7 @@ fn program_named<T: Tree, O: Outputs>(
     ensures { Carries (λ p. p) (program_named name.now)
         (state_of T.seen O.seen caller.old) result (state_of T.seen O.seen caller.new) }
 {
+    caller.ask_key("binaries", name)?;
     let said = program_words(caller.alloc, caller.store.machine(), name)?;
     match said {
         Some(words) => program_of_words(caller, words),

@@ -1,4 +1,3 @@
 pub mod Assigned
 pub mod Digits
-pub mod Fits
 pub mod Within

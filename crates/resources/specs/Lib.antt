@@ -1,7 +1,7 @@
 pub mod Fitting
-pub mod FittingView
 pub mod Found
 pub mod Installs
 pub mod Joined
 pub mod Testing
 pub mod TestingView
+pub mod Beside

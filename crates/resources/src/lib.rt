@@ -14,13 +14,15 @@
 //! behind `includedir`, which the path of the file doesn't show.
 #![tactic(auto)]
 
+mod beside;
 mod fitting;
 mod found;
 mod installs;
 mod joining;
 mod testing;
 
-pub use fitting::{Fitting, first_fitting, program_words, said_dependency};
+pub use beside::call_question;
+pub use fitting::{dependency_that_fits, program_words};
 pub use found::{found_dependency, missing_dependency, within_texts};
 pub use installs::{destination, headers_folder, man_folder};
 pub use joining::{dependencies_in, joined};

@@ -10,11 +10,12 @@ use Rattle.data.specs.declared.refusal.Refusal.{Refusal as OperationRefusal}
 use Rattle.data.specs.declared.value.Value.{Value}
 use Rattle.basics.specs.Faults.{FaultData}
 use Rattle.world.specs.Trace.{Seen, seen}
-use Rattle.world.specs.World.{World, Facts, looking, fault_here}
+use Rattle.machine_file.specs.Questions.{Answer, Question, answer_to}
+use Rattle.world.specs.World.{World, Facts, asking, looking, fault_here}
 use Rattle.world.specs.Store.{changing}
 use Rattle.world.specs.Run.{ran, Done}
 use Rattle.world.specs.Gives.{Gives, Ends, failures_after}
-use Rattle.world.specs.Deed.{Files, Deed, give, refuse, tell, say, read, change, then, perform, answered, fitting, need, there}
+use Rattle.world.specs.Deed.{Files, Deed, give, refuse, tell, say, consult, read, change, then, perform, answered, fitting, need, there}
 use Rattle.world.specs.Answering.{State, seen_at, HasRoom, Fails, Carries, Refuses, IsAnswered, IsFitting, Views}
 use Rattle.world.proofs.Follow.{stopped_later, failed_later, ended_later, refused_later, gives_later, begun, done, device_stops, failures_after-refusal, wanted_grown}
 use Rattle.world.proofs.Holding.{holds_later, stays_here, stays_on}
@@ -75,7 +76,7 @@ carries_then {view = view} {view' = view'} {d = d} {next = next} {s0 = s0} {s2 =
 pub carries_stop : {A B C D : Type 0} {view : C → A} {view' : D → B} {d : Deed A} {next : A → Deed B} {s0 s1 : State} {s : Stop} {result : Result D Stop}
     → Carries view d s0 (Err s) s1 → IsErrAnd result (λ e. e ≡ s) → Carries view' (then d next) s0 result s1
 carries_stop {view = view} {view' = view'} {d = d} {next = next} {s0 = s0} {s1 = s1} {s = s} {result = result} p is = record {
-  gives = λ files n h. stopped_later view view' (perform files d s0.world) (λ a. perform files (next a)) s s1.world s1.world (seen_at s1 n) result (begun _ (seen_at s0 n)) is (p.gives files n h);
+  gives = λ files n h. stopped_later view view' (perform files d s0.world) (λ a. perform files (next a)) s s1.world s1.world (seen_at s1 n) result (begun _ (seen_at s0 n)) is refl (p.gives files n h);
   stays = p.stays;
   device = fails_stop is p.device;
   same = p.same;
@@ -113,7 +114,7 @@ carries_give {view = view} {a = a} {s = s} {x = x} is = record {
 refused_gives : {A B : Type 0} (view : B → A) (files : Files) (refusal : Refusal) (detail : List ℕ) (w : World) (result : Result B Stop) (old : Seen)
     → Refuses (fault_here w refusal detail) result → Gives view (perform files (refuse refusal detail) w) result w old old
 refused_gives view files refusal detail w (Ok x) old is = absurd is
-refused_gives view files refusal detail w (Err s) old is = refused_later view (fault_here w refusal detail) s w w old (begun _ old) is
+refused_gives view files refusal detail w (Err s) old is = refused_later view (fault_here w refusal detail) s w w old (begun _ old) is refl
 
 -- the call is refused
 pub carries_refuse : {A B : Type 0} {view : B → A} {refusal : Refusal} {detail : List ℕ} {s : State} {result : Result B Stop} → Refuses (fault_here s.world refusal detail) result
@@ -151,6 +152,19 @@ pub carries_grown : {B : Type 0} {view : B → Unit {0}} {f : Facts → Facts} {
 carries_grown {view = view} {f = f} {w = w} {w1 = w1} {names = names} {names1 = names1} {tree = tree} {out = out} {x = x} is front = record {
   gives = λ files n h. subst (λ v. Gives view (perform files (change f) w) (Ok x) v (seen out n names) (seen out n names1)) (sym is)
       (record { is = refl; written = grown_added (seen out n names) (seen out n names1) refl refl front });
+  stays = stays_here tree;
+  device = record { tree = omega arith; out = omega arith; sum = refl };
+  same = refl;
+}
+
+-- a question was asked
+pub carries_asked : {B : Type 0} (question : Question) {w w1 : World} {names names1 : List (List ℕ)} {tree : TreeState} {out : OutputState} {lent : ℕ × ℕ × ℕ} {x : B} → w1 ≡ asking w question → names1 ≡ names
+    → Carries (λ (u : B). answer_to w.machine question.topic) (consult question) (record { world = w; names = names; tree = tree; out = out; lent = lent }) (Ok x)
+    (record { world = w1; names = names1; tree = tree; out = out; lent = lent })
+carries_asked {B = B} question {w = w} {w1 = w1} {names = names} {names1 = names1} {tree = tree} {out = out} {x = x} is same = record {
+  gives = λ files n h. let view : B → Answer = λ u. answer_to w.machine question.topic in
+      subst (λ v. Gives view (perform files (consult question) w) (Ok x) v (seen out n names) (seen out n names1)) (sym is)
+      (subst (λ ns. Gives view (perform files (consult question) w) (Ok x) (asking w question) (seen out n names) (seen out n ns)) (sym same) (record { is = refl; written = none_added (seen out n names) }));
   stays = stays_here tree;
   device = record { tree = omega arith; out = omega arith; sum = refl };
   same = refl;

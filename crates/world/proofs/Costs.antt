@@ -8,7 +8,7 @@ use Rattle.ports.specs.Tree.{file_at}
 use Rattle.world.specs.Trace.{Mark, Told, Ended, ends_of}
 use Rattle.world.specs.World.{World}
 use Rattle.world.specs.Run.{Run, ran, Act, Done, Faulted, after, follow, with_end, marks_of, world_after}
-use Rattle.world.specs.Deed.{Files, Deed, give, refuse, tell, ask, read, change, then as andthen, perform}
+use Rattle.world.specs.Deed.{Files, Deed, give, refuse, tell, ask, consult, read, change, then as andthen, perform}
 use Rattle.world.specs.Plan.{Plan, deed, ruled, next as next_plan, carry}
 use Rattle.world.specs.Costs.{definition_file, is_opened, unless, unopened, spent, Costs}
 use Rattle.world.proofs.Marks.{ends_of-append}
@@ -44,6 +44,7 @@ module _ (price : Price) (files : Files) where
   deed-costs (refuse refusal detail) = still (perform files (refuse refusal detail)) (λ w. refl) (λ w. refl)
   deed-costs (tell steps) = still (perform files (tell steps)) (λ w. ends_of-told steps) (λ w. refl)
   deed-costs (ask path) = still (perform files (ask path)) (λ w. refl) (λ w. refl)
+  deed-costs (consult question) = still (perform files (consult question)) (λ w. refl) (λ w. refl)
   deed-costs read = still (perform files read) (λ w. refl) (λ w. refl)
   deed-costs (change f) = still (perform files (change f)) (λ w. refl) (λ w. refl)
   deed-costs (andthen first next) = chain_acts (deed-costs first) (λ a. deed-costs (next a))

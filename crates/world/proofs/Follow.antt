@@ -3,8 +3,8 @@ use Rattle.std.proofs.Common.{◌≡◌, ℕ, ◌+◌, List, [], ◌∷◌, ◌+
 use Rattle.code.specs.Draft.{IsFront}
 use Rattle.basics.specs.Faults.{FaultData}
 use Rattle.world.specs.Trace.{Mark, Ended, Seen, seen, Adds, Begins}
-use Rattle.world.specs.World.{World}
-use Rattle.world.specs.Run.{Outcome, Run, ran, Act, Done, Faulted, with_end, after, follow, pure, fails, marks_of, outcome_of}
+use Rattle.world.specs.World.{Asked, World}
+use Rattle.world.specs.Run.{Outcome, Run, ran, Act, Done, Faulted, with_end, after, follow, pure, fails, marks_of, outcome_of, world_after}
 use Rattle.world.specs.Gives.{Gives, is_ended, failures_after, Continues, Ends, Faults, IsRefusal}
 use Rattle.world.proofs.Marks.{none_added, more_added, same_added, end_added, grown_added}
 use Rattle.world.specs.declared.stop.Stop.{Stop}
@@ -15,6 +15,9 @@ marks_of-after ms (ran o w ns) = refl
 
 outcome_of-after : {A : Type 0} (ms : List Mark) (r : Run A) → outcome_of (after ms r) ≡ outcome_of r
 outcome_of-after ms (ran o w ns) = refl
+
+asked-after : {A : Type 0} (ms : List Mark) (r : Run A) → (world_after (after ms r)).asked ≡ (world_after r).asked
+asked-after ms (ran o w ns) = refl
 
 after-after : {A : Type 0} (ms ns : List Mark) (r : Run A) → after ms (after ns r) ≡ after (ms ++ ns) r
 after-after ms ns (ran o w os) = ap (ran o w) (sym (append_assoc ms ns os))
@@ -58,7 +61,11 @@ ends_later {rest = rest} {o = o} {w = w} p e = record {
 -- what the rest gives, the whole gives
 pub gives_later : {A B : Type 0} (view : B → A) {whole rest : Run A} (result : Result B Stop) (w : World) {old mid : Seen} (new : Seen) → Continues whole rest old mid → Gives view rest result w mid new → Gives view whole result w old new
 gives_later view (Ok x) w new p e = ends_later p e
-gives_later view {rest = rest} (Err (stops.Refused fault)) w new p e = record { is = ap outcome_of p.is ∙ outcome_of-after p.made rest ∙ e.is; written = added_later p e.written }
+gives_later view {rest = rest} (Err (stops.Refused fault)) w new p e = record {
+  is = ap outcome_of p.is ∙ outcome_of-after p.made rest ∙ e.is;
+  asks = e.asks ∙ sym (ap (λ r. (world_after r).asked) p.is ∙ asked-after p.made rest);
+  written = added_later p e.written;
+}
 gives_later view (Err stops.Device) w new p e = begins_later p e
 gives_later view (Err stops.Memory) w new p e = begins_later p e
 
@@ -71,26 +78,27 @@ begins_in (ran (Done x) w ms) next b = record {
 }
 begins_in (ran (Faulted f) w ms) next b = b
 
-faults_in : {A B : Type 0} (r : Run A) (next : A → Act B) {f : FaultData} {old new : Seen} → Faults r (Faulted f) old new → Faults (follow r next) (Faulted f) old new
+faults_in : {A B : Type 0} (r : Run A) (next : A → Act B) {f : FaultData} {asked : List Asked} {old new : Seen} → Faults r (Faulted f) asked old new → Faults (follow r next) (Faulted f) asked old new
 faults_in (ran (Done x) w ms) next e = absurd (let d : Done x ≡ Faulted _ = e.is in cc)
-faults_in (ran (Faulted f) w ms) next e = record { is = let d : Faulted f ≡ Faulted _ = e.is in cc; written = e.written }
+faults_in (ran (Faulted f) w ms) next e = record { is = let d : Faulted f ≡ Faulted _ = e.is in cc; asks = e.asks; written = e.written }
 
 -- a part that stops, stops the whole
-stops_whole : {A B C D : Type 0} (view : C → A) (view' : D → B) (r : Run A) (next : A → Act B) (s : Stop) (w w' : World) (old new : Seen) → Gives view r (Err s) w old new → Gives view' (follow r next) (Err s) w' old new
-stops_whole view view' r next (stops.Refused fault) w w' old new g = faults_in r next g
-stops_whole view view' r next stops.Device w w' old new g = begins_in r next g
-stops_whole view view' r next stops.Memory w w' old new g = begins_in r next g
+stops_whole : {A B C D : Type 0} (view : C → A) (view' : D → B) (r : Run A) (next : A → Act B) (s : Stop) (w w' : World) (old new : Seen) → w'.asked ≡ w.asked → Gives view r (Err s) w old new → Gives view' (follow r next) (Err s) w' old new
+stops_whole view view' r next (stops.Refused fault) w w' old new same g =
+    let e = faults_in r next g in record { is = e.is; asks = same ∙ e.asks; written = e.written }
+stops_whole view view' r next stops.Device w w' old new same g = begins_in r next g
+stops_whole view view' r next stops.Memory w w' old new same g = begins_in r next g
 
 -- the same, for what `?` hands on
 pub stopped : {A B C D : Type 0} (view : C → A) (view' : D → B) (r : Run A) (next : A → Act B) (s : Stop) (w w' : World) (old new : Seen) (result : Result D Stop)
-    → IsErrAnd result (λ e. e ≡ s) → Gives view r (Err s) w old new → Gives view' (follow r next) result w' old new
-stopped view view' r next s w w' old new (Ok x) is g = absurd is
-stopped view view' r next s w w' old new (Err e) is g = subst (λ d. Gives view' (follow r next) (Err d) w' old new) (sym is) (stops_whole view view' r next s w w' old new g)
+    → IsErrAnd result (λ e. e ≡ s) → w'.asked ≡ w.asked → Gives view r (Err s) w old new → Gives view' (follow r next) result w' old new
+stopped view view' r next s w w' old new (Ok x) is same g = absurd is
+stopped view view' r next s w w' old new (Err e) is same g = subst (λ d. Gives view' (follow r next) (Err d) w' old new) (sym is) (stops_whole view view' r next s w w' old new same g)
 
 -- the rest stops, after what is done
 pub stopped_later : {A B C D : Type 0} (view : C → A) (view' : D → B) {whole : Run B} (r : Run A) (next : A → Act B) (s : Stop) (w w' : World) {old mid : Seen} (new : Seen) (result : Result D Stop)
-    → Continues whole (follow r next) old mid → IsErrAnd result (λ e. e ≡ s) → Gives view r (Err s) w mid new → Gives view' whole result w' old new
-stopped_later view view' r next s w w' new result p is g = gives_later view' result w' new p (stopped view view' r next s w w' _ new result is g)
+    → Continues whole (follow r next) old mid → IsErrAnd result (λ e. e ≡ s) → w'.asked ≡ w.asked → Gives view r (Err s) w mid new → Gives view' whole result w' old new
+stopped_later view view' r next s w w' new result p is same g = gives_later view' result w' new p (stopped view view' r next s w w' _ new result is same g)
 
 -- want of memory may stop a run anywhere
 pub wants : {A : Type 0} (r : Run A) (old : Seen) → Begins (marks_of r) old old
@@ -112,11 +120,11 @@ failed_later view {whole = whole} {rest = rest} w {old = old} mid (Err e) p is =
 
 -- the rest is refused
 pub refused_later : {A B : Type 0} (view : B → A) {whole : Run A} (f : FaultData) (s : Stop) (w w' : World) {old : Seen} (mid : Seen)
-    → Continues whole (fails f w) old mid → IsRefusal s f → Gives view whole (Err s) w' old mid
-refused_later view f (stops.Refused fault) w w' mid p is =
-    gives_later view (Err (stops.Refused fault)) w' mid p (record { is = ap Faulted (sym is); written = none_added mid })
-refused_later view f stops.Device w w' mid p is = absurd is
-refused_later {A = A} view f stops.Memory w w' mid p is = let r : Run A = fails f w in begins_later p (wants r mid)
+    → Continues whole (fails f w) old mid → IsRefusal s f → w'.asked ≡ w.asked → Gives view whole (Err s) w' old mid
+refused_later view f (stops.Refused fault) w w' mid p is same =
+    gives_later view (Err (stops.Refused fault)) w' mid p (record { is = ap Faulted (sym is); asks = same; written = none_added mid })
+refused_later view f stops.Device w w' mid p is same = absurd is
+refused_later {A = A} view f stops.Memory w w' mid p is same = let r : Run A = fails f w in begins_later p (wants r mid)
 
 -- a refusal is no device's
 pub failures_after-refusal : (B : Type 0) (n : ℕ) (s : Stop) (f : FaultData) → IsRefusal s f → failures_after {B = B} n (Err s) ≡ n
@@ -135,6 +143,9 @@ marks_of-with_end (ran o w ms) = refl
 outcome_of-with_end : {A : Type 0} (r : Run A) → outcome_of (with_end r) ≡ outcome_of r
 outcome_of-with_end (ran o w ms) = refl
 
+asked-with_end : {A : Type 0} (r : Run A) → (world_after (with_end r)).asked ≡ (world_after r).asked
+asked-with_end (ran o w ms) = refl
+
 one_more : {A : Type 0} (r : Run A) (old mid : Seen) → Adds old (marks_of r) mid → Adds old (marks_of (with_end r)) (seen mid.out (mid.ticks + 1) mid.names)
 one_more r old mid e = same_added (sym (marks_of-with_end r)) (more_added (marks_of r) (Ended ∷ []) e (end_added mid))
 
@@ -149,7 +160,7 @@ begins_before r old mid b = record {
 -- a rule gives what stands inside, and a tick where that has ended
 pub gives_rule : {A B : Type 0} (view : B → A) (r : Run A) (result : Result B Stop) (w : World) (old mid : Seen) → Gives view r result w old mid → Gives view (with_end r) result w old (seen mid.out (mid.ticks + is_ended result) mid.names)
 gives_rule view r (Ok x) w old mid e = record { is = ap with_end e.is ∙ ap (ran (Done (view x)) w) (sym (marks_of-with_end r)); written = one_more r old mid e.written }
-gives_rule view r (Err (stops.Refused fault)) w old mid e = record { is = outcome_of-with_end r ∙ e.is; written = one_more r old mid e.written }
+gives_rule view r (Err (stops.Refused fault)) w old mid e = record { is = outcome_of-with_end r ∙ e.is; asks = e.asks ∙ sym (asked-with_end r); written = one_more r old mid e.written }
 gives_rule view r (Err stops.Device) w old mid e = begins_before r old mid e
 gives_rule view r (Err stops.Memory) w old mid e = begins_before r old mid e
 
@@ -159,8 +170,8 @@ same_run {rest = rest} e old = record { made = []; is = e ∙ sym (after-nil res
 
 -- a call that does nothing but answer: a refusal, a value, or want of memory
 pub refused_as : {A B : Type 0} (view : B → A) (run : Run A) (f : FaultData) (s : Stop) (w w' : World) (old : Seen)
-    → run ≡ fails f w → IsRefusal s f → Gives view run (Err s) w' old old
-refused_as view run f s w w' old is r = refused_later view f s w w' old (same_run is old) r
+    → run ≡ fails f w → IsRefusal s f → w'.asked ≡ w.asked → Gives view run (Err s) w' old old
+refused_as view run f s w w' old is r same = refused_later view f s w w' old (same_run is old) r same
 
 pub given_as : {A B : Type 0} (view : B → A) (run : Run A) (x : B) (d : A) (w : World) (old : Seen)
     → run ≡ pure d w → view x ≡ d → Gives view run (Ok x) w old old

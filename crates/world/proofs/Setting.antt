@@ -7,7 +7,7 @@ use Rattle.std.proofs.lemmas.Bool.Decides.{nat_tests}
 use Rattle.std.proofs.lemmas.List.Folds.{position_or_len_push}
 use Rattle.std.proofs.lemmas.Slice.Eq.{bytes_eq-Decides}
 use Rattle.code.specs.Names.{number_in, with_name}
-use Rattle.code.proofs.NameLists.{name_at}
+use Rattle.code.proofs.NameLists.{begins_with_name, name_at}
 use Rattle.data.specs.Data.{Data}
 use Rattle.data.specs.View.{data_of}
 use Rattle.data.specs.declared.value.Value.{Value}
@@ -16,9 +16,11 @@ use Rattle.world.specs.Store.{Kept, slot_value, kept_variables, world_of, changi
 use Rattle.code.specs.Draft.{IsFront}
 use Rattle.std.specs.List.{IsDistinct}
 use Rattle.std.proofs.lemmas.List.{get_or_past}
-use Rattle.std.proofs.Common.{append_assoc, append-nil}
+use Rattle.std.proofs.Common.{append_assoc, append-nil, length-set, subst, max}
+use Rattle.std.proofs.lemmas.Grind.{common_steps}
 use Rattle.world.proofs.Numbers.{number_at}
 use Rattle.std.specs.Prelude.{codes, Result, Ok, Err, OnOk}
+use Rattle.machine_file.specs.Files.{Section}
 use Rattle.project.specs.World.{WorldData, new_world}
 use Rattle.world.specs.Declaring.{declaring}
 use Rattle.world.specs.Settings.{SettingsData}
@@ -93,6 +95,18 @@ module _ (names new : List (List ℕ)) (slots room : List (Option Value)) (name 
 
   pub variables_set : (q : List ℕ) → option_and_then (slot_value (set room n v)) (number_in q new) ≡ variables_with (λ p. option_and_then (slot_value slots) (number_in p names)) name (option_map data_of v) q
   variables_set q = by_name (bytes_eq name q) q refl
+
+-- no more slots than names
+room_fits : (l k m r n : ℕ) → r ≤ max l (n + 1) → l ≤ k → k ≤ m → n < m → r ≤ m
+room_fits l k m r n a b c d = grind (arith, common_steps)
+
+pub slots_fit : (names new : List (List ℕ)) (slots room : List (Option Value)) (name : List ℕ) (n : ℕ) (v : Option Value) → new ≡ with_name name names
+    → number_in name new ≡ Some n → length room ≤ max (length slots) (n + 1) → length slots ≤ length names → length (set room n v) ≤ length new
+slots_fit names new slots room name n v put number few fits =
+    let front = begins_with_name name names in
+    let longer : length names ≤ length new = subst (λ ns. length names ≤ length ns) (sym (put ∙ front.is)) (rw (length-append names front.more) (omega arith)) in
+    let within = (name_at name new n number).0 in
+    rw (length-set room n v) (room_fits (length slots) (length names) (length new) (length room) n few fits longer within)
 
 -- ---- a table of names that stays
 
@@ -231,9 +245,9 @@ then_same v (Ok x) is same = is ∙ same
 then_same v (Err e) is same = tt
 
 -- before anything was done
-pub world_first : (k : Kept) (settings : SettingsData) → k.file ≡ codes "meson.build" → k.folder ≡ [] → k.line ≡ 1 → k.settings ≡ settings → k.names ≡ [] → k.slots ≡ [] → k.machine ≡ []
-    → k.options ≡ [] → k.configurations ≡ [] → k.is_begun ≡ false → k.project ≡ new_world (unnamed settings) → k.entered ≡ [] → k.looked ≡ [] → world_of k ≡ first_world settings
-world_first k settings file folder line set names slots machine options configurations begun project entered looked = λ i. world_of (record {
+pub world_first : (k : Kept) (settings : SettingsData) (machine : List Section) → k.file ≡ codes "meson.build" → k.folder ≡ [] → k.line ≡ 1 → k.settings ≡ settings → k.names ≡ [] → k.slots ≡ [] → k.machine ≡ machine
+    → k.options ≡ [] → k.configurations ≡ [] → k.is_begun ≡ false → k.project ≡ new_world (unnamed settings) → k.entered ≡ [] → k.looked ≡ [] → k.asked ≡ [] → world_of k ≡ first_world settings machine
+world_first k settings file_said file folder line set names slots machine options configurations begun project entered looked asked = λ i. world_of (record {
   file = file i;
   folder = folder i;
   line = line i;
@@ -247,4 +261,5 @@ world_first k settings file folder line set names slots machine options configur
   project = project i;
   entered = entered i;
   looked = looked i;
+  asked = asked i;
 })

@@ -1,12 +1,13 @@
--- Deeds: what a function does with its evaluated arguments. A deed ends no rule and enters no folder, and it asks the tree of files by
--- `ask` alone.
+-- Deeds: what a function does with its evaluated arguments. A deed ends no rule and enters no folder, it asks the tree of files by `ask`
+-- alone, and the machine file by `consult` alone.
 use Rattle.std.specs.Prelude.{ℕ, Bool, true, false, List, [], map, Option, Result, Ok, Err, is_some}
 use Rattle.ports.specs.Outputs.{Step, logs}
 use Rattle.ports.specs.Tree.{file_at}
 use Rattle.data.specs.declared.refusal.Refusal.{Refusal as OperationRefusal}
+use Rattle.machine_file.specs.Questions.{Answer, Question, answer_to}
 use Rattle.world.specs.Operation.{of_operation}
 use Rattle.world.specs.Trace.{Told}
-use Rattle.world.specs.World.{Facts, looking, with_facts, fault_here}
+use Rattle.world.specs.World.{Facts, asking, looking, with_facts, fault_here}
 use Rattle.world.specs.Run.{Act, ran, Done, pure, fails, follow}
 use Rattle.basics.specs.declared.faults.refusal.Refusal.{Refusal}
 use Rattle.basics.specs.declared.faults.refusal.Refusal.TheVariants as refusals
@@ -24,6 +25,8 @@ pub data Deed : Type 0 → Type 1 where
   tell : List Step → Deed (Unit {0})
   -- the bytes of the file at this path, which counts as looked at, and whose presence the project notes
   ask : List ℕ → Deed (Option (List ℕ))
+  -- what the machine file answers to this question, which counts as asked
+  consult : Question → Deed Answer
   read : Deed Facts
   change : (Facts → Facts) → Deed (Unit {0})
   then : {A B : Type 0} → Deed A → (A → Deed B) → Deed B
@@ -38,6 +41,7 @@ perform files (give a) w = pure a w
 perform files (refuse refusal detail) w = fails (fault_here w refusal detail) w
 perform files (tell steps) w = ran (Done tt) w (map Told steps)
 perform files (ask path) w = ran (Done (file_at files path)) (looking w path (is_some (file_at files path))) []
+perform files (consult question) w = ran (Done (answer_to w.machine question.topic)) (asking w question) []
 perform files read w = pure w.facts w
 perform files (change f) w = ran (Done tt) (with_facts w (f w.facts)) []
 perform files (then first next) w = follow (perform files first w) (λ a. perform files (next a))

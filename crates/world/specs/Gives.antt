@@ -4,8 +4,8 @@ use Rattle.ports.specs.Tree.{TreeState}
 use Rattle.basics.specs.Faults.{FaultData}
 use Rattle.basics.specs.View.{fault_view}
 use Rattle.world.specs.Trace.{Mark, Seen, Adds, Begins}
-use Rattle.world.specs.World.{World}
-use Rattle.world.specs.Run.{Outcome, Run, ran, Done, Faulted, after, marks_of, outcome_of}
+use Rattle.world.specs.World.{Asked, World}
+use Rattle.world.specs.Run.{Outcome, Run, ran, Done, Faulted, after, marks_of, outcome_of, world_after}
 use Rattle.world.specs.declared.stop.Stop.{Stop}
 use Rattle.world.specs.declared.stop.Stop.TheVariants as stops
 
@@ -20,15 +20,16 @@ pub record Ends {A : Type 0} (run : Run A) (o : Outcome A) (w : World) (old new 
   pub is : run ≡ ran o w (marks_of run)
   pub written : Adds old (marks_of run) new
 
--- the run ends in this fault, and all its marks are new
-pub record Faults {A : Type 0} (run : Run A) (o : Outcome A) (old new : Seen) : Type 0 where
+-- the run ends in this fault after these questions, and all its marks are new
+pub record Faults {A : Type 0} (run : Run A) (o : Outcome A) (asked : List Asked) (old new : Seen) : Type 0 where
   pub is : outcome_of run ≡ o
+  pub asks : asked ≡ (world_after run).asked
   pub written : Adds old (marks_of run) new
 
 -- a call ended as the run does, or after a beginning of its marks
 abbrev pub Gives : {A B : Type 0} → (B → A) → Run A → Result B Stop → World → Seen → Seen → Type 0
 Gives view run (Ok x) w old new = Ends run (Done (view x)) w old new
-Gives view run (Err (stops.Refused fault)) w old new = Faults run (Faulted (fault_view fault)) old new
+Gives view run (Err (stops.Refused fault)) w old new = Faults run (Faulted (fault_view fault)) w.asked old new
 Gives view run (Err stops.Device) w old new = Begins (marks_of run) old new
 Gives view run (Err stops.Memory) w old new = Begins (marks_of run) old new
 

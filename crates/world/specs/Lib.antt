@@ -17,3 +17,4 @@ pub mod Start
 pub mod Store
 pub mod Trace
 pub mod World
+pub mod AskedView

@@ -1,8 +1,10 @@
 -- What a run depends on.
 use Rattle.std.specs.Prelude.{◌≡◌, ℕ, List, [], ◌∷◌, ◌++◌}
 use Rattle.ports.specs.Tree.{file_at}
-use Rattle.world.specs.World.{World}
-use Rattle.world.specs.Run.{Act, world_after}
+use Rattle.machine_file.specs.Files.{Section}
+use Rattle.machine_file.specs.Questions.{answer_to}
+use Rattle.world.specs.World.{Asked, World}
+use Rattle.world.specs.Run.{Run, ran, Act, world_after}
 use Rattle.world.specs.Deed.{Files}
 
 -- two trees of files agree on these paths: the same bytes, or in both none
@@ -10,13 +12,29 @@ abbrev pub Agree : Files → Files → List (List ℕ) → Type 0
 Agree f g [] = Unit {0}
 Agree f g (path ∷ paths) = (file_at f path ≡ file_at g path) × Agree f g paths
 
--- the paths looked at before are still there
-pub record Grows (old new : List (List ℕ)) : Type 0 where
-  pub more : List (List ℕ)
+-- two machine files agree on these questions: the same answers
+abbrev pub AgreeOn : List Section → List Section → List Asked → Type 0
+AgreeOn m n [] = Unit {0}
+AgreeOn m n (a ∷ asked) = (answer_to m a.question.topic ≡ answer_to n a.question.topic) × AgreeOn m n asked
+
+-- what was there before is still there
+pub record Grows {A : Type 0} (old new : List A) : Type 0 where
+  pub more : List A
   pub is : new ≡ old ++ more
 
--- An act looks at what it depends on: of any two trees of files that agree on the paths looked at by the run over the first, both runs
--- are equal, in outcome, world and marks.
+-- the same world over another machine file
+abbrev pub over : List Section → World → World
+over machine w = record w { machine = machine }
+
+-- the same run, whose last world is over another machine file
+abbrev pub ran_over : {A : Type 0} → List Section → Run A → Run A
+ran_over machine (ran o w ms) = ran o (over machine w) ms
+
+-- An act depends on the paths that it looks at and on the questions that it asks: of any two trees of files and two machine files that
+-- agree on what the run over the first looks at and asks, both runs are the same, in outcome, world and marks.
 pub record Depends {A : Type 0} (act : Files → Act A) : Type 0 where
   pub grows : (f : Files) (w : World) → Grows w.looked (world_after (act f w)).looked
-  pub same : (f g : Files) (w : World) → Agree f g (world_after (act f w)).looked → act g w ≡ act f w
+  pub asks : (f : Files) (w : World) → Grows w.asked (world_after (act f w)).asked
+  pub keeps : (f : Files) (w : World) → (world_after (act f w)).machine ≡ w.machine
+  pub same : (f g : Files) (n : List Section) (w : World) → Agree f g (world_after (act f w)).looked
+      → AgreeOn w.machine n (world_after (act f w)).asked → act g (over n w) ≡ ran_over n (act f w)

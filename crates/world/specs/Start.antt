@@ -1,5 +1,6 @@
 -- The world in which a run begins.
-use Rattle.std.specs.Prelude.{[], None, false, codes}
+use Rattle.std.specs.Prelude.{List, [], None, false, codes}
+use Rattle.machine_file.specs.Files.{Section}
 use Rattle.project.specs.World.{new_world}
 use Rattle.targets.specs.Data.{FactsData, FlagsData}
 use Rattle.world.specs.Settings.{SettingsData}
@@ -31,21 +32,22 @@ unnamed s = record {
   options = [];
 }
 
--- at the first line of the root file: no variable, no machine file, nothing declared, nothing entered and nothing looked at
-abbrev pub first_world : SettingsData → World
-first_world s = record {
+-- at the first line of the root file: no variable, nothing declared, nothing entered, nothing looked at and nothing asked
+abbrev pub first_world : SettingsData → List Section → World
+first_world s machine = record {
   facts = record {
     file = codes "meson.build";
     folder = [];
     line = 1;
     settings = s;
     variables = λ _. None;
-    machine = [];
     options = [];
     configurations = [];
     is_begun = false;
     project = new_world (unnamed s);
   };
+  machine = machine;
   entered = [];
   looked = [];
+  asked = [];
 }

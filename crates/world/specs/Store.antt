@@ -11,7 +11,7 @@ use Rattle.options.specs.declared.settings.Options.{Options}
 use Rattle.project.specs.World.{WorldData}
 use Rattle.template.specs.Config.{Configuration}
 use Rattle.world.specs.Settings.{SettingsData}
-use Rattle.world.specs.World.{World, Facts, with_facts}
+use Rattle.world.specs.World.{Asked, World, Facts, with_facts}
 
 -- the world with the table of names, and the value of each variable in the slot of its name's number
 pub record Kept : Type 0 where
@@ -28,6 +28,7 @@ pub record Kept : Type 0 where
   pub project : WorldData
   pub entered : List (List ℕ)
   pub looked : List (List ℕ)
+  pub asked : List Asked
 
 -- the options, where there are any yet
 abbrev pub options_of : Option Options → List Setting
@@ -50,14 +51,15 @@ world_of k = record {
     line = k.line;
     settings = k.settings;
     variables = kept_variables k.names k.slots;
-    machine = k.machine;
     options = k.options;
     configurations = k.configurations;
     is_begun = k.is_begun;
     project = k.project;
   };
+  machine = k.machine;
   entered = k.entered;
   looked = k.looked;
+  asked = k.asked;
 }
 
 -- the facts change

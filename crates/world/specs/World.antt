@@ -6,6 +6,7 @@ use Rattle.edge.specs.Texts.{first_kept}
 use Rattle.basics.specs.Faults.{FaultData}
 use Rattle.basics.specs.declared.faults.refusal.Refusal.{Refusal}
 use Rattle.machine_file.specs.Files.{Section}
+use Rattle.machine_file.specs.Questions.{Question}
 use Rattle.options.specs.Settings.{Setting}
 use Rattle.project.specs.Adding.{with_absent, with_present}
 use Rattle.project.specs.World.{WorldData, new_world}
@@ -23,8 +24,6 @@ pub record Facts : Type 0 where
   pub settings : SettingsData
   -- the variables by their names
   pub variables : List ℕ → Option Data
-  -- the sections of the machine file
-  pub machine : List Section
   -- the options with their values; none before `project` is called
   pub options : List Setting
   -- configuration data by their numbers
@@ -33,11 +32,20 @@ pub record Facts : Type 0 where
   pub is_begun : Bool
   pub project : WorldData
 
--- the facts, the folders entered and the paths looked at, each in order
+-- a question that was asked of the machine file, and the place of the call that asked it
+pub record Asked : Type 0 where
+  pub question : Question
+  pub file : List ℕ
+  pub line : ℕ
+
+-- The facts, the sections of the machine file, which no fact tells, and the folders entered, the paths looked at and the questions asked,
+-- each in order.
 pub record World : Type 0 where
   pub facts : Facts
+  pub machine : List Section
   pub entered : List (List ℕ)
   pub looked : List (List ℕ)
+  pub asked : List Asked
 
 abbrev pub with_facts : World → Facts → World
 with_facts w facts = record w { facts = facts }
@@ -61,9 +69,6 @@ with_place file folder line f = record f { file = file; folder = folder; line = 
 
 abbrev pub with_variables : (List ℕ → Option Data) → Facts → Facts
 with_variables variables f = record f { variables = variables }
-
-abbrev pub with_machine : List Section → Facts → Facts
-with_machine machine f = record f { machine = machine }
 
 abbrev pub with_options : List Setting → Facts → Facts
 with_options options f = record f { options = options }
@@ -101,6 +106,18 @@ noted path false project = with_absent project path
 abbrev pub looking : World → List ℕ → Bool → World
 looking w path is_there = record {
   facts = with_project (noted path is_there w.facts.project) w.facts;
+  machine = w.machine;
   entered = w.entered;
   looked = w.looked ++ path ∷ [];
+  asked = w.asked;
 }
+
+-- ---- the machine file
+
+-- a question that is asked at the present place
+abbrev pub asked_here : World → Question → Asked
+asked_here w question = record { question = question; file = w.facts.file; line = w.facts.line }
+
+-- a question is asked
+abbrev pub asking : World → Question → World
+asking w question = record w { asked = w.asked ++ asked_here w question ∷ [] }

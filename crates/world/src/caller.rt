@@ -1,7 +1,9 @@
 //! What the code of a function works on: the world of a run and its devices.
 ghost use Rattle.std.specs.Prelude.{◌≡◌, IfOk};
 ghost use Rattle.world.specs.Answering.{Carries, HasRoom, IsAnswered, IsFitting, Refuses};
-ghost use Rattle.world.specs.Deed.{need, required, say, there};
+ghost use Rattle.machine_file.specs.Questions.{Key, answer_to, plain};
+ghost use Rattle.machine_file.specs.QuestionsView.{question_in};
+ghost use Rattle.world.specs.Deed.{consult, need, required, say, there};
 ghost use Rattle.basics.specs.View.{fault_view};
 ghost use Rattle.world.specs.Store.{world_of};
 ghost use Rattle.world.specs.World.{fault_here};
@@ -13,6 +15,7 @@ use crate::operation::of_operation;
 use crate::stop::Stop;
 use crate::store::Store;
 use basics::faults::{Fault, Refusal};
+use machine_file::{Question, Topic};
 use ports::{Outputs, Tree, log_all};
 use std::alloc::{AllocError, Global};
 
@@ -95,6 +98,26 @@ impl<'a, T: Tree, O: Outputs> Caller<'a, T, O> {
     {
         let found = self.is_there(path)?;
         self.need(found, Refusal::FileMissing, path)
+    }
+
+    /// Asks a question of the machine file; the answer is then read off `store.machine()`.
+    pub fn ask(&mut self, question: Question) -> Result<(), Stop>
+        ensures deed { Carries (λ u. answer_to self.old.store.now.machine (question_in question).topic) (consult (question_in question))
+            (state_of T.seen O.seen self.old) result (state_of T.seen O.seen self.new) }
+        ensures machine { self.new.store.now.machine ≡ self.old.store.now.machine }
+    {
+        self.store.ask(self.alloc, question)?;
+        Ok(())
+    }
+
+    /// Asks for the value at a key of a section of the machine file, beside which nothing is said.
+    pub fn ask_key(&mut self, section: &str, key: &str) -> Result<(), Stop>
+        ensures deed { Carries (λ u. answer_to self.old.store.now.machine (Key section.now key.now))
+            (consult (plain (Key section.now key.now))) (state_of T.seen O.seen self.old) result (state_of T.seen O.seen self.new) }
+        ensures machine { self.new.store.now.machine ≡ self.old.store.now.machine }
+    {
+        let topic = Topic::key(self.alloc, section, key)?;
+        self.ask(Question::plain(self.alloc, topic))
     }
 
     /// Logs bytes.

@@ -6,30 +6,34 @@ ghost use Rattle.code.specs.Code.{code_tree};
 ghost use Rattle.code.specs.Draft.{IsFront};
 ghost use Rattle.data.specs.View.{data_of};
 ghost use Rattle.grammar.specs.Tree.{file_of};
+ghost use Rattle.machine_file.specs.QuestionsView.{question_in};
 ghost use Rattle.machine_file.specs.View.{machine_in};
 ghost use Rattle.option_values.specs.View.{value_in};
 ghost use Rattle.options.specs.Resolves.{value_named};
 ghost use Rattle.options.specs.View.{options_in};
 ghost use Rattle.targets.specs.View.{facts_view, flags_view};
+ghost use Rattle.world.specs.AskedView.{all_asked_in};
 ghost use Rattle.world.specs.SettingsView.{settings_view};
 ghost use Rattle.world.specs.Options.{option_text};
 ghost use Rattle.world.specs.Start.{first_world, no_flags, unnamed};
 ghost use Rattle.world.specs.Store.{changing, slot_value, world_of};
-ghost use Rattle.world.specs.World.{entering, with_line, with_machine, with_options, with_place, with_variable};
+ghost use Rattle.world.specs.World.{asking, entering, with_line, with_options, with_place, with_variable};
 
 mod configuring;
 mod declaring;
 
+use crate::asked::Asked;
 use crate::settings::Settings;
 use code::{Code, Names, flatten};
 use data::Value;
 use grammar::tree::File;
-use machine_file::Machine;
+use machine_file::{Machine, Question};
 use options::{OptionValue, Options};
 use project::Project;
 use std::alloc::{AllocError, Global};
 use std::marker::Model;
 use std::mem;
+use std::rc::Rc;
 use targets::{Facts, Flags};
 use template::ConfigData;
 
@@ -50,13 +54,14 @@ pub struct Store {
     settings: Settings,
     names: Names,
     slots: Vec<Option<Value>>,
-    machine: Machine,
+    machine: Rc<Machine>,
     options: Option<Options>,
     configurations: Vec<ConfigData>,
     is_begun: bool,
     project: Project,
     entered: Names,
     looked: Vec<String>,
+    asked: Vec<Asked>,
 }
 
 impl Drop for Store {
@@ -73,6 +78,7 @@ impl Drop for Store {
             project: _,
             entered: _,
             looked: _,
+            asked: _,
         } = self;
     }
 }
@@ -81,6 +87,7 @@ impl Model for Store {
     ghost use Rattle.std.specs.Prelude.{◌≤◌, length, map, string_bytes};
     ghost use Rattle.world.specs.SettingsView.{settings_view};
     ghost use Rattle.machine_file.specs.View.{machine_in};
+    ghost use Rattle.world.specs.AskedView.{all_asked_in};
     ghost use Rattle.world.specs.Store.{Kept, options_of};
 
     ghost Value = { Kept };
@@ -97,13 +104,14 @@ impl Model for Store {
       settings = settings_view s.settings;
       names = s.names;
       slots = s.slots.items;
-      machine = machine_in s.machine;
+      machine = machine_in s.machine.value;
       options = options_of s.options;
       configurations = s.configurations.items;
       is_begun = s.is_begun;
       project = s.project;
       entered = s.entered;
       looked = map string_bytes s.looked.items;
+      asked = all_asked_in s.asked.items;
     } };
 
     ghost invariant = { λ s. length s.slots.items ≤ length s.names };
@@ -178,9 +186,9 @@ fn no_flags(alloc: Global) -> Flags
 }
 
 impl Store {
-    /// The world in which a run begins.
-    pub fn new(alloc: Global, settings: Settings) -> Result<Store, AllocError>
-        ensures world { IfOk result (λ s. world_of s ≡ first_world (settings_view settings)) }
+    /// The world in which a run begins, over a machine file that says this.
+    pub fn new(alloc: Global, settings: Settings, machine: Rc<Machine>) -> Result<Store, AllocError>
+        ensures world { IfOk result (λ s. world_of s ≡ first_world (settings_view settings) (machine_in machine.value)) }
         ensures names { IfOk result (λ s. s.names ≡ []) }
     {
         let project = Project::new(alloc, unnamed(alloc, &settings)?)?;
@@ -193,13 +201,14 @@ impl Store {
             settings,
             names: Names::new(alloc),
             slots: Vec::new(alloc),
-            machine: Machine::empty(alloc),
+            machine,
             options: None,
             configurations: Vec::new(alloc),
             is_begun: false,
             project,
             entered: Names::new(alloc),
             looked: Vec::new(alloc),
+            asked: Vec::new(alloc),
         })
     }
 
@@ -334,12 +343,27 @@ impl Store {
         &self.machine
     }
 
-    /// The machine file says this.
-    pub fn set_machine(&mut self, machine: Machine)
-        ensures world { world_of self.new ≡ changing (with_machine (machine_in machine)) (world_of self.old) }
+    /// Notes that a question is asked of the machine file, at the present place.
+    pub fn ask(&mut self, alloc: Global, question: Question) -> Result<(), AllocError>
+        ensures world { OnOk result (world_of self.new ≡ asking (world_of self.old) (question_in question)) }
+        ensures machine { self.new.machine ≡ self.old.machine }
         ensures names { self.new.names ≡ self.old.names }
     {
-        self.machine = machine;
+        let file = self.place.file.clone()?;
+        let line = self.place.line;
+        self.asked.push(Asked {
+            question,
+            file,
+            line,
+        })?;
+        Ok(())
+    }
+
+    /// The questions that were asked of the machine file, in order.
+    pub fn asked(&self) -> &[Asked]
+        ensures { all_asked_in result.now ≡ self.now.asked }
+    {
+        &self.asked
     }
 
     /// The value of the option of a name; it tells the option's type too.

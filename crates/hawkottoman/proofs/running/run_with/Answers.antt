@@ -1,7 +1,7 @@
 use Rattle.std.proofs.Common.{[]}
 use Rattle.world.specs.SettingsView.{settings_view}
 use Rattle.world.specs.Trace.{seen}
-use Rattle.hawkottoman.specs.Setup.{evaluated}
+use Rattle.interp.specs.Evaluation.{evaluated}
 use Rattle.hawkottoman.proofs.Runs.{agrees, failures_settled, means, rises, rises_then, room_after}
 use Rattle.hawkottoman.proofs.running.run_with.Goals as goal
 
@@ -12,14 +12,12 @@ settle-requires g c =
     (g.T.Tree.seen c.evaluate-answer.new.tree).failures (g.O.Outputs.seen c.evaluate-answer.new.out).failures failed.of_tree failed.of_out failed.sum c.requires.out
 
 pub returns-clause-run : goal.returns-clause-run
-unfolding evaluated
 returns-clause-run g c = λ files said holds is.
     agrees (evaluated files (settings_view c.args.inputs.now.settings.now) said) c.evaluate-answer.result c.settle.result
     (seen (g.O.Outputs.seen c.args.out.now) c.new_steps-steps.result []) (seen (g.O.Outputs.seen c.evaluate-answer.new.out) c.evaluate-answer.new.steps []) (g.O.Outputs.seen c.settle.new.out)
     (c.evaluate-answer.ensures.gives files said holds is) c.settle.ensures.settles
 
 pub returns-clause-meaning : goal.returns-clause-meaning
-unfolding evaluated
 returns-clause-meaning g c = λ files said holds is.
     means (evaluated files (settings_view c.args.inputs.now.settings.now) said) c.evaluate-answer.result c.settle.result
     (seen (g.O.Outputs.seen c.args.out.now) c.new_steps-steps.result []) (seen (g.O.Outputs.seen c.evaluate-answer.new.out) c.evaluate-answer.new.steps []) (g.O.Outputs.seen c.settle.new.out)

@@ -1,11 +1,9 @@
 use Rattle.std.proofs.Common.{[], Ok}
-use Rattle.world.specs.Plan.{carry}
 use Rattle.world.specs.SettingsView.{settings_view}
-use Rattle.world.specs.Start.{first_world}
 use Rattle.world.specs.Store.{world_of}
 use Rattle.world.specs.Trace.{seen}
 use Rattle.interp.specs.Cost.{tree_cost}
-use Rattle.interp.specs.Evaluation.{evaluation}
+use Rattle.interp.specs.Evaluation.{evaluated}
 use Rattle.interp.proofs.Costs.{steps_within_cost}
 use Rattle.interp.proofs.Starting.{not_started, whole_done, whole_stopped}
 use Rattle.interp.proofs.Ticking.{fails_none, fails_stop, ticked}
@@ -17,7 +15,7 @@ returns-in_err-store-clause-gives g c = λ files said h is.
 
 pub returns-in_err-store-clause-ticks : goal.returns-in_err-store-clause-ticks
 returns-in_err-store-clause-ticks g c = λ files said h is.
-    ticked (carry files (evaluation said) (first_world (settings_view c.args.inputs.now.settings.now))) (tree_cost files) c.from_residual.result (seen (g.O.Outputs.seen c.args.out.now) c.args.steps.now []) (seen (g.O.Outputs.seen c.args.out.now) c.args.steps.now [])
+    ticked (evaluated files (settings_view c.args.inputs.now.settings.now) said) (tree_cost files) c.from_residual.result (seen (g.O.Outputs.seen c.args.out.now) c.args.steps.now []) (seen (g.O.Outputs.seen c.args.out.now) c.args.steps.now [])
     c.ends_keep_up.ensures (steps_within_cost files (settings_view c.args.inputs.now.settings.now) said)
     (not_started files (settings_view c.args.inputs.now.settings.now) said c.in_err-store.field-0.0 c.from_residual.result (g.O.Outputs.seen c.args.out.now) c.args.steps.now c.from_residual.ensures.1 (c.in_err-store.ensures.starts said is))
 
@@ -32,7 +30,7 @@ returns-in_err-definitions-clause-gives g c = λ files said h is.
 
 pub returns-in_err-definitions-clause-ticks : goal.returns-in_err-definitions-clause-ticks
 returns-in_err-definitions-clause-ticks g c = λ files said h is.
-    ticked (carry files (evaluation said) (first_world (settings_view c.args.inputs.now.settings.now))) (tree_cost files) c.from_residual-in_err-definitions.result (seen (g.O.Outputs.seen c.args.out.now) c.args.steps.now []) (seen (g.O.Outputs.seen c.definitions.new.out) c.definitions.new.steps [])
+    ticked (evaluated files (settings_view c.args.inputs.now.settings.now) said) (tree_cost files) c.from_residual-in_err-definitions.result (seen (g.O.Outputs.seen c.args.out.now) c.args.steps.now []) (seen (g.O.Outputs.seen c.definitions.new.out) c.definitions.new.steps [])
     c.ends_keep_up.ensures (steps_within_cost files (settings_view c.args.inputs.now.settings.now) said)
     (whole_stopped files (settings_view c.args.inputs.now.settings.now) said c.in_ok-store.store (world_of c.definitions.new.store) c.in_err-definitions.field-0.0 c.from_residual-in_err-definitions.result
     (seen (g.O.Outputs.seen c.args.out.now) c.args.steps.now c.in_ok-store.store.names) (seen (g.O.Outputs.seen c.definitions.new.out) c.definitions.new.steps c.definitions.new.store.names) (c.in_ok-store.ensures.starts said is) c.from_residual-in_err-definitions.ensures.1 (c.in_err-definitions.ensures.gives files h).gives)
@@ -48,7 +46,7 @@ returns-clause-gives g c = λ files said h is.
 
 pub returns-clause-ticks : goal.returns-clause-ticks
 returns-clause-ticks g c = λ files said h is.
-    ticked (carry files (evaluation said) (first_world (settings_view c.args.inputs.now.settings.now))) (tree_cost files) (Ok c.definitions.new.store) (seen (g.O.Outputs.seen c.args.out.now) c.args.steps.now []) (seen (g.O.Outputs.seen c.definitions.new.out) c.definitions.new.steps [])
+    ticked (evaluated files (settings_view c.args.inputs.now.settings.now) said) (tree_cost files) (Ok c.definitions.new.store) (seen (g.O.Outputs.seen c.args.out.now) c.args.steps.now []) (seen (g.O.Outputs.seen c.definitions.new.out) c.definitions.new.steps [])
     c.ends_keep_up.ensures (steps_within_cost files (settings_view c.args.inputs.now.settings.now) said)
     (whole_done files (settings_view c.args.inputs.now.settings.now) said c.in_ok-store.store c.definitions.new.store (seen (g.O.Outputs.seen c.args.out.now) c.args.steps.now c.in_ok-store.store.names) (seen (g.O.Outputs.seen c.definitions.new.out) c.definitions.new.steps c.definitions.new.store.names)
     (c.in_ok-store.ensures.starts said is) (c.in_ok-definitions.ensures.gives files h).gives)

@@ -10,6 +10,11 @@ unfolding object_method
 returns-in-Compiler g c =
     carries_as (ap (λ o. object_method o c.args.name.now (arguments_data c.args.arguments.now)) (sym c.in-Compiler.is)) c.compiler_method.ensures
 
+pub returns-in-Machine : goal.returns-in-Machine
+unfolding object_method
+returns-in-Machine g c =
+    carries_as (ap (λ o. object_method o c.args.name.now (arguments_data c.args.arguments.now)) (sym c.in-Machine.is)) c.machine_method.ensures
+
 pub returns-in-ConfigurationData : goal.returns-in-ConfigurationData
 unfolding object_method
 returns-in-ConfigurationData g c =
@@ -19,4 +24,4 @@ returns-in-ConfigurationData g c =
 pub returns-in_default : goal.returns-in_default
 returns-in_default g c =
     carries_as (others_tell c.args.object.now c.args.name.now (arguments_data c.args.arguments.now) c.in_default.not-Compiler
-    c.in_default.not-ConfigurationData) c.tell.ensures
+    c.in_default.not-Machine c.in_default.not-ConfigurationData) c.tell.ensures

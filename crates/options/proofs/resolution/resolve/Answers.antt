@@ -1,13 +1,15 @@
-use Rattle.std.proofs.Common.{◌∙◌, sym, ap, map}
+use Rattle.std.proofs.Common.{◌∙◌, ◌++◌, sym, ap, map, List}
 use Rattle.std.specs.List.{fold, flat_map}
+use Rattle.machine_file.specs.Questions.{options_at}
 use Rattle.machine_file.specs.View.{machine_in}
 use Rattle.option_file.specs.View.{options_in}
 use Rattle.option_values.specs.View.{strings_in}
 use Rattle.option_file.specs.declared.declaration.Declared.{Declared}
 use Rattle.options.specs.Resolves.{State, next, at_first, resolution_of, resolved}
-use Rattle.options.specs.Verdicts.{of_declaration, of_project_default, of_section, of_words}
+use Rattle.options.specs.Verdicts.{Verdict, of_declaration, of_project_default, of_section, of_words}
 use Rattle.options.specs.View.{defaults_in, state_in}
 use Rattle.options.proofs.Folds.{in_turn}
+use Rattle.options.proofs.OptionSections.{of_options}
 use Rattle.options.proofs.resolution.resolve.Goals as goal
 
 pub returns : goal.returns
@@ -27,5 +29,6 @@ returns c =
     ∙ ap (λ (x : Declared). fold next (state_in c.in_ok-state.state) (map of_declaration (options_in x))) (sym same)
     ∙ ap (λ (s : State). fold next s l) c.in_ok-state.ensures)))
     ∙ sym (in_turn at_first l d m w))
-    ∙ ap (λ (x : Declared). resolved (options_in x) (defaults_in c.args.defaults.now) (machine_in c.args.machine.now)
+    ∙ ap (λ (vs : List Verdict). resolution_of (fold next at_first (l ++ (d ++ (vs ++ w))))) (sym (of_options ds (machine_in c.args.machine.now)))
+    ∙ ap (λ (x : Declared). resolved (options_in x) (defaults_in c.args.defaults.now) (options_at (machine_in c.args.machine.now))
     (strings_in c.args.words.now)) same

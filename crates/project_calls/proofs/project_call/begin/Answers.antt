@@ -15,15 +15,22 @@ returns-in_err-options g c =
     carries_then (carries_as (ap (λ ns. warned (map string_bytes ns)) c.deref.ensures.value) c.in_ok-warn.ensures)
     (carries_read (carries_stop c.in_err-options.ensures c.from_residual-in_err-options.ensures.1))
 
+pub returns-in_err-programs : goal.returns-in_err-programs
+unfolding begin
+returns-in_err-programs g c =
+    carries_then (carries_as (ap (λ ns. warned (map string_bytes ns)) c.deref.ensures.value) c.in_ok-warn.ensures)
+    (carries_read (carries_then c.in_ok-options.ensures (carries_stop c.in_err-programs.ensures c.from_residual-in_err-programs.ensures.1)))
+
 pub returns-in_err-facts : goal.returns-in_err-facts
 unfolding begin
 returns-in_err-facts g c =
     carries_then (carries_as (ap (λ ns. warned (map string_bytes ns)) c.deref.ensures.value) c.in_ok-warn.ensures)
-    (carries_read (carries_then c.in_ok-options.ensures (carries_none c.from_residual-in_err-facts.ensures.1)))
+    (carries_read (carries_then c.in_ok-options.ensures
+    (carries_then c.in_ok-programs.ensures (carries_read (carries_none c.from_residual-in_err-facts.ensures.1)))))
 
 pub returns : goal.returns
 unfolding begin
 returns g c =
     carries_then (carries_as (ap (λ ns. warned (map string_bytes ns)) c.deref.ensures.value) c.in_ok-warn.ensures)
-    (carries_read (carries_then c.in_ok-options.ensures
-    (carries_then {x = tt {0}} (carries_change {view = λ u. u} c.set_options.ensures.world c.set_options.ensures.names) (carries_as (ap (λ f. change (begun f)) c.in_ok-facts.ensures) c.begin.ensures))))
+    (carries_read (carries_then c.in_ok-options.ensures (carries_then c.in_ok-programs.ensures (carries_read
+    (carries_then {x = tt {0}} (carries_change {view = λ u. u} c.set_options.ensures.world c.set_options.ensures.names) (carries_as (ap (λ f. change (begun f)) c.in_ok-facts.ensures) c.begin.ensures))))))

@@ -1,9 +1,9 @@
-use Rattle.std.proofs.Common.{map, string_bytes, ap, refl, ◌∙◌}
+use Rattle.std.proofs.Common.{map, string_bytes, ap, refl}
 use Rattle.arguments.specs.Arguments.{arguments_data}
 use Rattle.option_file.specs.View.{options_in}
-use Rattle.world.specs.Store.{world_of}
-use Rattle.world.proofs.Answering.{carries_as, carries_give, carries_none, carries_read, carries_stop, carries_then}
-use Rattle.project_calls.specs.Project.{begin, first_project, resolution}
+use Rattle.world.proofs.Answering.{carries_as, carries_give, carries_stop, carries_then}
+use Rattle.project_calls.specs.Project.{first_project}
+use Rattle.project_calls.specs.Resolution.{resolution}
 use Rattle.project_calls.proofs.project_call.first_project.Goals as goal
 
 pub returns-in_err-printed : goal.returns-in_err-printed
@@ -22,20 +22,23 @@ returns-in_err-file g c =
 pub returns-in_err-resolved : goal.returns-in_err-resolved
 unfolding first_project
 returns-in_err-resolved g c =
-    carries_then c.in_ok-printed.ensures (carries_then c.in_ok-require_c.ensures (carries_then c.in_ok-file.ensures (carries_none c.from_residual-in_err-resolved.ensures.1)))
+    let a = arguments_data c.args.arguments.now in
+    carries_then c.in_ok-printed.ensures (carries_then c.in_ok-require_c.ensures (carries_then c.in_ok-file.ensures
+    (carries_stop (carries_as (ap (λ ps. resolution a (map string_bytes ps) (options_in c.in_ok-file.file.declared)) c.deref.ensures.value) c.in_err-resolved.ensures)
+    c.from_residual-in_err-resolved.ensures.1)))
 
 pub returns-in_err-begin : goal.returns-in_err-begin
 unfolding first_project
 returns-in_err-begin g c =
     let a = arguments_data c.args.arguments.now in
-    let resolved = c.in_ok-resolved.ensures ∙ ap (λ ps. resolution a (map string_bytes ps) (options_in c.in_ok-file.file.declared) (world_of c.option_file.new.caller.store.now).facts) c.deref.ensures.value in
     carries_then c.in_ok-printed.ensures (carries_then c.in_ok-require_c.ensures (carries_then c.in_ok-file.ensures
-    (carries_read (carries_stop (carries_as (ap (begin a c.in_ok-file.file.path.now) resolved) c.in_err-begin.ensures) c.from_residual-in_err-begin.ensures.1))))
+    (carries_then (carries_as (ap (λ ps. resolution a (map string_bytes ps) (options_in c.in_ok-file.file.declared)) c.deref.ensures.value) c.in_ok-resolved.ensures)
+    (carries_stop c.in_err-begin.ensures c.from_residual-in_err-begin.ensures.1))))
 
 pub returns : goal.returns
 unfolding first_project
 returns g c =
     let a = arguments_data c.args.arguments.now in
-    let resolved = c.in_ok-resolved.ensures ∙ ap (λ ps. resolution a (map string_bytes ps) (options_in c.in_ok-file.file.declared) (world_of c.option_file.new.caller.store.now).facts) c.deref.ensures.value in
     carries_then c.in_ok-printed.ensures (carries_then c.in_ok-require_c.ensures (carries_then c.in_ok-file.ensures
-    (carries_read (carries_then (carries_as (ap (begin a c.in_ok-file.file.path.now) resolved) c.in_ok-begin.ensures) (carries_give refl)))))
+    (carries_then (carries_as (ap (λ ps. resolution a (map string_bytes ps) (options_in c.in_ok-file.file.declared)) c.deref.ensures.value) c.in_ok-resolved.ensures)
+    (carries_then c.in_ok-begin.ensures (carries_give refl)))))

@@ -1,9 +1,23 @@
-use Rattle.std.proofs.Common.{Some, ap, ◌∙◌}
+use Rattle.std.proofs.Common.{Some, ap, sym, subst, ◌∙◌}
+use Rattle.code.specs.Draft.{IsFront}
+use Rattle.code.proofs.NameLists.{begins_with_name}
 use Rattle.data.specs.View.{data_of}
 use Rattle.world.specs.Store.{changing, world_of}
 use Rattle.world.specs.World.{with_variable}
-use Rattle.world.proofs.Setting.{variables_set, world_with}
+use Rattle.world.proofs.Setting.{slots_fit, variables_set, world_with}
 use Rattle.world.proofs.store.Store.set.Goals as goal
+
+pub returns-in_err-reach-clause-names : goal.returns-in_err-reach-clause-names
+returns-in_err-reach-clause-names c =
+    let s = c.self.inside in
+    subst (λ k. IsFront k.names c.put.new.self) c.self.view_is
+    (subst (λ n. IsFront s.names n) (sym c.in_ok-number.ensures.names) (begins_with_name c.args.name.now s.names))
+
+pub invariant_of-self-2 : goal.invariant_of-self-2
+invariant_of-self-2 c =
+    let s = c.self.inside in
+    slots_fit s.names c.put.new.self s.slots.items c.reach.new.slots.items c.args.name.now c.in_ok-number.number (Some c.args.value)
+    c.in_ok-number.ensures.names c.in_ok-number.ensures.number c.in_ok-reach.ensures.few c.self.invariant
 
 pub returns-clause-world : goal.returns-clause-world
 returns-clause-world c =

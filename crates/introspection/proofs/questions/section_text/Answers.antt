@@ -1,0 +1,14 @@
+use Rattle.std.proofs.Common.{◌≡◌, ◌∙◌, ◌++◌, ◌∷◌, [], ap, ap₂, arith, map, sym}
+use Rattle.std.proofs.lemmas.List.{map-append}
+use Rattle.machine_file.specs.View.{entries_of}
+use Rattle.introspection.specs.MembersView.{member_in}
+use Rattle.introspection.specs.Questions.{entry_member}
+use Rattle.introspection.proofs.Asking.{is_there, map_got}
+use Rattle.introspection.proofs.questions.section_text.Goals as goal
+
+pub loop-i-preserved : goal.loop-i-preserved
+loop-i-preserved c =
+    ap (map member_in) c.in_ok-push.ensures.items
+    ∙ map-append member_in c.loop-i.members.items _
+    ∙ ap₂ (λ ms (t : _). ms ++ (c.in-Some.key.now, t) ∷ []) c.loop-i.invariant c.in_ok-value_text.ensures
+    ∙ sym (map_got entry_member (entries_of c.args.section.now) c.loop-i.i _ c.in-Some.ensures)

@@ -1,0 +1,23 @@
+-- What lines of questions stand for.
+use Rattle.std.specs.Prelude.{ℕ, List, map, string_bytes, String, Option, option_map}
+use Rattle.std.specs.Borrow.{Bor}
+use Rattle.std.specs.declared.alloc.Global.{Global}
+use Rattle.edge.specs.Texts.{Text}
+use Rattle.machine_file.specs.QuestionsView.{asides_in}
+use Rattle.machine_file.specs.View.{entries_of, value_in}
+use Rattle.introspection.specs.Questions as plain
+use Rattle.introspection.specs.declared.questions.QuestionLine.{QuestionLine}
+use Rattle.introspection.specs.declared.questions.Reply.{Reply}
+use Rattle.introspection.specs.declared.questions.Reply.TheVariants as reply
+
+abbrev pub reply_in : Reply → plain.Reply
+reply_in (reply.Value v) = plain.Value (option_map (λ v. value_in v.now) v)
+reply_in (reply.Section s) = plain.Section (option_map (λ s. entries_of s.now) s)
+
+abbrev pub line_in : QuestionLine → plain.Line
+line_in l = record {
+  section = l.section.now;
+  key = option_map (λ k. k.now) l.key;
+  reply = reply_in l.reply;
+  asides = asides_in l.asides.now;
+}
