@@ -26,6 +26,7 @@ NUMBERS = {"sizeof": ("sizeof({a})", "{prefix}\n#include <stddef.h>\n#include <s
 # An array that has a size only where the condition holds.
 HOLDS = "%s\nint main(void) { static int check[1 - 2 * !(%s)]; check[0] = 0; return check[0]; }"
 GREATEST = 2**62
+OF_TWO = ("has_member", "has_header_symbol")  # arguments
 # Checks of the words of the compiler and the linker, which no other words of the project stand beside.
 OF_WORDS = ("has_argument", "has_link_argument", "find_library")
 METHODS = (*SOURCES, *NUMBERS, *OF_WORDS, "has_function")
@@ -34,7 +35,7 @@ METHODS = (*SOURCES, *NUMBERS, *OF_WORDS, "has_function")
 def arguments_of(key: str) -> tuple[str, list[str]]:
     """The method and the arguments of a key of `[checks]`."""
     method, _, rest = key.partition(" ")
-    return method, rest.rsplit(" ", 1) if method in ("has_member", "has_header_symbol") else [rest]
+    return method, rest.rsplit(" ", 1) if method in OF_TWO else [rest]
 
 
 def answer(compiler: Compiler, key: str, prefix: str = "", flags: Flags = Flags()) -> bool | int:

@@ -64,6 +64,10 @@ class Compiler:
         endian = "big" if defined.get("__BYTE_ORDER__") == "__ORDER_BIG_ENDIAN__" else "little"
         self.host = {"system": platform.system().lower(), "cpu_family": family, "cpu": cpu, "endian": endian}
 
+    def use(self, c_std: str, c_args: list[str], c_link_args: list[str]) -> None:
+        self.standard = [] if c_std == "none" else ["-std=" + c_std]
+        self.c_args, self.c_link_args = c_args, c_link_args
+
     def try_out(self) -> None:
         """Stops where an empty program can't be compiled and linked with the flags in use: every check would be false then."""
         for mode in ("compile", "link"):

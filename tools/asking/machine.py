@@ -12,6 +12,15 @@ from tools.asking.text import Sections, can_hold, is_written, spelled
 from tools.side_by_side import side_by_side
 
 OWN = ""  # what a program is that is a file of the project, which the run finds by itself
+DECLARED = ""  # the name of a dependency that the project declares
+
+
+def each_once(questions: list[Question]) -> list[Question]:
+    """Of questions that have one answer the first."""
+    found: dict[tuple[object, ...], Question] = {}
+    for it in questions:
+        found.setdefault(it.label, it)
+    return list(found.values())
 
 
 class Machine:
@@ -39,13 +48,11 @@ class Machine:
         return {**known, "checks": checks}
 
     def answer_new(self, questions: list[Question]) -> None:
-        wanted = {it.label: it for it in questions if it.section in ("binaries", "checks") or it.section.startswith("dependency ")}
-        fresh = [it for label, it in wanted.items() if label not in self.answers]
+        is_mine = lambda it: it.section in ("binaries", "checks") or it.dependency is not None
+        fresh = [it for it in each_once(questions) if is_mine(it) and it.label not in self.answers]
         # A check may have dependencies and libraries beside it, so these are answered first.
-        groups: list[list[Question]] = [[], [], []]
-        for it in fresh:
-            groups[(it.section == "checks") + (it.section == "checks" and it.method != "find_library")].append(it)
-        for group in groups:
+        is_first = lambda it: it.section != "checks" or it.library is not None
+        for group in ([it for it in fresh if is_first(it)], [it for it in fresh if not is_first(it)]):
             self.answers.update(zip([it.label for it in group], side_by_side(self.answered, group, None, end_all)))
 
     def answered(self, question: Question) -> object:
@@ -53,12 +60,12 @@ class Machine:
         try:
             if question.section == "binaries":
                 return self.program(question, question.key or "")
-            return self.check(question, question.key or "") if question.section == "checks" else self.dependency(question)
+            return self.check(question, question.key or "") if question.section == "checks" else self.package(question.dependency or "")
         except NoAnswer as open_question:
             return open_question
 
-    def dependency(self, question: Question) -> dict[str, object] | None:
-        found = dependency(self.compiler, question.section.removeprefix("dependency "))
+    def package(self, name: str) -> dict[str, object] | None:
+        found = dependency(self.compiler, name)
         if found is None and not shutil.which(pkg_config()[0]):
             raise NoAnswer("there is no pkg-config (PKG_CONFIG names another)")
         return found
@@ -105,9 +112,12 @@ class Machine:
     def remarks(self, questions: list[Question]) -> Iterator[tuple[str, str]]:
         """What is to be said: comments of the machine file, each with what users are told at once, where that is something."""
         first: dict[str, tuple[str, object]] = {}
-        for question in questions:
+        for question in each_once(questions):
             came = self.answers.get(question.label, OWN)
             place, decides = first.setdefault(question.name, (question.place, came))
+            if DECLARED in question.texts("dependencies"):
+                text = f"{question.place}: {question.name}: was asked without what a dependency gives that the project declares"
+                yield text, text
             if isinstance(came, NoAnswer):
                 yield self.left(question, came.why)
             elif came is None:

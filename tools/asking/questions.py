@@ -41,13 +41,18 @@ class Question:
         return {"checks": "", "binaries": "program "}.get(self.section, self.section) + (self.key or "")
 
     @property
-    def method(self) -> str:
-        return (self.key or "").partition(" ")[0]
+    def dependency(self) -> str | None:
+        return self.section.removeprefix("dependency ") if self.section.startswith("dependency ") else None
+
+    @property
+    def library(self) -> str | None:
+        is_library = self.section == "checks" and (self.key or "").startswith("find_library ")
+        return (self.key or "").removeprefix("find_library ") if is_library else None
 
     @property
     def label(self) -> tuple[object, ...]:
         """What two questions have in common that have one answer."""
-        is_changed = self.section == "checks" and self.method not in OF_WORDS
+        is_changed = self.section == "checks" and (self.key or "").partition(" ")[0] not in OF_WORDS
         return self.section, self.key, *(self.texts(it) for it in CHANGING if is_changed)
 
     def texts(self, keyword: str) -> tuple[str, ...]:
@@ -87,7 +92,7 @@ class Project:
         return Told([question_of(it) for it in done.printed.split("\n") if it], done.why if done.status else "")
 
     def in_use(self, machine_file: str) -> tuple[str, list[str], list[str]]:
-        """c_std, c_args and c_link_args as the project has them, by a run of its first statement alone."""
+        """c_std, c_args and c_link_args as the project has them in the end, by a run of its first statement alone."""
         with tempfile.TemporaryDirectory(dir=self.scratch) as folder:
             linked_copy(self.sources, folder, {ROOT_FILE: (None, first_statement(self.sources) + IN_USE)})
             told = self.ask(machine_file, folder)
