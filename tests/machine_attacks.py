@@ -65,7 +65,7 @@ cc.has_argument('-fdebug-prefix-map=/a=b')""")
     is_told = len(re.findall(r"^# TO FILL IN: .* is not asked: with", done.stdout, re.M)) == count == len(done.stderr.splitlines())
     check("meson machine-file: words that write are not asked", done.returncode == 0 and is_told, f"{count} {done}")
     wanted = (f"meson machine-file: meson.build:4: has_argument -o{place}: is not asked: with '-o{place}' the compiler could write "
-              f"elsewhere or run a program; where it is there, add below [checks]: has_argument -o{place} = true")
+              f"elsewhere or run a program; where it is so, add below [checks]: has_argument -o{place} = true")
     check("meson machine-file: words that write: the line to add is told", done.stderr.splitlines()[0] == wanted, done.stderr)
     check("meson machine-file: words that write: nothing is written", not files_below("outside"), files_below("outside"))
     check("meson machine-file: words that read are asked", "has_link_argument -Wl,-rpath,/opt/lib = true\n" in done.stdout and
@@ -99,9 +99,11 @@ def test_streams() -> None:
 def test_odd_names() -> None:
     done = of_machine_file("cc.has_header('a\\0b')\ncc.has_header('a' + '\\n' + 'b')\ndependency('a\\0b', required: false)\n"
                            "find_program('a\\0b', required: false)\ncc.has_type('int', args: '-D\\0')")
-    told = [it for it in done.stderr.splitlines() if it.endswith(": no machine file can hold this name")]
-    is_good = done.returncode == 0 and len(told) == 2 and "has_type int = false\n" in done.stdout
+    is_good = done.returncode == 0 and done.stderr == "" and "has_type int = false\n" in done.stdout
     check("meson machine-file: names with NUL", is_good, f"{done}")
+    done = of_machine_file("cc.sizeof('char /*\\n*/')")
+    is_told = done.stderr == "meson machine-file: meson.build:3: sizeof char /*\\n*/: no machine file can hold this name\n"
+    check("meson machine-file: a name with a line's end", done.returncode == 0 and is_told, f"{done}")
     stub = put("broken-pkg-config", "#!/bin/sh\necho \"'\"\n", 0o755)
     put("m/meson.build", "project('p', 'c')\ndependency('one')\n")
     refuses("an open quotation of pkg-config", MACHINE_FILE, 1, "dependency one: --cflags: No closing quotation", env={"PKG_CONFIG": stub})

@@ -3,7 +3,7 @@ import os
 import shutil
 from collections.abc import Iterator
 
-from tools.asking.checks import METHODS, OF_WORDS, answer, arguments_of
+from tools.asking.checks import METHODS, NUMBERS, OF_WORDS, answer, arguments_of
 from tools.asking.compiler import Compiler, Flags, can_ask
 from tools.asking.dependencies import dependency, pkg_config
 from tools.asking.processes import NoAnswer, end_all
@@ -12,6 +12,7 @@ from tools.asking.text import Sections, can_hold, is_written, spelled
 from tools.side_by_side import side_by_side
 
 OWN = ""  # what a program is that is a file of the project, which the run finds by itself
+AS_UNSAID = ("false", "-1", spelled(OWN))  # answers without which a machine file means the same
 DECLARED = ""  # the name of a dependency that the project declares
 
 
@@ -122,7 +123,7 @@ class Machine:
                 yield self.left(question, came.why)
             elif came is None:
                 yield f"not found: {question.name}", ""
-            elif came != OWN and not can_hold(question.section, question.key):
+            elif spelled(came) not in AS_UNSAID and not can_hold(question.section, question.key):
                 yield self.left(question, "no machine file can hold this name")
             elif question.section == "checks" and came != decides and not isinstance(decides, NoAnswer):
                 text = (f"{question.name}: {spelled(decides)} at {place}, and {spelled(came)} at {question.place}, where other words stand "
@@ -131,7 +132,9 @@ class Machine:
 
     def left(self, question: Question, why: str) -> tuple[str, str]:
         """What is said of a question without an answer: by which line a user answers it."""
-        line = {"checks": f"{question.key} = true", "binaries": f"{question.key} = '/path'"}.get(question.section, "link_args = []")
-        way = f"; where it is there, add below [{question.section}]: {line}" if can_hold(question.section, question.key) else ""
+        key = question.key or "link_args"
+        answers = {"checks": 8 if key.startswith(tuple(NUMBERS)) else True, "binaries": "/path"}
+        line = f"{key} = {spelled(answers.get(question.section, [f'-l{question.dependency}']))}"
+        way = f"; where it is so, add below [{question.section}]: {line}" if can_hold(question.section, question.key) else ""
         text = f"{question.place}: {question.name}: {why}"
         return f"TO FILL IN: {text}", text + way
