@@ -6,6 +6,7 @@ from collections.abc import Iterator
 from tools.asking.checks import METHODS, NUMBERS, OF_WORDS, answer, arguments_of
 from tools.asking.compiler import Compiler, Flags, can_ask
 from tools.asking.dependencies import dependency, pkg_config
+from tools.asking.packages import who_has
 from tools.asking.processes import NoAnswer, end_all
 from tools.asking.questions import Question
 from tools.asking.text import Sections, can_hold, is_written, spelled
@@ -107,8 +108,13 @@ class Machine:
         found = self.answers.get((f"dependency {name}", None))
         return found if isinstance(found, dict) else {"link_args": ["-l" + name]} if is_library else {}
 
-    def is_missing(self, question: Question) -> bool:
-        return self.answers.get(question.label, OWN) in (None, False)
+    def lack(self, question: Question) -> str:
+        """What is missing where a question stands that a run ended with, and who has it; nothing where its answer is no reason to end."""
+        came = self.answers.get(question.label, OWN)
+        if came is None or came is False:
+            return f"{question.name} is not found; {who_has(question.name)}"
+        wanted = ", ".join(question.texts("version"))
+        return f"{question.name} has version {came.get('version', 'unknown')}, and {wanted} is wanted" if isinstance(came, dict) else ""
 
     def remarks(self, questions: list[Question]) -> Iterator[tuple[str, str]]:
         """What is to be said: comments of the machine file, each with what users are told at once, where that is something."""
