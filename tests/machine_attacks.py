@@ -76,6 +76,31 @@ cc.has_argument('-fdebug-prefix-map=/a=b')""")
     check("meson machine-file: an output without its name takes none of the linker's files", before and before == files_below("outside"))
 
 
+def test_what_a_project_gives() -> None:
+    """Words that reach the compiler on other ways than by a check: options of the project, and a package of its own."""
+    fresh("outside")
+    tool = put("tool", f"#!/bin/sh\ntouch {WORK}/outside/ran\n", 0o755)
+    for option, word in (("c_args", "-wrapper"), ("c_args", f"-fplugin={tool}"), ("c_link_args", f"-Wl,-Map={WORK}/outside/it"),
+                         ("c_link_args", "@words")):
+        put("m/meson.build", f"project('p', 'c', default_options: ['{option}={word} {tool}'])\n")
+        wanted = f"{option} of the project: with '{word}' the compiler could write elsewhere or run a program; -D{option}=.. gives others"
+        refuses(f"{option} of the project: {word.partition('=')[0]}", MACHINE_FILE, 1, wanted)
+        done = run([*MACHINE_FILE, f"-D{option}=-O1"])
+        check(f"meson machine-file: {option} in place of the project's", done.returncode == 0 and done.stderr == "", f"{done}")
+    done = of_machine_file("project('p', 'c', default_options: ['c_args=-DX=int', 'c_link_args=-Wl,-Map'])\n"
+                           "meson.get_compiler('c').has_type('X')\nmeson.get_compiler('c').has_function('fsync')\n")
+    check("meson machine-file: harmless words of the project", "has_type X = true\nhas_function fsync = true\n" in done.stdout, f"{done}")
+    put("m/own.pc", f"Name: own\nDescription: own\nVersion: 1\nCflags: -wrapper {tool}\n")
+    text = "cc.has_type('int', dependencies: dependency('%s', required: false))"
+    for name in ("own.pc", f"{WORK}/m/own.pc"):
+        put("m/meson.build", f"project('p', 'c')\ncc = meson.get_compiler('c')\n{text % name}\n")
+        done = run([*MACHINE_FILE[:2]], cwd=f"{WORK}/m")
+        is_told = f"dependency {name}: is not asked: pkg-config would read this file" in done.stderr
+        is_good = is_told and "has_type int = true\n" in done.stdout
+        check(f"meson machine-file: a package of the project: {name[:1]}..", is_good, f"{done}")
+    check("meson machine-file: what a project gives runs nothing", not files_below("outside"), files_below("outside"))
+
+
 def test_sizes() -> None:
     """They are asked of the compiler; a program that is made would write a file as it begins."""
     fresh("outside")
@@ -131,4 +156,5 @@ def test_interrupted_checks() -> None:
     check("meson machine-file: interrupted: leaves nothing", os.listdir(f"{WORK}/scratch") == [], os.listdir(f"{WORK}/scratch"))
 
 
-TESTS = (test_broken_compilers, test_what_checks_may_do, test_sizes, test_streams, test_odd_names, test_interrupted_checks)
+TESTS = (test_broken_compilers, test_what_checks_may_do, test_what_a_project_gives, test_sizes, test_streams, test_odd_names,
+         test_interrupted_checks)

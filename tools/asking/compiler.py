@@ -23,8 +23,9 @@ READING = re.compile(r"-[DUILl].*|-(?:isystem|iquote|idirafter).+|-f(?:debug|fil
                      r"|-Wl,-(?:-?rpath|-?rpath-link)[,=][^,]*|-Wl,-L[^,]*|-Wl,--version-script[,=][^,]*", re.DOTALL)
 # Words that run another program, that hand the next word on, and that stand for words of a file.
 FORBIDDEN = re.compile(r"--?(?:wrapper|run)\b.*|-X.*|(?:.*,)?@.*", re.DOTALL)
-# Behind the words of a check: a word of the linker that changes nothing, so that an option there, which takes the next word as the name
-# of a file to be written, has none of the compiler's own files.
+DANGER = "with %r the compiler could write elsewhere or run a program"
+# Behind the words of a check, and of a project: a word of the linker that changes nothing, so that an option there, which takes the next
+# word as the name of a file to be written, has none of the compiler's own files.
 GUARD = "-Wl,-O0"
 # The words of the real Meson for each way to try a source.
 MODES = {"preprocess": ["-E", "-P"], "compile": ["-c"], "link": []}
@@ -64,7 +65,12 @@ class Compiler:
         endian = "big" if defined.get("__BYTE_ORDER__") == "__ORDER_BIG_ENDIAN__" else "little"
         self.host = {"system": platform.system().lower(), "cpu_family": family, "cpu": cpu, "endian": endian}
 
-    def use(self, c_std: str, c_args: list[str], c_link_args: list[str]) -> None:
+    def use(self, c_std: str, c_args: list[str], c_link_args: list[str], given: list[str]) -> None:
+        """Takes over the options in use. What neither the environment nor a word `-D..` gives is the project's, and looked at."""
+        for name, words, own in (("c_args", c_args, self.c_args), ("c_link_args", c_link_args, self.c_link_args)):
+            refused = next((it for it in words if not can_ask(it)), None)
+            if refused is not None and words != own and not any(it.startswith(f"-D{name}=") for it in given):
+                raise Stop(f"{name} of the project: {DANGER % refused}; -D{name}=.. gives others")
         self.standard = [] if c_std == "none" else ["-std=" + c_std]
         self.c_args, self.c_link_args = c_args, c_link_args
 
@@ -85,7 +91,7 @@ class Compiler:
                 it.write(source + "\n")
             own = (OF_CLANG + (OF_CLANG_THAT_COMPILES if mode == "compile" else [])) if self.id == "clang" else []
             given = [*self.c, file, *MODES[mode], *flags.compile_args, *self.c_args, "-O0", *own, *flags.args]
-            given += [GUARD, *flags.link_args, *self.c_link_args] if mode == "link" else []
+            given += [GUARD, *flags.link_args, *self.c_link_args, GUARD] if mode == "link" else []
             to = [] if hears and mode == "preprocess" else ["-o", os.path.join(folder, "made")]
             done = run([*given, *to], folder, hears=hears)
             return dataclasses.replace(done, said=done.said.replace(file, "empty.c"))

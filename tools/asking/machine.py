@@ -4,7 +4,7 @@ import shutil
 from collections.abc import Iterator
 
 from tools.asking.checks import METHODS, NUMBERS, OF_WORDS, answer, arguments_of
-from tools.asking.compiler import Compiler, Flags, can_ask
+from tools.asking.compiler import DANGER, Compiler, Flags, can_ask
 from tools.asking.dependencies import dependency, pkg_config
 from tools.asking.packages import who_has
 from tools.asking.processes import NoAnswer, end_all
@@ -67,6 +67,8 @@ class Machine:
             return open_question
 
     def package(self, name: str) -> dict[str, object] | None:
+        if name.endswith(".pc"):
+            raise NoAnswer("is not asked: pkg-config would read this file, which may be one of the project")
         found = dependency(self.compiler, name)
         if found is None and not shutil.which(pkg_config()[0]):
             raise NoAnswer("there is no pkg-config (PKG_CONFIG names another)")
@@ -89,7 +91,7 @@ class Machine:
         is_no_file = method == "has_argument" and key.startswith("has_argument /") and not os.path.lexists(words[0])
         refused = next((it for it in words if not can_ask(it)), None)
         if refused is not None and not is_no_file:
-            raise NoAnswer(f"is not asked: with {refused!r} the compiler could write elsewhere or run a program")
+            raise NoAnswer(f"is not asked: {DANGER % refused}")
         return answer(self.compiler, key, "\n".join(question.texts("prefix")), self.flags(question, method))
 
     def flags(self, question: Question, method: str) -> Flags:
