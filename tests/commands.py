@@ -89,7 +89,8 @@ def test_without_the_program() -> None:
     configured("plain", tests=[shell("t", ":")])
     put("plain/build.ninja", "")
     env = {"NINJA": f"{WORK}/tools/ninja"}
-    for words in (over("test", "plain"), over("install", "plain"), ["meson", "introspect", "plain"]):
+    for words in (over("test", "plain"), over("install", "plain"), ["meson", "introspect", "plain"],
+                  ["meson", "machine-file", "--ask", "has_type int"]):
         done = run([MESON, *words[1:]], env)
         check(f"meson {words[1]}: without the program", done.returncode == 0 and done.stderr == "", f"{done}")
     path = only_on_path(*COMMAND, "awk", "cut", "find", "cat")

@@ -53,7 +53,7 @@ class Machine:
         is_mine = lambda it: it.section in ("binaries", "checks") or it.dependency is not None
         fresh = [it for it in each_once(questions) if is_mine(it) and it.label not in self.answers]
         # A check may have dependencies and libraries beside it, so these are answered first.
-        is_first = lambda it: it.section != "checks" or it.library is not None
+        is_first = lambda it: it.method in ("", "find_library")
         for group in ([it for it in fresh if is_first(it)], [it for it in fresh if not is_first(it)]):
             self.answers.update(zip([it.label for it in group], side_by_side(self.answered, group, None, end_all)))
 
@@ -141,7 +141,7 @@ class Machine:
     def left(self, question: Question, why: str) -> tuple[str, str]:
         """What is said of a question without an answer: by which line a user answers it."""
         key = question.key or "link_args"
-        answers = {"checks": 8 if key.startswith(tuple(NUMBERS)) else True, "binaries": "/path"}
+        answers = {"checks": 8 if question.method in NUMBERS else True, "binaries": "/path"}
         line = f"{key} = {spelled(answers.get(question.section, [f'-l{question.dependency}']))}"
         way = f"; where it is so, add below [{question.section}]: {line}" if can_hold(question.section, question.key) else ""
         text = f"{question.place}: {question.name}: {why}"

@@ -29,7 +29,7 @@ class Question:
     key: str | None
     file: str
     line: int
-    beside: tuple[tuple[str, tuple[str, ...]], ...]
+    beside: dict[str, list[str]]
 
     @property
     def place(self) -> str:
@@ -45,24 +45,23 @@ class Question:
         return self.section.removeprefix("dependency ") if self.section.startswith("dependency ") else None
 
     @property
-    def library(self) -> str | None:
-        is_library = self.section == "checks" and (self.key or "").startswith("find_library ")
-        return (self.key or "").removeprefix("find_library ") if is_library else None
+    def method(self) -> str:
+        """Of a check."""
+        return (self.key or "").partition(" ")[0] if self.section == "checks" else ""
 
     @property
     def label(self) -> tuple[object, ...]:
         """What two questions have in common that have one answer."""
-        is_changed = self.section == "checks" and (self.key or "").partition(" ")[0] not in OF_WORDS
+        is_changed = self.method and self.method not in OF_WORDS
         return self.section, self.key, *(self.texts(it) for it in CHANGING if is_changed)
 
     def texts(self, keyword: str) -> tuple[str, ...]:
-        return dict(self.beside).get(keyword, ())
+        return tuple(self.beside.get(keyword, ()))
 
 
 def question_of(line: str) -> Question:
     told = json.loads(line)
-    beside = tuple((keyword, tuple(texts)) for keyword, texts in told["beside"].items())
-    return Question(told["section"], told["key"], told["file"], told["line"], beside)
+    return Question(*(told[it] for it in ("section", "key", "file", "line", "beside")))
 
 
 @dataclasses.dataclass(frozen=True)
