@@ -11,7 +11,7 @@ from collections.abc import Iterator
 
 from porting import tree
 from tools.explaining.place import Place
-from tools.explaining.run import Outcome, Room
+from tools.explaining.run import Fault, Outcome, Room
 from tools.explaining.values import OBJECT, Value, value_in
 
 MARK, COUNT = "the explanation is asked here", "explain_rounds_of_the_fault"
@@ -32,7 +32,8 @@ class Probe:
         self.begin = place.text.find("\n", first.end) + 1 if is_root else 0
         self.rounds = 0
         if place.statement is not first or not is_root:
-            self.rounds = self.outcome([], f"message('{MARK}')\n").log.count(MARK)
+            # A question is told once, so that each round asks another one.
+            self.rounds = self.outcome([], f"meson.get_compiler('c').sizeof('{MARK} @0@'.format({COUNT}))\n").asked.count(MARK)
 
     @property
     def can_ask(self) -> bool:
@@ -47,8 +48,7 @@ class Probe:
         for begin, end, new in sorted([counted, *edits], key=lambda it: (it[0], it[1]), reverse=True):
             text = text[:begin] + new + text[end:]
         text = text[:self.begin] + f"{COUNT} = 0\n" + text[self.begin:]
-        self.room.put(self.place.file, text)
-        return self.room.run()
+        return self.room.run(text)
 
     def said(self, node: tree.Node, form: str) -> str | None:
         """What the run says behind the mark where the node is changed; none where it doesn't come there."""
@@ -58,7 +58,11 @@ class Probe:
         fault = self.outcome([(node.start, node.end, new)]).fault
         if fault is None or fault.number != 18 or not fault.text.startswith(MARK):
             return None
-        return fault.text[len(MARK):].strip()
+        return self.printed(fault)
+
+    def printed(self, fault: Fault) -> str:
+        """What stands behind the mark, with the folder of the sources where the run had that of the links."""
+        return fault.text[len(MARK):].strip().replace(self.room.folder, self.room.asked.root)
 
     def completes(self, node: tree.Node) -> bool:
         return self.said(node, "[NODE, ROUND and error(MARK)][0]") is not None
@@ -80,7 +84,7 @@ class Probe:
         fault = self.outcome([], f"{COUNT} == {self.rounds} and error('{MARK}', [{name}])\n").fault
         if fault is None or not fault.text.startswith(MARK):
             return None
-        return value_in(fault.text[len(MARK):].strip())
+        return value_in(self.printed(fault))
 
     def kind(self, node: tree.Node) -> str:
         """Of which kind an object is."""
