@@ -6,7 +6,7 @@ import subprocess
 
 from tools.ending import Stop, one_line, say, show
 from tools.explaining import arguments, devices, grammar, machine, names, operators, others, settings
-from tools.explaining.context import Context, read
+from tools.explaining.context import Context, read, set_in
 from tools.explaining.detail import Detail, detail, shown
 from tools.explaining.place import place_of
 from tools.explaining.probe import Probe
@@ -135,4 +135,4 @@ def on_statement(asked: Asked, fault: Fault, text: str) -> Detail:
     if place is None:
         return detail("a project begins with project(NAME, 'c')" if fault.number == 13 else "what is refused stands in this line")
     with room_of(asked, fault.file, text) as room:
-        return ON_STATEMENTS[fault.number](Context(asked, fault, place, Probe(room, place)))
+        return ON_STATEMENTS[fault.number](Context(asked, fault, place, Probe(room, place, fault.number, set_in(asked.root))))

@@ -6,7 +6,7 @@ import re
 
 from porting import tree
 from porting.lexer import KEYWORDS
-from tools.explaining.context import Context
+from tools.explaining.context import OWN, Context
 from tools.explaining.detail import Detail, detail, quoted
 from tools.explaining.values import TEXT, Value, flat
 
@@ -125,7 +125,7 @@ def of_variables(context: Context, call: tree.Call, values: dict[str, Value]) ->
     name = values["1"].text
     if not re.fullmatch(r"[A-Za-z_]\w*", name) or name in KEYWORDS:
         return "1", f"{quoted(name)} is no name of a variable"
-    if name in ("meson", "host_machine", "build_machine", "target_machine") and call.name in ("set_variable", "unset_variable"):
+    if name in OWN and call.name in ("set_variable", "unset_variable"):
         return "1", f"{quoted(name)} is a variable of the program's own, and can't be changed"
     return None
 
