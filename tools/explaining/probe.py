@@ -25,7 +25,8 @@ METHODS = {
 # Of which kind an object is that a call makes.
 OF_METHODS = {"get_compiler": "compiler", "find_library": "dependency"}
 MAKES = {
-    **OF_METHODS, **dict.fromkeys(("executable", "static_library", "shared_library", "library"), "target"), "custom_target": "custom target",
+    **OF_METHODS, **dict.fromkeys(("executable", "static_library", "shared_library", "library"), "target"),
+    "custom_target": "custom target",
     **dict.fromkeys(("dependency", "declare_dependency"), "dependency"), "find_program": "program", "files": "list of files",
     "include_directories": "include_directories object", "configuration_data": "configuration data object", "disabler": "disabler",
 }
