@@ -7,13 +7,14 @@ import re
 TABLES: dict[str, list[tuple[str, str]]] = {
     'Functions': [
         ('`subproject`, wraps, `fallback:`',
-         "install what it stands on first; then `dependency('x')`, which `meson machine-file` asks `pkg-config` for"),
+         "install what it stands on first; then `dependency('x')`, which `meson machine-file` asks `pkg-config` for. One that "
+         "may be missing: `not is_variable('meson') ? subproject('x', required: false) : dependency('', required: false)`"),
         ("`import('pkgconfig')`",
          "a template `NAME.pc.in` and `configure_file(.., install_dir: get_option('libdir') / 'pkgconfig')`, as in "
          '`examples/inifile`; or [one template for all](#one-template-for-all-pc-files)'),
         ("`import('fs')`, other modules",
          "the names as texts; what has to be computed, an option. `fs.name(x)` is `x.split('/')[-1]`, `fs.copyfile` a "
-         '`custom_target` with `cp`'),
+         "`custom_target` with `cp`. A module that an option alone needs: behind `if not is_variable('meson')`"),
         ("`import('python').find_installation()`",
          "`find_program('python3')`"),
         ('`run_command`',
@@ -35,7 +36,7 @@ TABLES: dict[str, list[tuple[str, str]]] = {
         ('`install_emptydir`, `install_symlink`',
          "a step of the package after `install`; kept for the real Meson alone behind `if not is_variable('meson')`"),
         ('`summary`, `debug`',
-         '`message`'),
+         "`message`; of values that it can't print, behind `if not is_variable('meson')`"),
         ('`both_libraries`, `default_library=both`',
          '`shared_library` and `static_library` with the same name and sources'),
         ('`shared_module`',
@@ -43,7 +44,7 @@ TABLES: dict[str, list[tuple[str, str]]] = {
         ('`build_target`',
          'the function of the kind that is wanted'),
         ('`add_languages`',
-         'nothing: C alone'),
+         "nothing: C alone. Where it is asked, `not is_variable('meson') and add_languages('cpp')`"),
         ('`add_global_arguments`, `add_global_link_arguments`',
          '`add_project_arguments`, `add_project_link_arguments`'),
         ('`add_test_setup`',
@@ -62,7 +63,7 @@ TABLES: dict[str, list[tuple[str, str]]] = {
         ('`get_argument_syntax`',
          "`get_id`, as `cc.get_id() in ['msvc', 'clang-cl']`"),
         ('`get_define`, `compute_int`',
-         '`sizeof`, `alignment`, or an option'),
+         "`sizeof`, `alignment`, or an option; `get_define` beside `''` is `has_type`, as `has_define`"),
         ('`preprocess`',
          'a `custom_target`'),
         ('`first_supported_argument`, `get_supported_link_arguments`',
@@ -86,7 +87,8 @@ TABLES: dict[str, list[tuple[str, str]]] = {
     ],
     'Keywords': [
         ('`kwargs:`',
-         "the keywords themselves, as `version: words['version']`"),
+         "the keywords themselves, as `version: words['version']`, and `timeout: words.get('timeout', 30)` of a key that may be "
+         'missing'),
         ('`native:` of targets, `link_depends:`, `link_language:`, `vs_module_defs:`, `darwin_versions:`, `extra_files:`, '
          '`install_tag:`',
          'nothing'),
@@ -113,7 +115,7 @@ TABLES: dict[str, list[tuple[str, str]]] = {
         ("`language: ['c', 'cpp']`",
          "`language: 'c'`"),
         ('`configure_file(command: ..)`',
-         'a `custom_target`'),
+         'a `custom_target`, which each target that includes the file names among its sources'),
         ('`configure_file(copy: true)`',
          '`configuration: {}`, where the file has no `@name@`, no `#mesondefine` and no exec bit; else a `custom_target` with '
          '`cp`, `build_by_default: true`'),

@@ -8,8 +8,8 @@ from porting import tree
 from porting.edits import Change, indent_at, without_item
 from porting.lexer import escaped
 from porting.project import Project, Site
-from porting.rule import (REAL_ALONE, assigned_name, before_statement, can_hoist, free_name, guarded, in_place_of_statement,
-                          is_whole_statement, renamed, replaced, text_of, uses_of)
+from porting.rule import (REAL_ALONE, assigned_name, before_statement, can_hoist, free_name, guarded,
+                          is_whole_statement, renamed, replaced, text_of)
 from porting.values import Many, Table, Thing, flat, kind_of
 
 OBJECTS_FOUND = ("dependency", "library", "internal", "program")
@@ -29,7 +29,9 @@ def summary(project: Project) -> Iterator[Change]:
         if not is_whole_statement(site):
             continue
         edits = [] if site.call.name == "debug" else summary_edits(project, site)
-        if edits is not None:
+        if edits is None:
+            yield guarded(site, REAL_ALONE, "summary is left to the real Meson: message can't print its values")
+        else:
             yield site.change(f"{site.call.name} becomes message", renamed(site, "message"), *edits)
 
 
@@ -71,33 +73,6 @@ def shown_value(project: Project, site: Site, node: tree.Node) -> str | None:
     if is_one and not isinstance(value, Many) and all(kind_of(it.value) in OBJECTS_FOUND for it in flat(value)):
         return f"{text}.found()"
     return f"{text}.enabled()" if is_one and kind_of(value) == "feature" else None
-
-
-def python(project: Project) -> Iterator[Change]:
-    """`import('python').find_installation()` is a program here."""
-    for site in project.methods("find_installation", "find_python"):
-        receiver = tree.plain(site.call.receiver) if site.call.receiver else None
-        module = project.known.value(receiver) if receiver else None
-        if not isinstance(module, Thing) or module.name not in ("python", "python3") or set(site.call.keywords) - {"required", "disabler"}:
-            continue
-        name = text_of(project, site.call.arguments[0]) if site.call.arguments else "python3"
-        if name is None or name.startswith("/"):
-            continue
-        inner = "".join(f", {site.file.source(it)}" for it in site.call.items if isinstance(it, tree.Keyword))
-        yield site.change("the Python of a module becomes find_program",
-                          replaced(site, site.call, f"find_program({escaped(name or 'python3')}{inner})"))
-
-
-def unused_imports(project: Project) -> Iterator[Change]:
-    for site in project.functions("import"):
-        name = site.statement.name if isinstance(site.statement, tree.Assignment) else None
-        uses = [it for _, it in uses_of(project, name)] if name else []
-        if is_whole_statement(site) or (name is not None and not any(it in project.known.reached for it in uses)):
-            what = f"import({escaped(project.known.things[site.call][0].name or '')})"
-            if uses:
-                yield guarded(site, REAL_ALONE, f"{what} is left to the real Meson: what uses it is never reached here")
-            else:
-                yield site.change(f"{what} of no use is dropped", in_place_of_statement(site.file, site.statement, []))
 
 
 def renamed_functions(project: Project) -> Iterator[Change]:

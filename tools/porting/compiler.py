@@ -1,7 +1,6 @@
 """Checks of the compiler that are left out here, written as checks that are not."""
 from __future__ import annotations
 
-import re
 from collections.abc import Iterator
 
 from porting import tree
@@ -9,7 +8,8 @@ from porting.edits import Change, without_item
 from porting.lexer import escaped
 from porting.project import Project, Site
 from porting.rule import (assigned_name, before_statement, can_hoist, comparison_of, free_name, identifier, in_place_of_statement,
-                          renamed, replaced, text_of, texts_at)
+                          of_compiler, renamed, replaced, text_of, texts_at)
+from porting.sources import Names
 from porting.values import kind_of
 
 # Attributes whose declaration is more than `int check_attribute(void) __attribute__((NAME));`.
@@ -38,105 +38,6 @@ ATTRIBUTES = {
 ATTRIBUTES["visibility"] = " ".join(
     f"int check_{it}(void) __attribute__((visibility(\"{it}\")));" for it in ("default", "hidden", "internal", "protected"))
 OF_WINDOWS = ("dllexport", "dllimport")
-KEPT = {"args", "dependencies", "include_directories", "required"}
-
-
-def of_compiler(project: Project, *names: str) -> Iterator[Site]:
-    for site in project.methods(*names):
-        if site.call.receiver and kind_of(project.known.value(site.call.receiver)) == "compiler":
-            yield site
-
-
-class Names:
-    """Names of checks that differ from one another and from what a project's checks name."""
-
-    def __init__(self, project: Project) -> None:
-        self.taken = {it.value for path in project.known.entered for statement in tree.statements_in(project.files[path].body)
-                      for expression in tree.expressions_of(statement) for it in tree.inside(expression) if isinstance(it, tree.Text)}
-
-    def free(self, wanted: str) -> str:
-        number, name = 1, wanted
-        while name in self.taken:
-            number += 1
-            name = f"{wanted}_{number}"
-        self.taken.add(name)
-        return name
-
-
-def wanted_name(project: Project, site: Site) -> str:
-    """A name for a check: what the project calls it, else the variable or the key that it decides."""
-    word = site.call.keywords.get("name")
-    said = text_of(project, word.value) if word else None
-    if said is None and isinstance(site.statement, tree.Assignment):
-        said = site.statement.name
-    if said is None and isinstance(site.statement, tree.If):
-        said = first_key(site.statement, site.call)
-    if said is None and isinstance(site.statement, tree.Expression) and isinstance(site.statement.value, tree.Call):
-        first = site.statement.value.arguments[:1]
-        said = first[0].value if first and isinstance(first[0], tree.Text) else None
-    return "check_" + identifier(said or "source").removeprefix("check_")
-
-
-def first_key(statement: tree.If, call: tree.Call) -> str | None:
-    """The first name that the branch of a condition sets."""
-    for branch in statement.branches:
-        if branch.condition is not None and call in set(tree.inside(branch.condition)):
-            for it in branch.body:
-                if isinstance(it, tree.Assignment):
-                    return it.name
-                if isinstance(it, tree.Expression) and isinstance(it.value, tree.Call) and it.value.arguments:
-                    first = it.value.arguments[0]
-                    return first.value if isinstance(first, tree.Text) else None
-    return None
-
-
-def sources(project: Project) -> Iterator[Change]:
-    """A source that has to compile or to link: the same source before a type or a function of its own, which is asked for."""
-    names = Names(project)
-    for site in of_compiler(project, "compiles", "links"):
-        code = site.call.arguments[0] if len(site.call.arguments) == 1 else None
-        kind = kind_of(project.known.value(code)) if code else ""
-        if code is None or kind != "text" or set(site.call.keywords) - KEPT - {"name"} or has_many(project, code):
-            project.doubt(site, f"{site.call.name}: its source is not one plain text")
-            continue
-        text = text_of(project, code)
-        is_link = site.call.name == "links"
-        if text is None or (not is_link and re.search(r"\b(bar|check)\b", text)):
-            project.doubt(site, f"{site.call.name}: its source can't be followed, or names what a check names")
-            continue
-        name = names.free(wanted_name(project, site))
-        prefix = linked(site, code, name) if is_link else compiled(site, code, name)
-        edits = [renamed(site, "has_function" if is_link else "has_type"), replaced(site, code, f"'{name}', prefix: {prefix}")]
-        if "name" in site.call.keywords:
-            start, end = without_item(site.file.text, site.call, site.call.keywords["name"])
-            edits.append((start, end, ""))
-        yield site.change(f"{site.call.name} becomes {'has_function' if is_link else 'has_type'} {name}, with the source before it", *edits)
-
-
-def has_many(project: Project, code: tree.Node) -> bool:
-    """Whether a source is another in another round of a loop, where one name would have two answers."""
-    return not isinstance(project.known.value(code), str)
-
-
-def compiled(site: Site, code: tree.Node, name: str) -> str:
-    return around(site, code, "", f"\ntypedef int {name};\n")
-
-
-def linked(site: Site, code: tree.Node, name: str) -> str:
-    """Its `main` gets the name of the check, so that the check's own `main` can name it."""
-    return around(site, code, f"#include <stddef.h>\n#define main {name}\n", "\n#undef main\n")
-
-
-def around(site: Site, code: tree.Node, before: str, after: str) -> str:
-    """A literal with text put round it, else a sum."""
-    source = site.file.source(code)
-    if isinstance(code, tree.Text) and not code.has_names:
-        if code.is_raw:
-            after = after.removeprefix("\n") if code.value.rpartition("\n")[2].strip() == "" and "\n" in code.value else after
-            return f"'''{before}{source[3:-3]}{after}'''"
-        return f"{escaped(before)[:-1]}{source[1:-1]}{escaped(after)[1:]}"
-    first = f"{escaped(before)} + " if before else ""
-    return f"{first}{source} + {escaped(after)}"
 
 
 def attributes(project: Project) -> Iterator[Change]:
@@ -160,21 +61,42 @@ def attributes(project: Project) -> Iterator[Change]:
 
 
 def defines(project: Project) -> Iterator[Change]:
-    """`has_define` is a source that compiles where the name is defined."""
+    """`has_define` is a source that compiles where the name is defined, `get_define` beside '' one where it stands for something."""
     names = Names(project)
-    for site in of_compiler(project, "has_define"):
+    for site in of_compiler(project, "has_define", "get_define"):
         macro = text_of(project, site.call.arguments[0]) if site.call.arguments else None
-        prefix = site.call.keywords.get("prefix")
-        if macro is None:
+        outer = comparison_of(site) if site.call.name == "get_define" else None
+        if macro is None or (site.call.name == "get_define" and not is_beside_nothing(outer)):
             continue
-        name = names.free("has_define_" + identifier(macro))
-        text = escaped(f"\n#ifndef {macro}\n#error it is not defined\n#endif\ntypedef int {name};\n")
+        name = names.free(f"{site.call.name}_{identifier(macro)}")
         edits = [renamed(site, "has_type"), replaced(site, site.call.arguments[0], escaped(name))]
-        if prefix is None:
-            edits[1] = replaced(site, site.call.arguments[0], f"{escaped(name)}, prefix: {text}")
-        else:
-            edits.append(replaced(site, prefix.value, prefix_text(site, prefix.value, text)))
-        yield site.change(f"has_define becomes has_type {name}", *edits)
+        edits += after_prefix(site, defined(name, macro, outer))
+        if outer is not None:
+            edits.append((site.call.end, outer.end, "" if outer.operator == "!=" else " == false"))
+        yield site.change(f"{site.call.name} becomes has_type {name}", *edits)
+
+
+def is_beside_nothing(outer: tree.Binary | None) -> bool:
+    """Whether a comparison is one with the empty text."""
+    return outer is not None and outer.operator in ("==", "!=") and isinstance(outer.right, tree.Text) and outer.right.value == ""
+
+
+def defined(name: str, macro: str, outer: tree.Binary | None) -> str:
+    """A source that has a type of this name where a macro is defined, or where it stands for something."""
+    first = f"\n#ifndef {macro}\n#error it is not defined\n#endif\n"
+    if outer is None:
+        return escaped(f"{first}typedef int {name};\n")
+    return escaped(f"{first}#define check_text(x) #x\n#define check_text_of(x) check_text(x)\n"
+                   f"typedef char {name}[sizeof(check_text_of({macro})) > 1 ? 1 : -1];\n")
+
+
+def after_prefix(site: Site, text: str) -> list[tuple[int, int, str]]:
+    """The edits that put a text, which is a literal, behind the prefix of a check."""
+    prefix = site.call.keywords.get("prefix")
+    if prefix is not None:
+        return [replaced(site, prefix.value, prefix_text(site, prefix.value, text))]
+    end = site.call.arguments[0].end
+    return [(end, end, f", prefix: {text}")]
 
 
 def prefix_text(site: Site, node: tree.Node, text: str) -> str:

@@ -7,7 +7,7 @@ from porting import tree
 from porting.edits import Change
 from porting.lexer import escaped
 from porting.project import Project
-from porting.rule import comparison_of, replaced
+from porting.rule import added_behind, comparison_of, replaced
 from porting.values import Item, Many, Thing, flat, kind_of, texts_of
 
 
@@ -54,3 +54,18 @@ def dependency_link_whole(project: Project) -> Iterator[Change]:
         if word is not None and "link_with" not in site.call.keywords:
             edit = (word.start, word.start + len("link_whole"), "link_with")
             yield site.change("declare_dependency: `link_whole:` becomes `link_with:`", edit)
+
+
+def link_order(project: Project) -> Iterator[Change]:
+    """Static libraries that use one another in both ways: named once more, behind all of them."""
+    for site in project.functions("executable", "shared_library", "library"):
+        word = site.call.keywords.get("link_with")
+        value = tree.plain(word.value) if word else None
+        if not isinstance(value, tree.List):
+            continue
+        known = [(it, project.known.value(it)) for it in value.items if isinstance(it, (tree.Name, tree.Index))]
+        paths = [f"{site.file.source(node)}.full_path()" for node, it in known if isinstance(it, Thing) and it.function == "static_library"]
+        before = site.file.source(site.call.keywords["link_args"]) if "link_args" in site.call.keywords else ""
+        if len(paths) > 1 and not all(it in before for it in paths):
+            edit = added_behind(site, "link_args", ", ".join(paths))
+            yield site.change(f"{site.call.name}: its static libraries are named once more", edit)

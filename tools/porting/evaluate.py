@@ -374,6 +374,8 @@ class Evaluation:
         thing.kind = GIVES.get((kind, name), "")
         if (kind, name) in ANSWERS:
             return ANSWERS[kind, name]
+        if kind == "dependency" and name == "found" and isinstance(receiver, Thing) and receiver.name == "":
+            return False
         if kind == "meson" and name == "get_compiler":
             return Thing("compiler", thing.call, self.path, thing.arguments)
         if kind == "meson" and name == "project_version" and isinstance(self.version, str):

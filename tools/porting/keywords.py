@@ -91,7 +91,7 @@ def given_keywords(project: Project) -> Iterator[Change]:
         word = site.call.keywords.get("kwargs")
         table = project.known.value(word.value) if word else None
         if word is not None and isinstance(table, Either):
-            yield from one_of_two(site, word, list(table.choices))
+            yield from one_of_several(site, word, list(table.choices))
         if word is None or not isinstance(table, Table) or not table.is_whole or set(table.pairs) & set(site.call.keywords):
             continue
         value = tree.plain(word.value)
@@ -103,11 +103,30 @@ def given_keywords(project: Project) -> Iterator[Change]:
         yield site.change(f"{site.call.name}: `kwargs:` becomes its keywords", edit)
 
 
+# What a keyword is that isn't given.
+DEFAULTS = {"timeout": "30", "install": "false", "should_fail": "false", "is_parallel": "true",
+            **{it: "[]" for it in ("args", "c_args", "depends", "dependencies", "env", "include_directories", "link_args", "link_with",
+                                   "link_whole", "objects", "sources", "suite")}}
+
+
+def one_of_several(site: Site, word: tree.Keyword, tables: list) -> Iterator[Change]:
+    """`kwargs:` of one of some dictionaries: each key that one may have, by what it is where it isn't given."""
+    if not all(isinstance(it, Table) and it.is_whole for it in tables):
+        return
+    keys = list(dict.fromkeys(key for it in tables for key in it.pairs))
+    sure = {key for key in keys if all(key in it.pairs for it in tables)}
+    if any(key not in sure and key not in DEFAULTS for key in keys):
+        yield from one_of_two(site, word, tables)
+    elif keys and not set(keys) & set(site.call.keywords):
+        name = grouped(site, word.value)
+        shown = [f"{it}: {name}[{escaped(it)}]" if it in sure else f"{it}: {name}.get({escaped(it)}, {DEFAULTS[it]})" for it in keys]
+        yield site.change(f"{site.call.name}: `kwargs:` becomes its keywords", (word.start, word.end, ", ".join(shown)))
+
+
 def one_of_two(site: Site, word: tree.Keyword, tables: list) -> Iterator[Change]:
     """`kwargs:` of one of two dictionaries: a call for each, by a key that only one has."""
-    is_known = len(tables) == 2 and all(isinstance(it, Table) and it.is_whole for it in tables)
     is_alone = is_whole_statement(site) or assigned_name(site) is not None
-    if not is_known or not is_alone or set(site.call.keywords) & {key for it in tables for key in it.pairs}:
+    if len(tables) != 2 or not is_alone or set(site.call.keywords) & {key for it in tables for key in it.pairs}:
         return
     first, second = sorted((list(it.pairs) for it in tables), key=len, reverse=True)
     key = next((it for it in first if it not in second), None)
@@ -297,14 +316,18 @@ def env_of_custom_target(project: Project) -> Iterator[Change]:
     """`env:` of a custom target becomes words of the command `env`."""
     for site in project.functions("custom_target"):
         word, command = site.call.keywords.get("env"), site.call.keywords.get("command")
-        if word is None or command is None or not isinstance(command.value, tree.List) or not command.value.items:
+        words = env_words(site, project, word.value) if word else None
+        if word is None or command is None or words is None:
             continue
-        words = env_words(site, project, word.value)
-        if words is not None:
-            start, end = without_item(site.file.text, site.call, word)
+        start, end = without_item(site.file.text, site.call, word)
+        if isinstance(command.value, tree.List) and command.value.items:
             first = command.value.items[0].start
             added = (first, first, "".join(f"{it}, " for it in ["'env'", *words]))
-            yield site.change("custom_target: `env:` becomes words of `env`", added, (start, end, ""))
+        elif kind_of(project.known.value(command.value)) == "list":
+            added = (command.value.start, command.value.start, f"['env', {', '.join(words)}] + ")
+        else:
+            continue
+        yield site.change("custom_target: `env:` becomes words of `env`", added, (start, end, ""))
 
 
 def env_words(site: Site, project: Project, node: tree.Node) -> list[str] | None:
@@ -313,7 +336,11 @@ def env_words(site: Site, project: Project, node: tree.Node) -> list[str] | None
         keys = [text_of(project, key) for key, _ in node.pairs]
         return None if None in keys else [f"{escaped(f'{key}=')} + {grouped(site, value)}" for key, (_, value) in zip(keys, node.pairs)]
     texts = texts_at(project, node)
-    return None if texts is None else [escaped(it) for it in texts]
+    if texts is not None:
+        return [escaped(it) for it in texts]
+    value = project.known.value(node)
+    is_list = isinstance(value, Many) and all(kind_of(it.value) == "text" for it in flat(value))
+    return [site.file.source(node)] if is_list and isinstance(node, (tree.Name, tree.List, tree.Index, tree.Call)) else None
 
 
 def name_prefix(project: Project) -> Iterator[Change]:

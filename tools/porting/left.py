@@ -5,7 +5,7 @@ import dataclasses
 
 from porting import tree
 from porting.project import Project, Site
-from porting.values import Thing, choices_of, kind_of
+from porting.values import Thing, choices_of, flat, kind_of
 
 FUNCTIONS = {
     "subproject": "install what it stands on first, and ask for it by dependency",
@@ -104,6 +104,10 @@ def refused(project: Project, site: Site) -> list[str]:
     call, texts = site.call, []
     if call.receiver is None and call.name in FUNCTIONS:
         texts.append(f"{shown_name(project, site)}: {FUNCTIONS[call.name]}")
+    if call.receiver is None and call.name == "files" and any(isinstance(it, str) and it.startswith("/") for it in paths_of(project, call)):
+        texts.append("files: a path outside of the project: an option, whose value is the path, in a command")
+    if isinstance(call.receiver, tree.Name) and call.receiver.text in modules_left(project):
+        texts.append(f"{call.receiver.text}.{call.name}: the module is left to the real Meson")
     if call.receiver is not None:
         for choice in choices_of(project.known.value(call.receiver)):
             advice = METHODS.get(kind_of(choice), {}).get(call.name)
@@ -134,8 +138,25 @@ def refused_of_project(project: Project, site: Site) -> list[str]:
             if isinstance(node, tree.Text) and node.value != "c":
                 texts.append(f"project: the language {node.value}: C alone is built here")
     for node in tree.inside(site.call):
-        if isinstance(node, tree.Call) and node is not site.call:
+        if isinstance(node, tree.Call) and node is not site.call and is_asked_too_early(node):
             texts.append(project.doubts.get(node, f"project: {node.name} can't be called in its arguments"))
         if isinstance(node, tree.Text) and node.value.replace(" ", "") == "default_library=both":
             texts.append("project: default_library=both: shared_library and static_library of one name")
     return texts
+
+
+def is_asked_too_early(call: tree.Call) -> bool:
+    """Whether a call can't stand in the arguments of `project`: a function, or a method of `meson`."""
+    receiver = tree.plain(call.receiver) if call.receiver else None
+    return receiver is None or (isinstance(receiver, tree.Name) and receiver.text == "meson")
+
+
+def modules_left(project: Project) -> set[str]:
+    """The variables of modules that are imported by the real Meson alone."""
+    return {it.name for path in project.known.entered for it in tree.statements_in(project.files[path].body)
+            if isinstance(it, tree.Assignment) and isinstance(it.value, tree.Call) and it.value.name == "import"
+            and it not in project.known.reached}
+
+
+def paths_of(project: Project, call: tree.Call) -> list[object]:
+    return [choice for it in call.arguments for item in flat(project.known.value(it)) for choice in choices_of(item.value)]

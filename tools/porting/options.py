@@ -7,7 +7,7 @@ from porting import tree
 from porting.edits import Change, Edit
 from porting.lexer import escaped
 from porting.project import Project, Site
-from porting.rule import drop_keyword, replaced, text_of
+from porting.rule import REAL, drop_keyword, replaced, text_of
 
 # Folders: the option of the project that stands for one, and its value.
 FOLDERS = {"libexecdir": ("libexec_dir", "libexec"), "localedir": ("locale_dir", "share/locale"), "sbindir": ("sbin_dir", "sbin"),
@@ -19,7 +19,6 @@ VALUES = {"b_ndebug": "'false'", "b_lto": "false", "b_lto_mode": "'default'", "b
           "b_colorout": "'always'", "unity": "'off'", "strip": "false", "layout": "'mirror'", "backend": "'ninja'",
           "wrap_mode": "'default'", "stdsplit": "true", "errorlogs": "true", "default_both_libraries": "'shared'",
           "prefer_static": "false", "c_winlibs": "[]", "cpp_std": "'none'", "pkg_config_path": "[]", "cmake_prefix_path": "[]"}
-REAL = "not is_variable('meson')"
 
 
 def option_file(project: Project) -> tuple[str, str]:

@@ -146,10 +146,9 @@ class Writer(Needs):
         return name
 
     def base_text(self) -> str:
-        known = self.value(self.words["filebase"].value) if "filebase" in self.words else None
+        known = next((self.value(self.words[it].value) for it in ("filebase", "name") if it in self.words), None)
         main = self.main()
-        known = known or (main.name if main else None) or (self.value(self.words["name"].value) if "name" in self.words else None)
-        return known if isinstance(known, str) else "library"
+        return known if isinstance(known, str) else (main.name if main else None) or "library"
 
     def keep_names(self, libraries: list) -> None:
         """Notes that what links one of these libraries later names this .pc file."""

@@ -8,11 +8,12 @@ from collections.abc import Callable, Iterable, Iterator
 from porting import tree
 from porting.edits import Change, indent_at, indented, line_start, whole_lines, with_item, without_item
 from porting.project import File, Project, Site
-from porting.values import texts_of
+from porting.values import kind_of, texts_of
 
 TARGETS = ("executable", "static_library", "shared_library", "library", "both_libraries", "shared_module", "build_target")
 # What only the real Meson does. `meson` is a variable of this program and none of the real one.
-REAL_ALONE = "if not is_variable('meson')"
+REAL = "not is_variable('meson')"
+REAL_ALONE = f"if {REAL}"
 LIBRARIES = ("static_library", "shared_library", "library", "both_libraries")
 
 
@@ -57,6 +58,14 @@ def added_to_list(site: Site, keyword: str, item: str) -> tuple[int, int, str]:
     if isinstance(value, tree.List):
         return value.start, value.end, f"[{item}]"
     return value.start, value.end, f"[{item}, {site.file.source(value)}]"
+
+
+def added_behind(site: Site, keyword: str, items: str) -> tuple[int, int, str]:
+    """The edit that puts items behind a keyword's list, which may be missing."""
+    found = site.call.keywords.get(keyword)
+    if found is None:
+        return add_argument(site, f"{keyword}: [{items}]")
+    return found.value.start, found.value.end, f"[{site.file.source(found.value)}, {items}]"
 
 
 def can_hoist(site: Site) -> bool:
@@ -154,6 +163,12 @@ def compiler_text(project: Project, site: Site) -> str:
             if getattr(value, "kind", "") == "compiler" and getattr(value, "name", "") == "c":
                 return name
     return "meson.get_compiler('c')"
+
+
+def of_compiler(project: Project, *names: str) -> Iterator[Site]:
+    for site in project.methods(*names):
+        if site.call.receiver and kind_of(project.known.value(site.call.receiver)) == "compiler":
+            yield site
 
 
 def comparison_of(site: Site) -> tree.Binary | None:

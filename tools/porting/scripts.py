@@ -1,4 +1,4 @@
-"""Scripts, files that are copied, and commands that are made for each input."""
+"""Scripts of commands, and files that are copied or made while configuring."""
 from __future__ import annotations
 
 import os
@@ -9,9 +9,8 @@ from porting import tree
 from porting.edits import Change
 from porting.lexer import escaped
 from porting.project import Project, Site
-from porting.rule import (assigned_name, before_statement, can_hoist, free_name, identifier, in_place_of_statement,
-                          renamed, replaced, text_of, texts_at)
-from porting.values import Thing, choices_of, flat
+from porting.rule import TARGETS, add_argument, renamed, replaced, text_of
+from porting.values import Many, Thing, choices_of, flat
 
 INTERPRETERS = {"python": "python3", "python3": "python3", "sh": "sh", "bash": "bash", "perl": "perl", "awk": "awk", "ruby": "ruby"}
 PLACEHOLDER = re.compile(r"@[-A-Za-z0-9_]+@|^\s*#mesondefine", re.MULTILINE)
@@ -28,6 +27,17 @@ def interpreter_of(path: str) -> str | None:
     names = [os.path.basename(it) for it in words if os.path.basename(it) != "env" and not it.startswith("-")]
     found = INTERPRETERS.get(names[0]) if names else None
     return found or ("python3" if path.endswith(".py") else "sh" if path.endswith(".sh") else None)
+
+
+def named_scripts(project: Project) -> Iterator[Change]:
+    """A command whose first word is the path of a script of the project, which the real Meson looks for."""
+    for site in project.functions("custom_target", "run_target"):
+        word = site.call.keywords.get("command")
+        command = tree.plain(word.value) if word else None
+        first = tree.plain(command.items[0]) if isinstance(command, tree.List) and command.items else command
+        name = text_of(project, first)
+        if name and first is not None and os.path.isfile(os.path.join(project.root, site.folder, name)):
+            yield site.change(f"{site.call.name}: {name} is looked for", replaced(site, first, f"find_program({site.file.source(first)})"))
 
 
 def unmarked_scripts(project: Project) -> Iterator[Change]:
@@ -145,74 +155,28 @@ def copied_by_module(project: Project, site: Site) -> Change:
     return site.change("fs.copyfile becomes a custom_target with `cp`", replaced(site, site.call, text))
 
 
-def generators(project: Project) -> Iterator[Change]:
-    """`gen.process(files)`: a custom target for each file."""
-    for site in project.methods("process"):
-        receiver = tree.plain(site.call.receiver) if site.call.receiver else None
-        maker = project.known.value(receiver) if receiver else None
-        if not isinstance(maker, Thing) or maker.kind != "generator" or not can_hoist(site):
+def commanded_files(project: Project) -> Iterator[Change]:
+    """A file that a command makes while configuring is made while building, where it is a source of a target."""
+    for site in project.functions("configure_file"):
+        output = site.call.keywords.get("output")
+        if "command" not in site.call.keywords or output is None or not is_source(project, site.call):
             continue
-        change = processed(project, site, maker)
-        if change is not None:
-            yield change
-    for site in project.functions("generator"):
-        name = assigned_name(site)
-        if name and not any(name in tree.names_in(it) for path in project.known.entered
-                            for statement in tree.statements_in(project.files[path].body) for it in tree.expressions_of(statement)):
-            yield site.change("a generator of no use is dropped", in_place_of_statement(site.file, site.statement, []))
+        known = text_of(project, output.value)
+        start = site.call.items[0].start
+        name = escaped(known) if known and "@" not in known else site.file.source(output.value)
+        edits = [renamed(site, "custom_target"), (start, start, f"{name}, ")]
+        if "install_dir" in site.call.keywords and "install" not in site.call.keywords:
+            edits.append(add_argument(site, "install: true"))
+        change = site.change("configure_file: `command:` becomes a custom_target", *edits)
+        change.notes = [f"{name} is made while building: what includes it has to name it among its sources"]
+        yield change
 
 
-def processed(project: Project, site: Site, maker: Thing) -> Change | None:
-    if maker.call is None or not maker.call.arguments or set(site.call.keywords) - {"extra_args"}:
-        return None
-    made = maker.call.keywords
-    outputs, texts = (texts_at(project, made[it].value) if it in made else None for it in ("output", "arguments"))
-    inputs = inputs_of(project, site)
-    if outputs is None or texts is None or not inputs:
-        return None
-    statement = site.statement
-    is_all = isinstance(statement, tree.Assignment) and tree.plain(statement.value) is site.call
-    name = statement.name if is_all else free_name(project, "generated")
-    lines = [*([] if is_all and statement.operator == "+=" else [f"{name} = []"]),
-             f"foreach input : [{', '.join(map(escaped, inputs))}]",
-             f"  {name} += {one_target(project, site, maker, name, outputs, texts)}", "endforeach"]
-    what = "generator: a custom_target for each input"
-    if is_all:
-        return site.change(what, in_place_of_statement(site.file, statement, lines))
-    return site.change(what, before_statement(site, lines), replaced(site, site.call, name))
-
-
-def one_target(project: Project, site: Site, maker: Thing, name: str, outputs: list[str], texts: list[str]) -> str:
-    """The target of one input, which the variable `input` names."""
-    file, made = project.files[maker.path], maker.call.keywords
-    shown = [escaped(re.sub("@BUILD_DIR@/?", "", it)) for it in outputs]
-    output = shown[0] if len(shown) == 1 else f"[{', '.join(shown)}]"
-    command = command_of(site, file.source(maker.call.arguments[0]), texts, site.call.keywords.get("extra_args"))
-    kept = "".join(f", {file.source(made[it])}" for it in ("depfile", "capture", "depends") if it in made)
-    title = f"{escaped(identifier(name) + '-')} + input.underscorify()"
-    return f"custom_target({title}, input: input, output: {output}, command: {command}{kept})"
-
-
-def inputs_of(project: Project, site: Site) -> list[str] | None:
-    """The paths that a generator is given, from the folder of the call; none where one is not known."""
-    items = [item for it in site.call.arguments for item in flat(project.known.value(it))]
-    names = [input_name(site, it.value) if it.is_sure else None for it in items]
-    return None if None in names else [os.path.relpath(str(it), site.folder or ".") for it in names]
-
-
-def input_name(site: Site, value: object) -> str | None:
-    """The path of an input from the project's folder."""
-    if isinstance(value, str):
-        return os.path.join(site.folder, value)
-    return value.path if isinstance(value, Thing) and value.kind == "file" and value.function == "files" else None
-
-
-def command_of(site: Site, program: str, texts: list[str], extra: tree.Keyword | None) -> str:
-    parts = [program]
-    for text in texts:
-        if text == "@EXTRA_ARGS@":
-            parts += [site.file.source(extra.value)] if extra else []
-        else:
-            text = text.replace("@BUILD_DIR@", "@OUTDIR@")
-            parts.append(escaped(text.replace("@SOURCE_DIR@", "@SOURCE_ROOT@")))
-    return f"[{', '.join(parts)}]"
+def is_source(project: Project, call: tree.Call) -> bool:
+    """Whether what a call gives is a source of a target."""
+    for site in project.functions(*TARGETS, "declare_dependency"):
+        for thing in project.known.things[site.call]:
+            items = [it for value in [*thing.arguments[1:], thing.keywords.get("sources", Many([]))] for it in flat(value)]
+            if any(isinstance(it.value, Thing) and it.value.call is call for it in items):
+                return True
+    return False

@@ -1,7 +1,8 @@
 """The rules, in the order in which they are carried out."""
 from __future__ import annotations
 
-from porting import calls, commands, compiler, dependencies, installs, keywords, options, pkgconfig, scripts, test_calls
+from porting import (calls, commands, compiler, dependencies, generators, installs, keywords, modules, options, pkgconfig, scripts, sources,
+                     test_calls)
 from porting.rule import Rule
 
 RULES = (
@@ -14,14 +15,14 @@ RULES = (
     Rule("lists", "lists of texts where a call takes texts one by one", calls.lists_in_calls),
     Rule("files", "files() of files: the files", calls.files_of_files),
     Rule("formatted", "a file that format puts into a text: its path", calls.files_in_texts),
-    Rule("python", "import('python').find_installation(): find_program", calls.python),
+    Rule("python", "import('python').find_installation(): find_program", modules.python),
     Rule("default-options", "values of default_options that no option has here: the nearest", keywords.default_options),
     Rule("folders", "libexecdir, localedir and other folders: options of the project", options.folders),
     Rule("built-in-options", "b_ndebug and other options: the value that the real Meson begins with", options.others),
     Rule("option-file", "`deprecated:` of an option; integers without a value", options.deprecated_options),
     Rule("partial-dependency", "partial_dependency, as_system: the dependency itself", dependencies.partial_dependency),
     Rule("type-name", "type_name of a dependency: what it is, where it is found", dependencies.names_of_types),
-    Rule("sources", "compiles, links: has_type, has_function, with the source before it", compiler.sources),
+    Rule("sources", "compiles, links: has_type, has_function, with the source before it", sources.sources),
     Rule("attributes", "has_function_attribute: has_type", compiler.attributes),
     Rule("defines", "has_define: has_type", compiler.defines),
     Rule("link-arguments", "get_supported_link_arguments: has_link_argument in a loop", compiler.link_arguments),
@@ -38,12 +39,14 @@ RULES = (
     Rule("vcs-tag", "vcs_tag: configure_file with its fallback", installs.vcs_tag),
     Rule("environment", "environment: a dictionary", test_calls.environment),
     Rule("benchmark", "benchmark: a test of the suite 'benchmark'", test_calls.benchmark),
-    Rule("generator", "generator: a custom_target for each input", scripts.generators),
+    Rule("generator", "generator: a custom_target for each input", generators.generators),
     Rule("copy", "configure_file(copy: true): an empty configuration, or cp", scripts.copied_files),
+    Rule("made-files", "configure_file(command:): a custom_target, where it is a source", scripts.commanded_files),
     Rule("install-subdir", "install_subdir: install_data with the files by name", installs.install_subdir),
     Rule("test-program", "files() of one as a test's program: that one", test_calls.test_programs),
     Rule("test-arguments", "a program among a test's arguments: its path", test_calls.programs_as_arguments),
     Rule("workdir", "`workdir:` of a test: env -C", test_calls.workdir),
+    Rule("scripts", "a script of the project that a command begins with: find_program", scripts.named_scripts),
     Rule("exec-bit", "a script without its exec bit: run by its interpreter", scripts.unmarked_scripts),
     Rule("visibility", "`gnu_symbol_visibility:`: `c_args:`", keywords.visibility),
     Rule("override-options", "`override_options:`: `c_args:`", keywords.override_options),
@@ -63,8 +66,13 @@ RULES = (
     Rule("overrides", "override_dependency, override_find_program: behind is_subproject()", calls.overrides),
     Rule("steps", "add_install_script, install_symlink and their like: left to the real Meson", installs.steps),
     Rule("summary", "summary, debug: message", calls.summary),
-    Rule("imports", "a module that nothing uses: dropped", calls.unused_imports),
+    Rule("languages-added", "add_languages: of another language than C asked in the real Meson alone", modules.languages),
+    Rule("subprojects", "subproject(required: false): missing here", modules.subprojects),
+    Rule("imports", "a module that nothing uses: dropped; one that an option alone needs: left to the real Meson",
+         modules.unused_imports),
     Rule("install-modes", "`install_mode:` of another mode: dropped; a step of the package", keywords.other_modes, is_sure=False),
+    Rule("link-order", "static libraries of one target that use one another: named once more in `link_args:`", dependencies.link_order,
+         is_sure=False),
     Rule("test-protocol", "`protocol: 'tap'` of a test: dropped, so that its status alone decides", keywords.test_protocol, is_sure=False),
 )
 BY_NAME = {it.name: it for it in RULES}

@@ -1,4 +1,4 @@
-"""Asks the program itself: a run of `setup` over the result, in a folder of its own."""
+"""Asks the program itself: a run of `setup` over the result, in a folder of its own, and what `explain` says of its fault."""
 from __future__ import annotations
 
 import os
@@ -9,6 +9,7 @@ import tempfile
 from collections.abc import Callable
 
 CHECKOUT = os.path.dirname(os.path.dirname(os.path.dirname(os.path.realpath(__file__))))
+TOOLS = os.path.join(CHECKOUT, "tools")
 BUILT = os.path.join(CHECKOUT, "crates", "hawkottoman", "out", "hawkottoman")
 FAULT = re.compile(r"^(.+?):(\d+): ERROR: (E\d+.*)$", re.MULTILINE)
 # How long a run may take, in seconds.
@@ -26,7 +27,7 @@ def program_of(given: str | None) -> str | None:
 def machine_file(program: str, folder: str, words: list[str], scratch: str) -> list[str]:
     """The words that give the program a machine file of the result, as far as one can be made."""
     path = os.path.join(scratch, "native.ini")
-    command = [os.path.join(CHECKOUT, "tools", "machine-file"), program, "machine-file", *words, folder]
+    command = [os.path.join(TOOLS, "machine-file"), program, "machine-file", *words, folder]
     with open(path, "wb") as it:
         subprocess.run(command, stdout=it, stderr=subprocess.DEVNULL, stdin=subprocess.DEVNULL, timeout=LONGEST)
     return ["--native-file", path] if os.path.getsize(path) else []
@@ -62,11 +63,26 @@ def first_fault(program: str, root: str, results: dict[str, tuple[str | None, st
         if not machine:
             show("no machine file could be made, so no dependency and no check is found")
         try:
-            done = subprocess.run(["meson", "setup", *words, *machine, build], executable=program, cwd=folder, stdin=subprocess.DEVNULL,
-                                  capture_output=True, encoding="utf-8", errors="replace", timeout=LONGEST)
+            done = run(["meson", "setup", *words, *machine, build], folder, program)
         except (OSError, subprocess.TimeoutExpired) as error:
             return f"the program {program} could not be run: {error}"
-    if done.returncode == 0:
-        return None
-    found = FAULT.search(done.stderr)
-    return found.group() if found else (done.stderr.strip().split("\n") or [""])[-1] or f"it ended with status {done.returncode}"
+        if done.returncode == 0:
+            return None
+        found = FAULT.search(done.stderr)
+        if found:
+            return explained(program, folder, [*words, *machine, build]) or found.group()
+    return (done.stderr.strip().split("\n") or [""])[-1] or f"it ended with status {done.returncode}"
+
+
+def run(words: list[str], folder: str, executable: str | None = None) -> subprocess.CompletedProcess[str]:
+    return subprocess.run(words, executable=executable, cwd=folder, stdin=subprocess.DEVNULL, capture_output=True, encoding="utf-8",
+                          errors="replace", timeout=LONGEST)
+
+
+def explained(program: str, folder: str, words: list[str]) -> str:
+    """What `explain` says of the fault: its line first; nothing where it ended otherwise."""
+    try:
+        done = run([os.path.join(TOOLS, "explain"), program, "explain", *words], folder)
+    except (OSError, subprocess.TimeoutExpired):
+        return ""
+    return done.stdout.strip("\n") if FAULT.match(done.stdout) else ""

@@ -1,0 +1,113 @@
+"""Generators: a custom target for each input."""
+from __future__ import annotations
+
+import os
+import re
+from collections.abc import Iterator
+
+from porting import tree
+from porting.edits import Change
+from porting.lexer import escaped
+from porting.project import Project, Site
+from porting.rule import (assigned_name, before_statement, can_hoist, free_name, identifier, in_place_of_statement, replaced, texts_at)
+from porting.values import Thing, choices_of, flat
+
+
+def generators(project: Project) -> Iterator[Change]:
+    """`gen.process(files)`: a custom target for each file."""
+    for site in project.methods("process"):
+        receiver = tree.plain(site.call.receiver) if site.call.receiver else None
+        makers = choices_of(project.known.value(receiver)) if receiver else ()
+        if not makers or not all(isinstance(it, Thing) and it.kind == "generator" and it.call for it in makers) or not can_hoist(site):
+            continue
+        change = processed(project, site, makers[0]) if len(makers) == 1 else of_several(project, receiver, makers)
+        if change is not None:
+            yield change
+    for site in project.functions("generator"):
+        name = assigned_name(site)
+        if name and not any(name in tree.names_in(it) for path in project.known.entered
+                            for statement in tree.statements_in(project.files[path].body) for it in tree.expressions_of(statement)):
+            yield site.change("a generator of no use is dropped", in_place_of_statement(site.file, site.statement, []))
+
+
+def of_several(project: Project, receiver: tree.Node | None, makers: tuple[Thing, ...]) -> Change | None:
+    """Of one of several generators, which one variable has, each becomes the words of its command."""
+    sites = [it for it in project.functions("generator") if any(it.call is maker.call for maker in makers)]
+    outputs = [texts_at(project, it.call.keywords["output"].value) if "output" in it.call.keywords else None for it in sites]
+    words = [texts_at(project, it.call.keywords["arguments"].value) if "arguments" in it.call.keywords else None for it in sites]
+    is_alike = all(it == outputs[0] for it in outputs) and all(set(it.call.keywords) == {"output", "arguments"} for it in sites)
+    if not isinstance(receiver, tree.Name) or outputs[0] is None or not is_alike or any(it is None or "@EXTRA_ARGS@" in it for it in words):
+        return None
+    if len(sites) != len(makers) or any(assigned_name(it) != receiver.text for it in sites):
+        return None
+    uses = [it for it in project.methods("process") if isinstance(it.call.receiver, tree.Name) and it.call.receiver.text == receiver.text]
+    edits = []
+    for use in uses:
+        change = processed(project, use, makers[0], receiver.text) if can_hoist(use) else None
+        if change is None or set(choices_of(project.known.value(use.call.receiver))) != set(makers):
+            return None
+        edits += change.edits
+    for site, texts in zip(sites, words):
+        command = command_of(site, site.file.source(site.call.arguments[0]), texts or [], None)
+        edits += site.change("", replaced(site, site.call, command)).edits
+    change = sites[0].change("generator: one of several becomes the words of its command, and a custom_target for each input")
+    change.edits += edits
+    return change
+
+
+def processed(project: Project, site: Site, maker: Thing, command: str = "") -> Change | None:
+    """A `process` as a loop over its inputs; the words of its command stand in a variable, or in the targets."""
+    if maker.call is None or not maker.call.arguments or set(site.call.keywords) - {"extra_args"}:
+        return None
+    made = maker.call.keywords
+    outputs, texts = (texts_at(project, made[it].value) if it in made else None for it in ("output", "arguments"))
+    inputs = inputs_of(project, site)
+    if outputs is None or texts is None or not inputs:
+        return None
+    statement = site.statement
+    is_all = isinstance(statement, tree.Assignment) and tree.plain(statement.value) is site.call
+    name = statement.name if is_all else free_name(project, "generated")
+    lines = [*([] if is_all and statement.operator == "+=" else [f"{name} = []"]),
+             f"foreach input : [{', '.join(map(escaped, inputs))}]",
+             f"  {name} += {one_target(project, site, maker, name, outputs, command or texts)}", "endforeach"]
+    what = "generator: a custom_target for each input"
+    if is_all:
+        return site.change(what, in_place_of_statement(site.file, statement, lines))
+    return site.change(what, before_statement(site, lines), replaced(site, site.call, name))
+
+
+def one_target(project: Project, site: Site, maker: Thing, name: str, outputs: list[str], texts: list[str] | str) -> str:
+    """The target of one input, which the variable `input` names."""
+    file, made = project.files[maker.path], maker.call.keywords
+    shown = [escaped(re.sub("@BUILD_DIR@/?", "", it)) for it in outputs]
+    output = shown[0] if len(shown) == 1 else f"[{', '.join(shown)}]"
+    extra = site.call.keywords.get("extra_args")
+    command = texts if isinstance(texts, str) else command_of(site, file.source(maker.call.arguments[0]), texts, extra)
+    kept = "".join(f", {file.source(made[it])}" for it in ("depfile", "capture", "depends") if it in made)
+    title = f"{escaped(identifier(name) + '-')} + input.underscorify()"
+    return f"custom_target({title}, input: input, output: {output}, command: {command}{kept})"
+
+
+def inputs_of(project: Project, site: Site) -> list[str] | None:
+    """The paths that a generator is given, from the folder of the call; none where one is not known."""
+    items = [item for it in site.call.arguments for item in flat(project.known.value(it))]
+    names = [input_name(site, it.value) if it.is_sure else None for it in items]
+    return None if None in names else [os.path.relpath(str(it), site.folder or ".") for it in names]
+
+
+def input_name(site: Site, value: object) -> str | None:
+    """The path of an input from the project's folder."""
+    if isinstance(value, str):
+        return os.path.join(site.folder, value)
+    return value.path if isinstance(value, Thing) and value.kind == "file" and value.function == "files" else None
+
+
+def command_of(site: Site, program: str, texts: list[str], extra: tree.Keyword | None) -> str:
+    parts = [program]
+    for text in texts:
+        if text == "@EXTRA_ARGS@":
+            parts += [site.file.source(extra.value)] if extra else []
+        else:
+            text = text.replace("@BUILD_DIR@", "@OUTDIR@")
+            parts.append(escaped(text.replace("@SOURCE_DIR@", "@SOURCE_ROOT@")))
+    return f"[{', '.join(parts)}]"

@@ -1,0 +1,81 @@
+"""Modules, other languages and subprojects: what the real Meson alone has."""
+from __future__ import annotations
+
+from collections.abc import Iterator
+
+from porting import tree
+from porting.edits import Change
+from porting.lexer import escaped
+from porting.project import Project, Site
+from porting.rule import (REAL, REAL_ALONE, assigned_name, guarded, in_place_of_statement, is_whole_statement, replaced, text_of, uses_of)
+from porting.values import Thing
+
+
+def python(project: Project) -> Iterator[Change]:
+    """`import('python').find_installation()` is a program here."""
+    for site in project.methods("find_installation", "find_python"):
+        receiver = tree.plain(site.call.receiver) if site.call.receiver else None
+        module = project.known.value(receiver) if receiver else None
+        if not isinstance(module, Thing) or module.name not in ("python", "python3") or set(site.call.keywords) - {"required", "disabler"}:
+            continue
+        name = text_of(project, site.call.arguments[0]) if site.call.arguments else "python3"
+        if name is None or name.startswith("/"):
+            continue
+        inner = "".join(f", {site.file.source(it)}" for it in site.call.items if isinstance(it, tree.Keyword))
+        yield site.change("the Python of a module becomes find_program",
+                          replaced(site, site.call, f"find_program({escaped(name or 'python3')}{inner})"))
+
+
+def unused_imports(project: Project) -> Iterator[Change]:
+    """A module that nothing uses goes; one that is used in branches alone which an option decides is left to the real Meson."""
+    for site in project.functions("import"):
+        name = site.statement.name if isinstance(site.statement, tree.Assignment) else None
+        uses = [it for _, it in uses_of(project, name)] if name else []
+        if not is_whole_statement(site) and (name is None or not all(is_never_sure(project, name, it) for it in uses)):
+            continue
+        what = f"import({escaped(project.known.things[site.call][0].name or '')})"
+        if uses:
+            yield guarded(site, REAL_ALONE, f"{what} is left to the real Meson: what uses it is never reached here, or by an option alone")
+        else:
+            yield site.change(f"{what} of no use is dropped", in_place_of_statement(site.file, site.statement, []))
+
+
+def is_never_sure(project: Project, name: str, statement: tree.Statement) -> bool:
+    """Whether a statement that uses a module's name is reached by an option or the machine alone, if at all."""
+    calls = [it for expression in tree.expressions_of(statement) for it in tree.inside(expression)
+             if isinstance(it, tree.Call) and name in tree.names_in(it)]
+    return statement not in project.known.reached or (bool(calls) and all(it in project.known.called_maybe for it in calls))
+
+
+def languages(project: Project) -> Iterator[Change]:
+    """A question for another language than C has the answer no here; what stands behind it is left to the real Meson."""
+    for site in project.functions("add_languages"):
+        texts = [text_of(project, it) for it in site.call.arguments]
+        is_asked = not is_whole_statement(site)
+        if None in texts or not texts:
+            continue
+        if set(texts) == {"c"}:
+            edit = replaced(site, site.call, "true") if is_asked else in_place_of_statement(site.file, site.statement, [])
+            yield site.change("add_languages: C is there", edit)
+        elif is_asked:
+            yield site.change(f"add_languages: {', '.join(map(str, texts))} is asked for in the real Meson alone",
+                              replaced(site, site.call, f"({REAL} and {site.file.source(site.call)})"))
+        elif is_optional(project, site):
+            yield guarded(site, REAL_ALONE, f"add_languages: {', '.join(map(str, texts))} is left to the real Meson")
+
+
+def is_optional(project: Project, site: Site) -> bool:
+    required = site.call.keywords.get("required")
+    return required is not None and project.known.value(required.value) is False
+
+
+def subprojects(project: Project) -> Iterator[Change]:
+    """A subproject that may be missing is missing here."""
+    for site in project.functions("subproject"):
+        if not is_optional(project, site):
+            continue
+        if is_whole_statement(site):
+            yield guarded(site, REAL_ALONE, "subproject: one that may be missing is left to the real Meson")
+        elif assigned_name(site):
+            text = f"{REAL} ? {site.file.source(site.call)} : dependency('', required: false)"
+            yield site.change("subproject: one that may be missing is missing here", replaced(site, site.call, text))
