@@ -112,9 +112,9 @@ fails_after (Err stops.Device) text n (Err stops.Memory) t u le sum e = no_memor
 fails_after (Err stops.Memory) text n (Err stops.Memory) t u le sum e = omega (arith, le, sum)
 
 -- a stop before any device was asked
-pub fails_unread : (A : Type 0) (e : Stop) (result : Result Asking Stop) (t : ℕ) → IsErrAnd result (λ s. s ≡ e) → ((n : ℕ) → failures_after {B = A} n (Err e) ≡ n) → t ≡ failures_after t result
-fails_unread A e (Ok a) t is quiet = absurd is
-fails_unread A e (Err d) t is quiet = subst (λ x. t ≡ failures_after {B = Asking} t (Err x)) (sym is) (same A t e quiet)
+pub fails_unread : {A : Type 0} (read : Result A Stop) (e : Stop) (result : Result Asking Stop) (t : ℕ) → IsErrAnd result (λ s. s ≡ e) → ((n : ℕ) → failures_after {B = A} n (Err e) ≡ n) → t ≡ failures_after t result
+fails_unread {A} read e (Ok a) t is quiet = absurd is
+fails_unread {A} read e (Err d) t is quiet = subst (λ x. t ≡ failures_after {B = Asking} t (Err x)) (sym is) (same A t e quiet)
   where
     same : (A : Type 0) (t : ℕ) (e : Stop) → ((n : ℕ) → failures_after {B = A} n (Err e) ≡ n) → t ≡ failures_after {B = Asking} t (Err e)
     same A t (stops.Refused fault) quiet = refl

@@ -12,7 +12,7 @@ returns-in_err-machine-clause-asks g c = λ files said holds is.
 
 pub returns-in_err-machine-clause-device : goal.returns-in_err-machine-clause-device
 returns-in_err-machine-clause-device g c =
-    fails_unread _ c.in_err-machine.field-0.0 c.from_residual.result (g.T.Tree.seen c.args.tree.now).failures c.from_residual.ensures.1 c.in_err-machine.ensures.quiet
+    fails_unread c.read_machine.result c.in_err-machine.field-0.0 c.from_residual.result (g.T.Tree.seen c.args.tree.now).failures c.from_residual.ensures.1 c.in_err-machine.ensures.quiet
 
 pub returns-clause-asks : goal.returns-clause-asks
 returns-clause-asks g c = λ files said holds is.
