@@ -10,6 +10,7 @@ use Rattle.world.specs.Gives.{Gives, failures_after}
 use Rattle.world.specs.Plan.{carry}
 use Rattle.world.specs.Run.{Outcome, Run, Faulted, outcome_of}
 use Rattle.world.specs.Settings.{SettingsData}
+use Rattle.world.specs.Start.{first_world}
 use Rattle.world.specs.Trace.{Seen}
 use Rattle.world.specs.World.{Asked, World}
 use Rattle.world.specs.declared.stop.Stop.{Stop}
@@ -56,12 +57,15 @@ pub asks_unread : {A : Type 0} (view : A → List Section) (files : Files) (s : 
 asks_unread view files s said e (Ok a) is h = absurd is
 asks_unread view files s said e (Err d) is h = subst (λ x. Asks (evaluated files s said) (run_text files s said) (Err x)) (sym is) (unread view files s said e h)
 
--- a store that begins so was asked
-pub over_read : (files : Files) (machine sections : List Section) (k w : World) (result : Result Asking Stop) → machine ≡ sections → k ≡ w
-    → Asks (carry files definitions k) (text_of machine (carry files definitions k)) result → Asks (carry files definitions w) (text_of sections (carry files definitions w)) result
-over_read files machine sections k w result same is h =
-    subst (λ ss. Asks (carry files definitions w) (text_of ss (carry files definitions w)) result) same
-    (subst (λ x. Asks (carry files definitions x) (text_of machine (carry files definitions x)) result) is h)
+-- a world that begins so was asked
+pub over_read : (files : Files) (s : SettingsData) (machine sections : List Section) (k : World) (result : Result Asking Stop) → machine ≡ sections → k ≡ first_world s sections
+    → Asks (carry files definitions k) (text_of machine (carry files definitions k)) result → AsksOver files s sections result
+over_read files s machine sections k result same is h =
+    subst (λ w. Asks (carry files definitions w) (text_of sections (carry files definitions w)) result) is
+    (subst (λ ss. Asks (carry files definitions k) (text_of ss (carry files definitions k)) result) same h)
+
+pub over_none : (files : Files) (s : SettingsData) (sections : List Section) (result : Result Asking Stop) → IsErrAnd result (λ r. r ≡ stops.Memory) → AsksOver files s sections result
+over_none files s sections result is = asks_none (carry files definitions (first_world s sections)) (text_of sections (carry files definitions (first_world s sections))) result is
 
 -- what was asked over the sections that were read is what the run asks
 pub asks_read : {A : Type 0} (view : A → List Section) (files : Files) (s : SettingsData) (said : MachineSaid) (x : A) (result : Result Asking Stop) → Reads view said (Ok x)
