@@ -4,6 +4,8 @@
     tests/agreement.py                       the table of checks in this file
     tests/agreement.py DIR..                 projects, each a folder with a meson.build that the real Meson takes
     tests/agreement.py DIR.. --meson PATH    another real Meson than that of PATH
+    tests/agreement.py DIR.. --program PATH  another program than this checkout's
+    tests/agreement.py DIR.. -DNAME=VALUE    an option, for both programs
 
 Each project is copied, and configured by the real Meson, whose log says what it has asked and found. A check that it asks with two
 answers is compared with the first. What one side asks alone is listed and is no failure. The last line is 'N passed, M failed'.
@@ -119,8 +121,8 @@ def our_answers(text: bytes) -> Answers:
 
 
 class Comparison:
-    def __init__(self, meson: str) -> None:
-        self.meson, self.passed, self.failed = meson, 0, 0
+    def __init__(self, meson: str, program: str, words: list[str]) -> None:
+        self.meson, self.program, self.words, self.passed, self.failed = meson, program, words, 0, 0
 
     def count(self, name: str, is_good: bool, shown: str = "") -> None:
         self.passed, self.failed = self.passed + is_good, self.failed + (not is_good)
@@ -129,13 +131,14 @@ class Comparison:
 
     def compare(self, name: str, folder: str) -> None:
         """A project in a folder of its own."""
-        done = subprocess.run([self.meson, "setup", "build-real"], cwd=folder, capture_output=True, text=True, errors="replace")
+        done = subprocess.run([self.meson, "setup", *self.words, "build-real"], cwd=folder, capture_output=True, text=True, errors="replace")
         if done.returncode != 0:
             self.count(name, False, f"the real Meson refuses it: {done.stdout[-500:]}{done.stderr[-500:]}")
             return
         with open(os.path.join(folder, "build-real/meson-logs/meson-log.txt"), encoding="utf-8", errors="replace") as it:
             real = real_answers(it.read())
-        made = subprocess.run([os.path.join(CHECKOUT, "tools", "machine-file"), folder], capture_output=True)
+        asking = [os.path.join(CHECKOUT, "tools", "machine-file"), self.program, "machine-file", *self.words, folder]
+        made = subprocess.run(asking, capture_output=True)
         if made.returncode != 0:
             self.count(name, False, f"no machine file: {made.stderr.decode(errors='replace')}")
             return
@@ -153,10 +156,16 @@ def main() -> int:
     parser = argparse.ArgumentParser(prog="agreement.py", description=__doc__, formatter_class=argparse.RawDescriptionHelpFormatter)
     parser.add_argument("folders", metavar="DIR", nargs="*", help="the folder of a project")
     parser.add_argument("--meson", default=shutil.which("meson"), help="the real Meson; without it the one on PATH")
+    parser.add_argument("-D", metavar="NAME=VALUE", action="append", default=[], dest="options", help="an option, for both programs")
+    parser.add_argument("--program", default=os.path.join(CHECKOUT, "crates/hawkottoman/out/hawkottoman"),
+                        help="the program; without it that of this checkout")
     words = parser.parse_args()
     if words.meson is None:
         sys.exit("agreement.py: there is no real Meson (Debian's package meson)")
-    comparison = Comparison(os.path.abspath(words.meson))
+    if not os.access(words.program, os.X_OK):
+        sys.exit(f"agreement.py: {words.program}: no program is there; ./meson --help builds it, --program names another")
+    options = ["-D" + it for it in words.options]
+    comparison = Comparison(os.path.abspath(words.meson), os.path.abspath(words.program), options)
     with tempfile.TemporaryDirectory(prefix="agreement-") as scratch:
         if not words.folders:
             os.mkdir(os.path.join(scratch, "table"))

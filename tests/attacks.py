@@ -8,7 +8,6 @@ import shutil
 import signal
 import subprocess
 import time
-from collections.abc import Iterator
 
 from workshop import CHECKOUT, WORK, check, configured, environment, over, put, read, refuses, run, shell, words_of
 
@@ -157,129 +156,37 @@ def test_names_for_ninja() -> None:
     check("meson install: installs them", {os.path.basename(it) for it in files_below("d")} == set(wanted), files_below("d"))
 
 
-# machine-file: compilers that don't work, and what a project's definitions can make it do
-
-def of_machine_file(text: str, env: dict[str, str] | None = None) -> subprocess.CompletedProcess:
-    put("m/meson.build", text if text.startswith("project") else f"project('p', 'c')\ncc = meson.get_compiler('c')\n{text}\n")
-    return run(["meson", "machine-file", "m"], env)
-
-
-def test_broken_compilers() -> None:
-    put("m/meson.build", "project('p', 'c')\n")
-    for name, env, text in (
-            ("CFLAGS", {"CFLAGS": "-nonsense"}, "can't compile an empty program: `cc -nonsense`: "),
-            ("CC", {"CC": "false"}, "can't compile an empty program: `false`: it ended with status 1"),
-            ("LDFLAGS", {"LDFLAGS": "-Wl,--no-such-word"}, "can't link an empty program: `cc -Wl,--no-such-word`: "),
-            ("a word of LDFLAGS", {"LDFLAGS": "-nonsense"}, "can't link an empty program: `cc -nonsense`: "),
-            ("a library", {"LDFLAGS": "-lno-such"}, "can't link an empty program: `cc -lno-such`: "),
-            ("quotes", {"CFLAGS": "'"}, "CFLAGS: No closing quotation"),
-            ("bytes", {"CFLAGS": "-D\udcff"}, "CFLAGS: not UTF-8")):
-        refuses(f"a compiler that doesn't work: {name}", ["meson", "machine-file", "m"], 1, text, env=env)
-    put("m/meson.build", "project('p', 'c', default_options: ['c_std=c77'])\n")
-    refuses("a compiler that doesn't work: c_std", ["meson", "machine-file", "m"], 1, "`cc -std=c77`: ")
-
-
-def test_values_of_a_name() -> None:
-    """Their number doubles with each block; what is given up is said with its place, and all else is answered."""
-    blocks = "".join(f"if x\n  c0 += '{i:x}'\nendif\n" for i in range(16))
-    done = of_machine_file(f"c0 = ''\n{blocks}cc.has_header(c0)\ncc.sizeof('char')")
-    line = done.stderr.splitlines()[:1]
-    # The tenth block has 1,024 values, and the next one more: its statement is in line 3 + 3 * 10 + 2.
-    wanted = ["meson machine-file: meson.build:35: is not followed: the text may have more than 1024 values, or more than 65536 characters"]
-    is_told = line == wanted and len(done.stderr.splitlines()) < 8
-    check("meson machine-file: 2 to the power of 16 values", done.returncode == 0 and is_told, f"{done}")
-    check("meson machine-file: 2 to the power of 16 values: the rest is answered", "sizeof char = 1\n" in done.stdout and
-          "TO FILL IN: meson.build:52: has_header:" in done.stdout, done.stdout)
-    done = of_machine_file("a = 'x'\n" + "a += a\n" * 60)
-    check("meson machine-file: a text that doubles", done.returncode == 0 and "meson.build:20: is not followed" in done.stderr, done.stderr)
-    ten = "".join(f"if x\n  a += '{i:x}'\nendif\n" for i in range(9))
-    done = of_machine_file(f"a = ''\n{ten}cc.has_member(a, a)")
-    check("meson machine-file: pairs", done.returncode == 0 and "the call may ask for more than 1024 checks" in done.stderr, done.stderr)
-    names = ", ".join(f"'-W{i}'" for i in range(1500))
-    done = of_machine_file(f"l = [{names}]\nmessage(l)")
-    check("meson machine-file: a list that is written out is followed", done.returncode == 0 and done.stderr == "", done.stderr)
-
-
-def test_what_checks_may_do() -> None:
-    """No word of a check writes elsewhere or runs a program; prefixes are compiled and not run."""
-    fresh("outside")
-    place, tool = f"{WORK}/outside/it", put("tool", f"#!/bin/sh\ntouch {WORK}/outside/ran\n", 0o755)
-    words = [f"-o{place}", f"-Wl,-o,{place}", f"-Wl,-o{place}", f"-Wl,-Map={place}", f"-MF{place}", f"-B{WORK}/", f"-fplugin={tool}",
-             f"-specs={tool}", f"-fuse-ld={tool}", "@words", "-Wl,@words", f"-save-temps={WORK}/outside", f"-wrapper,{tool}", "-wrapper"]
-    texts = ", ".join(f"'{it}'" for it in [*words, f"{put('outside.o', '')}"])
-    done = of_machine_file(f"""foreach w : [{texts}]
-  cc.has_argument(w)
-  cc.has_link_argument(w)
-endforeach
-cc.has_function('puts', args: ['-wrapper', '{tool}'])
-cc.has_function('gets', args: ['-wrapper', 'touch,ran'])
-cc.has_header('stdio.h', args: '-MF{place}')
-cc.has_argument('-o')
-cc.has_link_argument('-Wl,-o')
-cc.has_link_argument('-Wl,-rpath,/opt/lib')
-cc.has_argument('/utf-8')
-cc.has_argument('-fdebug-prefix-map=/a=b')""")
-    told = re.findall(r"^# TO FILL IN: .* is not asked: with", done.stdout, re.M)
-    is_good = done.returncode == 0 and len(told) == 2 * (len(words) + 1) + 3
-    check("meson machine-file: words that write are not asked", is_good, f"{len(told)} {done}")
-    check("meson machine-file: words that write: nothing is written", not files_below("outside"), files_below("outside"))
-    check("meson machine-file: words that read are asked", "has_link_argument -Wl,-rpath,/opt/lib = true\n" in done.stdout and
-          "has_argument -fdebug-prefix-map=/a=b = true\n" in done.stdout and "has_argument /utf-8 = false\n" in done.stdout, done.stdout)
-    run(["sh", "-c", "echo 'int f(void) { return 0; }' | cc -c -x c - -o outside/f.o"])
-    before = files_below("outside")
-    of_machine_file("cc.has_link_argument('-Wl,-o')\ncc.has_link_argument('-Wl,-Map')", {"LDFLAGS": f"{WORK}/outside/f.o"})
-    check("meson machine-file: an output without its name takes none of the linker's files", before and before == files_below("outside"))
-
-
-def test_sizes() -> None:
-    """They are asked of the compiler; a program that is made would write a file as it begins."""
-    fresh("outside")
-    begins = f"#include <fcntl.h>\n__attribute__((constructor)) static void f(void) {{ creat(\"{WORK}/outside/ran\", 0600); }}"
-    sizes = {"char": 1, "char [16]": 16, "char [17]": 17, "char [100000]": 100000, "struct { char a[3]; }": 3, "struct {}": 0,
-             "char [3000000000]": 3000000000, "no_such_type": -1}
-    asked = "\n".join(f"cc.sizeof('{name}', prefix: '''{begins}''')" for name in sizes)
-    done = of_machine_file(f"{asked}\ncc.alignment('char', prefix: '''{begins}''')\ncc.alignment('struct {{ _Alignas(64) char c; }}')")
-    wanted = [f"sizeof {name} = {size}\n" for name, size in sizes.items()] + ["alignment char = 1\n"]
-    missing = [it for it in wanted if it not in done.stdout]
-    check("meson machine-file: sizes", not missing, f"{missing} {done.stderr}")
-    check("meson machine-file: an alignment", "_Alignas(64) char c; } = 64\n" in done.stdout, done.stdout)
-    check("meson machine-file: no program is run", not files_below("outside"))
-
-
 # Streams that can't be written, and texts that no system takes
 
-STATUS = {"test": 126, "install": 1, "machine-file": 1}
+STATUS = {"test": 126, "install": 1}
 
 
-def of_each_script() -> Iterator[tuple[str, list[str]]]:
-    to_install("/usr/include/a.h")
-    configured("t", tests=[shell(f"t{n}", ":") for n in range(20)])
-    put("m/meson.build", "project('p', 'c')\n")
-    yield "test", over("test", "t", "--no-rebuild")
-    yield "install", over("install", "i", "--destdir", "d", "--no-rebuild")
-    yield "machine-file", ["meson", "machine-file", "m"]
+def try_streams(script: str, words: list[str], status: int) -> None:
+    """A script over streams that can't be written."""
+    for given in (words, ["meson", script, "--help"]):
+        name = " ".join(given[::len(given) - 1])
+        with open("/dev/full", "w") as full:
+            refuses(f"{name}: a full output", given, status, "standard output: No space left on device", stdout=full)
+        ends = os.pipe()
+        os.close(ends[0])
+        done = run(given, stdout=ends[1])
+        check(f"{name}: a closed pipe: ends quietly", done.returncode == status and done.stderr == "", f"{done}")
+        os.close(ends[1])
+    done = run(["sh", "-c", '"$@" >&-', "sh", *words_of(words)])
+    is_told = done.stderr == f"meson {script}: standard output: Bad file descriptor\n"
+    check(f"meson {script}: a closed output", done.returncode == status and is_told, f"{done}")
+    with open("/dev/full", "w") as full:
+        done = run(over(script, "nowhere"), stderr=full)
+        check(f"meson {script}: a full error stream", done.returncode == status and done.stdout == "", f"{done}")
+    done = run(["sh", "-c", '"$@" 2>&-', "sh", *words_of(over(script, "nowhere"))])
+    check(f"meson {script}: a closed error stream", done.returncode == status and done.stdout == done.stderr == "", f"{done}")
 
 
 def test_streams() -> None:
-    for script, words in of_each_script():
-        for given in (words, ["meson", script, "--help"]):
-            name = " ".join(given[::len(given) - 1])
-            with open("/dev/full", "w") as full:
-                refuses(f"{name}: a full output", given, STATUS[script], "standard output: No space left on device", stdout=full)
-            ends = os.pipe()
-            os.close(ends[0])
-            done = run(given, stdout=ends[1])
-            check(f"{name}: a closed pipe: ends quietly", done.returncode == STATUS[script] and done.stderr == "", f"{done}")
-            os.close(ends[1])
-        shell_of = lambda tail: run(["sh", "-c", f'"$@" {tail}', "sh", *words_of(words)])
-        done = shell_of(">&-")
-        is_told = done.stderr == f"meson {script}: standard output: Bad file descriptor\n"
-        check(f"meson {script}: a closed output", done.returncode == STATUS[script] and is_told, f"{done}")
-        with open("/dev/full", "w") as full:
-            done = run(over(script, "nowhere"), stderr=full)
-            check(f"meson {script}: a full error stream", done.returncode == STATUS[script] and done.stdout == "", f"{done}")
-        done = run(["sh", "-c", '"$@" 2>&-', "sh", *words_of(over(script, "nowhere"))])
-        check(f"meson {script}: a closed error stream", done.returncode == STATUS[script] and done.stdout == done.stderr == "", f"{done}")
+    to_install("/usr/include/a.h")
+    configured("t", tests=[shell(f"t{n}", ":") for n in range(20)])
+    try_streams("test", over("test", "t", "--no-rebuild"), STATUS["test"])
+    try_streams("install", over("install", "i", "--destdir", "d", "--no-rebuild"), STATUS["install"])
     done = run(["bash", "-c", '"$@" | head -1; echo ${PIPESTATUS[0]}', "bash", *words_of(over("test", "t", "--no-rebuild"))])
     lines = done.stdout.splitlines()
     # Where all was said before head went away, the run is a good one.
@@ -327,27 +234,6 @@ def test_odd_files() -> None:
     put("t/build.ninja", "")
     refuses("an open quotation in NINJA", over("install", "t", "--destdir", "d"), 1, "NINJA: No closing quotation", env={"NINJA": "'"})
     refuses("an open quotation in NINJA", over("test", "t"), 125, "NINJA: No closing quotation", env={"NINJA": "'"})
-    for name, text, wanted in (
-            ("5,000 lists in one another", "x = " + "[" * 5000 + "]" * 5000, "m/meson.build:3: brackets are nested more than 64 deep"),
-            ("an escape past the last character", r"x = '\U00110000'", r"m/meson.build:3: \\U00110000 names no character"),
-            ("half a pair of surrogates", r"x = '\ud800'", r"m/meson.build:3: \\ud800 names no character")):
-        put("m/meson.build", f"project('p', 'c')\n\n{text}\n")
-        refuses(name, ["meson", "machine-file", "m"], 1, wanted.removeprefix("m/").replace("\\\\", "\\"))
-    done = of_machine_file(r"subdir('a\0b')" + "\ncc.has_header('a\\0b')\ndependency('a\\0b')\nfind_program('a\\0b')\n"
-                           "cc.has_type('int', args: '-D\\0')")
-    check("meson machine-file: names with NUL", done.returncode == 0 and done.stderr == "", f"{done}")
-    stub = put("broken-pkg-config", "#!/bin/sh\necho \"'\"\n", 0o755)
-    put("m/meson.build", "project('p', 'c')\ndependency('one')\n")
-    refuses("an open quotation of pkg-config", ["meson", "machine-file", "m"], 1, "dependency one: --cflags: No closing quotation",
-            env={"PKG_CONFIG": stub})
-    for n in range(70):
-        put("m/" + "d/" * n + "meson.build", "project('p', 'c')\nsubdir('d')\n")
-    refuses("folders in one another", ["meson", "machine-file", "m"], 1, "more than 64 folders are entered")
-    shutil.rmtree(f"{WORK}/m")
-    os.makedirs(f"{WORK}/m")
-    os.mkfifo(f"{WORK}/m/meson.build")
-    refuses("a pipe as definition file", ["meson", "machine-file", "m"], 1, "m/meson.build: is no file, but a pipe or a device")
-    os.remove(f"{WORK}/m/meson.build")
 
 
 def test_broken_elf() -> None:
@@ -380,24 +266,6 @@ def test_signals() -> None:
         is_told = (process.returncode, errors) == (130, "meson test: interrupted\n")
         check(f"meson test: {number.name}", is_told, f"{process.returncode} {errors}")
         check(f"meson test: {number.name} ends its tests", len(pids) == 2 and not any(map(is_running, pids)), pids)
-
-
-def test_interrupted_checks() -> None:
-    """A compiler that hangs is ended with machine-file, at once, and no folder is left."""
-    fresh("s", "scratch")
-    hangs = put("hangs", f"#!/bin/sh\ncase $* in *-Wslow*) echo $$ >{WORK}/s/pid; exec sleep 300 ;; esac\nexec cc \"$@\"\n", 0o755)
-    put("m/meson.build", "project('p', 'c')\nmeson.get_compiler('c').has_argument('-Wslow')\n")
-    env = environment({"CC": hangs, "TMPDIR": f"{WORK}/scratch"})
-    process = subprocess.Popen(words_of(["meson", "machine-file", "m"]), cwd=WORK, env=env, stdout=subprocess.PIPE,
-                               stderr=subprocess.PIPE, text=True)
-    pids = wait_for_pids(["s/pid"])
-    process.send_signal(signal.SIGTERM)
-    process.send_signal(signal.SIGHUP)
-    printed, errors = process.communicate(timeout=200)
-    is_told = (process.returncode, printed, errors) == (130, "", "meson machine-file: interrupted\n")
-    check("meson machine-file: interrupted", is_told, f"{process.returncode} {errors}")
-    check("meson machine-file: interrupted: ends the compiler", len(pids) == 1 and not is_running(pids[0]), pids)
-    check("meson machine-file: interrupted: leaves nothing", os.listdir(f"{WORK}/scratch") == [], os.listdir(f"{WORK}/scratch"))
 
 
 def wait_for_pids(names: list[str]) -> list[int]:
@@ -466,5 +334,4 @@ def test_much_output() -> None:
 
 
 TESTS = (test_destinations, test_links_on_the_way, test_links_that_stay, test_links_that_come_late, test_names_for_ninja,
-         test_broken_compilers, test_values_of_a_name, test_what_checks_may_do, test_sizes, test_streams, test_odd_documents,
-         test_odd_files, test_broken_elf, test_signals, test_interrupted_checks, test_logs, test_much_output)
+         test_streams, test_odd_documents, test_odd_files, test_broken_elf, test_signals, test_logs, test_much_output)

@@ -17,8 +17,10 @@ from tools.last_setup import build_folder_of  # noqa: E402
 
 COPY = os.path.join(WORK, "checkout")
 MESON = os.path.join(COPY, "meson")
-# It shows its words, is another command where a file `instead` says so, and writes what stands in `template`.
+# It shows its words, is another command where a file `instead` says so, and writes what stands in `template`. Its questions stand in
+# `questions`.
 PROGRAM = f"""#!/bin/sh
+if test "$1" = questions; then . {WORK}/questions; exit; fi
 echo "program $*"
 if test -f {WORK}/instead; then . {WORK}/instead; fi
 for last; do :; done
@@ -26,6 +28,11 @@ case $* in
 *--help*) ;;
 setup*) echo "$PWD" "$@" >>{WORK}/configured; mkdir -p "$last" && cp -r {WORK}/template/. "$last" ;;
 esac
+"""
+# Of a project that asks nothing: the options in use, where these are asked for.
+NOTHING_ASKED = """test "$(tail -n 1 meson.build | cut -c 1-5)" != meson || for it in 1 2; do
+echo '{"section":"checks","key":"sizeof in use","answer":null,"file":"meson.build","line":2,"beside":{"prefix":["none"],"args":[]}}'
+done
 """
 NINJA = f"""#!/bin/sh
 test ! -f {WORK}/ninja-fails || exit 1
@@ -81,9 +88,9 @@ def test_without_the_program() -> None:
     make_copy()
     configured("plain", tests=[shell("t", ":")])
     put("plain/build.ninja", "")
-    put("asks/meson.build", "project('p', 'c')\n")
     env = {"NINJA": f"{WORK}/tools/ninja"}
-    for words in (over("test", "plain"), over("install", "plain"), ["meson", "introspect", "plain"], ["meson", "machine-file", "asks"]):
+    for words in (over("test", "plain"), over("install", "plain"), ["meson", "introspect", "plain"],
+                  ["meson", "machine-file", "--ask", "has_type int"]):
         done = run([MESON, *words[1:]], env)
         check(f"meson {words[1]}: without the program", done.returncode == 0 and done.stderr == "", f"{done}")
     path = only_on_path(*COMMAND, "awk", "cut", "find", "cat")
@@ -127,7 +134,7 @@ def test_commands() -> None:
     check("meson: help", is_good and done.stderr == "" and meson("-h").stdout == done.stdout, f"{done}")
     for words in ([], ["such"], ["build-program"], ["../tools/test"], [""], ["port"], ["-C", "b", "test"], ["--such"]):
         done = meson(*words)
-        is_good = done.returncode == 4 and done.stdout == "" and listed(done.stderr) == ["setup", *FURTHER]
+        is_good = done.returncode == 4 and done.stdout == "" and listed(done.stderr) == ["setup", "questions", *FURTHER]
         check(f"meson: {words} is no command", is_good and repr(words[0] if words else "")[1:-1] in done.stderr, f"{done}")
     put("checkout/tools/port", '#!/bin/sh\necho port "$@"\n', 0o755)
     check("meson port: where it is there", meson("port", "a b").stdout == "port a b\n" and "port" in listed(meson("such").stderr))
@@ -172,6 +179,23 @@ def test_setup() -> None:
     is_good = done.returncode == 2 and is_told and os.listdir(f"{WORK}/elsewhere") == []
     check("meson setup: says that the words can't be kept", is_good, f"{done}")
     os.remove(f"{sources}/b/meson-private")
+
+
+def test_questions() -> None:
+    """The program's own; machine-file is given the program."""
+    put("questions", 'echo "$@"; echo said >&2; return 1\n')
+    done = meson("questions", "-Dx=1", "b", cwd=f"{WORK}/sources")
+    is_passed_on = (done.returncode, done.stdout, done.stderr) == (1, "questions -Dx=1 b\n", "said\n")
+    check("meson questions: the program's output and status", is_passed_on, f"{done}")
+    put("questions", NOTHING_ASKED)
+    put("asks/meson.build", "project('p', 'c')\n")
+    done = meson("machine-file", "asks")
+    check("meson machine-file: asks the program", done.returncode == 0 and done.stderr == "" and "[compiler]\n" in done.stdout, f"{done}")
+    put("questions", "echo 'meson: device fault' >&2; return 2\n")
+    done = meson("machine-file", "asks")
+    is_said = (done.returncode, done.stdout, done.stderr) == (1, "", "meson machine-file: meson: device fault\n")
+    check("meson machine-file: a program that can't read", is_said, f"{done}")
+    put("questions", NOTHING_ASKED)
 
 
 def test_explain() -> None:
@@ -339,5 +363,5 @@ def test_self_install() -> None:
     check("meson setup: a build that fails", done.returncode == 127 and is_told and done.stdout == "", f"{done}")
 
 
-TESTS = (test_without_the_program, test_building, test_commands, test_setup, test_explain, test_compile, test_compile_that_fails,
-         test_introspect, test_progress, test_self_install)
+TESTS = (test_without_the_program, test_building, test_commands, test_setup, test_questions, test_explain, test_compile,
+         test_compile_that_fails, test_introspect, test_progress, test_self_install)

@@ -10,6 +10,7 @@ CHECKOUT = os.path.dirname(os.path.dirname(os.path.realpath(__file__)))
 WORK = tempfile.mkdtemp()
 CLEARED = ("CC", "AR", "CFLAGS", "CPPFLAGS", "LDFLAGS", "DESTDIR", "NINJA", "PKG_CONFIG", "STRIP")
 counts = {True: 0, False: 0}
+PROGRAMS: list[str] = []  # the program that `meson machine-file` asks, where it isn't that of the checkout
 
 
 def check(name: str, holds: object, shown: object = "") -> None:
@@ -21,6 +22,8 @@ def check(name: str, holds: object, shown: object = "") -> None:
 
 def words_of(words: list[str]) -> list[str]:
     """A command; `meson` is that of the checkout."""
+    if words[:2] == ["meson", "machine-file"] and PROGRAMS:
+        return [os.path.join(CHECKOUT, "tools", "machine-file"), PROGRAMS[0], *words[1:]]
     return [os.path.join(CHECKOUT, "meson"), *words[1:]] if words[0] == "meson" else words
 
 

@@ -24,13 +24,13 @@ def program_of(given: str | None) -> str | None:
     return BUILT if os.access(BUILT, os.X_OK) else installed
 
 
-def machine_file(folder: str, scratch: str) -> list[str]:
-    """The words that give the program a machine file of the result, where one can be made."""
+def machine_file(program: str, folder: str, words: list[str], scratch: str) -> list[str]:
+    """The words that give the program a machine file of the result, as far as one can be made."""
     path = os.path.join(scratch, "native.ini")
+    command = [os.path.join(TOOLS, "machine-file"), program, "machine-file", *words, folder]
     with open(path, "wb") as it:
-        done = subprocess.run([os.path.join(TOOLS, "machine-file"), folder], stdout=it, stderr=subprocess.DEVNULL,
-                              stdin=subprocess.DEVNULL, timeout=LONGEST)
-    return ["--native-file", path] if done.returncode == 0 else []
+        subprocess.run(command, stdout=it, stderr=subprocess.DEVNULL, stdin=subprocess.DEVNULL, timeout=LONGEST)
+    return ["--native-file", path] if os.path.getsize(path) else []
 
 
 def linked_copy(root: str, folder: str, results: dict[str, tuple[str | None, str]]) -> None:
@@ -59,7 +59,7 @@ def first_fault(program: str, root: str, results: dict[str, tuple[str | None, st
         folder = os.path.join(scratch, "sources")
         linked_copy(root, folder, results)
         build = "build-of-the-trial"
-        machine = machine_file(folder, scratch)
+        machine = machine_file(program, folder, words, scratch)
         if not machine:
             show("no machine file could be made, so no dependency and no check is found")
         try:

@@ -1,8 +1,9 @@
 -- What the definitions say of command lines that are written out.
 use Rattle.std.proofs.Common.{◌≡◌, ◌∷◌, [], List, ℕ, Some, None, codes, refl}
 use Rattle.clap.proofs.OnLiterals.{clap_on_literals}
-use Rattle.clap.specs.declared.error.kind.ErrorKind.TheVariants.{DisplayHelp, MissingRequiredArgument, MissingSubcommand, UnknownArgument, ArgumentConflict}
-use Rattle.command.specs.CommandLine.{faults_of, given_in, rows_of_setup}
+use Rattle.clap.specs.declared.error.kind.ErrorKind.TheVariants.{DisplayHelp, MissingRequiredArgument, MissingSubcommand, UnknownArgument, ArgumentConflict, InvalidSubcommand}
+use Rattle.command.specs.CommandLine.{faults_of, given_in}
+use Rattle.command.specs.declared.line.Task.TheVariants.{Setup, Questions}
 
 abbrev Words : Type 0
 Words = List (List ℕ)
@@ -18,7 +19,7 @@ plain_passes : faults_of plain ≡ []
 unfolding clap_on_literals
 plain_passes = refl
 
-plain_gives : given_in (rows_of_setup plain) ≡ Some (record { words = []; machine_file = None; folder = codes "build" })
+plain_gives : given_in plain ≡ Some (record { task = Setup; words = []; machine_file = None; folder = codes "build" })
 unfolding clap_on_literals
 plain_gives = refl
 
@@ -26,7 +27,8 @@ full_passes : faults_of full ≡ []
 unfolding clap_on_literals
 full_passes = refl
 
-full_gives : given_in (rows_of_setup full) ≡ Some (record {
+full_gives : given_in full ≡ Some (record {
+  task = Setup;
   words = codes "a=b" ∷ codes "c=-d" ∷ [];
   machine_file = Some (codes "m.ini");
   folder = codes "out/x";
@@ -34,16 +36,39 @@ full_gives : given_in (rows_of_setup full) ≡ Some (record {
 unfolding clap_on_literals
 full_gives = refl
 
+-- the same words of the other task
+abbrev asking : Words
+asking = codes "meson" ∷ codes "questions" ∷ codes "-Da=b" ∷ codes ".//out/./x/" ∷ codes "-D" ∷ codes "c=-d" ∷ codes "--native-file"
+    ∷ codes "m.ini" ∷ []
+
+asking_passes : faults_of asking ≡ []
+unfolding clap_on_literals
+asking_passes = refl
+
+asking_gives : given_in asking ≡ Some (record {
+  task = Questions;
+  words = codes "a=b" ∷ codes "c=-d" ∷ [];
+  machine_file = Some (codes "m.ini");
+  folder = codes "out/x";
+})
+unfolding clap_on_literals
+asking_gives = refl
+
+-- a task is named whole
+other_is_none : faults_of (codes "meson" ∷ codes "question" ∷ codes "build" ∷ []) ≡ UnknownArgument ∷ InvalidSubcommand ∷ []
+unfolding clap_on_literals
+other_is_none = refl
+
 -- the folder is the current one, is absolute, or leads out of it
-current_is_none : given_in (rows_of_setup (codes "meson" ∷ codes "setup" ∷ codes "./" ∷ [])) ≡ None
+current_is_none : given_in (codes "meson" ∷ codes "setup" ∷ codes "./" ∷ []) ≡ None
 unfolding clap_on_literals
 current_is_none = refl
 
-absolute_is_none : given_in (rows_of_setup (codes "meson" ∷ codes "setup" ∷ codes "/build" ∷ [])) ≡ None
+absolute_is_none : given_in (codes "meson" ∷ codes "setup" ∷ codes "/build" ∷ []) ≡ None
 unfolding clap_on_literals
 absolute_is_none = refl
 
-upward_is_none : given_in (rows_of_setup (codes "meson" ∷ codes "setup" ∷ codes "a/../b" ∷ [])) ≡ None
+upward_is_none : given_in (codes "meson" ∷ codes "setup" ∷ codes "a/../b" ∷ []) ≡ None
 unfolding clap_on_literals
 upward_is_none = refl
 

@@ -7,6 +7,7 @@ use Rattle.clap.specs.declared.error.kind.ErrorKind.TheVariants as kind
 use Rattle.command.specs.BuildFolder.{names_build_folder, tidy_path}
 use Rattle.command.specs.CommandLine.{Answers, FaultOfKind, faults_of, given_with, meson_app}
 use Rattle.command.specs.declared.fault.LineFault.{LineFault}
+use Rattle.command.specs.declared.line.Task.{Task}
 use Rattle.command.specs.declared.fault.LineFault.TheVariants.{Help, Usage, Memory}
 
 -- clap's words on the matches and faults of a command hold of this one
@@ -25,10 +26,11 @@ due words found (Usage text) is (inr among) = inl (found, among, is.0)
 due words found (Memory error) is among = tt
 
 -- where the path names no folder to build in, no line is given
-pub refused : (rows : List Row) (path : List ℕ) → (if names_build_folder path then Some (tidy_path path) else None) ≡ None → given_with rows path ≡ None
-refused rows path = go (names_build_folder path) refl
+pub refused : (task : Task) (rows : List Row) (path : List ℕ) → (if names_build_folder path then Some (tidy_path path) else None) ≡ None
+    → given_with task rows path ≡ None
+refused task rows path = go (names_build_folder path) refl
   where
-    go : (t : Bool) → names_build_folder path ≡ t → (if names_build_folder path then Some (tidy_path path) else None) ≡ None → given_with rows path ≡ None
+    go : (t : Bool) → names_build_folder path ≡ t → (if names_build_folder path then Some (tidy_path path) else None) ≡ None → given_with task rows path ≡ None
     go true is none =
         let bad : Some (tidy_path path) ≡ None = rw is at none in
         cc

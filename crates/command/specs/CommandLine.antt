@@ -1,6 +1,6 @@
--- What a command line asks for: `meson setup [-Dname=value].. [--native-file FILE] BUILDDIR`.
+-- What a command line asks for: `meson setup [-Dname=value].. [--native-file FILE] BUILDDIR`, or `meson questions` with the same words.
 use Rattle.std.specs.Prelude.{◌≡◌, ◌≢◌, ◌⊎◌, ⊤, ℕ, Bool, true, List, [], Option, Some, None, codes, map, unwrap_or, option_map, if◌then◌else◌, Result, Ok, Err, string_bytes}
-use Rattle.std.specs.Option.{option_map_or}
+use Rattle.std.specs.Str.{bytes_eq}
 use Rattle.clap.specs.Words.{App, Row, Rule, IsAmong, all_of, fault_of, first_of, new_app, new_rule, subcommand_of, with_rule, with_subcommand}
 use Rattle.clap.specs.declared.builder.action.ArgAction.TheVariants.{Append, Set}
 use Rattle.clap.specs.declared.builder.command.Command.{Command}
@@ -9,6 +9,8 @@ use Rattle.clap.specs.declared.error.kind.ErrorKind.{ErrorKind}
 use Rattle.clap.specs.declared.error.kind.ErrorKind.TheVariants as kind
 use Rattle.command.specs.BuildFolder.{names_build_folder, tidy_path}
 use Rattle.command.specs.declared.line.Line.{Line}
+use Rattle.command.specs.declared.line.Task.{Task}
+use Rattle.command.specs.declared.line.Task.TheVariants.{Setup, Questions}
 use Rattle.command.specs.declared.fault.LineFault.{LineFault}
 use Rattle.command.specs.declared.fault.LineFault.TheVariants.{Help, Usage, Memory}
 
@@ -30,8 +32,9 @@ machine_file_rule = record (new_rule (codes "native-file")) {
 abbrev pub folder_rule : Rule
 folder_rule = record (new_rule (codes "folder")) { value_names = 1; required = true; action = Some Set }
 
-abbrev pub setup_app : App
-setup_app = with_rule (with_rule (with_rule (new_app (codes "setup")) option_rule) machine_file_rule) folder_rule
+-- a task of this name, with the words that each has
+abbrev pub task_app : List ℕ → App
+task_app name = with_rule (with_rule (with_rule (new_app name) option_rule) machine_file_rule) folder_rule
 
 -- `meson` alone, which wants a subcommand and has none of help
 abbrev pub bare_app : App
@@ -40,7 +43,7 @@ bare_app = record (new_app (codes "meson")) {
 }
 
 abbrev pub meson_app : App
-meson_app = with_subcommand bare_app setup_app.top
+meson_app = with_subcommand (with_subcommand bare_app (task_app (codes "setup")).top) (task_app (codes "questions")).top
 
 -- an argument of the command or of a subcommand is global
 abbrev pub has_globals : Command → Bool
@@ -52,43 +55,53 @@ has_globals command = (out-Command command).has_globals
 abbrev pub faults_of : List (List ℕ) → List ErrorKind
 faults_of words = fault_of meson_app words
 
--- what a parse that succeeds found for the arguments of `setup`
-abbrev pub rows_of_setup : List (List ℕ) → List Row
-rows_of_setup words = option_map_or (λ found. found.1) (subcommand_of meson_app words) []
+-- the name of the task that a parse that succeeds found, and what it found for its arguments
+abbrev pub found_by : List (List ℕ) → List ℕ × List Row
+found_by words = unwrap_or (subcommand_of meson_app words) ([], [])
+
+abbrev pub task_named : List ℕ → Task
+task_named name = if bytes_eq name (codes "questions") then Questions else Setup
 
 -- ---- what a line gives
 
 pub record Given : Type 0 where
+  pub task : Task
   -- the values of `-D`, in order
   pub words : List (List ℕ)
   pub machine_file : Option (List ℕ)
   -- the folder of the build, without its idle parts
   pub folder : List ℕ
 
-abbrev pub given_with : List Row → List ℕ → Option Given
-given_with rows path = if names_build_folder path then Some (record {
+abbrev pub given_with : Task → List Row → List ℕ → Option Given
+given_with task rows path = if names_build_folder path then Some (record {
+  task = task;
   words = unwrap_or (all_of (codes "option") rows) [];
   machine_file = first_of (codes "native-file") rows;
   folder = tidy_path path;
 }) else None
 
--- the values that the parse found, where the folder may be one to build in
-abbrev pub given_in : List Row → Option Given
-given_in rows = given_with rows (unwrap_or (first_of (codes "folder") rows) [])
+-- the values that the parse found for the arguments of a task, where the folder may be one to build in
+abbrev pub given_to : Task → List Row → Option Given
+given_to task rows = given_with task rows (unwrap_or (first_of (codes "folder") rows) [])
+
+-- what the words give, where the parse succeeds
+abbrev pub given_in : List (List ℕ) → Option Given
+given_in words = given_to (task_named (found_by words).0) (found_by words).1
 
 abbrev pub given_by : Line → Given
 given_by line = record {
+  task = line.task;
   words = map string_bytes line.words.items;
   machine_file = option_map string_bytes line.machine_file;
   folder = string_bytes line.folder;
 }
 
 -- a line with the values found, or the refusal of a folder in which nothing can be built
-abbrev pub Gives : List Row → Result Line LineFault → Type 0
-Gives rows (Ok line) = given_in rows ≡ Some (given_by line)
-Gives rows (Err (Help text)) = ⊥
-Gives rows (Err (Usage text)) = given_in rows ≡ None
-Gives rows (Err (Memory error)) = ⊤
+abbrev pub Gives : Task → List Row → Result Line LineFault → Type 0
+Gives task rows (Ok line) = given_to task rows ≡ Some (given_by line)
+Gives task rows (Err (Help text)) = ⊥
+Gives task rows (Err (Usage text)) = given_to task rows ≡ None
+Gives task rows (Err (Memory error)) = ⊤
 
 -- a fault of the words, or want of memory for its text
 abbrev pub IsRefusal : LineFault → Type 0
@@ -106,17 +119,17 @@ FaultOfKind found (Memory error) = ⊤
 -- build in
 abbrev pub IsRefused : List (List ℕ) → Type 0
 IsRefused words = ((fault : ErrorKind) × IsAmong fault (faults_of words) × (fault ≢ kind.DisplayHelp))
-    ⊎ ((faults_of words ≡ []) × (given_in (rows_of_setup words) ≡ None))
+    ⊎ ((faults_of words ≡ []) × (given_in words ≡ None))
 
 -- the words are a line, or clap finds a call for help in them
 abbrev pub IsTaken : List (List ℕ) → Type 0
-IsTaken words = ((faults_of words ≡ []) × ((given : Given) × (given_in (rows_of_setup words) ≡ Some given)))
+IsTaken words = ((faults_of words ≡ []) × ((given : Given) × (given_in words ≡ Some given)))
     ⊎ IsAmong kind.DisplayHelp (faults_of words)
 
 -- a line comes where clap's parse succeeds, with the values that it found; help and refusals come
 -- only where they are due
 abbrev pub Answers : List (List ℕ) → Result Line LineFault → Type 0
-Answers words (Ok line) = (faults_of words ≡ []) × (given_in (rows_of_setup words) ≡ Some (given_by line))
+Answers words (Ok line) = (faults_of words ≡ []) × (given_in words ≡ Some (given_by line))
 Answers words (Err (Help text)) = IsAmong kind.DisplayHelp (faults_of words)
 Answers words (Err (Usage text)) = IsRefused words
 Answers words (Err (Memory error)) = ⊤

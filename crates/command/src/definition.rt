@@ -1,12 +1,12 @@
 //! The command line, as `clap` is told of it.
 ghost use Rattle.std.specs.Prelude.{◌≡◌, IfOk, false};
 ghost use Rattle.clap.specs.Words.{app_of, rule_of};
-ghost use Rattle.command.specs.CommandLine.{folder_rule, has_globals, machine_file_rule, meson_app, option_rule, setup_app};
+ghost use Rattle.command.specs.CommandLine.{folder_rule, has_globals, machine_file_rule, meson_app, option_rule, task_app};
 
 use clap::{Arg, ArgAction, Command};
 use std::alloc::{AllocError, Global};
 
-/// `meson`, with its one subcommand.
+/// `meson`, with a subcommand for each task.
 pub(crate) fn command<'a>(alloc: Global) -> Result<Command<'a>, AllocError>
     ensures { IfOk result (λ command. app_of command ≡ meson_app) }
 {
@@ -14,8 +14,19 @@ pub(crate) fn command<'a>(alloc: Global) -> Result<Command<'a>, AllocError>
         .about("Configures a C project for Ninja.")
         .disable_help_subcommand(true)
         .subcommand_required(true);
+    let setup = task(
+        alloc,
+        "setup",
+        "Configures a build of the project in this folder.",
+    )?;
+    let questions = task(
+        alloc,
+        "questions",
+        "Tells what a setup asks of the machine, and writes nothing.",
+    )?;
     let named = bare.bin_name("meson")?;
-    named.subcommand(setup(alloc)?)
+    let first = named.subcommand(setup)?;
+    first.subcommand(questions)
 }
 
 // `-D NAME=VALUE`, as often as wanted.
@@ -54,13 +65,13 @@ fn folder<'a>(alloc: Global) -> Arg<'a>
         .action(ArgAction::Set)
 }
 
-// `setup`, which configures a build.
-fn setup<'a>(alloc: Global) -> Result<Command<'a>, AllocError>
-    ensures app { IfOk result (λ command. app_of command ≡ setup_app) }
+// A task, with the words that each has.
+fn task<'a>(alloc: Global, name: &'a str, about: &'a str) -> Result<Command<'a>, AllocError>
+    ensures app { IfOk result (λ command. app_of command ≡ task_app name.now) }
     ensures local { IfOk result (λ command. has_globals command ≡ false) }
 {
-    Command::new(alloc, "setup")
-        .about("Configures a build of the project in this folder.")
+    Command::new(alloc, name)
+        .about(about)
         .arg(option(alloc))?
         .arg(machine_file(alloc))?
         .arg(folder(alloc))

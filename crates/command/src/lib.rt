@@ -1,4 +1,5 @@
-//! The command line of the program: `meson setup [-Dname=value].. [--native-file FILE] BUILDDIR`.
+//! The command line of the program: `meson setup [-Dname=value].. [--native-file FILE] BUILDDIR`, and `meson questions` with the same
+//! words.
 //!
 //! # Decisions
 //!
@@ -20,5 +21,5 @@ mod line;
 mod read;
 
 pub use fault::LineFault;
-pub use line::Line;
+pub use line::{Line, Task};
 pub use read::command_line;

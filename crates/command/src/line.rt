@@ -2,9 +2,20 @@
 ghost use Rattle.std.specs.Prelude.{IsTrue, ◌≡◌, ◌≤◌, length, string_bytes};
 ghost use Rattle.command.specs.BuildFolder.{is_tidy_folder, pieces_of};
 
+/// What is done with a project.
+#[derive(Clone, Copy, Debug, Eq, PartialEq)]
+pub enum Task {
+    /// A build is configured.
+    Setup,
+    /// What that asks of the machine is told.
+    Questions,
+}
+
 /// What a command line asks for.
 #[derive(Debug, Drop)]
 pub struct Line {
+    /// What is done.
+    pub task: Task,
     /// The values of `-D`, in their order.
     pub words: Vec<String>,
     /// The machine file, as it was named.

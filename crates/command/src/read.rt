@@ -1,11 +1,11 @@
 //! From words to a line.
 ghost use Rattle.std.specs.Prelude.{◌≡◌, [], Err, IfOk, MatchResult, codes, map, option_map, string_bytes, unwrap_or};
 ghost use Rattle.clap.specs.Words.{all_of, first_of, found_of, kind_of, rows_of, subcommand_of, subcommand_rows_of};
-ghost use Rattle.command.specs.CommandLine.{Answers, FaultOfKind, Gives, IsRefusal, faults_of, meson_app};
+ghost use Rattle.command.specs.CommandLine.{Answers, FaultOfKind, Gives, IsRefusal, faults_of, meson_app, task_named};
 
 use crate::definition::command;
 use crate::folder::build_folder;
-use crate::{Line, LineFault};
+use crate::{Line, LineFault, Task};
 use clap::error::ErrorKind;
 use clap::{ArgMatches, Error};
 use option_values::is_built_in;
@@ -58,10 +58,25 @@ fn flag_tried(text: &str) -> Option<(&str, &str)> {
 }
 
 // The text for a folder in which nothing can be built.
-fn folder_fault(alloc: Global, path: &str) -> Result<String, AllocError> {
+fn folder_fault(alloc: Global, task: Task, path: &str) -> Result<String, AllocError> {
+    let name = match task {
+        Task::Setup => "setup",
+        Task::Questions => "questions",
+    };
     format!(in alloc;
-        "error: '{path}' cannot be the folder of a build: it has to be a relative path of 1 to 64 parts, none of them '..'\n\nFor more information, try 'meson setup --help'.\n"
+        "error: '{path}' cannot be the folder of a build: it has to be a relative path of 1 to 64 parts, none of them '..'\n\nFor more information, try 'meson {name} --help'.\n"
     )
+}
+
+// The task of a subcommand's name.
+fn task_named(name: &str) -> Task
+    ensures { result ≡ task_named name.now }
+{
+    if name == "questions" {
+        Task::Questions
+    } else {
+        Task::Setup
+    }
 }
 
 fn parse<'a>(alloc: Global, words: &'a [String]) -> Result<ArgMatches<'a>, LineFault>
@@ -118,20 +133,21 @@ fn path_in<'a>(found: &ArgMatches<'a>) -> &'a str
     }
 }
 
-// The line that the parse of the words after `setup` gives.
-fn line_of(alloc: Global, found: &ArgMatches<'_>) -> Result<Line, LineFault>
-    ensures { Gives (rows_of (found_of found.now)) result }
+// The line that the parse of the words after a task's name gives.
+fn line_of(alloc: Global, task: Task, found: &ArgMatches<'_>) -> Result<Line, LineFault>
+    ensures { Gives task (rows_of (found_of found.now)) result }
 {
     let path = path_in(found);
     let words = words_in(alloc, found)?;
     let machine_file = machine_file_in(alloc, found)?;
     match build_folder(alloc, path)? {
         Some(folder) => Ok(Line {
+            task,
             words,
             machine_file,
             folder,
         }),
-        None => Err(LineFault::Usage(folder_fault(alloc, path)?)),
+        None => Err(LineFault::Usage(folder_fault(alloc, task, path)?)),
     }
 }
 
@@ -141,7 +157,7 @@ pub fn command_line(alloc: Global, words: &[String]) -> Result<Line, LineFault>
 {
     let found = parse(alloc, words)?;
     match found.subcommand() {
-        Some((_, setup)) => line_of(alloc, setup),
-        None => Err(LineFault::Usage(folder_fault(alloc, "")?)),
+        Some((name, words)) => line_of(alloc, task_named(name), words),
+        None => Err(LineFault::Usage(folder_fault(alloc, Task::Setup, "")?)),
     }
 }

@@ -47,7 +47,7 @@ told s a = record { status = a.status; events = sends_then s a.events }
 fault_whole : (run : Run (Unit {0})) (f : FaultData) → outcome_of run ≡ Faulted f → whole_of run ≡ told_before (steps_of (marks_of run)) (faulted_with f)
 fault_whole (ran o w ms) f e = ap (λ (p : Outcome (Unit {0})). whole_of (ran p w ms)) e
 
-unfinished : (run : Whole) (stop status : Status) (old mid new : OutputState) → is_finished stop ≡ false → Keeps stop status mid new → Sends old mid run.steps false → Agrees run status old new
+pub unfinished : (run : Whole) (stop status : Status) (old mid new : OutputState) → is_finished stop ≡ false → Keeps stop status mid new → Sends old mid run.steps false → Agrees run status old new
 unfinished run stop status old mid new u k s = record {
   status = λ h. absurd (false≢true (sym (ap is_finished k.ended ∙ u) ∙ h));
   events = subst (λ b. Sends old new run.steps b) (sym (ap is_finished k.ended ∙ u)) (subst (λ o. Sends old o run.steps false) (sym k.same) s);

@@ -1,2 +1,5 @@
 pub mod Setup
 pub mod Laws
+pub mod Questions
+pub mod Telling
+pub mod Nothing

@@ -1,7 +1,7 @@
 //! `meson setup` for C projects: from the words of a command line and the bytes of a source tree to the bytes of a build folder.
 //!
 //! `main` hands the words and the runtime to [`run`]; [`running::setup`] is the run of a project, over any devices, and states the
-//! theorem of the whole. What is in `law` holds of every run.
+//! theorem of the whole. [`asking::questions`] tells what that run asks of the machine file. What is in `law` holds of every run.
 //!
 //! # Decisions
 //!
@@ -12,6 +12,7 @@
 //! so that no output gets one and what is said goes nowhere but into an error.
 #![tactic(auto)]
 
+mod asking;
 #[cfg(test)]
 mod device_failures;
 #[cfg(test)]
@@ -21,8 +22,10 @@ mod given;
 mod law;
 #[cfg(test)]
 mod no_words;
+mod nothing;
 mod program;
 mod running;
+mod telling;
 
 use program::run;
 use std::fs::File;

@@ -3,9 +3,10 @@ ghost use Rattle.std.specs.Prelude.{◌≡◌, ◌<◌, ◌≤◌, map, string_b
 ghost use Rattle.command.specs.CommandLine.{IsRefused, IsTaken};
 ghost use Rattle.build_file.specs.Concluding.{exit_status};
 
+use crate::asking::questions;
 use crate::running::setup;
 use build_file::Status;
-use command::{Line, LineFault, command_line};
+use command::{Line, LineFault, Task, command_line};
 use operators::path_below;
 use ports::{DiskOutputs, DiskTree, OutputPlace};
 use std::alloc::{AllocError, Global};
@@ -21,9 +22,9 @@ const BAD_LINE: u8 = 4;
 // The most bytes that are read of a machine file, which may be a pipe or a device. A text that is too long for a value fits.
 const MACHINE_FILE_BYTES: usize = 33_554_432;
 
-/// Configures the project in the folder `root` as the words say, of which the first is the program's
-/// name. The log goes to `log`, fault lines and the program's own texts to `faults`, outputs to the
-/// folder that the words name, below `root`.
+/// Configures the project in the folder `root`, or tells what that asks of the machine file, as the words say, of which the first is the
+/// program's name. The log goes to `log`, fault lines and the program's own texts to `faults`, outputs to the folder that the words name,
+/// below `root`.
 ///
 /// Answers the exit status: 0 done, 1 a fault of the sources, 2 a device failed, 3 memory ran out,
 /// 4 the words are no command line.
@@ -40,7 +41,7 @@ pub fn run<R: Files<File = File> + AllocGlobal, L: Write + Drop, F: Write + Drop
 {
     match command_line(rt.alloc(), words) {
         Ok(line) => {
-            let status = match configure(rt, line, root, &mut log, &mut faults) {
+            let status = match perform(rt, line, root, &mut log, &mut faults) {
                 Ok(status) => status,
                 Err(error) => status_of(&error),
             };
@@ -58,8 +59,8 @@ pub fn run<R: Files<File = File> + AllocGlobal, L: Write + Drop, F: Write + Drop
     }
 }
 
-// Configures as the line says. A folder that holds a `meson.build` is one of sources, and none to build in.
-fn configure<R: Files<File = File> + AllocGlobal, L: Write + Drop, F: Write + Drop>(
+// Does what the line says. A folder that holds a `meson.build` is one of sources, and none to build in.
+fn perform<R: Files<File = File> + AllocGlobal, L: Write + Drop, F: Write + Drop>(
     rt: &R,
     line: Line,
     root: &str,
@@ -76,16 +77,17 @@ fn configure<R: Files<File = File> + AllocGlobal, L: Write + Drop, F: Write + Dr
         folder: line.folder.clone()?,
     };
     let mut out = DiskOutputs::new(rt, rt.alloc(), place, log, faults)?;
-    out.claim()?;
+    let task = line.task;
     let settings = settings_of(rt.alloc(), line, root)?;
     let mut tree = DiskTree::new(rt, rt.alloc(), String::from_str(rt.alloc(), root)?);
-    Ok(setup(
-        rt.alloc(),
-        &mut tree,
-        &settings,
-        machine.as_slice(),
-        &mut out,
-    ))
+    let status = match task {
+        Task::Setup => {
+            out.claim()?;
+            setup(rt.alloc(), &mut tree, &settings, &machine, &mut out)
+        }
+        Task::Questions => questions(rt.alloc(), &mut tree, &settings, &machine, &mut out),
+    };
+    Ok(status)
 }
 
 // Whether there is a `meson.build` in the folder below this root.

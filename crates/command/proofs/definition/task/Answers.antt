@@ -1,12 +1,12 @@
-use Rattle.std.proofs.Common.{◌≡◌, ◌∙◌, ◌||◌, ap, ap₂, codes}
+use Rattle.std.proofs.Common.{◌≡◌, ◌∙◌, ◌||◌, ap, ap₂}
 use Rattle.std.proofs.lemmas.Result.{IfOk-weaker}
 use Rattle.clap.specs.Words.{new_app, with_rule}
 use Rattle.clap.specs.Simple.{app_of, app_of_fields}
-use Rattle.command.proofs.definition.setup.Goals as goal
+use Rattle.command.proofs.definition.task.Goals as goal
 
 pub returns-clause-app : goal.returns-clause-app
 returns-clause-app c =
-    let bare_is : app_of c.about.result ≡ new_app (codes "setup") = ap app_of_fields c.about.ensures ∙ c.new.ensures.app in
+    let bare_is : app_of c.about.result ≡ new_app c.args.name.now = ap app_of_fields c.about.ensures ∙ c.new.ensures.app in
     IfOk-weaker c.arg-3.result _ _
     (λ command adds. adds.shape c.folder.ensures.local ∙ ap₂ with_rule
     (c.in_ok-arg-2.ensures.shape c.machine_file.ensures.local ∙ ap₂ with_rule

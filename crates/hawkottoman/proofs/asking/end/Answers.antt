@@ -1,0 +1,13 @@
+use Rattle.std.proofs.Common.{subst, sym}
+use Rattle.std.specs.Prelude.{option_map}
+use Rattle.basics.specs.View.{fault_view}
+use Rattle.build_file.specs.declared.concluding.Status.TheVariants as statuses
+use Rattle.hawkottoman.specs.Questions.{ending_with}
+use Rattle.hawkottoman.specs.Setup.{Concludes}
+use Rattle.hawkottoman.proofs.Tellings.{ends_none}
+use Rattle.hawkottoman.proofs.asking.end.Goals as goal
+
+pub returns-in-None : goal.returns-in-None
+returns-in-None g c =
+    let out = g.O.Outputs.seen c.args.out.now in
+    subst (λ f. Concludes (ending_with (option_map fault_view f)) statuses.Done out out) (sym c.in-None.is) (ends_none out)

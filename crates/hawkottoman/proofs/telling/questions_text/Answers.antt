@@ -1,0 +1,14 @@
+use Rattle.std.proofs.Common.{map, take, ap, ◌∙◌}
+use Rattle.std.proofs.lemmas.List.{take_all}
+use Rattle.std.specs.List.{flat_map}
+use Rattle.machine_file.specs.View.{machine_in}
+use Rattle.world.specs.AskedView.{asked_in}
+use Rattle.hawkottoman.specs.Questions.{lines_asked, questions_text}
+use Rattle.hawkottoman.proofs.Lines.{began_all}
+use Rattle.hawkottoman.proofs.telling.questions_text.Goals as goal
+
+pub returns : goal.returns
+returns c =
+    let sections = machine_in c.args.machine.now in
+    began_all c.loop-it.telling (flat_map (lines_asked sections) (map asked_in (take c.loop-it.it-index c.args.asked.now))) c.loop-it.invariant
+    ∙ ap (λ asked. questions_text sections (map asked_in asked)) (take_all c.loop-it.it-index c.args.asked.now c.loop-it-test.false)

@@ -1,0 +1,66 @@
+//! Outputs that keep nothing.
+ghost use Rattle.std.specs.Prelude.{◌≡◌, None, option_map, string_bytes};
+ghost use Rattle.hawkottoman.specs.Nothing.{untold};
+
+use ports::{DeviceFault, Outputs};
+use std::alloc::Global;
+
+/// Outputs that take all and keep nothing but the name of the open one, for a run of which only something else is wanted. A call fails
+/// only where there is no memory for that name.
+#[derive(Drop)]
+pub struct NoOutputs {
+    alloc: Global,
+    current: Option<String>,
+    failures: u64,
+}
+
+impl NoOutputs {
+    /// Outputs of which none is open.
+    pub fn new(alloc: Global) -> NoOutputs
+        ensures { ⟦<NoOutputs as Outputs>⟧.seen result ≡ untold None 0 }
+    {
+        NoOutputs {
+            alloc,
+            current: None,
+            failures: 0,
+        }
+    }
+}
+
+impl Outputs for NoOutputs {
+    ghost seen = { λ n. untold n.current n.failures };
+
+    fn failures(&self) -> u64 {
+        self.failures
+    }
+
+    fn open(&mut self, name: &str) -> Result<(), DeviceFault> {
+        match String::from_str(self.alloc, name) {
+            Ok(name) => {
+                self.current = Some(name);
+                Ok(())
+            }
+            Err(_) => {
+                self.failures += 1;
+                Err(DeviceFault)
+            }
+        }
+    }
+
+    fn close(&mut self) -> Result<(), DeviceFault> {
+        self.current = None;
+        Ok(())
+    }
+
+    fn put(&mut self, bytes: &[u8]) -> Result<usize, DeviceFault> {
+        Ok(bytes.len())
+    }
+
+    fn log(&mut self, bytes: &[u8]) -> Result<usize, DeviceFault> {
+        Ok(bytes.len())
+    }
+
+    fn fault(&mut self, bytes: &[u8]) -> Result<usize, DeviceFault> {
+        Ok(bytes.len())
+    }
+}

@@ -1,0 +1,92 @@
+"""The checks of a compiler, each compiled as the real Meson does it."""
+from tools.asking.compiler import MAIN, Compiler, Flags
+
+# How each check is tried, and a source that the compiler takes where the answer is true.
+SOURCES = {
+    "has_header": ("preprocess", "{prefix}\n#ifdef __has_include\n#if !__has_include(\"{a}\")\n#error\n#endif\n#else\n"
+                   "#include <{a}>\n#endif"),
+    "check_header": ("compile", "{prefix}\n#include <{a}>"),
+    "has_type": ("compile", "{prefix}\nvoid bar(void) {{ (void) sizeof({a}); }}"),
+    "has_member": ("compile", "{prefix}\nvoid bar(void) {{ {a} foo;\n(void) ( foo.{b} );\n(void) foo; }}"),
+    "has_header_symbol": ("compile", "{prefix}\n#include <{a}>\nint main(void) {{\n#ifndef {b}\n{b};\n#endif\nreturn 0; }}"),
+}
+# A function that fails wherever it is called, as the C library says of some.
+STUB = "\n#if defined __stub_{a} || defined __stub___{a}\n#error\n#endif\n"
+# With an `#include` in the prefix the header declares the function; else it is declared here, so that the linker alone decides.
+DECLARED = ("{prefix}\n#include <limits.h>\n" + STUB +
+            "int main(void) {{ void *a = (void*) &{a}; long long b = (long long) a; return (int) b; }}")
+UNDECLARED = ("#define {a} no_{a}\n{prefix}\n#include <limits.h>\n#undef {a}\nchar {a} (void);\n" + STUB +
+              "int main(void) {{ return {a} (); }}")
+BUILTIN = ("{prefix}\nint main(void) {{\n#if {needs_macro:d} && !defined({a})\n#error\n#endif\n#ifdef __has_builtin\n"
+           "#if !__has_builtin({builtin})\n#error\n#endif\n#elif !defined({a})\n{builtin};\n#endif\nreturn 0; }}")
+# What a number is, and what stands before it.
+NUMBERS = {"sizeof": ("sizeof({a})", "{prefix}\n#include <stddef.h>\n#include <stdio.h>"),
+           "alignment": ("offsetof(struct tmp, target)", "{prefix}\n#include <stdio.h>\n#include <stddef.h>\n"
+                         "struct tmp {{ char c;\n{a} target; }};")}
+# An array that has a size only where the condition holds.
+HOLDS = "%s\nint main(void) { static int check[1 - 2 * !(%s)]; check[0] = 0; return check[0]; }"
+GREATEST = 2**62
+OF_TWO = ("has_member", "has_header_symbol")  # arguments
+# Checks of the words of the compiler and the linker, which no other words of the project stand beside.
+OF_WORDS = ("has_argument", "has_link_argument", "find_library")
+METHODS = (*SOURCES, *NUMBERS, *OF_WORDS, "has_function")
+
+
+def arguments_of(key: str) -> tuple[str, list[str]]:
+    """The method and the arguments of a key of `[checks]`."""
+    method, _, rest = key.partition(" ")
+    return method, rest.rsplit(" ", 1) if method in OF_TWO else [rest]
+
+
+def answer(compiler: Compiler, key: str, prefix: str = "", flags: Flags = Flags()) -> bool | int:
+    method, arguments = arguments_of(key)
+    a, b = (*arguments, "")[:2]
+    if method == "has_argument":
+        done = compiler.attempt("compile", "extern int i;\nint i;", Flags((*with_positive(a), a)), hears=True)
+        return done.is_good and "is valid for C++/ObjC++" not in done.said
+    if method == "has_link_argument":
+        return compiler.takes("link", MAIN, Flags(("-Wl,--fatal-warnings", a)))
+    if method == "find_library":
+        return compiler.takes("link", MAIN, Flags((f"-l{a}", "-Wl,--allow-shlib-undefined")))
+    if method == "has_function":
+        return has_function(compiler, a, prefix, flags)
+    if method in NUMBERS:
+        expression, before = (it.format(prefix=prefix, a=a) for it in NUMBERS[method])
+        return number(compiler, f"(long)({expression})", before, flags)
+    mode, source = SOURCES[method]
+    return compiler.takes(mode, source.format(prefix=prefix, a=a, b=b), flags)
+
+
+def with_positive(word: str) -> list[str]:
+    """The word of a warning for one that leaves it out, which GCC takes where it knows no such warning either."""
+    if not word.startswith("-Wno-") or word.startswith("-Wno-attributes="):
+        return []
+    return ["-W" + word[5:]]
+
+
+def has_function(compiler: Compiler, name: str, prefix: str, flags: Flags) -> bool:
+    """Whether it can be linked or, as a builtin, needn't be."""
+    has_include, is_builtin = "#include" in prefix, name.startswith("__builtin_")
+    names = {"prefix": prefix, "a": name, "builtin": "__builtin_" + name.removeprefix("__builtin_"),
+             "needs_macro": has_include and not is_builtin}
+    return any(compiler.takes("link", it.format(**names), flags) for it in (DECLARED if has_include else UNDECLARED, BUILTIN))
+
+
+def number(compiler: Compiler, expression: str, before: str, flags: Flags) -> int:
+    """The value of a constant, or -1 where the compiler knows none: found by halves, with a compilation for each question."""
+    # A program that shows it has to be linked, as in the real Meson, and is not run.
+    if not compiler.takes("link", f'{before}\nint main(void) {{ printf("%ld", {expression}); return 0; }}', flags):
+        return -1
+    quiet = Flags(("-w", *flags.args), flags.compile_args)
+    holds = lambda condition: compiler.takes("compile", HOLDS % (before, f"{expression} {condition}"), quiet)
+    if not holds(">= 0"):
+        return -1
+    low, high = -1, 16
+    while not holds(f"<= {high}L"):
+        low, high = high, high * 8
+        if high > GREATEST:
+            return -1
+    while high - low > 1:
+        middle = (low + high) // 2
+        low, high = (low, middle) if holds(f"<= {middle}L") else (middle, high)
+    return high

@@ -1,0 +1,85 @@
+"""The dependencies of this machine: those that pkg-config knows, and those that Meson finds by compiling and linking.
+
+Of these the words and the order are those of the real Meson: what the C library has needs no word, else the library is linked.
+"""
+from collections.abc import Callable
+
+from tools.asking.checks import answer
+from tools.asking.compiler import MAIN, Compiler, Flags
+from tools.asking.processes import run
+from tools.variables import words_in, words_of
+
+Found = dict[str, object]
+# Each candidate of curses: a library, and the headers that it may have.
+CURSES = (("pdcurses", ("pdcurses/curses.h",)), ("ncursesw", ("ncursesw/ncurses.h", "ncurses.h")),
+          ("ncurses", ("ncurses/ncurses.h", "ncurses/curses.h", "ncurses.h")), ("curses", ("curses.h",)))
+# The dates of OpenMP's macro, as in its specification.
+OPENMP = {"202111": "5.2", "202011": "5.1", "201811": "5.0", "201611": "5.0-revision1", "201511": "4.5", "201307": "4.0",
+          "201107": "3.1", "200805": "3.0", "200505": "2.5", "200203": "2.0", "199810": "1.0"}
+
+
+def pkg_config() -> list[str]:
+    return words_of("PKG_CONFIG") or ["pkg-config"]
+
+
+def found(compile_args: list[str], link_args: list[str], version: str = "") -> Found:
+    return {**({"version": version} if version else {}), "compile_args": compile_args, "link_args": link_args}
+
+
+def of_pkg_config(name: str) -> Found | None:
+    version, cflags, libs = (run([*pkg_config(), it, "--", name]) for it in ("--modversion", "--cflags", "--libs"))
+    if not version.is_good:
+        return None
+    return found(*(words_in(it.printed.strip(), f"dependency {name}: {word}") for it, word in ((cflags, "--cflags"), (libs, "--libs"))),
+                 version.printed.strip())
+
+
+def has_library(compiler: Compiler, library: str, header: str) -> bool:
+    return all(answer(compiler, it) is True for it in (f"has_header {header}", f"find_library {library}"))
+
+
+def threads(compiler: Compiler) -> Found | None:
+    return found(["-pthread"], ["-pthread"]) if compiler.takes("link", MAIN, Flags(("-pthread",))) else None
+
+
+def openmp(compiler: Compiler) -> Found | None:
+    flags = Flags(("-fopenmp",))
+    version = OPENMP.get(compiler.define("_OPENMP", "", flags))
+    return found(["-fopenmp"], ["-fopenmp"], version) if version and answer(compiler, "has_header omp.h", flags=flags) else None
+
+
+def dl(compiler: Compiler) -> Found | None:
+    if answer(compiler, "has_function dlopen", "#include <dlfcn.h>"):
+        return found([], [])
+    return found([], ["-ldl"]) if has_library(compiler, "dl", "dlfcn.h") else None
+
+
+def of_c_library(header: str, call: str, library: str) -> Callable[[Compiler], Found | None]:
+    """A call that the C library may have, else a library of its own."""
+    def ask(compiler: Compiler) -> Found | None:
+        if compiler.takes("link", f"#include <{header}>\nint main() {{ {call}; }}"):
+            return found([], [])
+        return found([], ["-l" + library]) if has_library(compiler, library, header) else None
+    return ask
+
+
+def curses(compiler: Compiler) -> Found | None:
+    known = filter(None, map(of_pkg_config, ("pdcurses", "ncursesw", "ncurses", "curses")))
+    by_hand = ((library, header) for library, headers in CURSES for header in headers if has_library(compiler, library, header))
+    return next(known, None) or next((found([], ["-l" + library], compiler.define("NCURSES_VERSION", f"#include <{header}>"))
+                                      for library, header in by_hand), None)
+
+
+def zlib(compiler: Compiler) -> Found | None:
+    return found([], ["-lz"], compiler.define("ZLIB_VERSION", "#include <zlib.h>")) if has_library(compiler, "z", "zlib.h") else None
+
+
+BY_COMPILING: dict[str, Callable[[Compiler], Found | None]] = {
+    "threads": threads, "openmp": openmp, "dl": dl, "curses": curses, "zlib": zlib,
+    "iconv": of_c_library("iconv.h", 'iconv_open("", "")', "iconv"), "intl": of_c_library("libintl.h", 'gettext("Hello world")', "intl")}
+
+
+def dependency(compiler: Compiler, name: str) -> Found | None:
+    """The lines of its section, or none where it isn't found."""
+    by_compiling = BY_COMPILING.get(name)
+    return of_pkg_config(name) or (by_compiling(compiler) if by_compiling else None)

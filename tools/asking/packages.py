@@ -1,0 +1,45 @@
+"""Which package has what is missing, as far as pkg-config and the tools of the distribution can say."""
+import re
+import shutil
+
+from tools.asking.dependencies import pkg_config
+from tools.asking.processes import run
+
+# The end of the path of what is missing, by its kind.
+FILES = {"dependency": "/{}.pc", "program": "/bin/{}", "find_library": "/lib{}.so", "has_header": "/include/{}",
+         "check_header": "/include/{}"}
+# Commands that are asked one after the other, the form of a package's name in what they print, and what is said of it.
+TOOLS = (
+    (("apt-file", "--package-only", "search", "--regexp", "{pattern}$"), r"^(\S+)$", "{} of the distribution has it"),
+    (("dpkg", "-S", "*{path}"), r"^([^\s:,]+).*: /", "the package {} has it, at a place where it is not looked for"),
+    (("apt-cache", "search", "--names-only", "^(lib)?{stem}[0-9.+]*[a-z]?(-[0-9.]+)?-dev$"), r"^(\S+) - ",
+     "perhaps {} of the distribution has it"))
+SHOWN = 3  # packages
+
+
+def lacks(name: str) -> str:
+    """The dependency of a dependency that stands in its way, as pkg-config says it."""
+    said = run([*pkg_config(), "--print-errors", "--exists", "--", name]).said
+    match = re.search(r"Package '?([^\s']+)'?, required by '([^']+)', not found", said)
+    return match[1] if match and match[2] != "virtual:world" else ""
+
+
+def of_file(path: str, stem: str) -> str:
+    for words, form, text in TOOLS:
+        # By its name a package is guessed for a .pc file alone.
+        if shutil.which(words[0]) and (words[0] != "apt-cache" or path.endswith(".pc")):
+            printed = run([it.format(path=path, pattern=re.escape(path), stem=re.escape(stem)) for it in words]).printed
+            names = list(dict.fromkeys(re.findall(form, printed, re.M)))
+            if names:
+                others = f" (or {len(names) - SHOWN} more)" if len(names) > SHOWN else ""
+                return text.format(" or ".join(names[:SHOWN]) + others)
+    return "no package is known that has it"
+
+
+def who_has(name: str) -> str:
+    """What can be said of a missing thing."""
+    kind, _, plain = name.partition(" ")
+    other = lacks(plain) if kind == "dependency" else ""
+    wanted = other or plain
+    said = of_file(FILES[kind].format(wanted), wanted.removeprefix("lib").partition("-")[0].rstrip("+")) if kind in FILES else ""
+    return f"its package wants {other}, and {said}" if other else said

@@ -1,0 +1,115 @@
+"""What a run of the program asks of the machine, as `meson questions` tells it."""
+import dataclasses
+import json
+import os
+import tempfile
+
+from porting.lexer import SyntaxFault, tokens_of
+from porting.trial import linked_copy
+from tools.asking.checks import OF_WORDS
+from tools.asking.processes import run
+from tools.ending import Stop
+from tools.files import read_text
+
+ROOT_FILE = "meson.build"
+BUILD = "build-of-the-questions"
+# Behind the call of `project`: two checks, beside which stand the options in use.
+IN_USE = """
+meson.get_compiler('c').sizeof('in use', prefix: get_option('c_std'), args: get_option('c_args'))
+meson.get_compiler('c').sizeof('in use by the linker', args: get_option('c_link_args'))
+"""
+# What changes the answer of a check.
+CHANGING = ("prefix", "args", "dependencies", "include_directories")
+
+
+@dataclasses.dataclass(frozen=True)
+class Question:
+    """A section, and a key where not the whole section is asked for; where it was asked first, and what the call said beside it."""
+    section: str
+    key: str | None
+    file: str
+    line: int
+    beside: dict[str, list[str]]
+
+    @property
+    def place(self) -> str:
+        return f"{self.file}:{self.line}"
+
+    @property
+    def name(self) -> str:
+        """As users are told of it: a check by its key, a program by its name, a dependency by its section."""
+        return {"checks": "", "binaries": "program "}.get(self.section, self.section) + (self.key or "")
+
+    @property
+    def dependency(self) -> str | None:
+        return self.section.removeprefix("dependency ") if self.section.startswith("dependency ") else None
+
+    @property
+    def method(self) -> str:
+        """Of a check."""
+        return (self.key or "").partition(" ")[0] if self.section == "checks" else ""
+
+    @property
+    def label(self) -> tuple[object, ...]:
+        """What two questions have in common that have one answer."""
+        is_changed = self.method and self.method not in OF_WORDS
+        return self.section, self.key, *(self.texts(it) for it in CHANGING if is_changed)
+
+    def texts(self, keyword: str) -> tuple[str, ...]:
+        return tuple(self.beside.get(keyword, ()))
+
+
+def question_of(line: str) -> Question:
+    told = json.loads(line)
+    return Question(*(told[it] for it in ("section", "key", "file", "line", "beside")))
+
+
+@dataclasses.dataclass(frozen=True)
+class Told:
+    """The questions of a run in their order, and the line of the fault that it ended with, where it did."""
+    questions: list[Question]
+    fault: str
+
+
+@dataclasses.dataclass(frozen=True)
+class Project:
+    """What is asked: the program, the folder of the sources, the words `-D..`, and a folder for what is written meanwhile."""
+    program: str
+    sources: str
+    words: list[str]
+    scratch: str
+
+    def ask(self, machine_file: str, folder: str | None = None) -> Told:
+        """The questions of a run that knows this machine file, over the sources or another folder."""
+        path = os.path.join(self.scratch, "native.ini")
+        with open(path, "w", encoding="utf-8") as it:
+            it.write(machine_file)
+        words = ["meson", "questions", *self.words, "--native-file", path, BUILD]
+        done = run(words, folder or self.sources, os.path.abspath(self.program))
+        if done.status not in (0, 1):
+            raise Stop(done.why)
+        return Told([question_of(it) for it in done.printed.split("\n") if it], done.why if done.status else "")
+
+    def in_use(self, machine_file: str) -> tuple[str, list[str], list[str]]:
+        """c_std, c_args and c_link_args as the project has them in the end, by a run of its first statement alone."""
+        with tempfile.TemporaryDirectory(dir=self.scratch) as folder:
+            linked_copy(self.sources, folder, {ROOT_FILE: (None, first_statement(self.sources) + IN_USE)})
+            told = self.ask(machine_file, folder)
+        if told.fault:
+            raise Stop(told.fault)
+        to_compile, to_link = told.questions[-2:]
+        return to_compile.texts("prefix")[0], list(to_compile.texts("args")), list(to_link.texts("args"))
+
+
+def first_statement(sources: str) -> str:
+    """The text of a project's root file up to the end of its first statement."""
+    try:
+        path = os.path.join(sources, ROOT_FILE)
+        text = read_text(path)
+        tokens = tokens_of(text)
+    except OSError as error:
+        raise Stop(f"{path}: {error.strerror}") from error
+    except SyntaxFault as fault:
+        raise Stop(f"{path}:{fault.line}: {fault.why}") from fault
+    begins = next((number for number, it in enumerate(tokens) if it.kind != "newline"), 0)
+    return text[:next(it.start for it in tokens[begins:] if it.kind in ("newline", "end"))]
