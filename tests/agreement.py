@@ -131,7 +131,8 @@ class Comparison:
 
     def compare(self, name: str, folder: str) -> None:
         """A project in a folder of its own."""
-        done = subprocess.run([self.meson, "setup", *self.words, "build-real"], cwd=folder, capture_output=True, text=True, errors="replace")
+        done = subprocess.run([self.meson, "setup", *self.words, "build-real"], cwd=folder,
+                              capture_output=True, text=True, errors="replace")
         if done.returncode != 0:
             self.count(name, False, f"the real Meson refuses it: {done.stdout[-500:]}{done.stderr[-500:]}")
             return

@@ -64,7 +64,8 @@ fn folder_fault(alloc: Global, task: Task, path: &str) -> Result<String, AllocEr
         Task::Questions => "questions",
     };
     format!(in alloc;
-        "error: '{path}' cannot be the folder of a build: it has to be a relative path of 1 to 64 parts, none of them '..'\n\nFor more information, try 'meson {name} --help'.\n"
+        "error: '{path}' cannot be the folder of a build: it has to be a relative path of 1 to 64 parts, none of them '..'\n\n\
+         For more information, try 'meson {name} --help'.\n"
     )
 }
 

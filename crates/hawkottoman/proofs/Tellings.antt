@@ -17,7 +17,7 @@ use Rattle.world.specs.Run.{Run, Done, outcome_of}
 use Rattle.world.specs.declared.stop.Stop.{Stop}
 use Rattle.world.specs.declared.stop.Stop.TheVariants as stops
 use Rattle.hawkottoman.specs.Questions.{ending_with, fault_of, lines_then}
-use Rattle.hawkottoman.specs.Setup.{Concludes, FailsOnce, Keeps}
+use Rattle.hawkottoman.specs.Setup.{Concludes, FailsOnce, Keeps, OnFault}
 use Rattle.hawkottoman.specs.Telling.{Asks, Told}
 use Rattle.hawkottoman.specs.declared.asking.Asking.{Asking}
 use Rattle.hawkottoman.proofs.Runs.{unfinished}
@@ -47,6 +47,12 @@ stopped_lines run end old new r e is w =
 
 pub room_then : (run : List Step) (old mid : OutputState) (r : Result (Unit {0}) DeviceFault) → r ≡ Ok tt → Writes old run (ended r) mid → HasRoom old.failures → HasRoom mid.failures
 room_then run old mid r is w h = subst (λ n. HasRoom n) (sym (subst (λ x. Writes old run (ended x) mid) is w).failures) h
+
+-- what holds at any stop holds at a fault
+pub on_fault : (stop : Stop) {p : Type 0} → p → OnFault stop p
+on_fault (stops.Refused fault) h = h
+on_fault stops.Device h = tt
+on_fault stops.Memory h = tt
 
 -- ---- a run is asked, and that is told
 

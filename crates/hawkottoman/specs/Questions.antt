@@ -27,7 +27,8 @@ lines_asked sections a = map (shown a) (lines_of a.question (answer_to sections 
 -- of lines that say the same beside their places the first alone, each with a newline; these were told before
 abbrev pub first_told : List (List ℕ) → List (List ℕ × List ℕ) → List ℕ
 first_told told [] = []
-first_told told (l ∷ ls) = if list_any (bytes_eq l.0) told then first_told told ls else l.1 ++ (codes "\n" ++ first_told (told ++ l.0 ∷ []) ls)
+first_told told (l ∷ ls) =
+    if list_any (bytes_eq l.0) told then first_told told ls else l.1 ++ (codes "\n" ++ first_told (told ++ l.0 ∷ []) ls)
 
 -- the lines of all questions, in the order of the asking, each once
 abbrev pub questions_text : List Section → List Asked → List ℕ

@@ -40,12 +40,16 @@ abbrev pub OnProject : Result Kept Stop → (WorldData → Type 0) → Type 0
 OnProject (Ok kept) p = p kept.project
 OnProject (Err stop) p = Unit {0}
 
+-- of a stop at a fault, and nothing of another
+abbrev pub OnFault : Stop → Type 0 → Type 0
+OnFault (stops.Refused fault) p = p
+OnFault stops.Device p = Unit {0}
+OnFault stops.Memory p = Unit {0}
+
 -- of an evaluation that came to its end, and nothing of another
 abbrev pub OnEnd : {A : Type 0} → Result A Stop → Type 0 → Type 0
 OnEnd (Ok x) p = p
-OnEnd (Err (stops.Refused fault)) p = p
-OnEnd (Err stops.Device) p = Unit {0}
-OnEnd (Err stops.Memory) p = Unit {0}
+OnEnd (Err stop) p = OnFault stop p
 
 -- the outputs were asked to take this, ended so, and failed once where the status says so
 pub record Concludes (run : Whole) (status : Status) (old new : OutputState) : Type 0 where
@@ -57,12 +61,16 @@ pub record Keeps (stopped status : Status) (old new : OutputState) : Type 0 wher
   pub ended : status ≡ stopped
   pub same : new ≡ old
 
+-- what is done where a run stopped so, and the status
+abbrev pub Stops : Stop → Status → OutputState → OutputState → Type 0
+Stops (stops.Refused fault) status old new = Concludes (faulted_with (fault_view fault)) status old new
+Stops stops.Device status old new = Keeps statuses.Device status old new
+Stops stops.Memory status old new = Keeps statuses.Memory status old new
+
 -- what is done after an evaluation that answered so, and the status
 abbrev pub Settles : Result Kept Stop → Status → OutputState → OutputState → Type 0
 Settles (Ok kept) status old new = Concludes (done_with kept.project) status old new
-Settles (Err (stops.Refused fault)) status old new = Concludes (faulted_with (fault_view fault)) status old new
-Settles (Err stops.Device) status old new = Keeps statuses.Device status old new
-Settles (Err stops.Memory) status old new = Keeps statuses.Memory status old new
+Settles (Err stop) status old new = Stops stop status old new
 
 -- The counts of two devices' failures, before and after: neither falls, and together they rise by what the status tells. So one of them
 -- has failed once where the status is `Device`, and else none has.

@@ -2,9 +2,7 @@
 use Rattle.std.specs.Prelude.{◌≡◌, ◌≢◌, ℕ, List, [], ◌++◌, Option, Some, None, option_map, string_bytes, Result, Ok, Err}
 use Rattle.basics.specs.View.{fault_view}
 use Rattle.ports.specs.Outputs.{OutputState}
-use Rattle.build_file.specs.Concluding.{faulted_with}
 use Rattle.build_file.specs.declared.concluding.Status.{Status}
-use Rattle.build_file.specs.declared.concluding.Status.TheVariants as statuses
 use Rattle.machine_file.specs.Files.{Section}
 use Rattle.world.specs.Deed.{Files}
 use Rattle.world.specs.Plan.{carry}
@@ -15,7 +13,7 @@ use Rattle.world.specs.declared.stop.Stop.{Stop}
 use Rattle.world.specs.declared.stop.Stop.TheVariants as stops
 use Rattle.interp.specs.Evaluation.{definitions}
 use Rattle.hawkottoman.specs.Questions.{fault_of, first_told, lines_then, questions_text}
-use Rattle.hawkottoman.specs.Setup.{Concludes, Keeps}
+use Rattle.hawkottoman.specs.Setup.{Concludes, Stops}
 use Rattle.hawkottoman.specs.declared.asking.Asking.{Asking}
 use Rattle.hawkottoman.specs.declared.telling.Telling.{Telling}
 
@@ -48,7 +46,8 @@ AsksOver files s sections result =
 -- what was made of definitions that ended
 abbrev pub EndedWith : Result (Unit {0}) Stop → List ℕ → Asking → Type 0
 EndedWith (Ok u) text a = (string_bytes a.lines ≡ text) × (option_map fault_view a.fault ≡ None)
-EndedWith (Err (stops.Refused fault)) text a = (string_bytes a.lines ≡ text) × (option_map fault_view a.fault ≡ Some (fault_view fault))
+EndedWith (Err (stops.Refused fault)) text a =
+    (string_bytes a.lines ≡ text) × (option_map fault_view a.fault ≡ Some (fault_view fault))
 EndedWith (Err stops.Device) text a = ⊥
 EndedWith (Err stops.Memory) text a = ⊥
 
@@ -62,6 +61,4 @@ Ended ended text failures (Err stops.Memory) = ended ≡ Err stops.Device → fa
 -- what was done after a run was asked for its questions, and the status
 abbrev pub Told : Result Asking Stop → Status → OutputState → OutputState → Type 0
 Told (Ok a) status old new = Concludes (lines_then (string_bytes a.lines) (option_map fault_view a.fault)) status old new
-Told (Err (stops.Refused fault)) status old new = Concludes (faulted_with (fault_view fault)) status old new
-Told (Err stops.Device) status old new = Keeps statuses.Device status old new
-Told (Err stops.Memory) status old new = Keeps statuses.Memory status old new
+Told (Err stop) status old new = Stops stop status old new

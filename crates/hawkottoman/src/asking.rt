@@ -18,6 +18,7 @@ ghost use Rattle.hawkottoman.specs.Setup.{Concludes, FailsOnce};
 ghost use Rattle.hawkottoman.specs.Telling.{Asks, AsksOver, Ended, Told, text_of};
 
 use crate::nothing::NoOutputs;
+use crate::running::stopped;
 use crate::telling::questions_text;
 use basics::faults::Fault;
 use build_file::{Status, refuse};
@@ -106,8 +107,8 @@ fn ask_in<T: Tree, L: Ledger>(
     requires new { store.old.entered ≡ [] }
     requires tree { HasRoom (T.seen tree.old).failures }
     ensures asks { (files : Files) → Holds (T.seen tree.old) files
-        → Asks (carry files definitions (world_of store.old)) (text_of (machine_in machine.now) (carry files definitions (world_of store.old)))
-        result }
+        → Asks (carry files definitions (world_of store.old))
+        (text_of (machine_in machine.now) (carry files definitions (world_of store.old))) result }
     ensures device { (T.seen tree.new).failures ≡ failures_after (T.seen tree.old).failures result }
 {
     let mut nothing = NoOutputs::new(alloc);
@@ -156,9 +157,7 @@ fn settle<O: Outputs>(answer: Result<Asking, Stop>, out: &mut O) -> Status
 {
     match answer {
         Ok(asking) => asking.tell(out),
-        Err(Stop::Refused(fault)) => refuse(&fault, out),
-        Err(Stop::Device) => Status::Device,
-        Err(Stop::Memory) => Status::Memory,
+        Err(stop) => stopped(stop, out),
     }
 }
 
@@ -197,8 +196,8 @@ pub fn questions<T: Tree, O: Outputs>(
     requires tree { HasRoom (T.seen tree.old).failures }
     requires out { HasRoom (O.seen out.old).failures }
 
-    // Over a steady tree, status `Done` or `Fault` is that of the run, and outputs that tell took all of these lines, and nothing else. With
-    // status `Device` or `Memory` they took a beginning. The questions and their answers are those of the run that `setup` does.
+    // Over a steady tree, status `Done` or `Fault` is that of the run, and outputs that tell took all of these lines, and nothing else.
+    // With status `Device` or `Memory` they took a beginning. The questions and their answers are those of the run that `setup` does.
     ensures run { (files : Files) (said : MachineSaid) → Holds (T.seen tree.old) files → IsSaid machine.now said
         → Agrees (questions_of files (settings_view settings.now) said) result (O.seen out.old) (O.seen out.new) }
 

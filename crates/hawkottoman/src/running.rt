@@ -7,7 +7,7 @@ ghost use Rattle.interp.specs.Evaluation.{IsSaid, MachineSaid};
 ghost use Rattle.world.specs.Deed.{Files};
 ghost use Rattle.world.specs.Gives.{Holds};
 ghost use Rattle.world.specs.SettingsView.{settings_view};
-ghost use Rattle.hawkottoman.specs.Setup.{FailsOnce, OnDone, OnEnd, OnProject, Settles, project_of, run_of};
+ghost use Rattle.hawkottoman.specs.Setup.{FailsOnce, OnDone, OnEnd, OnFault, OnProject, Settles, Stops, project_of, run_of};
 
 use build_file::{Status, conclude, refuse};
 use interp::{Inputs, evaluate};
@@ -17,6 +17,18 @@ use std::marker::Brand;
 use std::sync::ledger::{Blank, Ledger};
 use world::{Settings, Stop, Store, new_steps};
 
+// What is done where a run stopped: the line of its fault is told, and else nothing.
+pub(crate) fn stopped<O: Outputs>(stop: Stop, out: &mut O) -> Status
+    requires { OnFault stop (HasRoom (O.seen out.old).failures) }
+    ensures { Stops stop result (O.seen out.old) (O.seen out.new) }
+{
+    match stop {
+        Stop::Refused(fault) => refuse(&fault, out),
+        Stop::Device => Status::Device,
+        Stop::Memory => Status::Memory,
+    }
+}
+
 // What is done after an evaluation: all outputs of its project are written, or the line of its fault.
 fn settle<O: Outputs>(alloc: Global, answer: Result<Store, Stop>, out: &mut O) -> Status
     requires { OnEnd answer (HasRoom (O.seen out.old).failures) }
@@ -25,9 +37,7 @@ fn settle<O: Outputs>(alloc: Global, answer: Result<Store, Stop>, out: &mut O) -
 {
     match answer {
         Ok(store) => conclude(alloc, store.project(), out),
-        Err(Stop::Refused(fault)) => refuse(&fault, out),
-        Err(Stop::Device) => Status::Device,
-        Err(Stop::Memory) => Status::Memory,
+        Err(stop) => stopped(stop, out),
     }
 }
 

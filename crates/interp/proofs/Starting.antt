@@ -21,8 +21,8 @@ use Rattle.ports.specs.Outputs.{OutputState}
 use Rattle.world.specs.Store.{Kept, world_of}
 use Rattle.interp.specs.Evaluated.{Evaluated}
 use Rattle.interp.proofs.Ticking.{evaluated_done, evaluated_none, evaluated_stop, unnamed}
-use Rattle.world.specs.Gives.{Ends, Gives, is_ended}
-use Rattle.world.specs.Run.{Done, world_after}
+use Rattle.world.specs.Gives.{Ends, Gives}
+use Rattle.world.specs.Run.{Done}
 use Rattle.world.specs.Plan.{carry}
 use Rattle.world.specs.Trace.{Seen, seen}
 use Rattle.world.specs.World.{World, with_facts, with_place}
@@ -99,15 +99,6 @@ pub not_read : {A : Type 0} (view : A → List Section) (s : SettingsData) (said
 not_read view s said e (Ok k) is h = absurd is
 not_read view s said e (Err d) is h = subst (λ x. Starts s said (Err x)) (sym is) (unread view s said e h)
 
--- no memory for the first world
-pub no_world : (s : SettingsData) (said : MachineSaid) (result : Result Kept Stop) → IsErrAnd result (λ r. r ≡ stops.Memory) → Starts s said result
-no_world s said (Ok k) is = absurd is
-no_world s said (Err d) is = subst (λ x. Starts s said (Err x)) (sym is) (none s said)
-  where
-    none : (s : SettingsData) (said : MachineSaid) → Starts s said (Err stops.Memory)
-    none s (Ok sections) = tt
-    none s (Err g) = tt
-
 -- the first world over what was read
 pub was_read : {A : Type 0} (view : A → List Section) (s : SettingsData) (said : MachineSaid) (x : A) (k : Kept) → Reads view said (Ok x) → world_of k ≡ first_world s (view x)
     → Starts s said (Ok k)
@@ -141,15 +132,6 @@ pub whole_stopped : (files : Files) (s : SettingsData) (said : MachineSaid) (kep
 whole_stopped files s said kept w e result old new is stop g =
     evaluated_stop (evaluated files s said) e result w old new stop
     (subst (λ x. Gives {A = Unit {0}} {B = Unit {0}} (λ r. r) x (Err e) w old new) (started files s said kept is) g)
-
--- the questions in the store are all that the run asked, where that came to its end
-pub all_asked : (files : Files) (s : SettingsData) (said : MachineSaid) (kept k : Kept) (result : Result (Unit {0}) Stop) (old new : Seen) → Starts s said (Ok kept)
-    → Gives {A = Unit {0}} {B = Unit {0}} (λ r. r) (carry files definitions (world_of kept)) result (world_of k) old new → is_ended result ≡ 1
-    → k.asked ≡ (world_after (evaluated files s said)).asked
-all_asked files s said kept k (Ok u) old new is g e = ap (λ r. (world_after r).asked) (sym g.is ∙ started files s said kept is)
-all_asked files s said kept k (Err (stops.Refused fault)) old new is g e = g.asks ∙ ap (λ r. (world_after r).asked) (started files s said kept is)
-all_asked files s said kept k (Err stops.Device) old new is g e = absurd (let h : 0 ≡ 1 = e in cc)
-all_asked files s said kept k (Err stops.Memory) old new is g e = absurd (let h : 0 ≡ 1 = e in cc)
 
 -- the first number of a list
 pub first_is : (xs : List ℕ) (n : ℕ) → Some n ≡ slice_get xs 0 → (rest : List ℕ) × (xs ≡ n ∷ rest)

@@ -11,7 +11,8 @@ use Rattle.world.specs.Trace.{Begins, Mark, Seen, steps_of}
 use Rattle.world.specs.declared.stop.Stop.{Stop}
 use Rattle.world.specs.declared.stop.Stop.TheVariants as stops
 
--- the run ended in the world that is given, or in this fault, whatever it asked; or a device failed or no memory was left after a beginning of its marks
+-- the run ended in the world that is given, or in this fault, whatever it asked; or a device failed or no memory was left after a
+-- beginning of its marks
 abbrev pub Evaluated : Run (Unit {0}) → Result Kept Stop → Seen → Seen → Type 0
 Evaluated run (Ok store) old new = Ends run (Done tt) (world_of store) old new
 Evaluated run (Err (stops.Refused fault)) old new = Faults run (Faulted (fault_view fault)) (world_after run).asked old new

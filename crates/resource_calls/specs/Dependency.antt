@@ -37,7 +37,8 @@ unfoldable pub dependency_named : List ℕ → ArgumentsData → Deed (Option (R
 dependency_named [] a = give None
 dependency_named (b ∷ name) a = ask_dependency (b ∷ name) a
 
-abbrev pub said_or : Option (Result Dependency Refusal) → Deed (Option (Result Dependency Refusal)) → Deed (Option (Result Dependency Refusal))
+abbrev pub said_or : Option (Result Dependency Refusal) → Deed (Option (Result Dependency Refusal))
+    → Deed (Option (Result Dependency Refusal))
 said_or (Some said) others = give (Some said)
 said_or None others = others
 

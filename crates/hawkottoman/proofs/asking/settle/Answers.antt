@@ -1,6 +1,14 @@
-use Rattle.std.proofs.Common.{refl, subst, sym}
+use Rattle.std.proofs.Common.{subst, sym}
 use Rattle.hawkottoman.specs.Telling.{Told}
+use Rattle.hawkottoman.proofs.Tellings.{on_fault}
 use Rattle.hawkottoman.proofs.asking.settle.Goals as goal
 
 pub returns-in-Ok : goal.returns-in-Ok
 returns-in-Ok g c = subst (λ a. Told a c.tell.result (g.O.Outputs.seen c.args.out.now) (g.O.Outputs.seen c.tell.new.out)) (sym c.in-Ok.is) c.tell.ensures
+
+pub stopped-requires : goal.stopped-requires
+stopped-requires g c = on_fault c.in-Err.stop c.requires
+
+pub returns-in-Err : goal.returns-in-Err
+returns-in-Err g c =
+    subst (λ a. Told a c.stopped.result (g.O.Outputs.seen c.args.out.now) (g.O.Outputs.seen c.stopped.new.out)) (sym c.in-Err.is) c.stopped.ensures

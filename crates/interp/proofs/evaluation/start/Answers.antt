@@ -4,7 +4,7 @@ use Rattle.std.specs.Rc.{rc_value}
 use Rattle.machine_file.specs.View.{machine_in}
 use Rattle.world.specs.SettingsView.{settings_view}
 use Rattle.world.specs.Start.{first_world}
-use Rattle.interp.proofs.Starting.{no_world, not_read, was_read}
+use Rattle.interp.proofs.Starting.{not_read, was_read}
 use Rattle.interp.proofs.evaluation.start.Goals as goal
 
 pub returns-in_err-machine-clause-starts : goal.returns-in_err-machine-clause-starts
