@@ -1,5 +1,5 @@
 -- What `configure_file` writes into its output, and what the answer of code says that reads a file of the tree as it writes.
-use Rattle.std.specs.Prelude.{◌≡◌, ℕ, List, [], Option, Some, None, Result, is_some, unwrap_or}
+use Rattle.std.specs.Prelude.{◌≡◌, ℕ, List, [], Option, Some, None, Result, is_some, unwrap_or, refl}
 use Rattle.edge.specs.Texts.{Path}
 use Rattle.basics.specs.Faults.{plain_fault}
 use Rattle.basics.specs.declared.faults.refusal.Refusal.{Refusal}
@@ -40,7 +40,7 @@ at_line path line facts = record facts { file = path; line = line }
 -- a line of the template is refused, at its own place
 unfoldable pub refuse_line : Path → ℕ → Refusal → Deed (Unit {0})
 refuse_line path line refusal = do
-  _ ← change (at_line path line)
+  _ ← change (at_line path line) (λ facts once. refl)
   refuse refusal []
 
 unfoldable pub lines_fit : Path → Option (ℕ × LineRefusal) → Deed (Unit {0})

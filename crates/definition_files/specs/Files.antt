@@ -1,5 +1,5 @@
 -- Definition files: their bytes, and the statements that they spell.
-use Rattle.std.specs.Prelude.{ℕ, ◌+◌, Bool, true, false, List, [], take, count_by, nat_eq, nat_le, length, Result, Ok, Err}
+use Rattle.std.specs.Prelude.{ℕ, ◌+◌, Bool, true, false, List, [], take, count_by, nat_eq, nat_le, length, Result, Ok, Err, refl}
 use Rattle.std.specs.Str.{is_utf8}
 use Rattle.std.specs.Str.Lossy.{utf8_valid_len}
 use Rattle.lexer.specs.declared.fault.SyntaxFault.{SyntaxFault}
@@ -29,7 +29,7 @@ refusal_of kinds.Nesting = refusals.Nesting
 -- a refusal at a line of the present file
 unfoldable pub refuse_line : {A : Type 0} → ℕ → Refusal → Deed A
 refuse_line line refusal = do
-  _ ← change (with_line line)
+  _ ← change (with_line line) (λ facts once. refl)
   refuse refusal []
 
 unfoldable pub tree_or_fault : Result FileTree SyntaxFault → Deed Statements

@@ -8,6 +8,7 @@ pub mod Evaluating
 pub mod Filling
 pub mod Looping
 pub mod Machines
+mod Noting
 pub mod Opening
 mod Pairs
 mod Paths

@@ -1,5 +1,5 @@
 -- What is left to do of statements that have begun, frame by frame.
-use Rattle.std.specs.Prelude.{◌≡◌, ℕ, zero, suc, ◌+◌, ◌≤◌, List, [], ◌∷◌, drop, length, map, option_map, Option, Some, None, Result, Ok, Err, string_bytes}
+use Rattle.std.specs.Prelude.{◌≡◌, ℕ, zero, suc, ◌+◌, ◌≤◌, List, [], ◌∷◌, drop, length, map, option_map, Option, Some, None, Result, Ok, Err, string_bytes, refl}
 use Rattle.code.specs.Draft.{IsFront}
 use Rattle.code.specs.Statements.{branch_at, name_at}
 use Rattle.code.specs.declared.code.Code.{Code}
@@ -54,7 +54,7 @@ one_round left line first second body r = do
 -- a file hands nothing on
 abbrev pub gone_back : List ℕ → List ℕ → ℕ → Flow → Plan Flow
 gone_back file folder line flow = do
-  _ ← deed (change (with_place file folder line))
+  _ ← deed (change (with_place file folder line) (λ facts once. refl))
   give Next
 
 -- what is done, and what is left behind it

@@ -2,6 +2,7 @@
 use Rattle.std.specs.Prelude.{◌≡◌, ℕ, ◌≤◌, List, Ok, Err}
 use Rattle.world.specs.Deed.{Files}
 use Rattle.world.specs.Look.{Agree, AgreeOn, ran_over}
+use Rattle.world.specs.Noted.{NotesLooks, PresentAreFiles}
 use Rattle.world.specs.Run.{marks_of, world_after}
 use Rattle.world.specs.Settings.{SettingsData}
 use Rattle.world.specs.Trace.{ends_of}
@@ -23,6 +24,13 @@ abbrev pub DependsOnLooked : Type 0
 DependsOnLooked = (f g : Files) (settings : SettingsData) (said other : MachineSaid)
     → Agree f g (world_after (evaluated f settings said)).looked → SayAlike said other (world_after (evaluated f settings said)).asked
     → evaluated g settings other ≡ ran_over (sections_of other) (evaluated f settings said)
+
+-- After an evaluation the project has noted the paths that were looked at, each once, in the order of the first look, by whether the tree
+-- has a file there.
+pub record NotesWhatItLooksAt : Type 0 where
+  pub looks : (files : Files) (settings : SettingsData) (said : MachineSaid) → NotesLooks files (world_after (evaluated files settings said))
+  pub present : (files : Files) (settings : SettingsData) (said : MachineSaid)
+      → PresentAreFiles files (world_after (evaluated files settings said))
 
 -- an evaluation ends no more rules than its tree of files costs
 abbrev pub StepsWithinCost : Type 0

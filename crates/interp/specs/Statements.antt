@@ -1,5 +1,5 @@
 -- What statements do: one paragraph for each form of node.
-use Rattle.std.specs.Prelude.{ℕ, Bool, true, false, List, [], ◌∷◌, length, nat_le, Option, Some, None, Result, Ok, Err, if◌then◌else◌}
+use Rattle.std.specs.Prelude.{ℕ, Bool, true, false, List, [], ◌∷◌, length, nat_le, Option, Some, None, Result, Ok, Err, if◌then◌else◌, refl}
 use Rattle.std.specs.Option.{option_and_then}
 use Rattle.grammar.specs.ExpressionTree.{ExpressionTree, FunctionTree}
 use Rattle.grammar.specs.Tree.{StatementTree, AssignTree, AppendTree, ValueTree, BreakTree, ContinueTree, IfTree, ForeachTree, Statements, NoStatement, MoreStatements, Branches, NoBranch, MoreBranches}
@@ -47,7 +47,7 @@ own d = own_by (configuration_in d) d
 
 abbrev pub assigned_by : Bool → ℕ → List ℕ → Data → Plan (Unit {0})
 assigned_by true line name d = refuse line refusals.Arguments []
-assigned_by false line name d = deed (change (with_variable name (Some d)))
+assigned_by false line name d = deed (change (with_variable name (Some d)) (λ facts once. refl))
 
 -- a variable takes a value, unless the name stands for a thing of the run
 abbrev pub assigned : ℕ → List ℕ → Data → Plan (Unit {0})

@@ -40,4 +40,4 @@ mod unwinding;
 
 pub use evaluation::{Inputs, definitions, evaluate, read_machine};
 pub use evaluator::Evaluator;
-pub use law::{depends_on_looked, machine_files_say, steps_within_cost};
+pub use law::{depends_on_looked, machine_files_say, notes_what_it_looks_at, steps_within_cost};

@@ -1,5 +1,5 @@
 -- The option file of a project.
-use Rattle.std.specs.Prelude.{ℕ, List, [], ◌∷◌, codes, Result, Ok, Err}
+use Rattle.std.specs.Prelude.{ℕ, List, [], ◌∷◌, codes, Result, Ok, Err, refl}
 use Rattle.std.specs.Str.{is_utf8}
 use Rattle.grammar.specs.Parsed.{parsed}
 use Rattle.grammar.specs.Tree.{FileTree, Statements, NoStatement, MoreStatements}
@@ -49,9 +49,9 @@ declared_in (bytes bs) = bytes_declare bs
 unfoldable pub declared_at : List ℕ → FoundData → Deed OptionFileData
 declared_at path found = do
   outer ← read
-  _ ← change (with_place path [] 1)
+  _ ← change (with_place path [] 1) (λ facts once. refl)
   options ← declared_in found
-  _ ← change (with_place outer.file outer.folder outer.line)
+  _ ← change (with_place outer.file outer.folder outer.line) (λ facts once. refl)
   give (record { path = path; declared = options })
 
 -- by what was found at the new path

@@ -1,5 +1,5 @@
 -- `project`.
-use Rattle.std.specs.Prelude.{ℕ, Bool, true, false, List, [], ◌∷◌, ◌++◌, Option, None, codes, unwrap_or, option_and_then, if◌then◌else◌}
+use Rattle.std.specs.Prelude.{ℕ, Bool, true, false, List, [], ◌∷◌, ◌++◌, Option, None, codes, unwrap_or, option_and_then, if◌then◌else◌, refl}
 use Rattle.std.specs.Prelude.{Result, Ok, Err}
 use Rattle.std.specs.List.{list_all}
 use Rattle.std.specs.Str.{bytes_eq}
@@ -74,8 +74,8 @@ begin a path r = do
   options ← settled path r.outcome call.line
   found ← programs
   facts ← read
-  _ ← change (with_options options)
-  change (begun (facts_of a options found facts))
+  _ ← change (with_options options) (λ facts once. refl)
+  change (begun (facts_of a options found facts)) (λ facts once. once)
 
 -- the first call: its arguments, the option file, the options
 unfoldable pub first_project : ArgumentsData → Deed (Option Data)

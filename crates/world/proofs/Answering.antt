@@ -11,7 +11,7 @@ use Rattle.data.specs.declared.value.Value.{Value}
 use Rattle.basics.specs.Faults.{FaultData}
 use Rattle.world.specs.Trace.{Seen, seen}
 use Rattle.machine_file.specs.Questions.{Answer, Question, answer_to}
-use Rattle.world.specs.World.{World, Facts, asking, looking, fault_here}
+use Rattle.world.specs.World.{World, Facts, LeavesNotes, asking, looking, fault_here}
 use Rattle.world.specs.Store.{changing}
 use Rattle.world.specs.Run.{ran, Done}
 use Rattle.world.specs.Gives.{Gives, Ends, failures_after}
@@ -136,21 +136,21 @@ pub carries_as : {A B : Type 0} {view : B → A} {d e : Deed A} {s s1 : State} {
 carries_as {view = view} {s = s} {s1 = s1} {result = result} is p = subst (λ x. Carries view x s result s1) is p
 
 -- the facts change
-pub carries_change : {B : Type 0} {view : B → Unit {0}} {f : Facts → Facts} {w w1 : World} {names names1 : List (List ℕ)} {tree : TreeState} {out : OutputState} {lent : ℕ × ℕ × ℕ} {x : B} → w1 ≡ changing f w → names1 ≡ names
-    → Carries view (change f) (record { world = w; names = names; tree = tree; out = out; lent = lent }) (Ok x) (record { world = w1; names = names1; tree = tree; out = out; lent = lent })
-carries_change {view = view} {f = f} {w = w} {w1 = w1} {names = names} {names1 = names1} {tree = tree} {out = out} {x = x} is same = record {
-  gives = λ files n h. subst (λ v. Gives view (perform files (change f) w) (Ok x) v (seen out n names) (seen out n names1)) (sym is)
-      (subst (λ ns. Gives view (perform files (change f) w) (Ok x) (changing f w) (seen out n names) (seen out n ns)) (sym same) (record { is = refl; written = none_added (seen out n names) }));
+pub carries_change : {B : Type 0} {view : B → Unit {0}} {f : Facts → Facts} {leaves : LeavesNotes f} {w w1 : World} {names names1 : List (List ℕ)} {tree : TreeState} {out : OutputState} {lent : ℕ × ℕ × ℕ} {x : B} → w1 ≡ changing f w → names1 ≡ names
+    → Carries view (change f leaves) (record { world = w; names = names; tree = tree; out = out; lent = lent }) (Ok x) (record { world = w1; names = names1; tree = tree; out = out; lent = lent })
+carries_change {view = view} {f = f} {leaves = leaves} {w = w} {w1 = w1} {names = names} {names1 = names1} {tree = tree} {out = out} {x = x} is same = record {
+  gives = λ files n h. subst (λ v. Gives view (perform files (change f leaves) w) (Ok x) v (seen out n names) (seen out n names1)) (sym is)
+      (subst (λ ns. Gives view (perform files (change f leaves) w) (Ok x) (changing f w) (seen out n names) (seen out n ns)) (sym same) (record { is = refl; written = none_added (seen out n names) }));
   stays = stays_here tree;
   device = record { tree = omega arith; out = omega arith; sum = refl };
   same = refl;
 }
 
 -- the same, where names may be new
-pub carries_grown : {B : Type 0} {view : B → Unit {0}} {f : Facts → Facts} {w w1 : World} {names names1 : List (List ℕ)} {tree : TreeState} {out : OutputState} {lent : ℕ × ℕ × ℕ} {x : B} → w1 ≡ changing f w
-    → IsFront names names1 → Carries view (change f) (record { world = w; names = names; tree = tree; out = out; lent = lent }) (Ok x) (record { world = w1; names = names1; tree = tree; out = out; lent = lent })
-carries_grown {view = view} {f = f} {w = w} {w1 = w1} {names = names} {names1 = names1} {tree = tree} {out = out} {x = x} is front = record {
-  gives = λ files n h. subst (λ v. Gives view (perform files (change f) w) (Ok x) v (seen out n names) (seen out n names1)) (sym is)
+pub carries_grown : {B : Type 0} {view : B → Unit {0}} {f : Facts → Facts} {leaves : LeavesNotes f} {w w1 : World} {names names1 : List (List ℕ)} {tree : TreeState} {out : OutputState} {lent : ℕ × ℕ × ℕ} {x : B} → w1 ≡ changing f w
+    → IsFront names names1 → Carries view (change f leaves) (record { world = w; names = names; tree = tree; out = out; lent = lent }) (Ok x) (record { world = w1; names = names1; tree = tree; out = out; lent = lent })
+carries_grown {view = view} {f = f} {leaves = leaves} {w = w} {w1 = w1} {names = names} {names1 = names1} {tree = tree} {out = out} {x = x} is front = record {
+  gives = λ files n h. subst (λ v. Gives view (perform files (change f leaves) w) (Ok x) v (seen out n names) (seen out n names1)) (sym is)
       (record { is = refl; written = grown_added (seen out n names) (seen out n names1) refl refl front });
   stays = stays_here tree;
   device = record { tree = omega arith; out = omega arith; sum = refl };

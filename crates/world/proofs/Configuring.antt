@@ -3,12 +3,13 @@ use Rattle.std.proofs.Common.{◌≡◌, ◌↔◌, ℕ, Bool, true, false, not,
 use Rattle.basics.specs.declared.faults.refusal.Refusal.TheVariants as refusals
 use Rattle.ports.specs.Outputs.{OutputState}
 use Rattle.ports.specs.Tree.{TreeState}
+use Rattle.template.specs.Config.{Configuration}
 use Rattle.template.specs.declared.config.SetStop.{SetStop}
 use Rattle.template.specs.declared.config.SetStop.TheVariants as set_stops
 use Rattle.world.specs.Answering.{State, Carries, IsConfigured, Refuses}
-use Rattle.world.specs.Configuring.{configure, is_frozen_at}
+use Rattle.world.specs.Configuring.{configure, is_frozen_at, with_configured}
 use Rattle.world.specs.Store.{changing}
-use Rattle.world.specs.World.{World, Facts, fault_here}
+use Rattle.world.specs.World.{World, fault_here}
 use Rattle.world.specs.declared.stop.Stop.{Stop}
 use Rattle.world.specs.declared.stop.Stop.TheVariants as stops
 use Rattle.world.proofs.Answering.{carries_wanted, carries_change, carries_read, carries_stop, carries_then, need_yes, need_no}
@@ -23,21 +24,21 @@ is_frozen true given is h = refl
 is_frozen false given is h = absurd (let e : false ≡ true = h.0 is in cc)
 
 -- a change that is refused
-refused : (number : ℕ) (f : Facts → Facts) {s : State} (result : Result (Unit {0}) Stop) → not (is_frozen_at number s.world.facts.configurations) ≡ false
+refused : (number : ℕ) (f : Configuration → Configuration) {s : State} (result : Result (Unit {0}) Stop) → not (is_frozen_at number s.world.facts.configurations) ≡ false
     → Refuses (fault_here s.world refusals.Frozen []) result → Carries (λ u. u) (configure number f) s result s
 unfolding configure
 refused number f (Ok x) test is = absurd is
 refused number f (Err e) test is = carries_read (carries_stop {view = λ (u : Unit {0}). u} {s = e} (need_no _ refusals.Frozen [] test is) refl)
 
 -- a change that is made
-changed_so : (number : ℕ) (f : Facts → Facts) {w w1 : World} {names names1 : List (List ℕ)} {tree : TreeState} {out : OutputState} {lent : ℕ × ℕ × ℕ}
-    → not (is_frozen_at number w.facts.configurations) ≡ true → w1 ≡ changing f w → names1 ≡ names
+changed_so : (number : ℕ) (f : Configuration → Configuration) {w w1 : World} {names names1 : List (List ℕ)} {tree : TreeState} {out : OutputState} {lent : ℕ × ℕ × ℕ}
+    → not (is_frozen_at number w.facts.configurations) ≡ true → w1 ≡ changing (with_configured f number) w → names1 ≡ names
     → Carries (λ u. u) (configure number f) (record { world = w; names = names; tree = tree; out = out; lent = lent }) (Ok tt) (record { world = w1; names = names1; tree = tree; out = out; lent = lent })
 unfolding configure
 changed_so number f test changed named = carries_read (carries_then {view = λ (u : Unit {0}). u} {x = tt} (need_yes _ refusals.Frozen [] test) (carries_change changed named))
 
-pub carries_configured : (number : ℕ) (f : Facts → Facts) {w w1 : World} {names names1 : List (List ℕ)} {tree : TreeState} {out : OutputState} {lent : ℕ × ℕ × ℕ} (given : Result (Unit {0}) SetStop)
-    {result : Result (Unit {0}) Stop} → OnOk given (w1 ≡ changing f w) → (IsErrOf given set_stops.Frozen ↔ IsTrue (is_frozen_at number w.facts.configurations)) → OnErr given (w1 ≡ w) → names1 ≡ names
+pub carries_configured : (number : ℕ) (f : Configuration → Configuration) {w w1 : World} {names names1 : List (List ℕ)} {tree : TreeState} {out : OutputState} {lent : ℕ × ℕ × ℕ} (given : Result (Unit {0}) SetStop)
+    {result : Result (Unit {0}) Stop} → OnOk given (w1 ≡ changing (with_configured f number) w) → (IsErrOf given set_stops.Frozen ↔ IsTrue (is_frozen_at number w.facts.configurations)) → OnErr given (w1 ≡ w) → names1 ≡ names
     → IsConfigured w1 given result
     → Carries (λ u. u) (configure number f) (record { world = w; names = names; tree = tree; out = out; lent = lent }) result (record { world = w1; names = names1; tree = tree; out = out; lent = lent })
 carries_configured number f {w = w} {w1 = w1} {names = names} {names1 = names1} {tree = tree} {out = out} {lent = lent} (Ok u) {result = result} changed frozen same named is =

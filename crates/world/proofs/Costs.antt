@@ -46,7 +46,7 @@ module _ (price : Price) (files : Files) where
   deed-costs (ask path) = still (perform files (ask path)) (λ w. refl) (λ w. refl)
   deed-costs (consult question) = still (perform files (consult question)) (λ w. refl) (λ w. refl)
   deed-costs read = still (perform files read) (λ w. refl) (λ w. refl)
-  deed-costs (change f) = still (perform files (change f)) (λ w. refl) (λ w. refl)
+  deed-costs (change f leaves) = still (perform files (change f leaves)) (λ w. refl) (λ w. refl)
   deed-costs (andthen first next) = chain_acts (deed-costs first) (λ a. deed-costs (next a))
 
   -- a plan costs what its act does

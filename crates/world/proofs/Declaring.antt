@@ -7,7 +7,7 @@ use Rattle.project.specs.declared.refusal.Refusal.{Refusal as ProjectRefusal}
 use Rattle.world.specs.Answering.{State, Carries, IsAllowed}
 use Rattle.world.specs.Declaring.{allowed, declared, declaring}
 use Rattle.world.specs.Store.{changing}
-use Rattle.world.specs.World.{World}
+use Rattle.world.specs.World.{KeepsNotes, World}
 use Rattle.world.specs.declared.stop.Stop.{Stop}
 use Rattle.world.proofs.Answering.{carries_as, carries_change, carries_give, carries_read, carries_refuse, carries_same, carries_then}
 
@@ -18,9 +18,9 @@ carries_allowed (Ok x) is = carries_same is (carries_give refl)
 carries_allowed (Err refusal) is = carries_refuse is
 
 -- the project answered, and became what the call makes of it
-pub carries_declared : {A : Type 0} (answer : WorldData → Result A ProjectRefusal) (after : WorldData → WorldData) {w w1 : World} {names names1 : List (List ℕ)} {tree : TreeState} {out : OutputState}
+pub carries_declared : {A : Type 0} (answer : WorldData → Result A ProjectRefusal) (after : WorldData → WorldData) (keeps : KeepsNotes after) {w w1 : World} {names names1 : List (List ℕ)} {tree : TreeState} {out : OutputState}
     {lent : ℕ × ℕ × ℕ} {given : Result A ProjectRefusal} {result : Result A Stop} → given ≡ answer w.facts.project → w1 ≡ changing (declaring after) w → names1 ≡ names → IsAllowed w1 given result
-    → Carries (λ a. a) (declared answer after) (record { world = w; names = names; tree = tree; out = out; lent = lent }) result (record { world = w1; names = names1; tree = tree; out = out; lent = lent })
+    → Carries (λ a. a) (declared answer after keeps) (record { world = w; names = names; tree = tree; out = out; lent = lent }) result (record { world = w1; names = names1; tree = tree; out = out; lent = lent })
 unfolding declared
-carries_declared answer after {given = given} is changed named allows =
+carries_declared answer after keeps {given = given} is changed named allows =
     carries_read (carries_then {view = λ u. u} {x = tt} (carries_change changed named) (carries_as (ap allowed is) (carries_allowed given allows)))

@@ -8,6 +8,7 @@ pub mod Holding
 pub mod Leading
 pub mod Look
 pub mod Marks
+pub mod Noting
 pub mod Numbers
 pub mod Running
 mod Setting

@@ -4,7 +4,7 @@ use Rattle.ports.specs.Tree.{file_at}
 use Rattle.machine_file.specs.Files.{Section}
 use Rattle.machine_file.specs.Questions.{Question, answer_to}
 use Rattle.world.specs.Trace.{Mark}
-use Rattle.world.specs.World.{Asked, World, asked_here, asking, looking, fault_here, with_facts}
+use Rattle.world.specs.World.{Asked, World, asked_here, asking, looking, fault_here}
 use Rattle.world.specs.Run.{Run, ran, Act, Done, Faulted, after, follow, with_end, world_after}
 use Rattle.world.specs.Deed.{Files, Deed, give, refuse, tell, ask, consult, read, change, then, perform}
 use Rattle.world.specs.Plan.{Plan, deed, ruled, enter, entered, next as next_plan, carry}
@@ -146,7 +146,7 @@ deed-depends (tell steps) = still (perform [] (tell steps)) (λ w. refl) (λ w. 
 deed-depends (ask path) = looks path
 deed-depends (consult question) = asks question
 deed-depends read = still (perform [] read) (λ w. refl) (λ w. refl) (λ w. refl) (λ n w. refl)
-deed-depends (change g) = still (perform [] (change g)) (λ w. refl) (λ w. refl) (λ w. refl) (λ n w. refl)
+deed-depends (change g leaves) = still (perform [] (change g leaves)) (λ w. refl) (λ w. refl) (λ w. refl) (λ n w. refl)
 deed-depends (then first next) = chain (λ f. perform f first) (λ f a. perform f (next a)) (deed-depends first) (λ a. deed-depends (next a))
 
 -- each plan, by its steps

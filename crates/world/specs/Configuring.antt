@@ -1,6 +1,6 @@
 -- Deeds on configuration data. An object names data by their number, and only data that there are; a number that none have stands for data
 -- without values, which no change reaches.
-use Rattle.std.specs.Prelude.{ℕ, Bool, true, false, not, List, [], ◌∷◌, ◌++◌, length, slice_index_or, slice_set}
+use Rattle.std.specs.Prelude.{ℕ, Bool, true, false, not, List, [], ◌∷◌, ◌++◌, length, slice_index_or, slice_set, refl}
 use Rattle.basics.specs.declared.faults.refusal.Refusal.TheVariants as refusals
 use Rattle.template.specs.Config.{Configuration, Content, Bytes, merged, quoted, with_value}
 use Rattle.world.specs.World.{Facts, with_configurations}
@@ -46,28 +46,28 @@ with_configured f number facts = with_configurations (configuring f number facts
 unfoldable pub add_configuration : Configuration → Deed ℕ
 add_configuration c = do
   facts ← read
-  _ ← change (with_more c)
+  _ ← change (with_more c) (λ facts once. refl)
   give (length facts.configurations)
 
 -- the data change, unless they are frozen (E20)
-unfoldable pub configure : ℕ → (Facts → Facts) → Deed (Unit {0})
+unfoldable pub configure : ℕ → (Configuration → Configuration) → Deed (Unit {0})
 configure number f = do
   facts ← read
   _ ← need (not (is_frozen_at number facts.configurations)) refusals.Frozen []
-  change f
+  change (with_configured f number) (λ facts once. refl)
 
 -- a name gets a value
 unfoldable pub set_configured : ℕ → List ℕ → Content → Deed (Unit {0})
-set_configured number name content = configure number (with_configured (with_content name content) number)
+set_configured number name content = configure number (with_content name content)
 
 -- a name gets a text in quotes
 unfoldable pub set_quoted : ℕ → List ℕ → List ℕ → Deed (Unit {0})
-set_quoted number name text = configure number (with_configured (with_content name (Bytes (quoted text))) number)
+set_quoted number name text = configure number (with_content name (Bytes (quoted text)))
 
 -- each name of the other data gets the value that it has there
 unfoldable pub merge_configured : ℕ → Configuration → Deed (Unit {0})
-merge_configured number other = configure number (with_configured (merged_with other) number)
+merge_configured number other = configure number (merged_with other)
 
 -- no call changes the data from now on
 unfoldable pub freeze_configured : ℕ → Deed (Unit {0})
-freeze_configured number = change (with_configured frozen number)
+freeze_configured number = change (with_configured frozen number) (λ facts once. refl)

@@ -1,17 +1,17 @@
 -- Deeds that declare what a project has.
-use Rattle.std.specs.Prelude.{ℕ, List, [], Result, Ok, Err}
+use Rattle.std.specs.Prelude.{◌≡◌, ℕ, List, [], Result, Ok, Err, refl}
 use Rattle.edge.specs.Texts.{Path, Text}
 use Rattle.basics.specs.declared.faults.refusal.Refusal.{Refusal}
 use Rattle.basics.specs.declared.faults.refusal.Refusal.TheVariants as refusals
 use Rattle.project.specs.Adding.{after_answer, after_target, arguments_answer, output_answer, target_answer, with_arguments}
 use Rattle.project.specs.Adding.{with_dependency}
-use Rattle.project.specs.Adding.{with_install, with_link_arguments, with_output, with_test}
+use Rattle.project.specs.Adding.{with_install, with_link_arguments, with_output, with_target, with_test}
 use Rattle.project.specs.World.{WorldData, AnswerData, InstallData, TestData}
 use Rattle.project.specs.declared.refusal.Refusal.{Refusal as ProjectRefusal}
 use Rattle.project.specs.declared.refusal.Refusal.TheVariants as project
 use Rattle.targets.specs.Data.{TargetData}
 use Rattle.targets.specs.Files.{path_in}
-use Rattle.world.specs.World.{Facts, with_project}
+use Rattle.world.specs.World.{Facts, KeepsNotes, noted_in, with_project}
 use Rattle.world.specs.Deed.{Deed, give, refuse, read, change, ◌>>=◌}
 
 -- the refusal that one of the project is
@@ -32,46 +32,60 @@ allowed (Err refusal) = refuse (of_project refusal) []
 abbrev pub declaring : (WorldData → WorldData) → Facts → Facts
 declaring f facts = with_project (f facts.project) facts
 
+-- an answer leaves the notes alone where it does so that is not refused
+abbrev pub after_answer-keeps : {A : Type 0} (answer : Result A ProjectRefusal) (after before : WorldData)
+    → noted_in after ≡ noted_in before → noted_in (after_answer answer after before) ≡ noted_in before
+after_answer-keeps (Ok a) after before same = same
+after_answer-keeps (Err refusal) after before same = refl
+
 -- the project answers, and is afterwards this of what it was
-unfoldable pub declared : {A : Type 0} → (answer : WorldData → Result A ProjectRefusal) → (after : WorldData → WorldData) → Deed A
-declared answer after = do
+unfoldable pub declared : {A : Type 0} → (answer : WorldData → Result A ProjectRefusal) → (after : WorldData → WorldData)
+    → KeepsNotes after → Deed A
+declared answer after keeps = do
   facts ← read
-  _ ← change (declaring after)
+  _ ← change (declaring after) (λ facts once. keeps facts.project once)
   allowed (answer facts.project)
 
 -- a target is added, and its number given
 unfoldable pub add_target : TargetData → Deed ℕ
-add_target t = declared (λ p. target_answer p t) (λ p. after_target p t)
+add_target t =
+    declared (λ p. target_answer p t) (λ p. after_target p t) (λ p once. after_answer-keeps (target_answer p t) (with_target p t) p refl)
 
 abbrev pub after_output : Path → Text → WorldData → WorldData
 after_output folder name p = after_answer (output_answer p folder name) (with_output p (path_in folder name)) p
 
 -- `configure_file` makes a file of the folder
 unfoldable pub add_output : Path → Text → Deed (Unit {0})
-add_output folder name = declared (λ p. output_answer p folder name) (after_output folder name)
+add_output folder name =
+    declared (λ p. output_answer p folder name) (after_output folder name)
+    (λ p once. after_answer-keeps (output_answer p folder name) (with_output p (path_in folder name)) p refl)
 
 abbrev pub after_arguments : List Text → WorldData → WorldData
 after_arguments words p = after_answer (arguments_answer p words) (with_arguments p words) p
 
 -- words for all compile commands
 unfoldable pub add_arguments : List Text → Deed (Unit {0})
-add_arguments words = declared (λ p. arguments_answer p words) (after_arguments words)
+add_arguments words =
+    declared (λ p. arguments_answer p words) (after_arguments words)
+    (λ p once. after_answer-keeps (arguments_answer p words) (with_arguments p words) p refl)
 
 abbrev pub after_link_arguments : List Text → WorldData → WorldData
 after_link_arguments words p = after_answer (arguments_answer p words) (with_link_arguments p words) p
 
 -- words for all link commands
 unfoldable pub add_link_arguments : List Text → Deed (Unit {0})
-add_link_arguments words = declared (λ p. arguments_answer p words) (after_link_arguments words)
+add_link_arguments words =
+    declared (λ p. arguments_answer p words) (after_link_arguments words)
+    (λ p once. after_answer-keeps (arguments_answer p words) (with_link_arguments p words) p refl)
 
 -- ---- what is only noted
 
 -- what a call of `dependency` answered
 unfoldable pub add_dependency : AnswerData → Deed (Unit {0})
-add_dependency answer = change (declaring (λ p. with_dependency p answer))
+add_dependency answer = change (declaring (λ p. with_dependency p answer)) (λ facts once. refl)
 
 unfoldable pub add_install : InstallData → Deed (Unit {0})
-add_install install = change (declaring (λ p. with_install p install))
+add_install install = change (declaring (λ p. with_install p install)) (λ facts once. refl)
 
 unfoldable pub add_test : TestData → Deed (Unit {0})
-add_test test = change (declaring (λ p. with_test p test))
+add_test test = change (declaring (λ p. with_test p test)) (λ facts once. refl)

@@ -7,7 +7,7 @@ use Rattle.data.specs.declared.refusal.Refusal.{Refusal as OperationRefusal}
 use Rattle.machine_file.specs.Questions.{Answer, Question, answer_to}
 use Rattle.world.specs.Operation.{of_operation}
 use Rattle.world.specs.Trace.{Told}
-use Rattle.world.specs.World.{Facts, asking, looking, with_facts, fault_here}
+use Rattle.world.specs.World.{Facts, LeavesNotes, asking, looking, with_facts, fault_here}
 use Rattle.world.specs.Run.{Act, ran, Done, pure, fails, follow}
 use Rattle.basics.specs.declared.faults.refusal.Refusal.{Refusal}
 use Rattle.basics.specs.declared.faults.refusal.Refusal.TheVariants as refusals
@@ -28,7 +28,8 @@ pub data Deed : Type 0 → Type 1 where
   -- what the machine file answers to this question, which counts as asked
   consult : Question → Deed Answer
   read : Deed Facts
-  change : (Facts → Facts) → Deed (Unit {0})
+  -- a change of the facts; which paths the project notes is none of them, since `ask` alone looks at a path
+  change : (f : Facts → Facts) → LeavesNotes f → Deed (Unit {0})
   then : {A B : Type 0} → Deed A → (A → Deed B) → Deed B
 
 infixl 10 ◌>>=◌
@@ -43,7 +44,7 @@ perform files (tell steps) w = ran (Done tt) w (map Told steps)
 perform files (ask path) w = ran (Done (file_at files path)) (looking w path (is_some (file_at files path))) []
 perform files (consult question) w = ran (Done (answer_to w.machine question.topic)) (asking w question) []
 perform files read w = pure w.facts w
-perform files (change f) w = ran (Done tt) (with_facts w (f w.facts)) []
+perform files (change f leaves) w = ran (Done tt) (with_facts w (f w.facts)) []
 perform files (then first next) w = follow (perform files first w) (λ a. perform files (next a))
 
 -- ---- small deeds

@@ -7,6 +7,7 @@ pub mod Declaring
 pub mod Deed
 pub mod Gives
 pub mod Look
+pub mod Noted
 pub mod Options
 pub mod Plan
 pub mod Operation

@@ -1,5 +1,5 @@
 -- Plans: what evaluation does. A plan reads and changes the world by deeds, and beside them ends rules and enters folders.
-use Rattle.std.specs.Prelude.{ℕ, List, [], Result, Ok, Err}
+use Rattle.std.specs.Prelude.{ℕ, List, [], Result, Ok, Err, refl}
 use Rattle.data.specs.declared.refusal.Refusal.{Refusal as OperationRefusal}
 use Rattle.world.specs.Operation.{of_operation}
 use Rattle.world.specs.World.{entering, with_line}
@@ -36,7 +36,7 @@ give a = deed (give_deed a)
 
 -- what is done next is done at this line
 abbrev pub at : ℕ → Plan (Unit {0})
-at line = deed (change (with_line line))
+at line = deed (change (with_line line) (λ facts once. refl))
 
 -- a refusal at a line, of this name, path or text
 abbrev pub refuse : {A : Type 0} → ℕ → Refusal → List ℕ → Plan A

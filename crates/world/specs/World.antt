@@ -1,5 +1,5 @@
 -- The world of a run: what its definition files are evaluated in.
-use Rattle.std.specs.Prelude.{ℕ, Bool, true, false, List, [], ◌∷◌, ◌++◌, Option, if◌then◌else◌}
+use Rattle.std.specs.Prelude.{◌≡◌, ℕ, Bool, true, false, List, [], ◌∷◌, ◌++◌, Option, if◌then◌else◌}
 use Rattle.std.specs.Str.{bytes_eq}
 use Rattle.data.specs.Data.{Data}
 use Rattle.edge.specs.Texts.{first_kept}
@@ -101,6 +101,22 @@ begun facts f = record f { is_begun = true; project = begun_project facts f.proj
 abbrev pub noted : List ℕ → Bool → WorldData → WorldData
 noted path true project = with_present project path
 noted path false project = with_absent project path
+
+-- the paths that the project has taken note of: those that are there, and those that are not
+abbrev pub noted_in : WorldData → List (List ℕ) × List (List ℕ)
+noted_in project = (project.present, project.absent)
+
+-- of equal ones the first
+abbrev pub first_noted_in : WorldData → List (List ℕ) × List (List ℕ)
+first_noted_in project = (first_kept project.present, first_kept project.absent)
+
+-- a change of the project that leaves alone which paths are noted, where each is noted once
+abbrev pub KeepsNotes : (WorldData → WorldData) → Type 0
+KeepsNotes f = (project : WorldData) → first_noted_in project ≡ noted_in project → noted_in (f project) ≡ noted_in project
+
+-- such a change of the facts
+abbrev pub LeavesNotes : (Facts → Facts) → Type 0
+LeavesNotes f = (facts : Facts) → first_noted_in facts.project ≡ noted_in facts.project → noted_in (f facts).project ≡ noted_in facts.project
 
 -- a path is looked at
 abbrev pub looking : World → List ℕ → Bool → World

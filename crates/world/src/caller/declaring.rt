@@ -46,7 +46,7 @@ impl<'a, T: Tree, O: Outputs> Caller<'a, T, O> {
 
     /// Begins the project, of which nothing is declared yet.
     pub fn begin(&mut self, facts: Facts) -> Result<(), Stop>
-        ensures { Carries (λ u. u) (change (begun (facts_view facts)))
+        ensures { Carries (λ u. u) (change (begun (facts_view facts)) (λ facts once. once))
             (state_of T.seen O.seen self.old) result (state_of T.seen O.seen self.new) }
     {
         self.store.begin(self.alloc, facts)?;

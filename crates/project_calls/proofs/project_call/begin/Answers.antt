@@ -33,4 +33,4 @@ unfolding begin
 returns g c =
     carries_then (carries_as (ap (λ ns. warned (map string_bytes ns)) c.deref.ensures.value) c.in_ok-warn.ensures)
     (carries_read (carries_then c.in_ok-options.ensures (carries_then c.in_ok-programs.ensures (carries_read
-    (carries_then {x = tt {0}} (carries_change {view = λ u. u} c.set_options.ensures.world c.set_options.ensures.names) (carries_as (ap (λ f. change (begun f)) c.in_ok-facts.ensures) c.begin.ensures))))))
+    (carries_then {x = tt {0}} (carries_change {view = λ u. u} c.set_options.ensures.world c.set_options.ensures.names) (carries_as (ap (λ f. change (begun f) (λ facts once. once)) c.in_ok-facts.ensures) c.begin.ensures))))))
