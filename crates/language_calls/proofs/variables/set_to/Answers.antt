@@ -1,4 +1,4 @@
-use Rattle.std.proofs.Common.{Bor, Some, option_map, ap, sym}
+use Rattle.std.proofs.Common.{Bor, Some, option_map, ap, refl, sym}
 use Rattle.data.specs.View.{data_of}
 use Rattle.data.specs.declared.value.Value.{Value}
 use Rattle.world.specs.Deed.{change}
