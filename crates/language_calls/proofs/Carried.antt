@@ -1,25 +1,17 @@
--- Values and texts that calls answer.
-use Rattle.std.proofs.Common.{◌≡◌, ℕ, Bool, false, List, Option, Some, None, option_map, is_some, Result, Ok, Err, String, Global, string_bytes, refl, sym}
+-- Values that calls answer, and what is denied.
+use Rattle.std.proofs.Common.{◌≡◌, ℕ, Bool, false, List, Option, Some, None, option_map, is_some, Result, Ok, Err, refl}
 use Rattle.data.specs.View.{data_of}
-use Rattle.data.specs.declared.refusal.Refusal.{Refusal as OperationRefusal}
 use Rattle.data.specs.declared.value.Value.{Value}
-use Rattle.data.specs.Tables.{string_in}
 use Rattle.basics.specs.declared.faults.refusal.Refusal.{Refusal}
-use Rattle.world.specs.Answering.{State, Carries, IsAnswered, Refuses}
-use Rattle.world.specs.Deed.{Deed, answered, need, then}
+use Rattle.world.specs.Answering.{State, Carries, Refuses}
+use Rattle.world.specs.Deed.{Deed, need, then}
 use Rattle.world.specs.World.{fault_here}
 use Rattle.world.specs.declared.stop.Stop.{Stop}
-use Rattle.world.proofs.Answering.{carries_answered, carries_stop, need_no}
+use Rattle.world.proofs.Answering.{carries_stop, need_no}
 
 pub is_some-data : (o : Option Value) → is_some (option_map data_of o) ≡ is_some o
 is_some-data None = refl
 is_some-data (Some v) = refl
-
--- a text that an operation answers
-pub carries_text : (given : Result (List ℕ) OperationRefusal) (answer : Result (String Global) OperationRefusal) {s : State} {result : Result (String Global) Stop}
-    → string_in answer ≡ given → IsAnswered s.world answer result → Carries string_bytes (answered given) s result s
-carries_text given (Ok x) v is = carries_answered given (Ok x) (sym v) is
-carries_text given (Err e) v is = carries_answered given (Err e) (sym v) is
 
 -- what is not so is refused, whatever was to be done next
 pub carries_denied : {B D : Type 0} {view : D → B} (b : Bool) (refusal : Refusal) (detail : List ℕ) {next : Unit {0} → Deed B} {s : State}

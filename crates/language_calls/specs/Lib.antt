@@ -4,5 +4,6 @@ pub mod Messages
 pub mod Names
 pub mod Range
 pub mod Rows
+pub mod Saying
 pub mod Turning
 pub mod Variables

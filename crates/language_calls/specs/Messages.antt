@@ -1,31 +1,31 @@
 -- `message`, `warning`, `error` and `assert`: what is told to the user.
-use Rattle.std.specs.Prelude.{ℕ, true, List, [], ◌∷◌, ◌++◌, Option, None, Result, Ok, Err, codes}
+use Rattle.std.specs.Prelude.{ℕ, true, List, [], ◌∷◌, ◌++◌, map, flat_map, Option, None, codes}
+use Rattle.std.specs.List.{list_all}
 use Rattle.data.specs.Data.{Data}
-use Rattle.data.specs.declared.refusal.Refusal.{Refusal as OperationRefusal}
 use Rattle.basics.specs.declared.faults.refusal.Refusal.TheVariants as refusals
-use Rattle.printing.specs.Printed.{printed}
+use Rattle.printing.specs.Printed.{is_printable, shown}
 use Rattle.arguments.specs.Arguments.{ArgumentsData}
 use Rattle.arguments.specs.Given.{flag_at, text_or}
-use Rattle.world.specs.Deed.{Deed, give, refuse, ◌>>=◌, say, answered, need}
-
-abbrev pub and_then : {A B : Type 0} → Result A OperationRefusal → (A → Result B OperationRefusal) → Result B OperationRefusal
-and_then (Ok a) next = next a
-and_then (Err refusal) next = Err refusal
-
--- a text with the printed values behind it; a gap stands before the first of them, and a space before each other
-abbrev pub printed_behind : List ℕ → List ℕ → List Data → Result (List ℕ) OperationRefusal
-printed_behind line gap [] = Ok line
-printed_behind line gap (d ∷ ds) = and_then (printed d) (λ t. printed_behind ((line ++ gap) ++ t) (codes " ") ds)
+use Rattle.world.specs.Deed.{Deed, give, refuse, ◌>>=◌, say, need}
 
 -- values printed, with a space between each two
-abbrev pub printed_all : List Data → Result (List ℕ) OperationRefusal
-printed_all ds = printed_behind [] [] ds
+abbrev pub spaced : List (List ℕ) → List ℕ
+spaced [] = []
+spaced (t ∷ ts) = t ++ flat_map (λ next. codes " " ++ next) ts
+
+-- what is printed of values; it may be longer than a text can be
+abbrev pub line_of : List Data → List ℕ
+line_of ds = spaced (map shown ds)
+
+-- values that have a printed text, or the call is refused (E9)
+unfoldable pub need_printable : List Data → Deed (Unit {0})
+need_printable ds = need (list_all is_printable ds) refusals.Arguments []
 
 -- a line of the log, which begins so
 unfoldable pub logged : List ℕ → ArgumentsData → Deed (Option Data)
 logged start a = do
-  t ← answered (printed_all a.positional)
-  _ ← say ((start ++ t) ++ codes "\n")
+  _ ← need_printable a.positional
+  _ ← say (start ++ (line_of a.positional ++ codes "\n"))
   give None
 
 -- `message(values..)`
@@ -39,8 +39,8 @@ warning a = logged (codes "WARNING: ") a
 -- `error(values..)` ends the run with E18 and what is printed
 unfoldable pub error : ArgumentsData → Deed (Option Data)
 error a = do
-  t ← answered (printed_all a.positional)
-  refuse refusals.Message t
+  _ ← need_printable a.positional
+  refuse refusals.Message (line_of a.positional)
 
 -- `assert(condition, text)` ends the run with E18 where the condition is false
 unfoldable pub assert : ArgumentsData → Deed (Option Data)

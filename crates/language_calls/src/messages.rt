@@ -1,46 +1,125 @@
 //! `message`, `warning`, `error` and `assert`: what is told to the user.
-ghost use Rattle.std.specs.Prelude.{◌≡◌, ◌++◌, IfOk, [], map, option_map, string_bytes, codes};
+ghost use Rattle.std.specs.Prelude.{◌≡◌, ◌++◌, IfOk, OnOk, map, option_map, string_bytes, codes};
+ghost use Rattle.std.specs.List.{list_all};
 ghost use Rattle.data.specs.View.{data_of};
 ghost use Rattle.arguments.specs.Arguments.{arguments_data};
-ghost use Rattle.data.specs.Tables.{string_in};
+ghost use Rattle.printing.specs.Parts.{piece_bytes};
+ghost use Rattle.printing.specs.Pieces.{whole};
+ghost use Rattle.printing.specs.Printed.{is_printable, shown};
 ghost use Rattle.world.specs.Answering.{Carries, HasRoom};
 ghost use Rattle.world.specs.Caller.{state_of};
-ghost use Rattle.language_calls.specs.Messages.{assert, error, logged, message, printed_all, warning};
+ghost use Rattle.world.specs.Deed.{say};
+ghost use Rattle.language_calls.specs.Messages.{assert, error, line_of, logged, message, need_printable, warning};
+ghost use Rattle.language_calls.specs.Saying.{behind_spaces, say_each};
 
 use arguments::Arguments;
 use basics::faults::Refusal;
 use data::Value;
+use itoa::Buffer;
 use ports::{Outputs, Tree};
-use printing::printed;
+use printing::{Piece, Printer, is_printable};
 use std::alloc::{AllocError, Global};
 use world::{Caller, Stop};
 
-// Values printed, with a space between each two.
-fn printed_all(alloc: Global, values: &[Value]) -> Result<Result<String, data::Refusal>, AllocError>
-    ensures { IfOk result (λ r. string_in r ≡ printed_all (map data_of values.now)) }
+// Whether all of these have a printed text.
+fn are_printable(values: &[Value]) -> bool
+    ensures { result ≡ list_all (λ v. is_printable (data_of v)) values.now }
 {
-    let mut line = String::new(alloc);
-    for (i, value) in values.iter().enumerate() {
-        let text = match printed(alloc, value)? {
-            Ok(text) => text,
-            Err(refusal) => return Ok(Err(refusal)),
-        };
-        if i > 0 {
-            line.push_str(" ")?;
-        }
-        line.push_str(text.as_str())?;
-    }
-    Ok(Ok(line))
+    values.iter().all(|value| is_printable(value))
 }
 
-// A line of a text between two others.
-fn line_of(alloc: Global, start: &str, text: &str) -> Result<String, AllocError>
-    ensures { IfOk result (λ line. string_bytes line ≡ (start.now ++ text.now) ++ codes "\n") }
+// Nothing where all of these have a printed text, or the call is refused.
+fn need_printable<T: Tree, O: Outputs>(
+    caller: &Caller<'_, T, O>,
+    values: &[Value],
+) -> Result<(), Stop>
+    ensures { Carries (λ u. u) (need_printable (map data_of values.now)) (state_of T.seen O.seen caller.now) result
+        (state_of T.seen O.seen caller.now) }
 {
-    let mut line = String::from_str(alloc, start)?;
-    line.push_str(text)?;
-    line.push_str("\n")?;
-    Ok(line)
+    caller.need(are_printable(values), Refusal::Arguments, "")
+}
+
+// The text of a piece; a number's is put into the buffer.
+fn text_of<'b>(piece: Piece<'b>, buffer: &'b mut Buffer) -> &'b str
+    ensures { result.now ≡ piece_bytes piece.entry }
+{
+    match piece {
+        Piece::Text(text) => text,
+        Piece::Integer(integer) => buffer.format(integer),
+    }
+}
+
+// Logs a piece of what is printed.
+fn say_piece<T: Tree, O: Outputs>(
+    caller: &mut Caller<'_, T, O>,
+    piece: Piece<'_>,
+) -> Result<(), Stop>
+    requires { HasRoom (state_of T.seen O.seen caller.old) }
+    ensures { Carries (λ u. u) (say (piece_bytes piece.entry)) (state_of T.seen O.seen caller.old) result
+        (state_of T.seen O.seen caller.new) }
+{
+    let mut buffer = Buffer::new();
+    caller.say(text_of(piece, &mut buffer))
+}
+
+// Logs what a value is printed as, piece by piece: the whole may be longer than a text can be.
+fn say_value<T: Tree, O: Outputs>(caller: &mut Caller<'_, T, O>, value: &Value) -> Result<(), Stop>
+    requires { HasRoom (state_of T.seen O.seen caller.old) }
+    ensures { Carries (λ u. u) (say (shown (data_of value.now))) (state_of T.seen O.seen caller.old) result
+        (state_of T.seen O.seen caller.new) }
+{
+    let mut printer = Printer::new(caller.alloc, value)?;
+    while let Some(piece) = printer.next()? {
+        say_piece(caller, piece)?;
+    }
+    Ok(())
+}
+
+// Logs values, with a space before each.
+fn say_others<T: Tree, O: Outputs>(
+    caller: &mut Caller<'_, T, O>,
+    values: &[Value],
+) -> Result<(), Stop>
+    requires { HasRoom (state_of T.seen O.seen caller.old) }
+    ensures { Carries (λ u. u) (say_each (behind_spaces (map data_of values.now))) (state_of T.seen O.seen caller.old) result
+        (state_of T.seen O.seen caller.new) }
+{
+    for value in values {
+        caller.say(" ")?;
+        say_value(caller, value)?;
+    }
+    Ok(())
+}
+
+// Logs values, with a space between each two.
+fn say_values<T: Tree, O: Outputs>(
+    caller: &mut Caller<'_, T, O>,
+    values: &[Value],
+) -> Result<(), Stop>
+    requires { HasRoom (state_of T.seen O.seen caller.old) }
+    ensures { Carries (λ u. u) (say (line_of (map data_of values.now))) (state_of T.seen O.seen caller.old) result
+        (state_of T.seen O.seen caller.new) }
+{
+    let Some((first, others)) = values.split_first() else {
+        return Ok(());
+    };
+    say_value(caller, first)?;
+    say_others(caller, others)
+}
+
+// Logs a line that begins so.
+fn say_line<T: Tree, O: Outputs>(
+    caller: &mut Caller<'_, T, O>,
+    start: &str,
+    values: &[Value],
+) -> Result<(), Stop>
+    requires { HasRoom (state_of T.seen O.seen caller.old) }
+    ensures { Carries (λ u. u) (say (start.now ++ (line_of (map data_of values.now) ++ codes "\n"))) (state_of T.seen O.seen caller.old)
+        result (state_of T.seen O.seen caller.new) }
+{
+    caller.say(start)?;
+    say_values(caller, values)?;
+    caller.say("\n")
 }
 
 // A line of the log, which begins so.
@@ -53,10 +132,53 @@ fn logged<T: Tree, O: Outputs>(
     ensures { Carries (option_map data_of) (logged start.now (arguments_data arguments.now)) (state_of T.seen O.seen caller.old) result
         (state_of T.seen O.seen caller.new) }
 {
-    let text = caller.answered(printed_all(caller.alloc, &arguments.positional)?)?;
-    let line = line_of(caller.alloc, start, text.as_str())?;
-    caller.say(line.as_str())?;
+    need_printable(caller, &arguments.positional)?;
+    say_line(caller, start, &arguments.positional)?;
     Ok(None)
+}
+
+// Puts a piece of what is printed behind a text.
+fn put_piece(text: &mut String, piece: Piece<'_>) -> Result<(), AllocError>
+    ensures { OnOk result (string_bytes text.new ≡ string_bytes text.old ++ piece_bytes piece.entry) }
+{
+    let mut buffer = Buffer::new();
+    text.push_str(text_of(piece, &mut buffer))?;
+    Ok(())
+}
+
+// Puts what a value is printed as behind a text, however long that becomes.
+fn put_value(alloc: Global, text: &mut String, value: &Value) -> Result<(), AllocError>
+    ensures { OnOk result (string_bytes text.new ≡ string_bytes text.old ++ shown (data_of value.now)) }
+{
+    let mut printer = Printer::new(alloc, value)?;
+    while let Some(piece) = printer.next()? {
+        put_piece(text, piece)?;
+    }
+    Ok(())
+}
+
+// Puts values behind a text, with a space before each.
+fn put_others(alloc: Global, text: &mut String, values: &[Value]) -> Result<(), AllocError>
+    ensures { OnOk result (string_bytes text.new ≡ string_bytes text.old ++ whole (behind_spaces (map data_of values.now))) }
+{
+    for value in values {
+        text.push_str(" ")?;
+        put_value(alloc, text, value)?;
+    }
+    Ok(())
+}
+
+// What is printed of values, with a space between each two, however long that is.
+fn line_of(alloc: Global, values: &[Value]) -> Result<String, AllocError>
+    ensures { IfOk result (λ line. string_bytes line ≡ line_of (map data_of values.now)) }
+{
+    let mut line = String::new(alloc);
+    let Some((first, others)) = values.split_first() else {
+        return Ok(line);
+    };
+    put_value(alloc, &mut line, first)?;
+    put_others(alloc, &mut line, others)?;
+    Ok(line)
 }
 
 /// `message(values..)`
@@ -91,7 +213,8 @@ pub fn error<T: Tree, O: Outputs>(
     ensures { Carries (option_map data_of) (error (arguments_data arguments.now)) (state_of T.seen O.seen caller.now) result
         (state_of T.seen O.seen caller.now) }
 {
-    let text = caller.answered(printed_all(caller.alloc, &arguments.positional)?)?;
+    need_printable(caller, &arguments.positional)?;
+    let text = line_of(caller.alloc, &arguments.positional)?;
     caller.refuse(Refusal::Message, text.as_str())
 }
 
