@@ -1,5 +1,7 @@
 -- What sources a call names: texts that are paths of the tree, files, custom targets and their outputs.
-use Rattle.std.specs.Prelude.{ℕ, true, false, List, [], ◌∷◌, ◌++◌, Option, Some, None, option_map}
+use Rattle.std.specs.Prelude.{ℕ, nat_eq, Bool, true, false, not, ◌||◌, List, [], ◌∷◌, ◌++◌, codes, Option, Some, None, option_map, if◌then◌else◌}
+use Rattle.std.specs.List.{ends_with}
+use Rattle.std.specs.Str.{bytes_eq}
 use Rattle.data.specs.Data.{Data, text, object}
 use Rattle.data.specs.declared.object.Object.{Object}
 use Rattle.data.specs.declared.object.Object.TheVariants as objects
@@ -22,10 +24,18 @@ of_object (objects.CustomTarget number count) = Some (outputs number)
 of_object (objects.CustomOutput target place) = Some (output target place)
 of_object _ = None
 
+-- the text ends so, or is nothing else
+abbrev pub ends_in : List ℕ → List ℕ → Bool
+ends_in t part = bytes_eq t part || ends_with nat_eq t (codes "/" ++ part)
+
+-- the last part of a text is a name, and so the path that it stands for ends as the text does
+abbrev pub ends_in_name : List ℕ → Bool
+ends_in_name t = not (ends_in t [] || (ends_in t (codes ".") || ends_in t (codes "..")))
+
 -- the source that a value names in a definition file of a folder; none where the value is of another kind, or a text that names no file
 -- of the tree
 abbrev pub source_of : List ℕ → List ℕ → Data → Option NamedData
-source_of source_root folder (text t) = option_map tree (tree_path source_root folder t)
+source_of source_root folder (text t) = if ends_in_name t then option_map tree (tree_path source_root folder t) else None
 source_of source_root folder (object o) = of_object o
 source_of source_root folder _ = None
 

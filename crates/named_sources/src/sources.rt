@@ -1,7 +1,8 @@
 //! The sources that a call names.
-ghost use Rattle.std.specs.Prelude.{◌≡◌, IfOk, map, option_map};
+ghost use Rattle.std.specs.Prelude.{◌≡◌, ◌++◌, IfOk, None, codes, nat_eq, map, option_map, if◌then◌else◌};
+ghost use Rattle.std.specs.List.{ends_with};
 ghost use Rattle.data.specs.View.{data_of};
-ghost use Rattle.named_sources.specs.Sources.{of_object, source_of, sources_of, tree};
+ghost use Rattle.named_sources.specs.Sources.{ends_in, ends_in_name, of_object, source_of, sources_of, tree};
 ghost use Rattle.paths.specs.Paths.{tree_path};
 ghost use Rattle.named_sources.specs.SourcesView.{named_view, named_views};
 
@@ -42,6 +43,29 @@ fn of_object(alloc: Global, object: &Object) -> Result<Option<NamedSource>, Allo
     }
 }
 
+// Whether a text ends so.
+#[tactic(auto, using(std::proofs::lemmas::Str::Pattern::ends_text))]
+fn ends_with(text: &str, end: &str) -> bool
+    ensures { result ≡ ends_with nat_eq text.now end.now }
+{
+    text.ends_with(end)
+}
+
+// Whether a text ends so, of which the first byte is a slash, or is what stands behind that.
+fn ends_in(text: &str, part: &str, end: &str) -> bool
+    requires { end.now ≡ codes "/" ++ part.now }
+    ensures { result ≡ ends_in text.now part.now }
+{
+    text == part || ends_with(text, end)
+}
+
+// Whether the last part of a text is a name.
+fn ends_in_name(text: &str) -> bool
+    ensures { result ≡ ends_in_name text.now }
+{
+    !(ends_in(text, "", "/") || (ends_in(text, ".", "/.") || ends_in(text, "..", "/..")))
+}
+
 fn of_text(
     alloc: Global,
     source_root: &str,
@@ -49,8 +73,11 @@ fn of_text(
     text: &str,
 ) -> Result<Option<NamedSource>, AllocError>
     ensures { IfOk result (λ s. option_map named_view s
-        ≡ option_map tree (tree_path source_root.now folder.now text.now)) }
+        ≡ (if ends_in_name text.now then option_map tree (tree_path source_root.now folder.now text.now) else None)) }
 {
+    if !ends_in_name(text) {
+        return Ok(None);
+    }
     match tree_path(alloc, source_root, folder, text)? {
         Some(path) => Ok(Some(NamedSource::Tree(path))),
         None => Ok(None),
