@@ -1,4 +1,4 @@
-use Rattle.std.proofs.Common.{◌≡◌, Ok, string_bytes, sym, ap, ◌∙◌}
+use Rattle.std.proofs.Common.{◌≡◌, Ok, string_bytes}
 use Rattle.data.specs.Limits.{within_bytes}
 use Rattle.named_sources.proofs.FilesBehind.{files_more}
 use Rattle.named_sources.proofs.values.files.Goals as goal
