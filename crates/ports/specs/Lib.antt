@@ -4,5 +4,6 @@ pub mod MemOutputs
 pub mod MemTree
 pub mod Outputs
 pub mod Plan
+pub mod Reading
 pub mod Slots
 pub mod Tree
