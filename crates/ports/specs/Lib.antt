@@ -1,4 +1,5 @@
 pub mod DiskOutputs
+pub mod DiskTree
 pub mod Endings
 pub mod MemOutputs
 pub mod MemTree
