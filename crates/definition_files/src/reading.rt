@@ -1,6 +1,7 @@
 //! The bytes of a definition file.
-ghost use Rattle.std.specs.Prelude.{◌≡◌, ℕ, ◌≤◌, List, length, IfOk};
+ghost use Rattle.std.specs.Prelude.{◌≡◌, ℕ, ◌≤◌, List, length, take, IfOk};
 ghost use Rattle.ports.specs.Endings.{HasRoom, ended};
+ghost use Rattle.ports.specs.Reading.{GivenWhole};
 ghost use Rattle.ports.specs.Tree.{bytes_at, Asks, Stays};
 ghost use Rattle.world.specs.Gives.{Holds, failures_after};
 ghost use Rattle.definition_files.specs.Files.{line_at, refusal_of};
@@ -19,6 +20,7 @@ fn fill<T: Tree>(tree: &mut T, path: &str, buffer: &mut [u8]) -> Result<usize, D
     ensures bytes { (files : List (List ℕ × List ℕ)) → Holds (T.seen tree.old) files
         → length buffer.old ≡ length (bytes_at files path.now)
         → IfOk result (λ n. (n ≡ length buffer.old) × (buffer.new ≡ bytes_at files path.now)) }
+    ensures given { IfOk result (λ n. GivenWhole T.gives path.now (length buffer.old) tree.old (take n buffer.new) tree.new) }
     ensures asks { Asks (T.seen tree.old) (ended result) (T.seen tree.new) }
 {
     let mut at = 0;
@@ -32,7 +34,7 @@ fn fill<T: Tree>(tree: &mut T, path: &str, buffer: &mut [u8]) -> Result<usize, D
     Ok(at)
 }
 
-/// The first bytes of the file at this path, at most `size` of them.
+/// The first bytes of the file at this path, at most `size` of them. Of a file that ends before them they are all that it has.
 pub fn read_file<T: Tree>(
     alloc: Global,
     tree: &mut T,
@@ -42,6 +44,10 @@ pub fn read_file<T: Tree>(
     requires { HasRoom (T.seen tree.old).failures }
     ensures bytes { (files : List (List ℕ × List ℕ)) → Holds (T.seen tree.old) files → size ≡ length (bytes_at files path.now)
         → IfOk result (λ bytes. bytes.items ≡ bytes_at files path.now) }
+
+    // Of any tree, steady or not: just the bytes that the tree gave. No byte behind the size is asked for, and an earlier end is the end.
+    ensures given { IfOk result (λ bytes. GivenWhole T.gives path.now size tree.old bytes.items tree.new) }
+    ensures within { IfOk result (λ bytes. length bytes.items ≤ size) }
     ensures no_fault { IsNoFault result }
     ensures stays { Stays (T.seen tree.old) (T.seen tree.new) }
     ensures failures { (T.seen tree.new).failures ≡ failures_after (T.seen tree.old).failures result }

@@ -7,6 +7,7 @@ pub mod Chains
 pub mod TernaryLines
 pub mod Ends
 pub mod ExpressionTails
+pub mod EveryText
 pub mod Expressions
 pub mod Files
 pub mod Gathered

@@ -138,7 +138,7 @@ cases_parsed : (r : Result FileTree SyntaxFault) → ((t : FileTree) × (r ≡ O
 cases_parsed (Ok t) = inl (t, refl)
 cases_parsed (Err g) = inr (g, refl)
 
-parsed_faulty : (source : List ℕ) (f : SyntaxFault) → HasFault source f → parsed source ≡ Err f
+pub parsed_faulty : (source : List ℕ) (f : SyntaxFault) → HasFault source f → parsed source ≡ Err f
 parsed_faulty source f h = elim (cases_parsed (parsed source)) [
   | inl w ↦ absurd (no_file_by source f.kind f.line w.0 h (parsed_spelled source w.0 w.1))
   | inr w ↦ w.1 ∙ ap (λ (g : SyntaxFault). Err g) (one_fault source w.0 f (parsed_fault source w.0 w.1) h)

@@ -2,6 +2,7 @@ pub mod Expressions
 pub mod ExpressionTree
 pub mod Form
 pub mod Grammar
+pub mod Laws
 pub mod Outcome
 pub mod Parsed
 pub mod Parts

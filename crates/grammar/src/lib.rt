@@ -32,9 +32,11 @@
 //! are short. `bench/README.md` has what files of some shapes take. Time is linear.
 #![tactic(auto)]
 
+mod law;
 mod parser;
 mod stop;
 pub mod tree;
 
+pub use law::texts_are_parsed;
 pub use lexer::{fault, token, tokens};
 pub use parser::{LEVELS, parse};

@@ -4,6 +4,7 @@ pub mod Cutting
 pub mod Digits
 pub mod Escapes
 pub mod Escaping
+pub mod EveryText
 pub mod Frames
 pub mod Gaps
 pub mod Lexemes

@@ -1,6 +1,7 @@
 pub mod Bytes
 pub mod Escapes
 pub mod Kinds
+pub mod Laws
 pub mod Lexeme
 pub mod Lexing
 pub mod Numbers

@@ -24,6 +24,7 @@ mod cut;
 mod escape;
 pub mod fault;
 mod gap;
+mod law;
 mod number;
 mod numeral;
 mod string;
@@ -34,5 +35,6 @@ mod word;
 
 pub use bytes::newlines;
 pub use cut::tokens;
+pub use law::{texts_are_lexed, tokens_stand_for_texts};
 pub use numeral::magnitude;
 pub use text::{text_of, text_of_slice};

@@ -4,3 +4,4 @@ pub mod Parsing
 pub mod Shell
 pub mod Known
 pub mod BuiltInRows
+pub mod EveryText

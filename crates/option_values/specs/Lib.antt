@@ -10,3 +10,4 @@ pub mod Texts
 pub mod Given
 pub mod WordsView
 pub mod Shell
+pub mod Laws

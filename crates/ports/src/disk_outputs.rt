@@ -1,6 +1,6 @@
 ghost use Rattle.std.specs.Prelude.{◌≡◌, ◌≤◌, ◌<◌, [], Some, false, length, is_ok, IfOk, OnOk, string_bytes, if◌then◌else◌};
 ghost use Rattle.std.specs.Option.{option_map};
-ghost use Rattle.ports.specs.DiskOutputs.{name_of, untold_state};
+ghost use Rattle.ports.specs.DiskOutputs.{disk_state, name_of};
 ghost use Rattle.ports.specs.Outputs.{OutputState};
 
 use crate::disk_file::{DiskOutput, begin_output, finish_output};
@@ -187,7 +187,7 @@ impl<'a, R: Files<File = File>, L: Write + Drop, F: Write + Drop> DiskOutputs<'a
 
 impl<'a, R: Files<File = File>, L: Write + Drop, F: Write + Drop> Outputs
     for DiskOutputs<'a, R, L, F> {
-    ghost seen = { λ d. untold_state d.current d.failures };
+    ghost seen = { λ d. disk_state d.current d.failures };
 
     fn failures(&self) -> u64 {
         self.failures

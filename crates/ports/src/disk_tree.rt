@@ -1,5 +1,5 @@
-ghost use Rattle.std.specs.Prelude.{◌≡◌, ◌≤◌, [], false, length, IfOk};
-ghost use Rattle.ports.specs.Tree.{TreeState};
+ghost use Rattle.std.specs.Prelude.{◌≡◌, ◌≤◌, length, string_bytes, IfOk};
+ghost use Rattle.ports.specs.DiskTree.{disk_state};
 
 use crate::{DeviceFault, Tree};
 use std::alloc::{AllocError, Global};
@@ -103,7 +103,7 @@ impl<'a, R: Files> DiskTree<'a, R> {
 }
 
 impl<'a, R: Files> Tree for DiskTree<'a, R> {
-    ghost seen = { λ t. record { files = []; failures = t.failures; steady = false } };
+    ghost seen = { λ t. disk_state (string_bytes t.folder) t.failures };
 
     fn failures(&self) -> u64 {
         self.failures

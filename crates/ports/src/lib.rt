@@ -7,8 +7,9 @@
 //! Contracts see a device as plain data. A tree is seen as its files, the count of its failures and whether it is *steady*: while it
 //! is, each call answers from the files and leaves them as they are. Outputs are seen as the list of their *events*, the name of the
 //! open output, the count of their failures and whether they *tell*: while they do, each call adds to the list what its answer says.
-//! [`MemTree`] is always steady and [`MemOutputs`] always tell; of a disk, [`DiskTree`] and [`DiskOutputs`] state neither, so what is
-//! proved of the bytes holds there as far as the disk is honest.
+//! [`MemTree`] is always steady and [`MemOutputs`] always tell. Of a disk no program knows either, so for [`DiskTree`] and [`DiskOutputs`]
+//! both are closed: nothing states them, and nothing denies them. What is proved of the bytes holds of a disk of which the user knows that
+//! nobody writes the files meanwhile, and that it takes what it says it took.
 //!
 //! An [`Event`] is one byte of an output, of the log or of a fault's line, or that an output was begun or ended. Outputs, log and
 //! fault lines share one list, so it has their order. What a call writes is stated as a list of *steps*, which are events without the

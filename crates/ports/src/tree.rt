@@ -1,4 +1,4 @@
-ghost use Rattle.std.specs.Prelude.{◌≡◌, ◌≤◌, length, IsTrue, IfOk};
+ghost use Rattle.std.specs.Prelude.{◌≡◌, ℕ, ◌≤◌, List, Option, length, take, IsTrue, IfOk, ⊤};
 ghost use Rattle.std.specs.Option.{option_map};
 ghost use Rattle.ports.specs.Endings.{HasRoom, ended};
 ghost use Rattle.ports.specs.Tree.{TreeState, file_at, bytes_at, Asks, Reads};
@@ -10,8 +10,18 @@ use crate::DeviceFault;
 /// It is seen as its files, a finite map from paths to bytes; the count of its failures; and whether it is `steady`. While a tree is
 /// steady, each call answers from the map, or with a device fault, and leaves the map as it is. What the calls say of bytes and
 /// sizes holds of steady trees; the rest holds of every tree, also of one that answers as it likes.
+///
+/// What a call answered is told by `tells_size` and `gives`, also by a tree that is not steady. A function over any tree knows nothing of
+/// these two but what its own calls told, so by them its contract says which calls it made and what they gave (`GivenWhole`).
 pub trait Tree {
     ghost seen: { Self → TreeState };
+
+    // From the first state, a call of `size` for this path told this size, and left the second state.
+    ghost tells_size: { Self → List ℕ → Option ℕ → Self → Type 0 } = { λ _ _ _ _. ⊤ };
+
+    // From the first state, a call of `read_at` for this path, from this place on and for at most so many bytes, gave these bytes, and
+    // left the second state.
+    ghost gives: { Self → List ℕ → ℕ → ℕ → List ℕ → Self → Type 0 } = { λ _ _ _ _ _ _. ⊤ };
 
     /// How many calls have failed. A device fault adds one to the count, and nothing else changes it. Each call asks that the count
     /// is below its last value.
@@ -23,6 +33,7 @@ pub trait Tree {
         requires { HasRoom (seen self.old).failures }
         ensures size { IsTrue (seen self.old).steady
             → IfOk result (λ size. size ≡ option_map length (file_at (seen self.old).files path.now)) }
+        ensures tells { IfOk result (λ size. tells_size self.old path.now size self.new) }
         ensures asks { Asks (seen self.old) (ended result) (seen self.new) };
 
     /// Reads bytes of the file at this path, from the place `at` on, into the front of the buffer, and says how many: at least one
@@ -32,5 +43,6 @@ pub trait Tree {
         ensures within { IfOk result (λ n. n ≤ length buf.old) }
         ensures bytes { IsTrue (seen self.old).steady
             → IfOk result (λ n. Reads (bytes_at (seen self.old).files path.now) at (length buf.old) n buf.new) }
+        ensures gives { IfOk result (λ n. gives self.old path.now at (length buf.old) (take n buf.new) self.new) }
         ensures asks { Asks (seen self.old) (ended result) (seen self.new) };
 }

@@ -1,4 +1,5 @@
 use Rattle.std.proofs.Common.{◌≡◌, ℕ, ◌-◌, ◌≤◌, List, length, take}
+use Rattle.ports.specs.Reading.{Given}
 use Rattle.ports.specs.Tree.{bytes_at, Stays}
 use Rattle.world.specs.Gives.{Holds}
 use Rattle.definition_files.proofs.reading.fill.Given as goal
@@ -9,6 +10,7 @@ invariant-loop-at g l = record {
   stays : Stays (g.T.Tree.seen l.fn.tree) (g.T.Tree.seen l.tree);
   failures : (g.T.Tree.seen l.tree).failures ≡ (g.T.Tree.seen l.fn.tree).failures;
   bytes : (files : List (List ℕ × List ℕ)) → Holds (g.T.Tree.seen l.fn.tree) files → take l.at l.buffer ≡ take l.at (bytes_at files l.path);
+  given : Given g.T.Tree.gives l.path (length l.initial.buffer) l.fn.tree (take l.at l.buffer) l.tree;
 }
 
 abbrev pub decreases-loop-at : goal.decreases-loop-at

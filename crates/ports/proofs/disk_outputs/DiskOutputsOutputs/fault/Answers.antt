@@ -1,10 +1,11 @@
-use Rattle.std.proofs.Common.{refl, sym, ◌∙◌}
+use Rattle.std.proofs.Common.{sym, ◌∙◌}
 use Rattle.ports.proofs.Sending.{failures_failed, failures_whole}
+use Rattle.ports.specs.DiskOutputs.Closed.{nothing_owed}
 use Rattle.ports.proofs.Untold.{untold_faults}
 use Rattle.ports.proofs.disk_outputs.DiskOutputsOutputs.fault.Goals as goal
 
 pub returns-then-is_err-clause-took : goal.returns-then-is_err-clause-took
-returns-then-is_err-clause-took g c = untold_faults _ refl c.write_fault-taken.ensures.name (failures_failed _ _ (sym c.is_err.ensures.value ∙ c.if-is_err.true))
+returns-then-is_err-clause-took g c = untold_faults _ nothing_owed c.write_fault-taken.ensures.name (failures_failed _ _ (sym c.is_err.ensures.value ∙ c.if-is_err.true))
 
 pub returns-else-is_err-clause-took : goal.returns-else-is_err-clause-took
-returns-else-is_err-clause-took g c = untold_faults _ refl c.write_fault-taken.ensures.name (failures_whole _ _ (sym c.is_err.ensures.value ∙ c.if-is_err.false))
+returns-else-is_err-clause-took g c = untold_faults _ nothing_owed c.write_fault-taken.ensures.name (failures_whole _ _ (sym c.is_err.ensures.value ∙ c.if-is_err.false))

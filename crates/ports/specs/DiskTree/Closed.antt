@@ -1,0 +1,8 @@
+-- What this crate alone knows of the closed definitions: by it the calls of a tree on a disk owe nothing to whoever holds it for steady.
+use Rattle.std.specs.Prelude.{ℕ, IsTrue, List}
+use Rattle.std.proofs.lemmas.Bool.{false≢true}
+use Rattle.ports.specs.DiskTree.{are_steady}
+
+pub owes_nothing : {owed : Type 0} (folder : List ℕ) → IsTrue (are_steady folder) → owed
+unfolding are_steady
+owes_nothing folder is = absurd (false≢true is)
