@@ -8,3 +8,4 @@ pub mod Tables
 pub mod Same
 pub mod Builder
 pub mod Flat
+pub mod Few

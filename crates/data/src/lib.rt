@@ -11,6 +11,7 @@
 
 mod equal;
 mod flat_texts;
+mod laws;
 mod object;
 mod opening;
 mod refusal;
@@ -19,6 +20,7 @@ mod value;
 
 pub use equal::{equal_objects, is_equal};
 pub use flat_texts::{are_texts, flat, flat_all, is_texts};
+pub use laws::values_have_few_items;
 pub use object::{Dependency, Feature, Numbers, Object, Program, Source, Sources};
 pub use opening::{opened, opened_all};
 pub use refusal::Refusal;

@@ -17,6 +17,7 @@ use Rattle.project.specs.declared.refusal.Refusal.{Refusal}
 use Rattle.project.specs.declared.refusal.Refusal.TheVariants.{Arguments, Missing, Unholdable}
 use Rattle.project.proofs.PathLists.{times-append, times_absent}
 use Rattle.project.proofs.EdgeOrder.{holds_append}
+use Rattle.project.proofs.Earlier.{back_next}
 use Rattle.project.proofs.NextMade.{next_made}
 use Rattle.project.proofs.NextInside.{next_inside}
 
@@ -104,4 +105,5 @@ module _ (w : WorldData) (t : TargetData) (ns : List ℕ) (es : List EdgeData) (
         made = ap (all_made known) swap ∙ next_made s w.targets w.outputs w.present t h.1 there;
         inside = ap (λ x. all_inside (outputs_of x)) swap ∙ next_inside s (linked_of w.targets) t h.0;
         writable = ap are_writable (sym e) ∙ wr;
+        back = back_next s w.targets w.outputs t h.0 h.1;
       }

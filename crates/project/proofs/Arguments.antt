@@ -9,8 +9,11 @@ use Rattle.targets.specs.Libraries.{LinkedData, linked}
 use Rattle.target_edges.specs.Edges.{edges_of, edges_after, all_edges}
 use Rattle.project.specs.Laws.{outputs_of, times, all_made, all_inside}
 use Rattle.project.specs.World.{reserved, known_of}
+use Rattle.std.specs.Prelude.{◌&&◌, ◌||◌}
+use Rattle.std.proofs.lemmas.List.Folds.{list_any-append}
+use Rattle.project.specs.Earlier.{refers_back, all_refer_back}
 use Rattle.project.specs.Whole.{targets_in, IsWhole}
-use Rattle.project.specs.Adding.{is_build, arguments_answer, after_answer}
+use Rattle.project.specs.Adding.{is_build, sources_of, is_made_source, arguments_answer, after_answer}
 use Rattle.project.specs.World.{WorldData}
 use Rattle.project.specs.declared.refusal.Refusal.{Refusal}
 use Rattle.project.specs.declared.refusal.Refusal.TheVariants.{Late, Unholdable}
@@ -29,6 +32,16 @@ edges_same s cs bs [] earlier e = refl
 edges_same s cs bs (Build t ∷ ts) earlier e = absurd cc
 edges_same s cs bs (Custom t ∷ ts) earlier e = ap (λ es. edges_of s earlier (linked earlier (Custom t)) ++ es) (edges_same s cs bs ts (earlier ++ linked earlier (Custom t) ∷ []) e)
 
+back_same : (s : SurroundingsData) (outputs : List Path) (cs bs : List Text) (earlier ts : List TargetData) → list_any is_build earlier ≡ false → list_any is_build ts ≡ false
+    → all_refer_back (with_words s cs bs) outputs earlier ts ≡ all_refer_back s outputs earlier ts
+back_same s outputs cs bs earlier [] e f = refl
+back_same s outputs cs bs earlier (Build t ∷ ts) e f = absurd cc
+back_same s outputs cs bs earlier (Custom t ∷ ts) e f =
+    let rest = all_refer_back (with_words s cs bs) outputs (earlier ++ Custom t ∷ []) ts in
+    ap (λ es. list_all (is_made_source (λ p. holds p (outputs_of es ++ outputs))) (sources_of (Custom t)) && rest) (edges_same s cs bs earlier [] e)
+    ∙ ap (λ b. refers_back s outputs earlier (Custom t) && b)
+    (back_same s outputs cs bs (earlier ++ Custom t ∷ []) ts (list_any-append is_build earlier (Custom t ∷ []) ∙ ap (λ b. b || false) e) f)
+
 pub whole_with_words : (s : SurroundingsData) (ls : List LinkedData) (outputs present kept : List Path) (cs bs : List Text) → IsWhole s ls outputs present kept → list_any is_build (targets_in ls) ≡ false
     → IsWhole (with_words s cs bs) ls outputs present kept
 whole_with_words s ls outputs present kept cs bs w e =
@@ -41,6 +54,7 @@ whole_with_words s ls outputs present kept cs bs w e =
       inside = ap (λ es. all_inside (outputs_of es)) same ∙ w.inside;
       outputs_inside = w.outputs_inside;
       writable = ap are_writable same ∙ w.writable;
+      back = back_same s outputs cs bs [] (targets_in ls) refl e ∙ w.back;
     }
 
 -- ---- what is answered

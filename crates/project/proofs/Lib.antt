@@ -1,6 +1,7 @@
 pub mod PathLists
 pub mod SourceTests
 pub mod EdgeOrder
+pub mod Earlier
 pub mod NextMade
 pub mod NextInside
 pub mod Placing

@@ -14,12 +14,14 @@ use Rattle.targets.specs.Libraries.{LinkedData, linked, linked_after, linked_of}
 use Rattle.target_edges.specs.Edges.{edges_of, edges_after, all_edges}
 use Rattle.project.specs.Laws.{outputs_of, all_new, times, AtMostOnce, all_held, all_made, all_inside}
 use Rattle.project.specs.World.{WorldData, reserved, made_of, taken_of, known_of, taken_in}
+use Rattle.project.specs.Earlier.{all_refer_back}
 use Rattle.project.specs.Whole.{SamePaths, targets_in, IsWhole, IsNext}
 use Rattle.project.specs.Adding.{place_answer, with_target, after_answer}
 use Rattle.project.specs.declared.refusal.Refusal.{Refusal}
 use Rattle.project.specs.declared.refusal.Refusal.TheVariants.{Limit, Duplicate}
 use Rattle.project.specs.View.{NotesData, world_of}
 use Rattle.project.proofs.PathLists.{all_new_same, once_all_new, times-append}
+use Rattle.project.proofs.Earlier.{back_push, back_grown}
 use Rattle.project.proofs.EdgeOrder.{both, or_cases, list_all-joined, holds_append, holds_left, holds_right, made_append, made_grown}
 
 linked_after-push : (earlier : List LinkedData) (ts : List TargetData) (t : TargetData)
@@ -121,6 +123,7 @@ module _ (s : SurroundingsData) (ls : List LinkedData) (outputs present kept now
             ∙ list_all-joined (λ p. not (is_upward p)) (outputs_of (all_edges s ts)) ps w.inside (ap all_inside n.paths_are ∙ n.inside);
         outputs_inside = w.outputs_inside;
         writable = ap are_writable edges_are ∙ list_all-joined is_writable (all_edges s ts) more w.writable n.writable;
+        back = ap (all_refer_back s outputs []) (targets-push ls l) ∙ back_push s outputs [] ts l.target w.back n.back;
       }
 
 -- ---- an output of its own
@@ -148,6 +151,7 @@ whole_with_output s ls outputs present kept now q w inside new e =
       inside = w.inside;
       outputs_inside = list_all-joined (λ p. not (is_upward p)) outputs (q ∷ []) w.outputs_inside (both (not (is_upward q)) true inside refl);
       writable = w.writable;
+      back = back_grown s outputs (q ∷ []) [] (targets_in ls) w.back;
     }
 
 -- ---- a file of the tree more
@@ -169,6 +173,7 @@ whole_with_present s ls outputs present now kept more w e =
       inside = w.inside;
       outputs_inside = w.outputs_inside;
       writable = w.writable;
+      back = w.back;
     }
 
 -- ---- nothing yet
@@ -182,6 +187,7 @@ whole_none s = record {
   inside = refl;
   outputs_inside = refl;
   writable = refl;
+  back = refl;
 }
 
 pub whole_empty : (s : SurroundingsData) (ls : List LinkedData) (outputs present kept : List Path) → ls ≡ [] → outputs ≡ [] → present ≡ [] → kept ≡ reserved → IsWhole s ls outputs present kept

@@ -1,5 +1,5 @@
 -- How a project keeps what it holds.
-use Rattle.std.specs.Prelude.{◌≡◌, true, List, ◌++◌, map, String}
+use Rattle.std.specs.Prelude.{◌≡◌, true, List, [], ◌++◌, map, String}
 use Rattle.std.specs.Global.{Global}
 use Rattle.edge.specs.Texts.{Path, holds}
 use Rattle.edge.specs.Data.{EdgeData}
@@ -9,6 +9,7 @@ use Rattle.targets.specs.Libraries.{LinkedData, linked, linked_of}
 use Rattle.target_edges.specs.Edges.{all_edges, edges_of}
 use Rattle.project.specs.Laws.{outputs_of, AtMostOnce, all_made, all_inside}
 use Rattle.project.specs.World.{taken_of, known_of}
+use Rattle.project.specs.Earlier.{refers_back, all_refer_back}
 
 -- the same paths, in any order
 abbrev pub SamePaths : List Path → List Path → Type 0
@@ -23,7 +24,7 @@ abbrev pub targets_in : List LinkedData → List TargetData
 targets_in ls = map (λ l. l.target) ls
 
 -- The kept libraries are those of the definition, the set has the paths that are taken, none is taken twice, each path that an edge needs
--- is there before it, no edge makes anything outside the build folder, and Ninja can hold each edge.
+-- is there before it, no edge makes anything outside the build folder, Ninja can hold each edge, and each target refers to earlier ones.
 pub record IsWhole (s : SurroundingsData) (ls : List LinkedData) (outputs present kept : List Path) : Type 0 where
   pub libraries : ls ≡ linked_of (targets_in ls)
   pub paths : SamePaths kept (taken_of s (targets_in ls) outputs)
@@ -32,6 +33,7 @@ pub record IsWhole (s : SurroundingsData) (ls : List LinkedData) (outputs presen
   pub inside : all_inside (outputs_of (all_edges s (targets_in ls))) ≡ true
   pub outputs_inside : all_inside outputs ≡ true
   pub writable : are_writable (all_edges s (targets_in ls)) ≡ true
+  pub back : all_refer_back s outputs [] (targets_in ls) ≡ true
 
 -- a target that fits behind these, with its edges
 pub record IsNext (s : SurroundingsData) (ts : List TargetData) (outputs present : List Path) (l : LinkedData)
@@ -41,3 +43,4 @@ pub record IsNext (s : SurroundingsData) (ts : List TargetData) (outputs present
   pub made : all_made (known_of s outputs present ++ outputs_of (all_edges s ts)) (edges_of s (linked_of ts) l) ≡ true
   pub inside : all_inside (outputs_of (edges_of s (linked_of ts) l)) ≡ true
   pub writable : are_writable (edges_of s (linked_of ts) l) ≡ true
+  pub back : refers_back s outputs ts l.target ≡ true

@@ -11,6 +11,6 @@ pub use fitting::{has_slash, is_file_name};
 pub use notes::{Answer, Install, Test};
 pub use project::{
     Project, edges, edges_are_writable, edges_stand_in_order, needs_are_made, no_circle,
-    outputs_differ,
+    outputs_differ, targets_refer_back,
 };
 pub use refusal::Refusal;

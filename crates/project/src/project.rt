@@ -6,6 +6,7 @@ ghost use Rattle.targets.specs.View.{facts_view, surroundings_view, target_view,
 ghost use Rattle.targets.specs.Libraries.{linked_of};
 ghost use Rattle.project.specs.View.{answer_view, install_view, test_view};
 ghost use Rattle.project.specs.Whole.{IsNext};
+ghost use Rattle.project.specs.Earlier.{refer_back};
 ghost use Rattle.project.specs.Adding.{is_fit, target_answer, after_target, place_answer, with_target, after_answer, target_fits};
 ghost use Rattle.project.specs.Adding.{output_answer, place_output_answer, with_output, with_present, with_absent, with_dependency};
 ghost use Rattle.project.specs.Adding.{with_install, with_test, edges_at, is_folder as is_folder_of, is_file_name as is_name};
@@ -503,6 +504,15 @@ pub fn needs_are_made(project: &Project)
 /// No edge reaches itself.
 pub fn no_circle(project: &Project)
     ensures { (i : ℕ) → ¬ Reaches (edges_in project.now) i i }
+{
+    let _ = &project.linked;
+}
+
+/// A target refers only to earlier targets: each number in its lists of libraries, its own and those of its dependencies, is that of a
+/// library before it, and each path that its sources name of the build folder is an output of an edge of a target before it, or is made
+/// by `configure_file`.
+pub fn targets_refer_back(project: &Project)
+    ensures { refer_back project.now ≡ true }
 {
     let _ = &project.linked;
 }
