@@ -29,7 +29,8 @@ is_earlier_library earlier n = nat_lt n (length earlier) && is_library_if (slice
 -- sources name of the build folder is an output of an edge of an earlier target, or is made by `configure_file`.
 abbrev pub refers_back : SurroundingsData → (outputs : List Path) → (earlier : List TargetData) → TargetData → Bool
 refers_back s outputs earlier t =
-    list_all (is_earlier_library earlier) (library_numbers t) && list_all (is_made_source (λ p. holds p (made_of s earlier outputs))) (sources_of t)
+    list_all (is_earlier_library earlier) (library_numbers t)
+    && list_all (is_made_source (λ p. holds p (made_of s earlier outputs))) (sources_of t)
 
 -- each of the targets that follow some earlier ones does
 abbrev pub all_refer_back : SurroundingsData → (outputs : List Path) → (earlier targets : List TargetData) → Bool
