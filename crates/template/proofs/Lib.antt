@@ -1,6 +1,7 @@
 pub mod Settings
 pub mod Define
 pub mod Passing
+pub mod Reading
 pub mod Scan
 pub mod Words
 pub mod Undoing

@@ -1,5 +1,6 @@
 pub mod Config
 pub mod ConfigData
+pub mod Given
 pub mod Header
 pub mod Line
 pub mod Scan

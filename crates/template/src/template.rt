@@ -1,7 +1,8 @@
-ghost use Rattle.std.specs.Prelude.{◌≡◌, ◌+◌, ◌-◌, ◌^◌, ◌<◌, ◌≤◌, ◌++◌, take, drop, length, nat_lt, IsTrue, IfOk};
+ghost use Rattle.std.specs.Prelude.{◌≡◌, ℕ, ◌+◌, ◌-◌, ◌^◌, ◌<◌, ◌≤◌, ◌++◌, List, take, drop, length, nat_lt, IsTrue, IfOk};
 ghost use Rattle.ports.specs.Endings.{HasRoom, ended, is_whole};
 ghost use Rattle.ports.specs.Outputs.{OutputState, IsOpen, Sends, Writes};
 ghost use Rattle.ports.specs.Tree.{TreeState, bytes_at, Asks, Stays};
+ghost use Rattle.template.specs.Given.{Gave, Passed, UnlessFailed};
 ghost use Rattle.template.specs.Line.{line_fault, line_steps};
 ghost use Rattle.template.specs.Template.{Agrees, Lacks, PassFailures, ending_of, fault_from, first_fault, lines_of, steps_from, template_fault, template_steps};
 
@@ -25,6 +26,19 @@ fn keep_rest(line: &mut [u8], start: usize, end: usize) -> usize
     end - start
 }
 
+/// How many bytes to ask for, where so many are left and there is so much room.
+fn wanted(left: u64, room: usize) -> usize
+    ensures left { result ≤ left }
+    ensures room { result ≤ room }
+    ensures some { 0 < left → 0 < room → 0 < result }
+{
+    if left < room as u64 {
+        left as usize
+    } else {
+        room
+    }
+}
+
 /// Reads some bytes of the file behind the first `filled` bytes of the line.
 fn fill<T: Tree>(
     tree: &mut T,
@@ -44,15 +58,12 @@ fn fill<T: Tree>(
         → IfOk result (λ n. take (filled + n) line.new ≡ take filled line.old ++ take n (drop at file)) }
     ensures some { let file = bytes_at (T.seen tree.old).files path.now in IsTrue (T.seen tree.old).steady
         → IfOk result (λ n. filled < length line.old → at < size → at < length file → 0 < n) }
+    ensures given { filled < length line.old
+        → IfOk result (λ n. Gave T.gives path.now size at tree.old (take n (drop filled line.new)) tree.new) }
     ensures asks { Asks (T.seen tree.old) (ended result) (T.seen tree.new) }
 {
-    let room = line.len() - filled;
     let left = size - at;
-    let want = if left < room as u64 {
-        left as usize
-    } else {
-        room
-    };
+    let want = wanted(left, line.len() - filled);
     if want == 0 {
         return Ok(0);
     }
@@ -64,6 +75,8 @@ fn has_more<T: Tree>(tree: &mut T, path: &str, at: u64, size: u64) -> Result<boo
     requires { HasRoom (T.seen tree.old).failures }
     ensures more { let file = bytes_at (T.seen tree.old).files path.now in IsTrue (T.seen tree.old).steady
         → size ≡ length file → IfOk result (λ more. more ≡ nat_lt at size) }
+    ensures given { IfOk result (λ more. (piece : List ℕ) × (more ≡ nat_lt 0 (length piece))
+        × Gave T.gives path.now size at tree.old piece tree.new) }
     ensures asks { Asks (T.seen tree.old) (ended result) (T.seen tree.new) }
 {
     if at >= size {
@@ -96,6 +109,10 @@ pub fn pass<T: Tree, O: Outputs>(
         → Sends (O.seen out.old) (O.seen out.new) (template_steps config.now.entries path.now file) (is_whole (ending_of result)) }
     ensures fault { IsTrue (T.seen tree.old).steady
         → Agrees result (template_fault (bytes_at (T.seen tree.old).files path.now)) }
+
+    // Of any tree, steady or not: the template is the bytes that the tree gave.
+    ensures given { UnlessFailed result (Passed T.tells_size T.gives config.now.entries path.now tree.old tree.new
+        (O.seen out.old) (O.seen out.new) result) }
     ensures name { (O.seen out.new).open_name ≡ (O.seen out.old).open_name }
     ensures stays { Stays (T.seen tree.old) (T.seen tree.new) }
     ensures failures { let tree_old = (T.seen tree.old).failures in

@@ -1,8 +1,9 @@
-use Rattle.std.proofs.Common.{arith, rules, ◌≡◌, ◌-◌, ◌≤◌, take, drop, length, refl, sym, append-nil, ◌++◌, ap, subst, ◌∙◌, unwrap_or, Err}
+use Rattle.std.proofs.Common.{arith, rules, ◌≡◌, ◌+◌, ◌-◌, ◌≤◌, ◌<◌, [], take, drop, length, refl, sym, append-nil, ◌++◌, ap, subst, ◌∙◌, unwrap_or, Err}
 use Rattle.ports.specs.Tree.{bytes_at, file_at}
 use Rattle.ports.proofs.Sending.{sends_none}
 use Rattle.template.specs.Template.{Lacks}
 use Rattle.template.proofs.Passing.{cut_at, file_goes_on, file_over, whole_kept, passing_fault, passing_as, passing_last, passing_line, passing_long, passing_start, passing_stop, size_is, exit_sends, exit_same, filled_more, filled_last, buffer_len, stays_then, file_past}
+use Rattle.template.proofs.Reading.{before, buffer_kept, buffer_more, piece_length, piece_none, piece_some, reading_as, reading_last, reading_line, reading_long, reading_more, reading_start, reading_stop}
 use Rattle.template.proofs.Scan.{lacks_all}
 use Rattle.template.proofs.template.pass.Goals as goal
 
@@ -18,6 +19,7 @@ lines-init g c = record {
   counted = omega arith;
   size = λ steady. c.unwrap_or-size.ensures ∙ ap (λ o. unwrap_or o 0) (c.in_ok-size.ensures.size steady) ∙ size_is (file_at (g.T.Tree.seen c.args.tree.now).files c.args.path.now);
   passing = λ steady. passing_start _ _ _ _;
+  reading = reading_start g.T.Tree.tells_size g.T.Tree.gives c.args.config.now.entries c.args.path.now c.args.tree.now (g.O.Outputs.seen c.args.out.now) _ _ _ c.in_ok-size.ensures.tells c.unwrap_or-size.ensures;
   stays = search rules;
   tree_failures = search rules;
   name = search rules;
@@ -55,6 +57,8 @@ lines-preserved-in-Some g c =
       counted = let range = cut.range in omega arith;
       size = inv.size;
       passing = λ steady. passing_line _ _ (passing_as (inv.passing steady) cut.rest) cut.lacks (rw cut.whole at c.in_ok-replace_line-in-Some.ensures.writes) (rw cut.whole at c.in_ok-replace_line-in-Some.ensures.fault);
+      reading = reading_line g.T.Tree.tells_size g.T.Tree.gives c.args.config.now.entries c.args.path.now c.args.tree.now (g.O.Outputs.seen c.args.out.now) c.lines.line c.lines.start c.lines.end c.in-Some.len inv.reading inv.ends inv.in_line c.in-Some.ensures
+          (rw cut.whole at c.in_ok-replace_line-in-Some.ensures.writes) (rw cut.whole at c.in_ok-replace_line-in-Some.ensures.fault);
       stays = inv.stays;
       tree_failures = inv.tree_failures;
       name = search rules;
@@ -178,8 +182,58 @@ lines-preserved g c =
           let read = c.in_ok-count-in-None.ensures.bytes (inv.stays.steady steady) in
           let read' = rw (inv.stays.files steady) at read in
           passing_as (inv.passing steady) (filled_more c.lines.line c.keep_rest-end.new.line c.fill.new.line file c.lines.start c.lines.end c.keep_rest-end.result c.lines.at n c.keep_rest-end.ensures.count c.keep_rest-end.ensures.rest read');
+      reading =
+          let to = c.keep_rest-end.result in
+          let now = c.fill.new.line in
+          let within : to + n ≤ length now = let read = c.in_ok-count-in-None.ensures.within in omega (arith, c.fill.auto.line) in
+          let room : to < length c.keep_rest-end.new.line = before _ _ (omega arith) c.if-end-line.false in
+          reading_as g.T.Tree.tells_size g.T.Tree.gives c.args.config.now.entries c.args.path.now c.args.tree.now (g.O.Outputs.seen c.args.out.now)
+          (reading_more g.T.Tree.tells_size g.T.Tree.gives c.args.config.now.entries c.args.path.now c.args.tree.now (g.O.Outputs.seen c.args.out.now) (take n (drop to now)) n inv.reading (c.in_ok-count-in-None.ensures.given room) (piece_length now to n within))
+          (buffer_more c.lines.line c.keep_rest-end.new.line now c.lines.start c.lines.end to n c.keep_rest-end.ensures.count c.keep_rest-end.ensures.rest c.in_ok-count-in-None.ensures.kept);
       stays = stays_then inv.stays c.in_ok-count-in-None.ensures.asks.stays;
       tree_failures = search rules;
       name = search rules;
       out_failures = search rules;
     }
+
+pub returns-in_err-replace_line-in-Some-clause-given : goal.returns-in_err-replace_line-in-Some-clause-given
+returns-in_err-replace_line-in-Some-clause-given g c =
+    let inv = c.lines.invariant in
+    let cut = cut_at c.lines.line [] c.lines.start c.lines.end c.in-Some.len inv.ends inv.in_line c.in-Some.ensures in
+    let x = c.in_err-replace_line-in-Some.field-0.0 in
+    let p = reading_stop g.T.Tree.tells_size g.T.Tree.gives c.args.config.now.entries c.args.path.now c.args.tree.now (g.O.Outputs.seen c.args.out.now) c.lines.line c.lines.start c.lines.end c.in-Some.len (Err x) refl inv.reading inv.ends inv.in_line c.in-Some.ensures
+    (rw cut.whole at c.in_err-replace_line-in-Some.ensures.writes) (rw cut.whole at c.in_err-replace_line-in-Some.ensures.fault) in
+    rw (exit_same _ x c.from_residual-in_err-replace_line-in-Some.ensures.1) p
+
+pub returns-then-branch-clause-given : goal.returns-then-branch-clause-given
+returns-then-branch-clause-given g c =
+    let inv = c.lines.invariant in
+    let buffer = take (c.lines.end - c.lines.start) (drop c.lines.start c.lines.line) in
+    let len : length buffer ≡ 65536 =
+    let n = buffer_len c.lines.line c.lines.start c.lines.end inv.ends inv.in_line in
+    let full = c.if-end-line.true in
+    let count = c.keep_rest-end.ensures.count in
+    let same = c.keep_rest-end.auto.line in
+    omega arith in
+    let gave = c.in_ok-has_more-in-None.ensures.given in
+    reading_long g.T.Tree.tells_size g.T.Tree.gives c.args.config.now.entries c.args.path.now c.args.tree.now (g.O.Outputs.seen c.args.out.now) buffer gave.0 inv.reading (lacks_all 10 buffer c.in-None.ensures) gave.2 (piece_some gave.0 _ gave.1 c.if-branch.true) len
+
+pub returns-then-end-line-clause-given : goal.returns-then-end-line-clause-given
+returns-then-end-line-clause-given g c =
+    let inv = c.lines.invariant in
+    let moved = c.keep_rest-end.new.line in
+    let kept = whole_kept c.lines.line moved c.lines.start c.lines.end _ c.keep_rest-end.ensures.count c.keep_rest-end.ensures.rest c.if-end-line.true in
+    let gave = c.in_ok-has_more-in-None.ensures.given in
+    reading_last g.T.Tree.tells_size g.T.Tree.gives c.args.config.now.entries c.args.path.now c.args.tree.now (g.O.Outputs.seen c.args.out.now) moved gave.0 c.put_last.result (reading_as g.T.Tree.tells_size g.T.Tree.gives c.args.config.now.entries c.args.path.now c.args.tree.now (g.O.Outputs.seen c.args.out.now) inv.reading kept) inv.in_file (piece_none gave.0 _ gave.1 c.if-branch.false) gave.2
+    c.put_last.ensures.writes c.put_last.ensures.fault
+
+pub returns-then-count-eq0-clause-given : goal.returns-then-count-eq0-clause-given
+returns-then-count-eq0-clause-given g c =
+    let inv = c.lines.invariant in
+    let to = c.keep_rest-end.result in
+    let now = c.fill.new.line in
+    let n = c.in_ok-count-in-None.count in
+    let room : to < length c.keep_rest-end.new.line = before _ _ (omega arith) c.if-end-line.false in
+    let same = buffer_kept c.lines.line c.keep_rest-end.new.line now c.lines.start c.lines.end to c.keep_rest-end.ensures.count c.keep_rest-end.ensures.rest c.in_ok-count-in-None.ensures.kept in
+    reading_last g.T.Tree.tells_size g.T.Tree.gives c.args.config.now.entries c.args.path.now c.args.tree.now (g.O.Outputs.seen c.args.out.now) (take to now) (take n (drop to now)) c.put_last-then-count-eq0.result (reading_as g.T.Tree.tells_size g.T.Tree.gives c.args.config.now.entries c.args.path.now c.args.tree.now (g.O.Outputs.seen c.args.out.now) inv.reading same) inv.in_file (ap (λ m. take m (drop to now)) c.if-count-eq0.true)
+    (c.in_ok-count-in-None.ensures.given room) c.put_last-then-count-eq0.ensures.writes c.put_last-then-count-eq0.ensures.fault
