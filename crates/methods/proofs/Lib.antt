@@ -1,3 +1,5 @@
 mod FormattedLemmas
 mod KeyLemmas
 mod TextListLemmas
+mod KeyOrders
+mod PlaceCounts

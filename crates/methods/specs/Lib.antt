@@ -9,3 +9,5 @@ pub mod FlatTexts
 pub mod Formatted
 pub mod TextMethods
 pub mod Methods
+pub mod KeyOrder
+pub mod PlaceNumbers

@@ -23,6 +23,7 @@ mod dictionaries;
 mod flattening;
 mod formatted;
 mod integers;
+mod laws;
 mod lists;
 mod methods;
 pub mod readers;
@@ -31,4 +32,5 @@ mod text_methods;
 
 pub use flattening::flat_texts;
 pub use formatted::format_text;
+pub use laws::{keys_ascend, places_count};
 pub use methods::{has_method, method};
