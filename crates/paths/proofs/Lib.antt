@@ -1,1 +1,2 @@
 pub mod PathTexts
+mod Examples

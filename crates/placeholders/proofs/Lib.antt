@@ -2,3 +2,4 @@ pub mod NameTexts
 pub mod Numbers
 pub mod Steps
 pub mod Places
+mod Examples

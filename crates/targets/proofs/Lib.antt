@@ -2,3 +2,4 @@ pub mod ListLemmas
 pub mod InputLists
 pub mod KeptLast
 pub mod FirstNumber
+mod Examples
