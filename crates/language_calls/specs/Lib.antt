@@ -6,3 +6,4 @@ pub mod Range
 pub mod Rows
 pub mod Turning
 pub mod Variables
+pub mod RangeLaw
