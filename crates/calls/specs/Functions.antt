@@ -1,11 +1,13 @@
 -- The functions of the page "Reference manual", on evaluated arguments.
-use Rattle.std.specs.Prelude.{Bool, not, ◌&&◌, Option, None, if◌then◌else◌}
+use Rattle.std.specs.Prelude.{Bool, false, not, [], ◌&&◌, Option, None, if◌then◌else◌}
 use Rattle.data.specs.Data.{Data}
 use Rattle.arguments.specs.Arguments.{ArgumentsData}
+use Rattle.arguments.specs.Disablers.{gives_disabler}
+use Rattle.basics.specs.declared.faults.refusal.Refusal.TheVariants as refusals
 use Rattle.arguments.specs.Row.{RowData, checked}
 use Rattle.configuration_calls.specs.ConfigureFile.{has_meson_format}
 use Rattle.configuration_calls.specs.Rows.{other_format_row}
-use Rattle.world.specs.Deed.{Deed, give, ◌>>=◌, fitting}
+use Rattle.world.specs.Deed.{Deed, give, ◌>>=◌, fitting, need}
 use Rattle.language_calls.specs.Disablers.{give_disabler, tell_disabler}
 use Rattle.language_calls.specs.JoinPaths.{join_paths}
 use Rattle.language_calls.specs.Messages.{message, warning, error, assert}
@@ -47,8 +49,14 @@ has_other_format f a = makes_file f && not (has_meson_format a)
 abbrev pub row_for : Function → ArgumentsData → RowData
 row_for f a = if has_other_format f a then other_format_row else row_of f
 
--- a function on its arguments, which its row looks at first
+-- a disabler among the arguments of `project`, which turns no call of it off, and which it does not take
+abbrev pub has_unwanted_disabler : Function → ArgumentsData → Bool
+has_unwanted_disabler functions.Project a = gives_disabler a
+has_unwanted_disabler f a = false
+
+-- a function on its arguments, which its row looks at first; but `project` given a disabler is E9, whatever its row says
 unfoldable pub call : Function → ArgumentsData → Deed (Option Data)
 call f a = do
+  _ ← need (not (has_unwanted_disabler f a)) refusals.Arguments []
   _ ← fitting (checked (row_for f a) a)
   does f a

@@ -1,18 +1,20 @@
 //! A function on its arguments.
-ghost use Rattle.std.specs.Prelude.{◌≡◌, not, ◌&&◌, option_map};
+ghost use Rattle.std.specs.Prelude.{◌≡◌, not, ◌&&◌, [], option_map};
 ghost use Rattle.data.specs.View.{data_of};
 ghost use Rattle.arguments.specs.Arguments.{arguments_data};
 ghost use Rattle.arguments.specs.Row.{checked};
 ghost use Rattle.arguments.specs.RowView.{row_data};
 ghost use Rattle.world.specs.Answering.{Carries, HasRoom};
 ghost use Rattle.world.specs.Caller.{state_of};
-ghost use Rattle.world.specs.Deed.{fitting};
-ghost use Rattle.calls.specs.Functions.{call, does, has_other_format, row_for};
+ghost use Rattle.world.specs.Deed.{fitting, need};
+ghost use Rattle.calls.specs.Functions.{call, does, has_other_format, has_unwanted_disabler, row_for};
+ghost use Rattle.basics.specs.declared.faults.refusal.Refusal.TheVariants as refusals;
 ghost use Rattle.language_calls.specs.Turning.{makes_file};
 
 use crate::project_functions::project_function;
 use crate::rows::row;
-use arguments::{Arguments, Row, check};
+use arguments::{Arguments, Row, check, gives_disabler};
+use basics::faults::Refusal;
 use configuration_calls::{has_meson_format, other_format_row};
 use data::Value;
 use language_calls::{
@@ -39,6 +41,30 @@ fn row_for(function: Function, arguments: &Arguments) -> Row
     } else {
         row(function)
     }
+}
+
+// A disabler among the arguments of `project`.
+fn has_unwanted_disabler(function: Function, arguments: &Arguments) -> bool
+    ensures { result ≡ has_unwanted_disabler function (arguments_data arguments.now) }
+{
+    match function {
+        Function::Project => gives_disabler(arguments),
+        _ => false,
+    }
+}
+
+// Refuses a disabler that `project` is given.
+fn refuse_disabler<T: Tree, O: Outputs>(
+    caller: &Caller<'_, T, O>,
+    function: Function,
+    arguments: &Arguments,
+) -> Result<(), Stop>
+    ensures { Carries (λ u. u) (need (not (has_unwanted_disabler function (arguments_data arguments.now))) refusals.Arguments [])
+        (state_of T.seen O.seen caller.now)
+        result (state_of T.seen O.seen caller.now) }
+{
+    let unwanted = has_unwanted_disabler(function, arguments);
+    caller.need(!unwanted, Refusal::Arguments, "")
 }
 
 // Refuses arguments that the function does not take.
@@ -85,7 +111,8 @@ fn act<T: Tree, O: Outputs>(
     }
 }
 
-/// A function on its arguments, which its row looks at first: it gives a value, or nothing.
+/// A function on its arguments, which its row looks at first: it gives a value, or nothing. A disabler among those of `project` is E9,
+/// whatever its row says.
 pub fn call<T: Tree, O: Outputs>(
     caller: &mut Caller<'_, T, O>,
     function: Function,
@@ -95,6 +122,7 @@ pub fn call<T: Tree, O: Outputs>(
     ensures { Carries (option_map data_of) (call function (arguments_data arguments.now)) (state_of T.seen O.seen caller.old) result
         (state_of T.seen O.seen caller.new) }
 {
+    refuse_disabler(caller, function, arguments)?;
     fit(caller, function, arguments)?;
     act(caller, function, arguments)
 }

@@ -6,3 +6,4 @@ pub mod GivenView
 pub mod Methods
 pub mod Rows
 pub mod Written
+pub mod NameOrder

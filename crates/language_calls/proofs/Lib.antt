@@ -3,3 +3,4 @@ pub mod Gaps
 pub mod Joining
 mod Carried
 pub mod Saying
+mod Stepping

@@ -7,3 +7,4 @@ pub mod Rows
 pub mod Saying
 pub mod Turning
 pub mod Variables
+pub mod RangeLaw

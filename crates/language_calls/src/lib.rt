@@ -5,6 +5,7 @@
 
 mod disablers;
 mod function;
+mod laws;
 mod messages;
 mod names;
 mod path_joining;
@@ -15,6 +16,7 @@ mod variables;
 
 pub use disablers::{disabler, is_disabler};
 pub use function::{Function, ProjectFunction};
+pub use laws::range_is_below;
 pub use messages::{assert, error, message, warning};
 pub use names::{function_named, is_left_out, is_name, is_predefined, predefined};
 pub use path_joining::join_paths;
