@@ -8,7 +8,7 @@ returns-in_err-refuse_disabler g c = carries_stop c.in_err-refuse_disabler.ensur
 
 pub returns-in_err-fit : goal.returns-in_err-fit
 unfolding call
-returns-in_err-fit g c = carries_then c.in_ok-refuse_disabler.ensures (carries_stop c.in_err-fit.ensures c.from_residual.ensures.1)
+returns-in_err-fit g c = carries_then c.in_ok-refuse_disabler.ensures (carries_stop c.in_err-fit.ensures c.from_residual-in_err-fit.ensures.1)
 
 pub returns : goal.returns
 unfolding call
