@@ -49,6 +49,8 @@ METHODS = {
         "override_find_program": "nothing: there are no subprojects", "get_cross_property": "an option",
         "get_external_property": "an option", "can_run_host_binaries": "not meson.is_cross_build()", "build_options": "nothing",
         "add_devenv": "nothing", "project_license": "a text", "project_license_files": "texts"},
+    "feature": {it: "an `if` that sets a variable to another feature option" for it in ("require", "disable_if", "enable_if",
+                                                                                       "disable_auto_if", "enable_auto_if")},
     "program": {"version": "an option", "cmd_array": "full_path"},
 }
 METHODS["library"] = METHODS["internal"] = METHODS["dependency"]

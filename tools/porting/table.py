@@ -1,8 +1,8 @@
 """The rules, in the order in which they are carried out."""
 from __future__ import annotations
 
-from porting import (calls, commands, compiler, dependencies, generators, installs, keywords, modules, options, pkgconfig, scripts, sources,
-                     test_calls)
+from porting import (calls, commands, compiler, dependencies, features, generators, installs, keywords, modules, options, pkgconfig, scripts,
+                     sources, test_calls)
 from porting.rule import Rule
 
 RULES = (
@@ -19,6 +19,7 @@ RULES = (
     Rule("default-options", "values of default_options that no option has here: the nearest", keywords.default_options),
     Rule("folders", "libexecdir, localedir and other folders: options of the project", options.folders),
     Rule("built-in-options", "b_ndebug and other options: the value that the real Meson begins with", options.others),
+    Rule("features", "require, disable_auto_if and their like of a feature option: statements before it", features.features),
     Rule("option-file", "`deprecated:` of an option; integers without a value", options.deprecated_options),
     Rule("partial-dependency", "partial_dependency, as_system: the dependency itself", dependencies.partial_dependency),
     Rule("type-name", "type_name of a dependency: what it is, where it is found", dependencies.names_of_types),
