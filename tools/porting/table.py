@@ -2,7 +2,7 @@
 from __future__ import annotations
 
 from porting import (calls, commands, compiler, dependencies, features, generators, installs, keywords, modules, options, pkgconfig, scripts,
-                     sources, test_calls)
+                     sources, test_calls, twice)
 from porting.rule import Rule
 
 RULES = (
@@ -30,6 +30,7 @@ RULES = (
     Rule("first-argument", "first_supported_argument: has_argument in a loop", compiler.first_argument),
     Rule("several", "has_multi_arguments, has_members: has_argument, has_member for each", compiler.several),
     Rule("compiler-answers", "get_argument_syntax, get_linker_id: by get_id, or a text", compiler.plain_answers),
+    Rule("asked-twice", "has_function, has_type asked twice with other words beside them: a name of its own for each", twice.asked_twice),
     Rule("library-headers", "find_library(has_headers:): has_header", compiler.libraries_with_headers),
     Rule("meson-answers", "can_run_host_binaries, global_source_root: their like here", calls.methods_of_meson),
     Rule("functions", "add_global_arguments, shared_module: add_project_arguments, shared_library", calls.renamed_functions),
