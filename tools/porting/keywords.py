@@ -325,6 +325,8 @@ def env_of_custom_target(project: Project) -> Iterator[Change]:
             added = (first, first, "".join(f"{it}, " for it in ["'env'", *words]))
         elif kind_of(project.known.value(command.value)) == "list":
             added = (command.value.start, command.value.start, f"['env', {', '.join(words)}] + ")
+        elif kind_of(project.known.value(command.value)) in ("program", "file", "text", "target"):
+            added = replaced(site, command.value, f"['env', {', '.join(words)}, {site.file.source(command.value)}]")
         else:
             continue
         yield site.change("custom_target: `env:` becomes words of `env`", added, (start, end, ""))
