@@ -1,8 +1,8 @@
 """The rules, in the order in which they are carried out."""
 from __future__ import annotations
 
-from porting import (calls, commands, compiler, dependencies, features, generators, installs, keywords, modules, options, pkgconfig, scripts,
-                     sources, test_calls, twice)
+from porting import (calls, commands, compiler, dependencies, features, generators, installs, keywords, modules, options, outside,
+                     pkgconfig, scripts, sources, test_calls, twice)
 from porting.rule import Rule
 
 RULES = (
@@ -14,6 +14,7 @@ RULES = (
     Rule("kwargs", "`kwargs:` of a dictionary whose keys are known: the keywords", keywords.given_keywords),
     Rule("lists", "lists of texts where a call takes texts one by one", calls.lists_in_calls),
     Rule("files", "files() of files: the files", calls.files_of_files),
+    Rule("outside", "files() of a path outside of the project, in commands alone: the path", outside.files_outside),
     Rule("formatted", "a file that format puts into a text: its path", calls.files_in_texts),
     Rule("python", "import('python').find_installation(): find_program", modules.python),
     Rule("default-options", "values of default_options that no option has here: the nearest", keywords.default_options),
