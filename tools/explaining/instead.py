@@ -30,7 +30,8 @@ TABLES: dict[str, list[tuple[str, str]]] = {
         ('`benchmark`',
          'a `test` in a suite of its own: `meson test --suite NAME` and `meson test --no-suite NAME`'),
         ('`environment`',
-         "a dictionary or texts `NAME=VALUE` in `env:`; `env.set('A', 'b')` is `env += {'A': 'b'}`"),
+         "a dictionary or texts `NAME=VALUE` in `env:`; `env.set('A', 'b')` is `env += {'A': 'b'}`; `append` and `prepend`: a script that "
+         "sets it"),
         ('`install_subdir`',
          '`install_data` or `install_headers` with the files by name'),
         ('`install_emptydir`, `install_symlink`',
@@ -72,6 +73,8 @@ TABLES: dict[str, list[tuple[str, str]]] = {
          'an option'),
         ('`type_name` of a dependency',
          '`found`, or a text'),
+        ('`require`, `disable_if`, `enable_if`, `disable_auto_if`, `enable_auto_if` of a feature option',
+         "`x = get_option('f')`, and `x = get_option('feature_off')` in an `if`: a feature option of the project that is always disabled"),
         ('`partial_dependency`, `as_system`',
          'the dependency itself'),
         ('`extract_objects`',

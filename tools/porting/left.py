@@ -51,6 +51,7 @@ METHODS = {
         "add_devenv": "nothing", "project_license": "a text", "project_license_files": "texts"},
     "feature": {it: "an `if` that sets a variable to another feature option" for it in ("require", "disable_if", "enable_if",
                                                                                        "disable_auto_if", "enable_auto_if")},
+    "environment": {"append": "a script that sets it", "prepend": "a script that sets it", "unset": "a script that leaves it out"},
     "program": {"version": "an option", "cmd_array": "full_path"},
 }
 METHODS["library"] = METHODS["internal"] = METHODS["dependency"]
