@@ -62,7 +62,7 @@ KEYWORDS = {
                 "name_prefix": "a name that begins with lib", "name_suffix": "the usual ending", "c_pch": "the header in each source",
                 "install_rpath": "`link_args: '-Wl,-rpath,..'`", "gnu_symbol_visibility": "`c_args:` with -fvisibility=..",
                 "export_dynamic": "`link_args: '-rdynamic'`", "c_static_args": "`c_args:`", "c_shared_args": "`c_args:`"},
-    "custom_target": {"feed": "a script that does it", "env": "a script that does it", "build_always_stale": "a script that does it",
+    "custom_target": {"feed": "`sh -c` that feeds the command", "env": "a script that does it", "build_always_stale": "a script that does it",
                       "install_mode": "a step of the package"},
     "configure_file": {"command": "a custom_target", "copy": "`configuration: {}`, or a custom_target with cp",
                        "capture": "a custom_target",

@@ -58,6 +58,7 @@ RULES = (
     Rule("names", "custom_target without a name: that of its output", keywords.names_of_targets),
     Rule("output-names", "@BASENAME@ in the output of configure_file: the name", installs.output_names),
     Rule("target-env", "`env:` of custom_target: words of env", keywords.env_of_custom_target),
+    Rule("feed", "`feed:` of custom_target: a shell", keywords.feed_of_custom_target),
     Rule("install", "`install:` of configure_file: `install_dir:` alone", keywords.configure_install),
     Rule("install-lists", "`install:`, `install_dir:` of one item: that item", keywords.install_lists),
     Rule("data-sources", "`sources:` of install_data: its arguments", keywords.data_sources),
