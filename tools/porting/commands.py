@@ -14,6 +14,7 @@ from porting.lexer import escaped
 from porting.options import declared, option_name, with_option
 from porting.project import Project, Site
 from porting.rule import identifier, replaced, text_of, texts_at
+from porting.scripts import interpreter_of
 from porting.values import ROOT, Item, Thing, flat, kind_of
 
 # How long a command may run, in seconds.
@@ -36,7 +37,13 @@ def command_words(project: Project, site: Site) -> list[str] | None:
             if word is None:
                 return None
             words.append(word)
-    return words or None
+    return by_interpreter(words) if words else None
+
+
+def by_interpreter(words: list[str]) -> list[str]:
+    """A command whose first word is a script without its exec bit, run by what its first line names, as the real Meson does it."""
+    program = interpreter_of(words[0]) if os.path.isfile(words[0]) and not os.access(words[0], os.X_OK) else None
+    return [shutil.which(program) or program, *words] if program else words
 
 
 def word_of(project: Project, site: Site, item: Item, is_first: bool) -> str | None:

@@ -65,7 +65,7 @@ def defines(project: Project) -> Iterator[Change]:
     names = Names(project)
     for site in of_compiler(project, "has_define", "get_define"):
         macro = text_of(project, site.call.arguments[0]) if site.call.arguments else None
-        outer = comparison_of(site) if site.call.name == "get_define" else None
+        outer = comparison_of(stripped(site)) if site.call.name == "get_define" else None
         if macro is None or (site.call.name == "get_define" and not is_beside_nothing(outer)):
             continue
         name = names.free(f"{site.call.name}_{identifier(macro)}")
@@ -74,6 +74,15 @@ def defines(project: Project) -> Iterator[Change]:
         if outer is not None:
             edits.append((site.call.end, outer.end, "" if outer.operator == "!=" else " == false"))
         yield site.change(f"{site.call.name} becomes has_type {name}", *edits)
+
+
+def stripped(site: Site) -> Site:
+    """The call of `strip` upon a call, or that call where there is none."""
+    for expression in tree.expressions_of(site.statement):
+        for node in tree.inside(expression):
+            if isinstance(node, tree.Call) and node.receiver is site.call and node.name == "strip" and not node.items:
+                return Site(site.file, site.statement, node)
+    return site
 
 
 def is_beside_nothing(outer: tree.Binary | None) -> bool:

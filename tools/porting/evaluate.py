@@ -41,6 +41,7 @@ GIVES = {
     ("meson", "source_root"): "text", ("meson", "build_root"): "text", ("meson", "project_version"): "text",
     ("meson", "project_name"): "text", ("machine", "cpu_family"): "text", ("machine", "cpu"): "text", ("machine", "endian"): "text",
     ("generator", "process"): "generated",
+    **{("feature", it): "feature" for it in ("require", "disable_if", "enable_if", "disable_auto_if", "enable_auto_if")},
 }
 # Answers that are the same on every machine that this is for.
 ANSWERS = {("meson", "is_subproject"): False, ("meson", "is_cross_build"): False, ("meson", "backend"): "ninja",

@@ -325,9 +325,33 @@ def env_of_custom_target(project: Project) -> Iterator[Change]:
             added = (first, first, "".join(f"{it}, " for it in ["'env'", *words]))
         elif kind_of(project.known.value(command.value)) == "list":
             added = (command.value.start, command.value.start, f"['env', {', '.join(words)}] + ")
+        elif kind_of(project.known.value(command.value)) in ("program", "file", "text", "target"):
+            added = replaced(site, command.value, f"['env', {', '.join(words)}, {site.file.source(command.value)}]")
         else:
             continue
         yield site.change("custom_target: `env:` becomes words of `env`", added, (start, end, ""))
+
+
+def feed_of_custom_target(project: Project) -> Iterator[Change]:
+    """`feed: true` of a custom target becomes a shell that gives the command its input."""
+    for site in project.functions("custom_target"):
+        word, command = site.call.keywords.get("feed"), site.call.keywords.get("command")
+        if word is None or command is None or not isinstance(word.value, tree.Truth):
+            continue
+        start, end = without_item(site.file.text, site.call, word)
+        if not word.value.value:
+            yield site.change("custom_target: `feed: false` is dropped", (start, end, ""))
+            continue
+        words = "'sh', '-c', 'exec \"$@\" < \"$0\"', '@INPUT@'"
+        value = tree.plain(command.value)
+        items = value.items if isinstance(value, tree.List) else []
+        if items:
+            added = (items[0].start, items[0].start, words + ", ")
+        elif kind_of(project.known.value(value)) == "list":
+            added = (command.value.start, command.value.start, f"[{words}] + ")
+        else:
+            added = replaced(site, command.value, f"[{words}, {site.file.source(command.value)}]")
+        yield site.change("custom_target: `feed:` becomes a shell that feeds the command", added, (start, end, ""))
 
 
 def env_words(site: Site, project: Project, node: tree.Node) -> list[str] | None:

@@ -49,6 +49,9 @@ METHODS = {
         "override_find_program": "nothing: there are no subprojects", "get_cross_property": "an option",
         "get_external_property": "an option", "can_run_host_binaries": "not meson.is_cross_build()", "build_options": "nothing",
         "add_devenv": "nothing", "project_license": "a text", "project_license_files": "texts"},
+    "feature": {it: "an `if` that sets a variable to another feature option" for it in ("require", "disable_if", "enable_if",
+                                                                                       "disable_auto_if", "enable_auto_if")},
+    "environment": {"append": "a script that sets it", "prepend": "a script that sets it", "unset": "a script that leaves it out"},
     "program": {"version": "an option", "cmd_array": "full_path"},
 }
 METHODS["library"] = METHODS["internal"] = METHODS["dependency"]
@@ -59,7 +62,7 @@ KEYWORDS = {
                 "name_prefix": "a name that begins with lib", "name_suffix": "the usual ending", "c_pch": "the header in each source",
                 "install_rpath": "`link_args: '-Wl,-rpath,..'`", "gnu_symbol_visibility": "`c_args:` with -fvisibility=..",
                 "export_dynamic": "`link_args: '-rdynamic'`", "c_static_args": "`c_args:`", "c_shared_args": "`c_args:`"},
-    "custom_target": {"feed": "a script that does it", "env": "a script that does it", "build_always_stale": "a script that does it",
+    "custom_target": {"feed": "`sh -c` that feeds the command", "env": "a script that does it", "build_always_stale": "a script that does it",
                       "install_mode": "a step of the package"},
     "configure_file": {"command": "a custom_target", "copy": "`configuration: {}`, or a custom_target with cp",
                        "capture": "a custom_target",

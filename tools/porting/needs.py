@@ -58,18 +58,31 @@ class Needs:
 
     def condition_of(self, thing: Thing, is_sure: bool) -> str | None:
         """When a dependency is there, by an expression; none where that can't be said."""
-        required = thing.keywords.get("required", True)
-        is_found = required is True
+        is_found = thing.keywords.get("required", True) is True
         one = None if is_sure else self.condition_of_one(thing)
         if one is not None:
             return one
         found = self.expression_of(thing)
-        if found is None and not (is_found and is_sure):
+        if is_sure:
+            return "" if is_found else f"{found}.found()" if found else None
+        holder = self.list_with(thing)
+        if holder is not None and (found is None or found.endswith(")")):
+            return self.condition_in_list(thing, holder, is_found, found)
+        if found is None or holder is None:
             return None
-        holder = None if is_sure else self.list_with(thing)
-        if not is_sure and holder is None:
+        return " and ".join([*([] if is_found else [f"{found}.found()"]), f"{found} in {holder}"])
+
+    def condition_in_list(self, thing: Thing, holder: str, is_found: bool, call: str | None) -> str | None:
+        """When a list has a dependency that no variable has: by the list's length where it may have that one alone; else the
+        dependency is asked for again, which gives the same one, and is not required where its branch may not be taken."""
+        held = self.names[holder]
+        if isinstance(held, Many) and held.is_whole and len(held.items) == 1:
+            return f"{holder}.length() > 0" + ("" if is_found else f" and {holder}[0].found()")
+        if call is None or thing.kind != "dependency" or thing.call is None:
             return None
-        return " and ".join([*([] if is_found else [f"{found}.found()"]), *([f"{found} in {holder}"] if holder else [])])
+        if is_found and "required" not in thing.call.keywords:
+            return f"{call[:-1].rstrip().removesuffix(',')}, required: false) in {holder}"
+        return None if is_found else f"{call}.found() and {call} in {holder}"
 
     def condition_of_one(self, thing: Thing) -> str | None:
         """When a dependency is the one that a variable has, of several that it may have."""

@@ -11,11 +11,13 @@ from porting.edits import Change, without_item
 from porting.lexer import escaped
 from porting.project import Project, Site
 from porting.rounds import ending_of
-from porting.rule import identifier, of_compiler, path_from, renamed, replaced, text_of
+from porting.rule import added_behind, identifier, of_compiler, path_from, renamed, replaced, text_of
 from porting.values import Thing, choices_of, flat
 
 # Keywords that a check keeps.
 KEPT = {"args", "dependencies", "include_directories", "required"}
+# What a check of a type names itself, so that a source before it gets another name for it.
+OF_CHECK = re.compile(r"\b(bar|check)\b")
 # The place of a check's name in a text.
 MARK = "\0"
 
@@ -73,9 +75,6 @@ def sources(project: Project) -> Iterator[Change]:
             why = "its source is not one plain text" if code is None else "it asks for more than one thing by the same words"
             project.doubt(site, f"{site.call.name}: {why}")
             continue
-        if not is_link and any(re.search(r"\b(bar|check)\b", it) for it in code.texts):
-            project.doubt(site, f"{site.call.name}: its source names what a check names")
-            continue
         plain = names.free(wanted_name(project, site))
         name = Named(plain, f"{escaped(plain + '_')} + {ending}" if ending else escaped(plain))
         prefix = linked(site, code, name) if is_link else compiled(site, code, name)
@@ -84,7 +83,7 @@ def sources(project: Project) -> Iterator[Change]:
         if "name" in site.call.keywords:
             start, end = without_item(site.file.text, site.call, site.call.keywords["name"])
             edits.append((start, end, ""))
-        change = site.change(f"{site.call.name} becomes {method} {plain}, with the source before it", *edits)
+        change = site.change(f"{site.call.name} becomes {method} {plain}, with the source before it", *edits, *warnings(site))
         if ending:
             change.notes = ["the name of the check is made in a loop: look whether the machine file has them all"]
         yield change
@@ -111,7 +110,9 @@ class Named:
 
 def source_of(project: Project, site: Site) -> Source | None:
     """The source of a check: known texts, or one file of C, which is included by its path."""
-    if len(site.call.arguments) != 1 or set(site.call.keywords) - KEPT - {"name"}:
+    word = site.call.keywords.get("werror")
+    is_known = word is None or isinstance(word.value, tree.Truth)
+    if len(site.call.arguments) != 1 or set(site.call.keywords) - KEPT - {"name", "werror"} or not is_known:
         return None
     node = site.call.arguments[0]
     texts = choices_of(project.known.value(node))
@@ -132,8 +133,21 @@ def source_of(project: Project, site: Site) -> Source | None:
     return Source(f"'#include \"' + {place} + '\"'", [text])
 
 
+def warnings(site: Site) -> list[tuple[int, int, str]]:
+    """The edits that put `werror:` into the words of a check."""
+    word, args = site.call.keywords.get("werror"), site.call.keywords.get("args")
+    if word is None:
+        return []
+    is_on = isinstance(word.value, tree.Truth) and word.value.value
+    if args is None:
+        return [(word.start, word.end, "args: '-Werror'" if is_on else "args: []")]
+    return [(*without_item(site.file.text, site.call, word), ""), *([added_behind(site, "args", "'-Werror'")] if is_on else [])]
+
+
 def compiled(site: Site, code: Source, name: Named) -> str:
-    return around(site, code, "", "\ntypedef int ", name, ";\n")
+    words = sorted({it for text in code.texts for it in OF_CHECK.findall(text)})
+    first, last = ("".join(f"#{what}\n" for what in (f.format(it) for it in words)) for f in ("define {0} {0}_of_source", "undef {0}"))
+    return around(site, code, "", f"\n{last}typedef int ", name, ";\n", first)
 
 
 def linked(site: Site, code: Source, name: Named) -> str:
@@ -141,9 +155,9 @@ def linked(site: Site, code: Source, name: Named) -> str:
     return around(site, code, "#include <stddef.h>\n#define main ", "\n#undef main\n", name, "\n")
 
 
-def around(site: Site, code: Source, before: str, after: str, name: Named, behind: str) -> str:
+def around(site: Site, code: Source, before: str, after: str, name: Named, behind: str, first: str = "") -> str:
     """A source with text put round it, of which the first that is there ends with the name: a literal where it is one, else a sum."""
-    before, after = (before and f"{before}{MARK}{behind}", after) if before else ("", f"{after}{MARK}{behind}")
+    before, after = (before and f"{before}{MARK}{behind}", after) if before else (first, f"{after}{MARK}{behind}")
     node = code.node
     if name.is_plain and isinstance(node, tree.Text) and not node.has_names:
         before, after, source = before.replace(MARK, name.text), after.replace(MARK, name.text), site.file.source(node)

@@ -1,8 +1,8 @@
 """The rules, in the order in which they are carried out."""
 from __future__ import annotations
 
-from porting import (calls, commands, compiler, dependencies, generators, installs, keywords, modules, options, pkgconfig, scripts, sources,
-                     test_calls)
+from porting import (calls, commands, compiler, dependencies, features, generators, installs, keywords, modules, options, outside,
+                     pkgconfig, scripts, sources, test_calls, twice)
 from porting.rule import Rule
 
 RULES = (
@@ -14,11 +14,13 @@ RULES = (
     Rule("kwargs", "`kwargs:` of a dictionary whose keys are known: the keywords", keywords.given_keywords),
     Rule("lists", "lists of texts where a call takes texts one by one", calls.lists_in_calls),
     Rule("files", "files() of files: the files", calls.files_of_files),
+    Rule("outside", "files() of a path outside of the project, in commands alone: the path", outside.files_outside),
     Rule("formatted", "a file that format puts into a text: its path", calls.files_in_texts),
     Rule("python", "import('python').find_installation(): find_program", modules.python),
     Rule("default-options", "values of default_options that no option has here: the nearest", keywords.default_options),
     Rule("folders", "libexecdir, localedir and other folders: options of the project", options.folders),
     Rule("built-in-options", "b_ndebug and other options: the value that the real Meson begins with", options.others),
+    Rule("features", "require, disable_auto_if and their like of a feature option: statements before it", features.features),
     Rule("option-file", "`deprecated:` of an option; integers without a value", options.deprecated_options),
     Rule("partial-dependency", "partial_dependency, as_system: the dependency itself", dependencies.partial_dependency),
     Rule("type-name", "type_name of a dependency: what it is, where it is found", dependencies.names_of_types),
@@ -29,6 +31,7 @@ RULES = (
     Rule("first-argument", "first_supported_argument: has_argument in a loop", compiler.first_argument),
     Rule("several", "has_multi_arguments, has_members: has_argument, has_member for each", compiler.several),
     Rule("compiler-answers", "get_argument_syntax, get_linker_id: by get_id, or a text", compiler.plain_answers),
+    Rule("asked-twice", "has_function, has_type asked twice with other words beside them: a name of its own for each", twice.asked_twice),
     Rule("library-headers", "find_library(has_headers:): has_header", compiler.libraries_with_headers),
     Rule("meson-answers", "can_run_host_binaries, global_source_root: their like here", calls.methods_of_meson),
     Rule("functions", "add_global_arguments, shared_module: add_project_arguments, shared_library", calls.renamed_functions),
@@ -55,6 +58,7 @@ RULES = (
     Rule("names", "custom_target without a name: that of its output", keywords.names_of_targets),
     Rule("output-names", "@BASENAME@ in the output of configure_file: the name", installs.output_names),
     Rule("target-env", "`env:` of custom_target: words of env", keywords.env_of_custom_target),
+    Rule("feed", "`feed:` of custom_target: a shell", keywords.feed_of_custom_target),
     Rule("install", "`install:` of configure_file: `install_dir:` alone", keywords.configure_install),
     Rule("install-lists", "`install:`, `install_dir:` of one item: that item", keywords.install_lists),
     Rule("data-sources", "`sources:` of install_data: its arguments", keywords.data_sources),

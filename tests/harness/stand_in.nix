@@ -1,0 +1,22 @@
+# Builds a package's expression without nixpkgs: what `stdenv.mkDerivation` does in a build, as far as the phases are given as text.
+# `package` is its folder, `tools` the prefix of the installed copy, `path` where the other tools are.
+{ package, tools, path }:
+let
+  mkDerivation = given: derivation ({
+    name = "${given.pname}-${given.version}";
+    system = builtins.currentSystem;
+    builder = "/bin/bash";
+    args = [ "-ec" ''
+      runHook() { :; }
+      # Nix's wrapper of the linker adds this unasked.
+      export LDFLAGS="-Wl,-rpath,$out/lib"
+      cp -r "$src" source
+      chmod -R u+w source
+      cd source
+      for phase in configurePhase buildPhase checkPhase installPhase; do eval "''${!phase}"; done
+    '' ];
+    PATH = builtins.concatStringsSep ":" (map (it: "${it}/bin") given.nativeBuildInputs ++ [ path ]);
+    NIX_BUILD_CORES = 2;
+  } // builtins.removeAttrs given [ "nativeBuildInputs" ]);
+in
+import package { stdenv = { inherit mkDerivation; }; hawkottoman = tools; ninja = "/usr"; pkg-config = "/usr"; python3 = "/usr"; }
