@@ -2,15 +2,12 @@
 from __future__ import annotations
 
 from porting import left, tree
-from tools.explaining.context import Context
+from tools.explaining.context import OWN, Context
 from tools.explaining.detail import Detail, detail, listed, near, quoted
 from tools.explaining.names import in_its_place
 from tools.explaining.rows import FUNCTIONS, METHODS, Kind, Row
 from tools.explaining.rules import broken_rule
 from tools.explaining.values import Value
-
-
-OWN = ("meson", "host_machine", "build_machine", "target_machine")
 
 
 def row_of(call: tree.Call) -> Row | None:
@@ -20,7 +17,7 @@ def row_of(call: tree.Call) -> Row | None:
 def refused(context: Context) -> Detail:
     """E9 at a call, or at an assignment to a name that can't be set."""
     statement = context.place.statement
-    node = context.probe.culprit() if context.probe.can_ask else None
+    node = context.probe.culprit if context.probe.can_ask else None
     call = node if isinstance(node, tree.Call) else None
     if call is None and (node is None or not isinstance(node, tree.Call)):
         own = own_name(statement) if node is None else None

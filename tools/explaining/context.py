@@ -14,6 +14,9 @@ from tools.explaining.probe import Probe
 from tools.explaining.run import Asked, Fault
 from tools.explaining.values import Value
 
+# The variables that each project has.
+OWN = ("meson", "host_machine", "build_machine", "target_machine")
+
 
 @dataclasses.dataclass
 class Context:
@@ -47,32 +50,42 @@ class Context:
         return os.path.dirname(self.fault.file)
 
     def names(self) -> set[str]:
-        """The names that the definition files set."""
-        found = {"meson", "host_machine", "build_machine", "target_machine"}
-        for _, statement in self.statements():
-            if isinstance(statement, tree.Assignment):
-                found.add(statement.name)
-            if isinstance(statement, tree.Foreach):
-                found.update(statement.names)
-        return found
+        """The names that have a value somewhere in the definition files."""
+        return {*OWN, *set_in(self.asked.root)}
 
     def statements(self) -> Iterator[tuple[str, tree.Statement]]:
-        """The statements of all definition files that are found by their names, each with its file."""
-        waiting, seen = ["meson.build"], set()
-        while waiting:
-            path = waiting.pop(0)
-            text = read(os.path.join(self.asked.root, path))
-            if path in seen or text is None:
-                continue
-            seen.add(path)
-            try:
-                body = parse(text)
-            except (SyntaxFault, RecursionError):
-                continue
-            for statement in tree.statements_in(body):
-                yield path, statement
-            waiting += [os.path.normpath(os.path.join(os.path.dirname(path), it, "meson.build"))
-                        for it in re.findall(r"\bsubdir\(\s*'([^']*)'", text)]
+        return statements_below(self.asked.root)
+
+
+def set_in(root: str) -> dict[str, list[tree.Node]]:
+    """Of each name that the definition files set what it is set to; an empty name where that is an item of something."""
+    found: dict[str, list[tree.Node]] = {}
+    for _, statement in statements_below(root):
+        if isinstance(statement, tree.Assignment):
+            found.setdefault(statement.name, []).append(statement.value)
+        if isinstance(statement, tree.Foreach):
+            for name in statement.names:
+                found.setdefault(name, []).append(tree.Name(statement.start, statement.start, ""))
+    return found
+
+
+def statements_below(root: str) -> Iterator[tuple[str, tree.Statement]]:
+    """The statements of all definition files that are found by their names, each with its file."""
+    waiting, seen = ["meson.build"], set()
+    while waiting:
+        path = waiting.pop(0)
+        text = read(os.path.join(root, path))
+        if path in seen or text is None:
+            continue
+        seen.add(path)
+        try:
+            body = parse(text)
+        except (SyntaxFault, RecursionError):
+            continue
+        for statement in tree.statements_in(body):
+            yield path, statement
+        waiting += [os.path.normpath(os.path.join(os.path.dirname(path), it, "meson.build"))
+                    for it in re.findall(r"\bsubdir\(\s*'([^']*)'", text)]
 
 
 def read(path: str) -> str | None:

@@ -131,11 +131,18 @@ def hint_of(parser: Parser) -> str:
     token, before = parser.token, parser.tokens[parser.at - 1] if parser.at else None
     if before is None:
         return ""
-    if before.kind == "name" and token.kind == "mark" and token.text == "=" and open_at(parser.text, token.start):
+    opened = [word for word, _ in open_at(parser.text, token.start)[-1:]]
+    if opened == ["if"] and token.text == "=":
+        return "'==' compares, and '=' sets a variable"
+    if before.text == "else" and token.text == "if":
+        return "a further condition is 'elif'"
+    if not opened or opened[0] not in CLOSING:
+        return ""
+    if before.kind == "name" and token.kind == "mark" and token.text == "=":
         return f"a keyword is given as '{before.text}: value'"
     ends = before.kind in ("text", "number", "name") or before.text in (")", "]", "}", "true", "false")
     begins = token.kind in ("text", "number", "name") or token.text in ("[", "{", "true", "false")
-    if ends and begins and open_at(parser.text, token.start):
+    if ends and begins:
         return f"a comma is missing between {named(before.text)} and {named(token.text)}, or a bracket is"
     return ""
 

@@ -90,7 +90,10 @@ def not_found(context: Context) -> Detail:
     else:
         why = f"the machine file has no line that says true to '{what} {name}' in [checks]"
     given = "" if context.asked.machine is not None else "; no machine file is given (--native-file)"
-    return detail(f"{what}: {quoted(name)} is required and not found: {why}{given}", at=at)
+    line = {"dependency": f"a section [dependency {name}]", "find_program": f"'{name} = PATH' in [binaries]"}.get(
+        what, f"'{what} {name} = true' in [checks]")
+    told = f"where this machine has it, the machine file says so by {line}: `meson machine-file` writes what it finds"
+    return detail(f"{what}: {quoted(name)} is required and not found: {why}{given}", told, at=at)
 
 
 def left_out(context: Context) -> Detail:

@@ -23,7 +23,7 @@ def said(context: Context, node: tree.Node) -> str:
 
 def refused(context: Context) -> Detail:
     """E6, E7 and E10 at a node of the statement, or at the statement itself."""
-    node = context.probe.culprit() if context.probe.can_ask else None
+    node = context.probe.culprit if context.probe.can_ask else None
     if node is None:
         return of_statement(context)
     return of_node(context, node)

@@ -15,7 +15,7 @@ RESERVED = ("all", "build.ninja", "meson-info/introspect.json")
 
 def culprit_call(context: Context) -> tree.Call | None:
     """The call at fault; where that isn't known, the outermost of the line."""
-    node = context.probe.culprit() if context.probe.can_ask else None
+    node = context.probe.culprit if context.probe.can_ask else None
     if isinstance(node, tree.Call):
         return node
     calls = context.place.calls()
@@ -34,7 +34,7 @@ def duplicate(context: Context) -> Detail:
                     return detail(f"{node.name}: the keyword {quoted(item.name)} stands twice: in line {first} before", at=item.start)
                 if isinstance(item, tree.Keyword):
                     seen[item.name] = item
-    culprit = context.probe.culprit() if context.probe.can_ask else None
+    culprit = context.probe.culprit if context.probe.can_ask else None
     dictionaries = [culprit] if isinstance(culprit, tree.Dictionary) else [it for it in nodes if isinstance(it, tree.Dictionary)]
     if not isinstance(culprit, tree.Call):
         for node in dictionaries:
