@@ -2,12 +2,12 @@
 from __future__ import annotations
 
 from porting import left, tree
-from tools.explaining.context import OWN, Context
+from tools.explaining.context import Context
 from tools.explaining.detail import Detail, detail, listed, near, quoted
 from tools.explaining.names import in_its_place
 from tools.explaining.rows import FUNCTIONS, METHODS, Kind, Row
 from tools.explaining.rules import broken_rule
-from tools.explaining.values import Value
+from tools.explaining.values import OWN, Value
 
 
 def row_of(call: tree.Call) -> Row | None:

@@ -12,10 +12,7 @@ from porting.parser import parse
 from tools.explaining.place import Place
 from tools.explaining.probe import Probe
 from tools.explaining.run import Asked, Fault
-from tools.explaining.values import Value
-
-# The variables that each project has.
-OWN = ("meson", "host_machine", "build_machine", "target_machine")
+from tools.explaining.values import OWN, Value
 
 
 @dataclasses.dataclass

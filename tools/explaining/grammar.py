@@ -8,6 +8,7 @@ from porting import tree
 from porting.lexer import TOKEN, SyntaxFault, Token, tokens_of
 from porting.parser import Parser
 from tools.explaining.detail import Detail, detail, line_at, named, quoted
+from tools.explaining.place import with_loops
 
 WORD = re.compile(r"[A-Za-z_0-9]+|'''|f?'[^'\n]*'?|\S")
 CLOSING = {"(": ")", "[": "]", "{": "}"}
@@ -178,13 +179,6 @@ def late_arguments(call: tree.Call) -> Iterator[tuple[int, str]]:
             named = item.name
         elif named:
             yield item.start, f"{call.name}: an argument without a name stands behind '{named}:'; those without stand first"
-
-
-def with_loops(body: list[tree.Statement], is_in_loop: bool) -> Iterator[tuple[tree.Statement, bool]]:
-    for statement in body:
-        yield statement, is_in_loop
-        for inner in tree.bodies_of(statement):
-            yield from with_loops(inner, is_in_loop or isinstance(statement, tree.Foreach))
 
 
 def nesting_detail(text: str, line: int) -> Detail:

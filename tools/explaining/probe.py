@@ -14,7 +14,7 @@ from collections.abc import Iterator
 from porting import tree
 from tools.explaining.place import Place
 from tools.explaining.run import Fault, Outcome, Room
-from tools.explaining.values import LIST, OBJECT, Value, value_in
+from tools.explaining.values import LIST, OBJECT, OWN, Value, value_in
 
 MARK, COUNT = "the explanation is asked here", "explain_rounds_of_the_fault"
 # Of which kind an object is that has a method.
@@ -43,14 +43,15 @@ class Probe:
         first = place.body[0]
         is_root = place.file == "meson.build"
         self.begin = place.text.find("\n", first.end) + 1 if is_root else 0
-        self.rounds = 0
-        if place.statement is not first or not is_root:
+        # In the first statement, `project`, no calls may stand.
+        self.rounds = 0 if is_root and place.statement is first else 1
+        if place.is_in_loop:
             # A question is told once, so that each round asks another one.
             self.rounds = self.outcome([], f"meson.get_compiler('c').sizeof('{MARK} @0@'.format({COUNT}))\n").asked.count(MARK)
 
     @property
     def can_ask(self) -> bool:
-        """Whether the statement is reached, and calls may stand in it: not in the first one, `project`."""
+        """Whether calls may stand in the statement, and are still asked."""
         return self.rounds > 0 and self.asked < MOST and time.monotonic() - self.begun < MOST_SECONDS
 
     def outcome(self, edits: list[tuple[int, int, str]], before: str = "") -> Outcome:
@@ -109,6 +110,8 @@ class Probe:
         """Of which kind an object is by the call that makes it; of a variable, by all calls that set it."""
         if isinstance(node, tree.Call):
             return MAKES.get(node.name) if node.receiver is None or node.name in OF_METHODS else None
+        if isinstance(node, tree.Name) and node.text in OWN:
+            return OWN[node.text]
         set_to = self.set_to.get(node.text, []) if isinstance(node, tree.Name) else []
         kinds = {self.made(it) if isinstance(it, tree.Call) else None for it in set_to}
         return kinds.pop() if len(kinds) == 1 else None

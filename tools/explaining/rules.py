@@ -6,9 +6,9 @@ import re
 
 from porting import tree
 from porting.lexer import KEYWORDS
-from tools.explaining.context import OWN, Context
+from tools.explaining.context import Context
 from tools.explaining.detail import Detail, detail, quoted
-from tools.explaining.values import TEXT, Value, flat
+from tools.explaining.values import OWN, TEXT, Value, flat
 
 BUILDS = ("executable", "static_library", "shared_library", "library")
 # Of each function the arguments and keywords that are paths of sources; 'all' stands for each argument.

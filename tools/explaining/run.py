@@ -9,8 +9,8 @@ import subprocess
 import tempfile
 from collections.abc import Iterator
 
-from porting.trial import linked_copy
 from tools.last_setup import build_folder_of
+from tools.links import linked_copy
 
 FAULT = re.compile(r"(.+?):(\d+): ERROR: E(\d+) ?(.*)", re.S)
 MACHINE, WORDS = "<machine file>", "<command line>"
@@ -136,7 +136,7 @@ class Room:
 
     def __init__(self, asked: Asked, scratch: str, path: str, text: str) -> None:
         self.asked, self.scratch, self.folder, self.path = asked, scratch, os.path.join(scratch, "sources"), path
-        linked_copy(asked.root, self.folder, {path: (None, text)})
+        linked_copy(asked.root, self.folder, {path: text})
 
     def run(self, text: str) -> Outcome:
         """What the program says where the file has this text."""
