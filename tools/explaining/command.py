@@ -104,7 +104,7 @@ def detail_of(asked: Asked, fault: Fault, text: str | None) -> Detail:
     if fault.file == WORDS:
         return settings.of_word(asked, fault)
     if fault.file == MACHINE:
-        return settings.of_machine(asked, fault) if fault.number == 15 else of_machine(asked, fault)
+        return settings.of_machine(asked, fault) if fault.number in (15, 23) else of_machine(asked, fault)
     if text is None:
         return detail(f"the folder has no {fault.file}: `meson explain` is called in the folder of the sources, as `meson setup`")
     if fault.number in ON_TEXTS:

@@ -2,6 +2,7 @@
 from __future__ import annotations
 
 import dataclasses
+import json
 import os
 import re
 from collections.abc import Iterator
@@ -46,6 +47,17 @@ class Context:
     def folder(self) -> str:
         return os.path.dirname(self.fault.file)
 
+    def call(self) -> tree.Call | None:
+        """The call at fault; where that isn't known, the outermost of the line."""
+        node = self.probe.culprit if self.probe.can_ask else None
+        calls = [node] if isinstance(node, tree.Call) else self.place.calls()
+        return calls[0] if calls else None
+
+    def answer(self, section: str) -> dict[str, object] | None:
+        """What the machine file answered where a whole section was asked."""
+        told = (json.loads(it) for it in self.fault.asked.split("\n") if it)
+        return next((it["answer"] for it in told if (it["section"], it["key"]) == (section, None)), None)
+
     def names(self) -> set[str]:
         """The names that have a value somewhere in the definition files."""
         return {*OWN, *set_in(self.asked.root)}
@@ -58,11 +70,9 @@ def set_in(root: str) -> dict[str, list[tree.Node]]:
     """Of each name that the definition files set what it is set to; an empty name where that is an item of something."""
     found: dict[str, list[tree.Node]] = {}
     for _, statement in statements_below(root):
-        if isinstance(statement, tree.Assignment):
-            found.setdefault(statement.name, []).append(statement.value)
-        if isinstance(statement, tree.Foreach):
-            for name in statement.names:
-                found.setdefault(name, []).append(tree.Name(statement.start, statement.start, ""))
+        value = statement.value if isinstance(statement, tree.Assignment) else tree.Name(statement.start, statement.start, "")
+        for name in tree.names_set_by(statement):
+            found.setdefault(name, []).append(value)
     return found
 
 

@@ -6,20 +6,14 @@ import re
 
 from porting import tree
 from tools.explaining.context import Context
-from tools.explaining.detail import Detail, detail, line_at, quoted
+from tools.explaining.detail import Detail, detail, line_at, listed, quoted
 from tools.explaining.values import TEXT, flat
 
-MAKERS = ("executable", "static_library", "shared_library", "library", "custom_target", "configure_file")
+TARGETS = ("executable", "static_library", "shared_library", "library")
+MAKERS = (*TARGETS, "custom_target", "configure_file")
+# The files of a library of a name.
+FILES = {"static_library": ("lib{}.a",), "shared_library": ("lib{}.so",), "library": ("lib{}.a", "lib{}.so")}
 RESERVED = ("all", "build.ninja", "meson-info/introspect.json")
-
-
-def culprit_call(context: Context) -> tree.Call | None:
-    """The call at fault; where that isn't known, the outermost of the line."""
-    node = context.probe.culprit if context.probe.can_ask else None
-    if isinstance(node, tree.Call):
-        return node
-    calls = context.place.calls()
-    return calls[0] if calls else None
 
 
 def duplicate(context: Context) -> Detail:
@@ -46,7 +40,7 @@ def duplicate(context: Context) -> Detail:
                     return detail(f"the key {quoted(text)} stands twice in a dictionary: in line {first} before", at=key.start)
                 if text is not None:
                     keys[text] = key
-    call = culprit_call(context)
+    call = context.call()
     return made_twice(context, call) if call else detail("something stands twice in this line", at=context.place.statement.start)
 
 
@@ -57,6 +51,11 @@ def outputs_of(call: tree.Call) -> list[str]:
     return [it.value for it in tree.inside(node) if isinstance(it, tree.Text)] if node is not None else []
 
 
+def files_of(maker: str, name: str) -> set[str]:
+    """The files that a target of a name is, or an output of this name."""
+    return {it.format(name) for it in FILES.get(maker, ("{}",))}
+
+
 def made_twice(context: Context, call: tree.Call) -> Detail:
     """A target or a file whose outputs another one makes."""
     node = call.keywords["output"].value if "output" in call.keywords else call.arguments[0] if call.arguments else None
@@ -65,20 +64,35 @@ def made_twice(context: Context, call: tree.Call) -> Detail:
     reserved = [it for it in names if os.path.normpath(os.path.join(context.folder, it)) in RESERVED]
     if reserved:
         return detail(f"{call.name}: {quoted(reserved[0])} is a name of build.ninja's own", at=call.start)
-    if len(set(names)) < len(names):
-        return detail(f"{call.name}: an output stands twice among {', '.join(map(quoted, names))}", at=call.start)
-    for path, statement in context.statements():
-        for root in tree.expressions_of(statement):
-            for other in tree.inside(root):
-                is_same_place = path == context.fault.file and statement.start >= context.place.statement.start
-                if isinstance(other, tree.Call) and other.receiver is None and other.name in MAKERS and not is_same_place:
-                    if os.path.dirname(path) == context.folder and set(outputs_of(other)) & set(names):
-                        place = f"{path}:{line_at(open_text(context, path), other.start)}"
-                        return detail(f"{call.name}: {', '.join(map(quoted, names))} is made before, by {other.name} at {place}",
-                                      "give it another name, or declare it in another folder", at=call.start)
     made = ", ".join(map(quoted, names)) or "it"
+    if len(set(names)) < len(names):
+        return detail(f"{call.name}: an output stands twice among {made}", at=call.start)
+    where = made_before(context, call, node, names)
+    if where:
+        told = "give it another name, or declare it in another folder"
+        return detail(f"{call.name}: {made} is made before, {where}", told, at=call.start)
+    sources = [it.text for argument in call.arguments[1:] if (found := context.value(argument)) for it in flat(found) if it.kind == TEXT]
+    alike = [it for it in sources if sum(other.replace("/", "_") == it.replace("/", "_") for other in sources) > 1]
+    if call.name in TARGETS and alike:
+        why = f"the sources {listed(map(quoted, alike))} have one object, since '/' becomes '_' in its name"
+        return detail(f"{call.name}: {why}", at=call.start)
     return detail(f"{call.name}: an output, an object or a link of {made} has the path of one that another target makes",
                   "two sources whose paths differ only in '/' and '_' have one object; a library has its links, too", at=call.start)
+
+
+def made_before(context: Context, call: tree.Call, node: tree.Node | None, names: list[str]) -> str:
+    """By which call the names are made too; nothing where that isn't known."""
+    files = {file for it in names for file in files_of(call.name, it)}
+    is_in_loop = context.place.is_in_loop
+    for path, statement in context.statements():
+        is_this = path == context.fault.file and statement.start == context.place.statement.start
+        is_later = path == context.fault.file and statement.start > context.place.statement.start and not is_in_loop
+        for other in (it for root in tree.expressions_of(statement) for it in tree.inside(root) if isinstance(it, tree.Call)):
+            if other.receiver is None and other.name in MAKERS and not is_this and not is_later and os.path.dirname(path) == context.folder:
+                if files & {file for it in outputs_of(other) for file in files_of(other.name, it)}:
+                    return f"by {other.name} at {path}:{line_at(open_text(context, path), other.start)}"
+    earlier = context.probe.texts_by_round(node)[:-1] if is_in_loop and node is not None and context.probe.can_ask else []
+    return f"in round {earlier.index(names[0]) + 1} of this loop" if names and names[0] in earlier else ""
 
 
 def open_text(context: Context, path: str) -> str:
@@ -144,7 +158,7 @@ def template(line: str) -> Detail:
 
 def frozen(context: Context) -> Detail:
     """E20."""
-    call = culprit_call(context)
+    call = context.call()
     name = context.place.source(call.receiver) if call and call.receiver else "the data"
     uses = [(path, node) for path, statement in context.statements() for root in tree.expressions_of(statement)
             for node in tree.inside(root)
@@ -158,7 +172,7 @@ def frozen(context: Context) -> Detail:
 
 def not_held(context: Context) -> Detail:
     """E21: the text with what Ninja can't hold."""
-    call = culprit_call(context)
+    call = context.call()
     nodes = [it.value if isinstance(it, tree.Keyword) else it for it in call.items] if call else []
     for node in nodes:
         for value in flat(found) if (found := context.value(node)) else []:
@@ -176,18 +190,18 @@ def sign_name(sign: str) -> str:
 
 
 LIMITS = {"range": "a list may have 65,536 items", "subdir": "4,096 folders may be entered, 64 of them inside one another"}
-TARGETS = "a list of a target may have 65,536 items, those of its dependencies counted"
+LONG_LISTS = "a list of a target may have 65,536 items, those of its dependencies counted"
 VALUES = ("a list or a dictionary may have 65,536 items, hold others 64 deep and weigh a bounded amount in all; a text may have "
           "16,777,216 bytes")
 
 
 def limit(context: Context) -> Detail:
     """E22: which limit."""
-    call = culprit_call(context)
+    call = context.call()
     if call is None:
         return detail(VALUES, at=context.place.statement.start)
-    if call.name in MAKERS[:4]:
-        return detail(f"{call.name}: {TARGETS}", at=call.start)
+    if call.name in TARGETS:
+        return detail(f"{call.name}: {LONG_LISTS}", at=call.start)
     values = [it for node in call.arguments if (it := context.value(node)) and it.kind == "integer"]
     got = f"; it got {', '.join(it.text for it in values)}" if values else ""
     return detail(f"{call.name}: {LIMITS.get(call.name, VALUES)}{got}", at=call.start)
@@ -200,7 +214,7 @@ def too_late(context: Context) -> Detail:
     for path, statement in context.statements():
         for root in tree.expressions_of(statement):
             for node in tree.inside(root):
-                if isinstance(node, tree.Call) and node.receiver is None and node.name in MAKERS[:4]:
+                if isinstance(node, tree.Call) and node.receiver is None and node.name in TARGETS:
                     name = outputs_of(node)
                     return detail(f"{what}: it stands behind {node.name} {quoted(name[0]) if name else ''} of "
                                   f"{path}:{line_at(open_text(context, path), node.start)}", "move it before the first target",

@@ -30,7 +30,7 @@ MAKES = {
     **dict.fromkeys(("dependency", "declare_dependency"), "dependency"), "find_program": "program", "files": "list of files",
     "include_directories": "include_directories object", "configuration_data": "configuration data object", "disabler": "disabler",
 }
-# How often the program is asked of one fault, at most, and for how many seconds.
+# How often the program is asked of one fault, at most, and up to how many seconds after the beginning.
 MOST, MOST_SECONDS = 400, 30
 LINES_BEFORE = 2  # that stand before the statement when it is asked
 
@@ -38,7 +38,7 @@ LINES_BEFORE = 2  # that stand before the statement when it is asked
 class Probe:
     def __init__(self, room: Room, place: Place, number: int, set_to: dict[str, list[tree.Node]]) -> None:
         """`number` is that of the fault; `set_to` says of each variable what the project sets it to."""
-        self.room, self.place, self.number, self.set_to, self.asked, self.begun = room, place, number, set_to, 0, time.monotonic()
+        self.room, self.place, self.number, self.set_to, self.asked = room, place, number, set_to, 0
         self.known: dict[tree.Node, Value] = {}
         first = place.body[0]
         is_root = place.file == "meson.build"
@@ -52,7 +52,7 @@ class Probe:
     @property
     def can_ask(self) -> bool:
         """Whether calls may stand in the statement, and are still asked."""
-        return self.rounds > 0 and self.asked < MOST and time.monotonic() - self.begun < MOST_SECONDS
+        return self.rounds > 0 and self.asked < MOST and time.monotonic() - self.room.asked.begun < MOST_SECONDS
 
     def outcome(self, edits: list[tuple[int, int, str]], before: str = "") -> Outcome:
         """What comes of the file with other texts at some places, and with lines before the statement."""
@@ -98,6 +98,17 @@ class Probe:
             return Value("list", "", tuple(self.value(it) for it in node.items[:MOST]))
         made = self.made(tree.plain(node))
         return Value(made if made is not None else self.kind(node))
+
+    def asked_of(self, node: tree.Node, method: str) -> Value | None:
+        """What a method gives of a node that completes; none where that isn't known."""
+        printed = self.said(node, f"[ROUND and error(MARK, [(NODE).{method}]), NODE][1]") if self.can_ask else None
+        return value_in(printed) if printed is not None else None
+
+    def texts_by_round(self, node: tree.Node) -> list[str]:
+        """The texts that a node of the statement is in the rounds, up to that of the fault."""
+        source = f"'{MARK} @0@ @1@'.format({COUNT}, {self.place.source(node)})"
+        told = self.outcome([], f"meson.get_compiler('c').sizeof({source})\n").asked
+        return re.findall(MARK + r" \d+ (.*?)\",\"answer\"", told)
 
     def variable(self, name: str) -> Value | None:
         """What a variable is before the statement, in the round of the fault."""

@@ -145,8 +145,13 @@ METHODS = {
     "merge_from": Row((Kind("configuration data", (OBJECT,), False, ("configuration data object",)),), 1, 1),
     "get_compiler": Row((TEXT_,), 1, 1),
 }
-# Methods whose arguments depend on the object.
-OTHER_METHODS = ("contains", "format", "get", "keys", "to_string")
+# Methods whose arguments depend on what has them.
+OF_KIND = {
+    (TEXT, "contains"): Row((TEXT_,), 1, 1), (LIST, "contains"): Row((ANY,), 1, 1), (TEXT, "format"): Row((ANY,), 0, None),
+    (LIST, "get"): Row((NUMBER, ANY), 1, 2), (DICTIONARY, "get"): Row((TEXT_, ANY), 1, 2),
+    ("configuration data object", "get"): Row((TEXT_, ANY), 1, 2), ("configuration data object", "keys"): Row((ANY,), 0, 0),
+    (DICTIONARY, "keys"): Row((ANY,), 0, 0), (INTEGER, "to_string"): Row((ANY,), 0, 0), (TRUTH, "to_string"): Row((TEXT_,), 0, 2),
+}
 # Of which kind an object, or a value, is that has these methods.
 METHODS_OF = {
     TEXT: "contains startswith endswith format join replace split splitlines strip substring to_int to_lower to_upper underscorify "

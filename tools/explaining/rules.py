@@ -58,6 +58,8 @@ def of_paths(context: Context, call: tree.Call, values: dict[str, Value]) -> Why
                 return name, f"the path {quoted(text)} leaves the project"
             if not text:
                 return name, "a path is empty"
+            if call.name == "install_man" and name.isdigit() and not re.search(r"[0-9]", os.path.basename(text)):
+                return name, f"the page {quoted(text)} has no section: the last digit of its name says it, as in 'name.1'"
     return None
 
 

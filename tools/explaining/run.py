@@ -7,6 +7,7 @@ import os
 import re
 import subprocess
 import tempfile
+import time
 from collections.abc import Iterator
 
 from tools.last_setup import build_folder_of
@@ -20,11 +21,12 @@ LONGEST, MOST_BYTES = 300, (32 << 20) + 1
 
 @dataclasses.dataclass(frozen=True)
 class Fault:
-    """A fault line: its file, the line there, its number, and the text behind that."""
+    """A fault line: its file, the line there, its number, the text behind that; and what its run asked, a line of JSON each."""
     file: str
     line: int
     number: int
     text: str
+    asked: str
 
     def shown(self) -> str:
         return f"{self.file}:{self.line}: ERROR: E{self.number} {self.text}"
@@ -37,7 +39,7 @@ class Fault:
 
 @dataclasses.dataclass(frozen=True)
 class Outcome:
-    """What came of a run; `asked` is a line of JSON for each question."""
+    """What came of a run; `asked` as of a fault."""
     status: int
     fault: Fault | None
     asked: str
@@ -46,11 +48,12 @@ class Outcome:
 
 @dataclasses.dataclass(frozen=True)
 class Asked:
-    """What is asked for: the program, the folder of the sources, the words, and the bytes of the machine file."""
+    """What is asked for, and since when: the program, the folder of the sources, the words, and the bytes of the machine file."""
     program: str
     root: str
     words: list[str]
     machine: bytes | None
+    begun: float = dataclasses.field(default_factory=time.monotonic)
 
     @property
     def build(self) -> str | None:
@@ -119,10 +122,10 @@ def questions(asked: Asked, folder: str, scratch: str) -> Outcome:
         words = with_machine(words, path)
     done = subprocess.run(["meson", "questions", *words], executable=asked.program, cwd=folder, stdin=subprocess.DEVNULL,
                           capture_output=True, timeout=LONGEST)
-    complaint = done.stderr.decode(errors="backslashreplace")
+    told, complaint = (it.decode(errors="backslashreplace") for it in (done.stdout, done.stderr))
     found = FAULT.fullmatch(complaint.removesuffix("\n"))
-    fault = Fault(found[1], int(found[2]), int(found[3]), found[4]) if found and done.returncode == 1 else None
-    return Outcome(done.returncode, fault, done.stdout.decode(errors="backslashreplace"), complaint)
+    fault = Fault(found[1], int(found[2]), int(found[3]), found[4], told) if found and done.returncode == 1 else None
+    return Outcome(done.returncode, fault, told, complaint)
 
 
 def in_place(asked: Asked) -> Outcome:
