@@ -6,6 +6,7 @@ import re
 
 from porting import tree
 from porting.lexer import SyntaxFault
+from porting.options import declarations
 from porting.parser import parse
 from tools.explaining.context import Context, read
 from tools.explaining.detail import Detail, detail, listed, near, quoted
@@ -35,12 +36,9 @@ def declared(root: str) -> dict[str, tree.Call]:
         if text is None:
             continue
         try:
-            body = parse(text)
+            return declarations(parse(text))
         except (SyntaxFault, RecursionError):
             return {}
-        values = [it.value for it in body if isinstance(it, tree.Expression)]
-        calls = [it for it in values if isinstance(it, tree.Call) and it.name == "option"]
-        return {first.value: it for it in calls if it.arguments and isinstance(first := it.arguments[0], tree.Text)}
     return {}
 
 
