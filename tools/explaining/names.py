@@ -9,6 +9,7 @@ from tools.explaining.context import Context
 from tools.explaining.detail import Detail, detail, listed, near, quoted
 from tools.explaining.instead import in_its_place
 from tools.explaining.rows import FUNCTIONS, METHODS, METHODS_OF, methods_of
+from tools.explaining.settings import declared
 from tools.explaining.values import flat
 
 
@@ -27,7 +28,19 @@ def undefined(context: Context) -> Detail:
                  if (path, statement.start) != (context.fault.file, present.start)}
     where = (" at this point, though a file of the project sets it: in a branch that was not taken, later, or before unset_variable"
              if name in elsewhere else "")
-    return detail(f"the name {quoted(name)} has no value{where}{near(name, [*context.names(), 'true', 'false'])}", at=at)
+    return detail(f"the name {quoted(name)} has no value{where}{near(name, [*context.names(), 'true', 'false'])}",
+                  meant_by(context, name), at=at)
+
+
+def meant_by(context: Context, name: str) -> str:
+    """What else has a name that no variable has."""
+    if name.lower() in ("none", "null", "nil"):
+        return "there is no such value: '', [] or {} is an empty one"
+    if name in FUNCTIONS:
+        return f"it is a function, which is called: '{name}(..)'"
+    if name in methods_of("meson object"):
+        return f"it is a method: 'meson.{name}()'"
+    return f"it is an option, whose value is get_option('{name}')" if name in declared(context.asked.root) else ""
 
 
 def is_named(node: tree.Node, name: str) -> bool:

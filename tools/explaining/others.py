@@ -44,11 +44,21 @@ def duplicate(context: Context) -> Detail:
     return made_twice(context, call) if call else detail("something stands twice in this line", at=context.place.statement.start)
 
 
+def named_by(call: tree.Call) -> tree.Node | None:
+    """What says the names of the outputs of a call."""
+    return call.keywords["output"].value if "output" in call.keywords else call.arguments[0] if call.arguments else None
+
+
 def outputs_of(call: tree.Call) -> list[str]:
     """The names that a call makes, as far as they stand in its text."""
-    named = call.keywords["output"].value if "output" in call.keywords else None
-    node = named if named is not None else call.arguments[0] if call.arguments else None
+    node = named_by(call)
     return [it.value for it in tree.inside(node) if isinstance(it, tree.Text)] if node is not None else []
+
+
+def are_one(left: set[str], right: set[str]) -> bool:
+    """Whether a file is made twice; the links of a shared library have numbers behind its name."""
+    return any(a == b or a.startswith(b + ".") and b.endswith(".so") or b.startswith(a + ".") and a.endswith(".so")
+               for a in left for b in right)
 
 
 def files_of(maker: str, name: str) -> set[str]:
@@ -58,7 +68,7 @@ def files_of(maker: str, name: str) -> set[str]:
 
 def made_twice(context: Context, call: tree.Call) -> Detail:
     """A target or a file whose outputs another one makes."""
-    node = call.keywords["output"].value if "output" in call.keywords else call.arguments[0] if call.arguments else None
+    node = named_by(call)
     value = context.value(node) if node is not None else None
     names = [it.text for it in flat(value) if it.kind == TEXT] if value else outputs_of(call)
     reserved = [it for it in names if os.path.normpath(os.path.join(context.folder, it)) in RESERVED]
@@ -67,7 +77,7 @@ def made_twice(context: Context, call: tree.Call) -> Detail:
     made = ", ".join(map(quoted, names)) or "it"
     if len(set(names)) < len(names):
         return detail(f"{call.name}: an output stands twice among {made}", at=call.start)
-    where = made_before(context, call, node, names)
+    where = made_before(context, call, node, names) if names else ""
     if where:
         told = "give it another name, or declare it in another folder"
         return detail(f"{call.name}: {made} is made before, {where}", told, at=call.start)
@@ -81,18 +91,22 @@ def made_twice(context: Context, call: tree.Call) -> Detail:
 
 
 def made_before(context: Context, call: tree.Call, node: tree.Node | None, names: list[str]) -> str:
-    """By which call the names are made too; nothing where that isn't known."""
+    """By which call the names are made too; nothing where that isn't known. All that makes files of a folder stands in one file."""
+    makers = [(statement, other, output) for statement in tree.statements_in(context.place.body) for root in tree.expressions_of(statement)
+              for other in tree.inside(root) if isinstance(other, tree.Call) and other.receiver is None and other.name in MAKERS
+              and (output := named_by(other)) is not None]
+    told = context.probe.told([(statement, output) for statement, _, output in makers]) if context.probe.can_ask else []
+    own = [number for number, (it, _) in enumerate(told) if it is node][-len(names):]
+    before = [it for number, it in enumerate(told) if number not in own] or [
+        (output, text) for statement, other, output in makers if statement.start < context.place.statement.start
+        for text in outputs_of(other)]
+    maker_of = {id(output): other for _, other, output in makers}
     files = {file for it in names for file in files_of(call.name, it)}
-    is_in_loop = context.place.is_in_loop
-    for path, statement in context.statements():
-        is_this = path == context.fault.file and statement.start == context.place.statement.start
-        is_later = path == context.fault.file and statement.start > context.place.statement.start and not is_in_loop
-        for other in (it for root in tree.expressions_of(statement) for it in tree.inside(root) if isinstance(it, tree.Call)):
-            if other.receiver is None and other.name in MAKERS and not is_this and not is_later and os.path.dirname(path) == context.folder:
-                if files & {file for it in outputs_of(other) for file in files_of(other.name, it)}:
-                    return f"by {other.name} at {path}:{line_at(open_text(context, path), other.start)}"
-    earlier = context.probe.texts_by_round(node)[:-1] if is_in_loop and node is not None and context.probe.can_ask else []
-    return f"in round {earlier.index(names[0]) + 1} of this loop" if names and names[0] in earlier else ""
+    other = next((maker_of[id(it)] for it, text in before if are_one(files_of(maker_of[id(it)].name, text), files)), None)
+    rounds = [text for it, text in before if it is node]
+    if other is call:
+        return f"in round {rounds.index(names[0]) + 1} of this loop" if names[0] in rounds else "in an earlier round of this loop"
+    return f"by {other.name} at {context.fault.file}:{context.place.line_of(other.start)}" if other is not None else ""
 
 
 def open_text(context: Context, path: str) -> str:

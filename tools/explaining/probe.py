@@ -7,6 +7,7 @@ what `x` is.
 from __future__ import annotations
 
 import functools
+import json
 import re
 import time
 from collections.abc import Iterator
@@ -104,11 +105,18 @@ class Probe:
         printed = self.said(node, f"[ROUND and error(MARK, [(NODE).{method}]), NODE][1]") if self.can_ask else None
         return value_in(printed) if printed is not None else None
 
-    def texts_by_round(self, node: tree.Node) -> list[str]:
-        """The texts that a node of the statement is in the rounds, up to that of the fault."""
-        source = f"'{MARK} @0@ @1@'.format({COUNT}, {self.place.source(node)})"
-        told = self.outcome([], f"meson.get_compiler('c').sizeof({source})\n").asked
-        return re.findall(MARK + r" \d+ (.*?)\",\"answer\"", told)
+    def told(self, nodes: list[tuple[tree.Statement, tree.Node]]) -> list[tuple[tree.Node, str]]:
+        """The texts that nodes of statements of this file were, each time before the statement; none where that isn't known."""
+        asks = ("foreach {0}_it : [] + ({1})\n{0}_all += 1\n"
+                "meson.get_compiler('c').sizeof('{2} @0@ {3} @1@'.format({0}_all, {0}_it))\nendforeach\n")
+        edits = [(statement.start, statement.start, asks.format(COUNT, self.place.source(node), MARK, number))
+                 for number, (statement, node) in enumerate(nodes)]
+        came = self.outcome([*edits, (self.begin, self.begin, f"{COUNT}_all = 0\n")])
+        if came.fault is None or came.fault.number != self.number:
+            return []
+        keys = [json.loads(it)["key"] or "" for it in came.asked.splitlines()]
+        found = [it.removeprefix(f"sizeof {MARK} ").split(" ", 2) for it in keys if it.startswith(f"sizeof {MARK} ")]
+        return [(nodes[int(number)][1], text) for _, number, text in found]
 
     def variable(self, name: str) -> Value | None:
         """What a variable is before the statement, in the round of the fault."""
