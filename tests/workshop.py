@@ -5,6 +5,7 @@ import shutil
 import subprocess
 import sys
 import tempfile
+from collections.abc import Callable
 
 CHECKOUT = os.path.dirname(os.path.dirname(os.path.realpath(__file__)))
 WORK = tempfile.mkdtemp()
@@ -18,6 +19,17 @@ def check(name: str, holds: object, shown: object = "") -> None:
     print(f"scripts: {name}: {'passed' if holds else 'FAILED'}", flush=True)
     if not holds and shown:
         print("    " + str(shown).replace("\n", "\n    "))
+
+
+def carry_out(*tests: Callable[[], object]) -> int:
+    """Makes the tests, takes their folder away and says how many passed; gives the status."""
+    try:
+        for test in tests:
+            test()
+    finally:
+        shutil.rmtree(WORK, ignore_errors=True)
+    print(f"{counts[True]} passed, {counts[False]} failed")
+    return 0 if counts[False] == 0 else 1
 
 
 def words_of(words: list[str]) -> list[str]:

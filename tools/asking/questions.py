@@ -5,11 +5,11 @@ import os
 import tempfile
 
 from porting.lexer import SyntaxFault, tokens_of
-from porting.trial import linked_copy
 from tools.asking.checks import OF_WORDS
 from tools.asking.processes import run
 from tools.ending import Stop
 from tools.files import read_text
+from tools.links import linked_copy
 
 ROOT_FILE = "meson.build"
 BUILD = "build-of-the-questions"
@@ -93,7 +93,7 @@ class Project:
     def in_use(self, machine_file: str) -> tuple[str, list[str], list[str]]:
         """c_std, c_args and c_link_args as the project has them in the end, by a run of its first statement alone."""
         with tempfile.TemporaryDirectory(dir=self.scratch) as folder:
-            linked_copy(self.sources, folder, {ROOT_FILE: (None, first_statement(self.sources) + IN_USE)})
+            linked_copy(self.sources, folder, {ROOT_FILE: first_statement(self.sources) + IN_USE})
             told = self.ask(machine_file, folder)
         if told.fault:
             raise Stop(told.fault)

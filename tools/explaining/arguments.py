@@ -4,23 +4,23 @@ from __future__ import annotations
 from porting import left, tree
 from tools.explaining.context import Context
 from tools.explaining.detail import Detail, detail, listed, near, quoted
-from tools.explaining.names import in_its_place
-from tools.explaining.rows import FUNCTIONS, METHODS, Kind, Row
+from tools.explaining.instead import in_its_place
+from tools.explaining.rows import FUNCTIONS, METHODS, OF_KIND, Kind, Row
 from tools.explaining.rules import broken_rule
-from tools.explaining.values import Value
+from tools.explaining.values import OWN, Value
 
 
-OWN = ("meson", "host_machine", "build_machine", "target_machine")
-
-
-def row_of(call: tree.Call) -> Row | None:
-    return FUNCTIONS.get(call.name) if call.receiver is None else METHODS.get(call.name)
+def row_of(context: Context, call: tree.Call) -> Row | None:
+    if call.receiver is None or call.name in METHODS:
+        return FUNCTIONS.get(call.name) if call.receiver is None else METHODS[call.name]
+    value = context.value(call.receiver) if any(name == call.name for _, name in OF_KIND) else None
+    return OF_KIND.get((value.kind, call.name)) if value else None
 
 
 def refused(context: Context) -> Detail:
     """E9 at a call, or at an assignment to a name that can't be set."""
     statement = context.place.statement
-    node = context.probe.culprit() if context.probe.can_ask else None
+    node = context.probe.culprit if context.probe.can_ask else None
     call = node if isinstance(node, tree.Call) else None
     if call is None and (node is None or not isinstance(node, tree.Call)):
         own = own_name(statement) if node is None else None
@@ -35,13 +35,12 @@ def refused(context: Context) -> Detail:
 
 def own_name(statement: tree.Statement) -> str | None:
     """The variable of the program's own that a statement would set."""
-    names = [statement.name] if isinstance(statement, tree.Assignment) else statement.names if isinstance(statement, tree.Foreach) else []
-    return next((it for it in names if it in OWN), None)
+    return next((it for it in tree.names_set_by(statement) if it in OWN), None)
 
 
 def of_words(context: Context, call: tree.Call) -> Detail | None:
     """Keywords that are not there, or missing, and numbers of arguments: by the text alone."""
-    row = row_of(call)
+    row = row_of(context, call)
     if row is None:
         return None
     for name, word in call.keywords.items():
@@ -61,7 +60,7 @@ def of_words(context: Context, call: tree.Call) -> Detail | None:
 
 def of_values(context: Context, call: tree.Call) -> Detail:
     """Kinds of values, then rules of the call; else what each argument is."""
-    row, values = row_of(call), {}
+    row, values = row_of(context, call), {}
     for name, number, item in items_of(call):
         values[name] = value = context.value(item)
         kind = (row.keywords.get(name) if number is None else row.kind(number)) if row else None
@@ -99,7 +98,7 @@ def all_values(context: Context, call: tree.Call, values: dict[str, Value | None
     """What the call was given, where no rule is known that says more."""
     on = f" of {value.shown()}" if call.receiver is not None and (value := context.value(call.receiver)) else ""
     given = [f"{name_of(name, number)} is {value.shown()}" for name, number, _ in items_of(call) if (value := values.get(name))]
-    row = row_of(call)
+    row = row_of(context, call)
     takes = [f"argument {it + 1} {row.kind(it).words}" for it in range(min(row.most or len(row.kinds), 4))] if row and row.most != 0 else []
     told = f"it takes: {listed(takes)}" if takes else ""
     return detail(f"{call.name}{on}: it can't do with what it got: {listed(given) or 'nothing'}", told, at=call.start)

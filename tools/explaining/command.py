@@ -6,11 +6,11 @@ import subprocess
 
 from tools.ending import Stop, one_line, say, show
 from tools.explaining import arguments, devices, grammar, machine, names, operators, others, settings
-from tools.explaining.context import Context, read
+from tools.explaining.context import Context, read, set_in
 from tools.explaining.detail import Detail, detail, shown
 from tools.explaining.place import place_of
 from tools.explaining.probe import Probe
-from tools.explaining.run import LONGEST, MACHINE, MOST_BYTES, WORDS, Asked, Fault, Outcome, machine_path, room_of
+from tools.explaining.run import LONGEST, MACHINE, MOST_BYTES, WORDS, Asked, Fault, Outcome, in_place, machine_path, room_of
 
 DONE, NOT_READ, BAD_WORDS = 0, 2, 4
 ON_STATEMENTS = {
@@ -31,8 +31,7 @@ def main(told: str, program: str, words: list[str]) -> int:
         return DONE
     asked = Asked(program, os.getcwd(), words, machine_of(words))
     try:
-        with room_of(asked, {}) as room:
-            outcome = room.run()
+        outcome = in_place(asked)
     except subprocess.TimeoutExpired as error:
         raise Stop(f"the program had not ended after {LONGEST} seconds") from error
     return explain(asked, outcome)
@@ -66,7 +65,7 @@ def explain(asked: Asked, outcome: Outcome) -> int:
         why = devices.unread(asked) or devices.unwritten(asked)
         raise Stop(why or outcome.complaint.strip().split("\n")[-1].removeprefix("meson: "))
     if outcome.status == BAD_WORDS:
-        complaint = outcome.complaint.strip().replace("meson setup", "meson explain")
+        complaint = outcome.complaint.strip().replace("meson questions", "meson explain")
         raise Stop(" ".join(complaint.split("\n\n")[0].split()).removeprefix("error: ").removeprefix("meson: "), BAD_WORDS)
     if outcome.status < 0:
         raise Stop(f"the program was ended by signal {-outcome.status}", 128 - outcome.status)
@@ -105,7 +104,7 @@ def detail_of(asked: Asked, fault: Fault, text: str | None) -> Detail:
     if fault.file == WORDS:
         return settings.of_word(asked, fault)
     if fault.file == MACHINE:
-        return settings.of_machine(asked, fault) if fault.number == 15 else of_machine(asked, fault)
+        return settings.of_machine(asked, fault) if fault.number in (15, 23) else of_machine(asked, fault)
     if text is None:
         return detail(f"the folder has no {fault.file}: `meson explain` is called in the folder of the sources, as `meson setup`")
     if fault.number in ON_TEXTS:
@@ -135,5 +134,5 @@ def on_statement(asked: Asked, fault: Fault, text: str) -> Detail:
         return detail(TOO_LONG)
     if place is None:
         return detail("a project begins with project(NAME, 'c')" if fault.number == 13 else "what is refused stands in this line")
-    with room_of(asked, {fault.file: text}) as room:
-        return ON_STATEMENTS[fault.number](Context(asked, fault, place, Probe(room, place)))
+    with room_of(asked, fault.file, text) as room:
+        return ON_STATEMENTS[fault.number](Context(asked, fault, place, Probe(room, place, fault.number, set_in(asked.root))))

@@ -2,6 +2,7 @@
 from __future__ import annotations
 
 import dataclasses
+import json
 import os
 import re
 from collections.abc import Iterator
@@ -12,7 +13,7 @@ from porting.parser import parse
 from tools.explaining.place import Place
 from tools.explaining.probe import Probe
 from tools.explaining.run import Asked, Fault
-from tools.explaining.values import Value
+from tools.explaining.values import OWN, Value
 
 
 @dataclasses.dataclass
@@ -46,33 +47,52 @@ class Context:
     def folder(self) -> str:
         return os.path.dirname(self.fault.file)
 
+    def call(self) -> tree.Call | None:
+        """The call at fault; where that isn't known, the outermost of the line."""
+        node = self.probe.culprit if self.probe.can_ask else None
+        calls = [node] if isinstance(node, tree.Call) else self.place.calls()
+        return calls[0] if calls else None
+
+    def answer(self, section: str) -> dict[str, object] | None:
+        """What the machine file answered where a whole section was asked."""
+        told = (json.loads(it) for it in self.fault.asked.split("\n") if it)
+        return next((it["answer"] for it in told if (it["section"], it["key"]) == (section, None)), None)
+
     def names(self) -> set[str]:
-        """The names that the definition files set."""
-        found = {"meson", "host_machine", "build_machine", "target_machine"}
-        for _, statement in self.statements():
-            if isinstance(statement, tree.Assignment):
-                found.add(statement.name)
-            if isinstance(statement, tree.Foreach):
-                found.update(statement.names)
-        return found
+        """The names that have a value somewhere in the definition files."""
+        return {*OWN, *set_in(self.asked.root)}
 
     def statements(self) -> Iterator[tuple[str, tree.Statement]]:
-        """The statements of all definition files that are found by their names, each with its file."""
-        waiting, seen = ["meson.build"], set()
-        while waiting:
-            path = waiting.pop(0)
-            text = read(os.path.join(self.asked.root, path))
-            if path in seen or text is None:
-                continue
-            seen.add(path)
-            try:
-                body = parse(text)
-            except (SyntaxFault, RecursionError):
-                continue
-            for statement in tree.statements_in(body):
-                yield path, statement
-            waiting += [os.path.normpath(os.path.join(os.path.dirname(path), it, "meson.build"))
-                        for it in re.findall(r"\bsubdir\(\s*'([^']*)'", text)]
+        return statements_below(self.asked.root)
+
+
+def set_in(root: str) -> dict[str, list[tree.Node]]:
+    """Of each name that the definition files set what it is set to; an empty name where that is an item of something."""
+    found: dict[str, list[tree.Node]] = {}
+    for _, statement in statements_below(root):
+        value = statement.value if isinstance(statement, tree.Assignment) else tree.Name(statement.start, statement.start, "")
+        for name in tree.names_set_by(statement):
+            found.setdefault(name, []).append(value)
+    return found
+
+
+def statements_below(root: str) -> Iterator[tuple[str, tree.Statement]]:
+    """The statements of all definition files that are found by their names, each with its file."""
+    waiting, seen = ["meson.build"], set()
+    while waiting:
+        path = waiting.pop(0)
+        text = read(os.path.join(root, path))
+        if path in seen or text is None:
+            continue
+        seen.add(path)
+        try:
+            body = parse(text)
+        except (SyntaxFault, RecursionError):
+            continue
+        for statement in tree.statements_in(body):
+            yield path, statement
+        waiting += [os.path.normpath(os.path.join(os.path.dirname(path), it, "meson.build"))
+                    for it in re.findall(r"\bsubdir\(\s*'([^']*)'", text)]
 
 
 def read(path: str) -> str | None:

@@ -8,9 +8,29 @@ from porting import tree
 from porting.lexer import TOKEN, SyntaxFault, Token, tokens_of
 from porting.parser import Parser
 from tools.explaining.detail import Detail, detail, line_at, named, quoted
+from tools.explaining.place import with_loops
 
 WORD = re.compile(r"[A-Za-z_0-9]+|'''|f?'[^'\n]*'?|\S")
 CLOSING = {"(": ")", "[": "]", "{": "}"}
+# What is often meant by a character that begins no token.
+SIGNS = {
+    '"': "a text stands between single quotes, as 'text'", "&": "both of two conditions is 'a and b'",
+    "|": "one of two conditions is 'a or b'",
+    "!": "what isn't so is 'not a'", ";": "a statement ends with its line", "$": "a variable is its name alone, and in a text f'@name@'",
+    "@": "a name stands between '@' in a text alone, as f'@name@'", "`": "a text stands between single quotes, as 'text'",
+    "\\": "it stands in a text, or at the end of a line that goes on",
+}
+# What is often meant by a word that begins a statement.
+BEGINNINGS = {
+    **dict.fromkeys(("for", "while"), "a loop is 'foreach NAME : LIST', up to 'endforeach'"),
+    **dict.fromkeys(("def", "function", "func"), "no functions are defined in these files"),
+    **dict.fromkeys(("let", "var", "const", "set"), "a variable is set by 'NAME = value'"),
+}
+# What is often meant by what stands behind a part of a statement: the word before, the word itself.
+FOLLOWING = {
+    ("else", "if"): "a further condition is 'elif'", ("+", "+"): "one more is 'NAME += 1'", ("+", "="): "'+=' is one sign",
+    ("=", "="): "'==' is one sign, and compares", ("-", "-"): "one less is 'NAME = NAME - 1'",
+}
 
 
 def bytes_detail(data: bytes) -> Detail:
@@ -57,12 +77,12 @@ def open_at(text: str, end: int) -> list[tuple[str, int]]:
     return found
 
 
-def open_detail(text: str, end: int) -> str:
-    """What is open, and since which line."""
+def open_detail(text: str, end: int, line: int) -> str:
+    """What is open, and since which line; nothing of a block that begins on this line."""
     found = open_at(text, end)
-    if not found:
+    word, at = found[-1] if found else ("", 0)
+    if not found or word not in CLOSING and line_at(text, at) == line:
         return ""
-    word, at = found[-1]
     closing = CLOSING.get(word, "end" + word)
     return f"'{word}' of line {line_at(text, at)} is still open there: its '{closing}' is missing, or stands elsewhere"
 
@@ -83,13 +103,11 @@ def token_detail(text: str, line: int) -> Detail:
     if at is None or line_at(text, at) != line:
         return detail(f"there is no token in {quoted(line_text(text, line).strip())}")
     sign = text[at]
-    if sign == '"':
-        return detail("the character '\"' begins no token: a text stands between single quotes, as 'text'", at=at)
     if text[max(at - 2, 0):at + 1] == "'''":
         return detail("the text that begins with ''' has no end: the next ''' ends it", at=at - 2)
     if sign == "'" or text[at:at + 2] == "f'":
-        return detail(f"the text {quoted(text[at:].splitlines()[0])} has no end", at=at)
-    return detail(f"the character {quoted(sign)} begins no token", at=at)
+        return detail(f"the text {named(text[at:].splitlines()[0])} has no end: the next single quote on its line ends it", at=at)
+    return detail(f"the character {quoted(sign)} begins no token{': ' * (sign in SIGNS)}{SIGNS.get(sign, '')}", at=at)
 
 
 def unread_at(text: str) -> int | None:
@@ -118,7 +136,8 @@ def grammar_detail(text: str, line: int) -> Detail:
             is_end = at >= len(text.rstrip())
             why = fault.why.replace("wanted before", "missing before")
             why = why.replace("'the end of the line'", "the end of the file" if is_end else "the end of the line")
-            return detail(why, hint_of(parser), open_detail(text, at), at=at if line_at(text, at) == line and not is_end else None)
+            return detail(why, hint_of(parser), open_detail(text, at, line),
+                          at=at if line_at(text, at) == line and not is_end else None)
         return on_line(text, line)
     for at, why in refused_in(body):
         if line_at(text, at) == line:
@@ -131,11 +150,38 @@ def hint_of(parser: Parser) -> str:
     token, before = parser.token, parser.tokens[parser.at - 1] if parser.at else None
     if before is None:
         return ""
-    if before.kind == "name" and token.kind == "mark" and token.text == "=" and open_at(parser.text, token.start):
+    opened = [word for word, _ in open_at(parser.text, token.start)[-1:]]
+    if (before.text, token.text) in FOLLOWING:
+        return FOLLOWING[before.text, token.text]
+    is_first = parser.at == 1 or parser.tokens[parser.at - 2].kind == "newline"
+    if is_first and before.text in BEGINNINGS:
+        return BEGINNINGS[before.text]
+    if before.text == "." and token.kind == "number":
+        return "a number has no '.': a version is a text"
+    if opened and opened[0] in CLOSING:
+        return in_brackets(opened[0], before, token)
+    if opened == ["foreach"] and token.text in ("in", "="):
+        return "a loop is 'foreach NAME : LIST'"
+    if opened == ["if"] and token.text == "=":
+        return "'==' compares, and '=' sets a variable"
+    if opened == ["if"] and token.text in ("{", ":", "then"):
+        return "a condition ends with its line"
+    if token.text == "if":
+        return "a choice inside of a statement is 'condition ? this : that'"
+    return "texts are joined by '+'" if before.kind == token.kind == "text" else ""
+
+
+def in_brackets(opened: str, before: Token, token: Token) -> str:
+    """The same inside of brackets."""
+    if token.text == "=" and opened == "{":
+        return "in a dictionary ':' stands behind a key"
+    if before.kind == "name" and token.kind == "mark" and token.text == "=":
         return f"a keyword is given as '{before.text}: value'"
+    if opened == "(" and token.text == "," and before.text not in (",", "("):
+        return "a list stands in brackets, as [1, 2]"
     ends = before.kind in ("text", "number", "name") or before.text in (")", "]", "}", "true", "false")
     begins = token.kind in ("text", "number", "name") or token.text in ("[", "{", "true", "false")
-    if ends and begins and open_at(parser.text, token.start):
+    if ends and begins:
         return f"a comma is missing between {named(before.text)} and {named(token.text)}, or a bracket is"
     return ""
 
@@ -147,7 +193,8 @@ def on_line(text: str, line: int) -> Detail:
     what = f"at {quoted(words[0])}" if words else "at the end of the line"
     if line > text.count("\n"):
         what = "at the end of the file"
-    return detail(f"{what}: no file goes on so", open_detail(text, end), at=end if words and line_text(text, line)[:1].strip() else None)
+    at = end if words and line_text(text, line)[:1].strip() else None
+    return detail(f"{what}: no file goes on so", open_detail(text, end, line), at=at)
 
 
 def refused_in(body: list[tree.Statement]) -> Iterator[tuple[int, str]]:
@@ -171,13 +218,6 @@ def late_arguments(call: tree.Call) -> Iterator[tuple[int, str]]:
             named = item.name
         elif named:
             yield item.start, f"{call.name}: an argument without a name stands behind '{named}:'; those without stand first"
-
-
-def with_loops(body: list[tree.Statement], is_in_loop: bool) -> Iterator[tuple[tree.Statement, bool]]:
-    for statement in body:
-        yield statement, is_in_loop
-        for inner in tree.bodies_of(statement):
-            yield from with_loops(inner, is_in_loop or isinstance(statement, tree.Foreach))
 
 
 def nesting_detail(text: str, line: int) -> Detail:

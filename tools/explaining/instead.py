@@ -160,3 +160,9 @@ def instead_of(table: str, name: str) -> str:
         if any(re.search(rf"(?<!\w){re.escape(name)}(?!\w)", it) for it in spans):
             return plain(instead)
     return ""
+
+
+def in_its_place(table: str, name: str, short: str = "") -> str:
+    """What the document says of a name, else the short text, as a line; nothing where there is neither."""
+    text = instead_of(table, name) or short
+    return f"write in its place: {text}" if text else ""

@@ -6,17 +6,11 @@ import os
 
 from porting import left, tree
 from tools.explaining.context import Context
-from tools.explaining.detail import Detail, detail, near, quoted
-from tools.explaining.instead import instead_of
-from tools.explaining.machine import has_section
+from tools.explaining.detail import Detail, detail, listed, near, quoted
+from tools.explaining.instead import in_its_place
 from tools.explaining.rows import FUNCTIONS, METHODS, METHODS_OF, methods_of
-
-
-
-def in_its_place(table: str, name: str, short: str = "") -> str:
-    """What PORTING.md says of a name, as a line; nothing where it says nothing."""
-    text = instead_of(table, name) or short
-    return f"write in its place: {text}" if text else ""
+from tools.explaining.settings import declared
+from tools.explaining.values import flat
 
 
 def named_call(context: Context, name: str) -> tree.Call | None:
@@ -26,12 +20,37 @@ def named_call(context: Context, name: str) -> tree.Call | None:
 
 def undefined(context: Context) -> Detail:
     """E5."""
-    name = context.fault.name
-    nodes = [node for root in tree.expressions_of(context.place.statement) for node in tree.inside(root)]
-    at = next((it.start for it in nodes if isinstance(it, tree.Name) and it.text == name), None)
-    is_set = name in context.names()
-    where = " at this point, though a file of the project sets it: in a branch that was not taken, or later" if is_set else ""
-    return detail(f"the name {quoted(name)} has no value{where}{near(name, context.names())}", at=at)
+    name, present = context.fault.name, context.place.statement
+    at = next((it.start for root in tree.expressions_of(present) for it in tree.inside(root) if is_named(it, name)), None)
+    if isinstance(present, tree.Assignment) and present.operator == "+=" and present.name == name:
+        at = present.start
+    elsewhere = {it for path, statement in context.statements() for it in tree.names_set_by(statement)
+                 if (path, statement.start) != (context.fault.file, present.start)}
+    where = (" at this point, though a file of the project sets it: in a branch that was not taken, later, or before unset_variable"
+             if name in elsewhere else "")
+    return detail(f"the name {quoted(name)} has no value{where}{near(name, [*context.names(), 'true', 'false'])}",
+                  meant_by(context, name), at=at)
+
+
+def meant_by(context: Context, name: str) -> str:
+    """What else has a name that no variable has."""
+    if name.lower() in ("none", "null", "nil"):
+        return "there is no such value: '', [] or {} is an empty one"
+    if name in FUNCTIONS:
+        return f"it is a function, which is called: '{name}(..)'"
+    if name in methods_of("meson object"):
+        return f"it is a method: 'meson.{name}()'"
+    return f"it is an option, whose value is get_option('{name}')" if name in declared(context.asked.root) else ""
+
+
+def is_named(node: tree.Node, name: str) -> bool:
+    """Whether a node asks for a variable: by its name, or in a text."""
+    if isinstance(node, tree.Text):
+        return node.has_names and f"@{name}@" in node.value
+    if isinstance(node, tree.Call) and node.name in ("get_variable", "unset_variable") and node.arguments:
+        first = node.arguments[0]
+        return isinstance(first, tree.Text) and first.value == name
+    return isinstance(node, tree.Name) and node.text == name
 
 
 def unknown(context: Context) -> Detail:
@@ -76,21 +95,36 @@ def text_at(context: Context, path: str) -> int | None:
 
 def not_found(context: Context) -> Detail:
     """E17."""
-    name = context.fault.name
-    call = context.place.calls()[0] if context.place.calls() else None
-    at = call.start if call else None
-    what = call.name if call else "a call"
-    if what == "dependency":
-        if has_section(context.asked.machine, f"dependency {name}"):
-            why = f"the machine file has [dependency {name}], but its version doesn't fit what 'version:' asks"
-        else:
-            why = f"the machine file has no section [dependency {name}]"
-    elif what == "find_program":
-        why = f"the machine file has no key {quoted(name)} in [binaries], and there is no file of that name in the folder"
+    call = context.call()
+    if call is None:
+        return detail(f"{quoted(context.fault.name)} is required and not found", at=context.place.statement.start)
+    values = [context.value(it) for it in call.arguments]
+    names = [it.text for value in values if value for it in flat(value)] or [context.fault.name]
+    if call.name == "dependency":
+        why, line = no_dependency(context, call, names), f"a section [dependency {names[0]}]"
+    elif call.name == "find_program":
+        these = "this name" if len(names) == 1 else "these names"
+        why = f"the machine file has no key of {these} in [binaries], and there is no file of {these} in the folder"
+        line = f"'{names[0]} = PATH' in [binaries]"
     else:
-        why = f"the machine file has no line that says true to '{what} {name}' in [checks]"
+        key = " ".join([call.name, *names])
+        why = f"the machine file has no line that says true to {quoted(key)} in [checks]"
+        line = f"'{key} = true' in [checks]"
+        names = [" ".join(names)]
+    what = f"{quoted(names[0])} is" if len(names) == 1 else f"one of {listed(map(quoted, names))} is"
     given = "" if context.asked.machine is not None else "; no machine file is given (--native-file)"
-    return detail(f"{what}: {quoted(name)} is required and not found: {why}{given}", at=at)
+    told = f"where this machine has it, the machine file says so by {line}: `meson machine-file` writes what it finds"
+    return detail(f"{call.name}: {what} required and not found: {why}{given}", told, at=call.start)
+
+
+def no_dependency(context: Context, call: tree.Call, names: list[str]) -> str:
+    """What the machine file says of each name; where it has one, its version doesn't fit."""
+    wanted = context.value(call.keywords["version"].value) if "version" in call.keywords else None
+    wants = f", and 'version' asks for {listed(quoted(it.text) for it in flat(wanted))}" if wanted else ""
+    found = {it: context.answer(f"dependency {it}") for it in names}
+    has = [f"[dependency {name}] of version {quoted(str(it.get('version', '')))}" for name, it in found.items() if it is not None]
+    lacks = [f"no section [dependency {name}]" for name, it in found.items() if it is None]
+    return f"the machine file has {' and '.join([*has, *lacks])}{wants if has else ''}"
 
 
 def left_out(context: Context) -> Detail:
@@ -101,7 +135,8 @@ def left_out(context: Context) -> Detail:
             module = f"import('{first.value}')" if call.name == "import" and isinstance(first, tree.Text) else call.name
             told = in_its_place("Functions", module) or in_its_place("Functions", "import('fs')" if call.name == "import" else call.name,
                                                                      left.FUNCTIONS.get(call.name, ""))
-            return detail(f"the function {quoted(call.name)} is left out", told, at=call.start)
+            what = f", and so is the module {quoted(first.value)}" if call.name == "import" and isinstance(first, tree.Text) else ""
+            return detail(f"the function {quoted(call.name)} is left out{what}", told, at=call.start)
         if call.receiver is not None and call.name not in METHODS and in_its_place("Methods", call.name):
             return detail(f"the method {quoted(call.name)} is left out", in_its_place("Methods", call.name), at=call.name_start)
         for name, word in call.keywords.items():
@@ -128,4 +163,6 @@ def of_project(context: Context, call: tree.Call) -> Detail:
             if isinstance(node, tree.Text) and node.value != "c":
                 why = f"project: the language {quoted(node.value)} is left out: C alone is built"
                 return detail(why, in_its_place("Functions", "add_languages"), at=node.start)
-    return detail("project: default_library=both is left out", in_its_place("Functions", "both_libraries"), at=call.start)
+    given = call.keywords.get("default_options")
+    return detail("project: default_options: default_library=both is left out", in_its_place("Functions", "default_library=both"),
+                  at=given.start if given else call.start)

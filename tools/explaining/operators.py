@@ -6,7 +6,7 @@ import re
 from porting import tree
 from tools.explaining.context import Context
 from tools.explaining.detail import Detail, detail, near, quoted
-from tools.explaining.values import Value
+from tools.explaining.values import TEXT, Value, flat
 
 GIVE_NOTHING = ("message", "warning", "error", "assert", "set_variable", "unset_variable", "subdir", "subdir_done", "test",
                 "add_project_arguments", "add_project_link_arguments", "install_headers", "install_data", "install_man", "project", "set",
@@ -23,7 +23,7 @@ def said(context: Context, node: tree.Node) -> str:
 
 def refused(context: Context) -> Detail:
     """E6, E7 and E10 at a node of the statement, or at the statement itself."""
-    node = context.probe.culprit() if context.probe.can_ask else None
+    node = context.probe.culprit if context.probe.can_ask else None
     if node is None:
         return of_statement(context)
     return of_node(context, node)
@@ -81,29 +81,52 @@ def of_index(context: Context, node: tree.Index) -> Detail:
     receiver, index = context.value(node.receiver), context.value(node.index)
     if receiver is None or index is None:
         return detail(f"{quoted(context.place.source(node))} is not there", at=node.start)
-    if context.fault.number == 10 and receiver.kind == "dictionary":
-        keys = re.findall(r"'([^']*)' : ", receiver.text)
-        return detail(f"the dictionary has no key {quoted(index.text)}{near(index.text, keys)}", at=node.index.start)
     if context.fault.number == 10:
-        length = len(receiver.items) if receiver.kind == "list" else len(receiver.text)
-        return detail(f"the index {index.text} is none of {receiver.shown()}, whose length is {length}", at=node.index.start)
+        return detail(no_item(context, receiver, node.receiver, index), at=node.index.start)
     why = f"{receiver.shown()} can't be asked with {index.shown()} as index"
     return detail(f"{why}: a list and a text take an integer, a dictionary a text", at=node.index.start)
+
+
+# What says how many items an object has, and of which names it has values, as a list.
+LENGTHS = {"list": "length()", "list of files": "length()", "custom target": "to_list().length()"}
+NAMES = {"configuration data object": "keys()", "dictionary": "keys()"}
+
+
+def no_item(context: Context, receiver: Value, node: tree.Node, index: Value) -> str:
+    """E10: an index or a key that is none, with the length or the nearest key."""
+    if receiver.kind in NAMES:
+        known = [it.text for it in flat(context.probe.asked_of(node, NAMES[receiver.kind]) or Value("list"))]
+        what = receiver.kind.removesuffix(" object")
+        return f"the {what} has no key {quoted(index.text)}{near(index.text, known)}"
+    return f"the index {index.text} is none of {receiver.shown()}{length_of(context, receiver, node)}"
+
+
+def length_of(context: Context, value: Value, node: tree.Node) -> str:
+    """How long a value is, as the end of a sentence."""
+    length = str(len(value.text if value.kind == TEXT else value.items))
+    if value.kind in LENGTHS and not value.text:
+        found = context.probe.asked_of(node, LENGTHS[value.kind])
+        if found is None:
+            return ""
+        length = found.text
+    return f", whose length is {length}"
 
 
 def of_call(context: Context, call: tree.Call) -> Detail:
     if context.fault.number == 6:
         return detail(f"{call.name}: it gives nothing, and stands where a value is wanted", at=call.start)
-    values = ", ".join(said(context, it) for it in call.arguments)
-    if call.receiver is not None:
-        receiver = said(context, call.receiver)
-        known = re.findall(r"'([^']*)' : ", getattr(context.value(call.receiver), "text", ""))
-        key = context.text_of(call.arguments[0]) if call.arguments else None
-        close = near(key, known) if key else ""
-        if context.fault.number == 7:
-            return detail(f"{call.name}: the number of {receiver} is out of range", at=call.name_start)
-        return detail(f"{call.name}: {receiver} has nothing for {values or 'this'}{close}", at=call.name_start)
-    return detail(f"{call.name}: a number is out of range: {values}", at=call.start)
+    receiver = context.value(call.receiver) if call.receiver is not None else None
+    first = context.value(call.arguments[0]) if call.arguments else None
+    if receiver is None or call.receiver is None:
+        values = ", ".join(said(context, it) for it in call.arguments)
+        return detail(f"{call.name}: a number is out of range: {values}", at=call.start)
+    if context.fault.number == 7:
+        return detail(f"{call.name}: the number of {receiver.shown()} is out of range", at=call.name_start)
+    if first is None or call.name == "format":
+        asked = next((it for it in re.findall(r"@(\d+)@", receiver.text) if int(it) >= len(call.arguments)), "")
+        why = f"'@{asked}@' in {receiver.shown()}, and the number of values, counted from 0, is {len(call.arguments)}"
+        return detail(f"{call.name}: {why}", at=call.name_start)
+    return detail(f"{call.name}: {no_item(context, receiver, call.receiver, first)}", at=call.name_start)
 
 
 def of_statement(context: Context) -> Detail:

@@ -6,20 +6,14 @@ import re
 
 from porting import tree
 from tools.explaining.context import Context
-from tools.explaining.detail import Detail, detail, line_at, quoted
+from tools.explaining.detail import Detail, detail, line_at, listed, quoted
 from tools.explaining.values import TEXT, flat
 
-MAKERS = ("executable", "static_library", "shared_library", "library", "custom_target", "configure_file")
+TARGETS = ("executable", "static_library", "shared_library", "library")
+MAKERS = (*TARGETS, "custom_target", "configure_file")
+# The files of a library of a name.
+FILES = {"static_library": ("lib{}.a",), "shared_library": ("lib{}.so",), "library": ("lib{}.a", "lib{}.so")}
 RESERVED = ("all", "build.ninja", "meson-info/introspect.json")
-
-
-def culprit_call(context: Context) -> tree.Call | None:
-    """The call at fault; where that isn't known, the outermost of the line."""
-    node = context.probe.culprit() if context.probe.can_ask else None
-    if isinstance(node, tree.Call):
-        return node
-    calls = context.place.calls()
-    return calls[0] if calls else None
 
 
 def duplicate(context: Context) -> Detail:
@@ -34,7 +28,7 @@ def duplicate(context: Context) -> Detail:
                     return detail(f"{node.name}: the keyword {quoted(item.name)} stands twice: in line {first} before", at=item.start)
                 if isinstance(item, tree.Keyword):
                     seen[item.name] = item
-    culprit = context.probe.culprit() if context.probe.can_ask else None
+    culprit = context.probe.culprit if context.probe.can_ask else None
     dictionaries = [culprit] if isinstance(culprit, tree.Dictionary) else [it for it in nodes if isinstance(it, tree.Dictionary)]
     if not isinstance(culprit, tree.Call):
         for node in dictionaries:
@@ -46,39 +40,73 @@ def duplicate(context: Context) -> Detail:
                     return detail(f"the key {quoted(text)} stands twice in a dictionary: in line {first} before", at=key.start)
                 if text is not None:
                     keys[text] = key
-    call = culprit_call(context)
+    call = context.call()
     return made_twice(context, call) if call else detail("something stands twice in this line", at=context.place.statement.start)
+
+
+def named_by(call: tree.Call) -> tree.Node | None:
+    """What says the names of the outputs of a call."""
+    return call.keywords["output"].value if "output" in call.keywords else call.arguments[0] if call.arguments else None
 
 
 def outputs_of(call: tree.Call) -> list[str]:
     """The names that a call makes, as far as they stand in its text."""
-    named = call.keywords["output"].value if "output" in call.keywords else None
-    node = named if named is not None else call.arguments[0] if call.arguments else None
+    node = named_by(call)
     return [it.value for it in tree.inside(node) if isinstance(it, tree.Text)] if node is not None else []
+
+
+def are_one(left: set[str], right: set[str]) -> bool:
+    """Whether a file is made twice; the links of a shared library have numbers behind its name."""
+    return any(a == b or a.startswith(b + ".") and b.endswith(".so") or b.startswith(a + ".") and a.endswith(".so")
+               for a in left for b in right)
+
+
+def files_of(maker: str, name: str) -> set[str]:
+    """The files that a target of a name is, or an output of this name."""
+    return {it.format(name) for it in FILES.get(maker, ("{}",))}
 
 
 def made_twice(context: Context, call: tree.Call) -> Detail:
     """A target or a file whose outputs another one makes."""
-    node = call.keywords["output"].value if "output" in call.keywords else call.arguments[0] if call.arguments else None
+    node = named_by(call)
     value = context.value(node) if node is not None else None
     names = [it.text for it in flat(value) if it.kind == TEXT] if value else outputs_of(call)
     reserved = [it for it in names if os.path.normpath(os.path.join(context.folder, it)) in RESERVED]
     if reserved:
         return detail(f"{call.name}: {quoted(reserved[0])} is a name of build.ninja's own", at=call.start)
-    if len(set(names)) < len(names):
-        return detail(f"{call.name}: an output stands twice among {', '.join(map(quoted, names))}", at=call.start)
-    for path, statement in context.statements():
-        for root in tree.expressions_of(statement):
-            for other in tree.inside(root):
-                is_same_place = path == context.fault.file and statement.start >= context.place.statement.start
-                if isinstance(other, tree.Call) and other.receiver is None and other.name in MAKERS and not is_same_place:
-                    if os.path.dirname(path) == context.folder and set(outputs_of(other)) & set(names):
-                        place = f"{path}:{line_at(open_text(context, path), other.start)}"
-                        return detail(f"{call.name}: {', '.join(map(quoted, names))} is made before, by {other.name} at {place}",
-                                      "give it another name, or declare it in another folder", at=call.start)
     made = ", ".join(map(quoted, names)) or "it"
+    if len(set(names)) < len(names):
+        return detail(f"{call.name}: an output stands twice among {made}", at=call.start)
+    where = made_before(context, call, node, names) if names else ""
+    if where:
+        told = "give it another name, or declare it in another folder"
+        return detail(f"{call.name}: {made} is made before, {where}", told, at=call.start)
+    sources = [it.text for argument in call.arguments[1:] if (found := context.value(argument)) for it in flat(found) if it.kind == TEXT]
+    alike = [it for it in sources if sum(other.replace("/", "_") == it.replace("/", "_") for other in sources) > 1]
+    if call.name in TARGETS and alike:
+        why = f"the sources {listed(map(quoted, alike))} have one object, since '/' becomes '_' in its name"
+        return detail(f"{call.name}: {why}", at=call.start)
     return detail(f"{call.name}: an output, an object or a link of {made} has the path of one that another target makes",
                   "two sources whose paths differ only in '/' and '_' have one object; a library has its links, too", at=call.start)
+
+
+def made_before(context: Context, call: tree.Call, node: tree.Node | None, names: list[str]) -> str:
+    """By which call the names are made too; nothing where that isn't known. All that makes files of a folder stands in one file."""
+    makers = [(statement, other, output) for statement in tree.statements_in(context.place.body) for root in tree.expressions_of(statement)
+              for other in tree.inside(root) if isinstance(other, tree.Call) and other.receiver is None and other.name in MAKERS
+              and (output := named_by(other)) is not None]
+    told = context.probe.told([(statement, output) for statement, _, output in makers]) if context.probe.can_ask else []
+    own = [number for number, (it, _) in enumerate(told) if it is node][-len(names):]
+    before = [it for number, it in enumerate(told) if number not in own] or [
+        (output, text) for statement, other, output in makers if statement.start < context.place.statement.start
+        for text in outputs_of(other)]
+    maker_of = {id(output): other for _, other, output in makers}
+    files = {file for it in names for file in files_of(call.name, it)}
+    other = next((maker_of[id(it)] for it, text in before if are_one(files_of(maker_of[id(it)].name, text), files)), None)
+    rounds = [text for it, text in before if it is node]
+    if other is call:
+        return f"in round {rounds.index(names[0]) + 1} of this loop" if names[0] in rounds else "in an earlier round of this loop"
+    return f"by {other.name} at {context.fault.file}:{context.place.line_of(other.start)}" if other is not None else ""
 
 
 def open_text(context: Context, path: str) -> str:
@@ -144,7 +172,7 @@ def template(line: str) -> Detail:
 
 def frozen(context: Context) -> Detail:
     """E20."""
-    call = culprit_call(context)
+    call = context.call()
     name = context.place.source(call.receiver) if call and call.receiver else "the data"
     uses = [(path, node) for path, statement in context.statements() for root in tree.expressions_of(statement)
             for node in tree.inside(root)
@@ -158,7 +186,7 @@ def frozen(context: Context) -> Detail:
 
 def not_held(context: Context) -> Detail:
     """E21: the text with what Ninja can't hold."""
-    call = culprit_call(context)
+    call = context.call()
     nodes = [it.value if isinstance(it, tree.Keyword) else it for it in call.items] if call else []
     for node in nodes:
         for value in flat(found) if (found := context.value(node)) else []:
@@ -176,18 +204,18 @@ def sign_name(sign: str) -> str:
 
 
 LIMITS = {"range": "a list may have 65,536 items", "subdir": "4,096 folders may be entered, 64 of them inside one another"}
-TARGETS = "a list of a target may have 65,536 items, those of its dependencies counted"
+LONG_LISTS = "a list of a target may have 65,536 items, those of its dependencies counted"
 VALUES = ("a list or a dictionary may have 65,536 items, hold others 64 deep and weigh a bounded amount in all; a text may have "
           "16,777,216 bytes")
 
 
 def limit(context: Context) -> Detail:
     """E22: which limit."""
-    call = culprit_call(context)
+    call = context.call()
     if call is None:
         return detail(VALUES, at=context.place.statement.start)
-    if call.name in MAKERS[:4]:
-        return detail(f"{call.name}: {TARGETS}", at=call.start)
+    if call.name in TARGETS:
+        return detail(f"{call.name}: {LONG_LISTS}", at=call.start)
     values = [it for node in call.arguments if (it := context.value(node)) and it.kind == "integer"]
     got = f"; it got {', '.join(it.text for it in values)}" if values else ""
     return detail(f"{call.name}: {LIMITS.get(call.name, VALUES)}{got}", at=call.start)
@@ -200,7 +228,7 @@ def too_late(context: Context) -> Detail:
     for path, statement in context.statements():
         for root in tree.expressions_of(statement):
             for node in tree.inside(root):
-                if isinstance(node, tree.Call) and node.receiver is None and node.name in MAKERS[:4]:
+                if isinstance(node, tree.Call) and node.receiver is None and node.name in TARGETS:
                     name = outputs_of(node)
                     return detail(f"{what}: it stands behind {node.name} {quoted(name[0]) if name else ''} of "
                                   f"{path}:{line_at(open_text(context, path), node.start)}", "move it before the first target",

@@ -2,6 +2,7 @@
 from __future__ import annotations
 
 import dataclasses
+from collections.abc import Iterator
 
 from porting import tree
 from porting.lexer import SyntaxFault
@@ -24,12 +25,24 @@ class Place:
     def line_of(self, at: int) -> int:
         return line_at(self.text, at)
 
+    @property
+    def is_in_loop(self) -> bool:
+        return any(is_in_loop for it, is_in_loop in with_loops(self.body, False) if it is self.statement)
+
     def calls(self) -> list[tree.Call]:
         """The calls that begin on the line, outer ones first."""
         nodes = [node for it in tree.expressions_of(self.statement) for node in tree.inside(it)]
         found = [it for it in nodes if isinstance(it, tree.Call)]
         on_line = [it for it in found if self.line in (self.line_of(it.start), self.line_of(it.name_start))]
         return (on_line or found)[::-1]
+
+
+def with_loops(body: list[tree.Statement], is_in_loop: bool) -> Iterator[tuple[tree.Statement, bool]]:
+    """The statements, each with whether it stands in a loop."""
+    for statement in body:
+        yield statement, is_in_loop
+        for inner in tree.bodies_of(statement):
+            yield from with_loops(inner, is_in_loop or isinstance(statement, tree.Foreach))
 
 
 def head_lines(text: str, statement: tree.Statement) -> tuple[int, int]:

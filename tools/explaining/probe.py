@@ -6,38 +6,54 @@ what `x` is.
 """
 from __future__ import annotations
 
+import functools
+import json
+import re
 import time
 from collections.abc import Iterator
 
 from porting import tree
 from tools.explaining.place import Place
-from tools.explaining.run import Outcome, Room
-from tools.explaining.values import OBJECT, Value, value_in
+from tools.explaining.run import Fault, Outcome, Room
+from tools.explaining.values import LIST, OBJECT, OWN, Value, value_in
 
 MARK, COUNT = "the explanation is asked here", "explain_rounds_of_the_fault"
 # Of which kind an object is that has a method.
 METHODS = {
-    "enabled": "feature option", "get_id": "compiler", "set10": "configuration data object", "system": "machine",
+    "length": LIST, "enabled": "feature option", "get_id": "compiler", "set10": "configuration data object", "system": "machine",
     "project_name": "meson object", "version": "dependency", "path": "program", "to_list": "custom target", "full_path": "target",
 }
-# How often the program is asked of one fault, at most, and for how many seconds.
+# Of which kind an object is that a call makes.
+OF_METHODS = {"get_compiler": "compiler", "find_library": "dependency"}
+MAKES = {
+    **OF_METHODS, **dict.fromkeys(("executable", "static_library", "shared_library", "library"), "target"),
+    "custom_target": "custom target",
+    **dict.fromkeys(("dependency", "declare_dependency"), "dependency"), "find_program": "program", "files": "list of files",
+    "include_directories": "include_directories object", "configuration_data": "configuration data object", "disabler": "disabler",
+}
+# How often the program is asked of one fault, at most, and up to how many seconds after the beginning.
 MOST, MOST_SECONDS = 400, 30
+LINES_BEFORE = 2  # that stand before the statement when it is asked
 
 
 class Probe:
-    def __init__(self, room: Room, place: Place) -> None:
-        self.room, self.place, self.asked, self.begun = room, place, 0, time.monotonic()
+    def __init__(self, room: Room, place: Place, number: int, set_to: dict[str, list[tree.Node]]) -> None:
+        """`number` is that of the fault; `set_to` says of each variable what the project sets it to."""
+        self.room, self.place, self.number, self.set_to, self.asked = room, place, number, set_to, 0
+        self.known: dict[tree.Node, Value] = {}
         first = place.body[0]
         is_root = place.file == "meson.build"
         self.begin = place.text.find("\n", first.end) + 1 if is_root else 0
-        self.rounds = 0
-        if place.statement is not first or not is_root:
-            self.rounds = self.outcome([], f"message('{MARK}')\n").log.count(MARK)
+        # In the first statement, `project`, no calls may stand.
+        self.rounds = 0 if is_root and place.statement is first else 1
+        if place.is_in_loop:
+            # A question is told once, so that each round asks another one.
+            self.rounds = self.outcome([], f"meson.get_compiler('c').sizeof('{MARK} @0@'.format({COUNT}))\n").asked.count(MARK)
 
     @property
     def can_ask(self) -> bool:
-        """Whether the statement is reached, and calls may stand in it: not in the first one, `project`."""
-        return self.rounds > 0 and self.asked < MOST and time.monotonic() - self.begun < MOST_SECONDS
+        """Whether calls may stand in the statement, and are still asked."""
+        return self.rounds > 0 and self.asked < MOST and time.monotonic() - self.room.asked.begun < MOST_SECONDS
 
     def outcome(self, edits: list[tuple[int, int, str]], before: str = "") -> Outcome:
         """What comes of the file with other texts at some places, and with lines before the statement."""
@@ -47,8 +63,7 @@ class Probe:
         for begin, end, new in sorted([counted, *edits], key=lambda it: (it[0], it[1]), reverse=True):
             text = text[:begin] + new + text[end:]
         text = text[:self.begin] + f"{COUNT} = 0\n" + text[self.begin:]
-        self.room.put(self.place.file, text)
-        return self.room.run()
+        return self.room.run(text)
 
     def said(self, node: tree.Node, form: str) -> str | None:
         """What the run says behind the mark where the node is changed; none where it doesn't come there."""
@@ -58,7 +73,11 @@ class Probe:
         fault = self.outcome([(node.start, node.end, new)]).fault
         if fault is None or fault.number != 18 or not fault.text.startswith(MARK):
             return None
-        return fault.text[len(MARK):].strip()
+        return self.printed(fault)
+
+    def printed(self, fault: Fault) -> str:
+        """What stands behind the mark, with the folder of the sources where the run had that of the links."""
+        return fault.text[len(MARK):].strip().replace(self.room.folder, self.room.asked.root)
 
     def completes(self, node: tree.Node) -> bool:
         return self.said(node, "[NODE, ROUND and error(MARK)][0]") is not None
@@ -67,37 +86,64 @@ class Probe:
         return self.said(node, "[ROUND and error(MARK), NODE][1]") is not None
 
     def value(self, node: tree.Node) -> Value:
-        """What a node that completes is, in the round of the fault."""
+        """What a node that completes is, in the round of the fault; it is asked once."""
+        if node not in self.known:
+            self.known[node] = self.asked_value(node)
+        return self.known[node]
+
+    def asked_value(self, node: tree.Node) -> Value:
         printed = self.said(node, "[ROUND and error(MARK, [NODE]), NODE][1]")
         if printed is not None:
             return value_in(printed)
         if isinstance(node, tree.List):
             return Value("list", "", tuple(self.value(it) for it in node.items[:MOST]))
-        return Value(self.kind(node))
+        made = self.made(tree.plain(node))
+        return Value(made if made is not None else self.kind(node))
+
+    def asked_of(self, node: tree.Node, method: str) -> Value | None:
+        """What a method gives of a node that completes; none where that isn't known."""
+        printed = self.said(node, f"[ROUND and error(MARK, [(NODE).{method}]), NODE][1]") if self.can_ask else None
+        return value_in(printed) if printed is not None else None
+
+    def told(self, nodes: list[tuple[tree.Statement, tree.Node]]) -> list[tuple[tree.Node, str]]:
+        """The texts that nodes of statements of this file were, each time before the statement; none where that isn't known."""
+        asks = ("foreach {0}_it : [] + ({1})\n{0}_all += 1\n"
+                "meson.get_compiler('c').sizeof('{2} @0@ {3} @1@'.format({0}_all, {0}_it))\nendforeach\n")
+        edits = [(statement.start, statement.start, asks.format(COUNT, self.place.source(node), MARK, number))
+                 for number, (statement, node) in enumerate(nodes)]
+        came = self.outcome([*edits, (self.begin, self.begin, f"{COUNT}_all = 0\n")])
+        if came.fault is None or came.fault.number != self.number:
+            return []
+        keys = [json.loads(it)["key"] or "" for it in came.asked.splitlines()]
+        found = [it.removeprefix(f"sizeof {MARK} ").split(" ", 2) for it in keys if it.startswith(f"sizeof {MARK} ")]
+        return [(nodes[int(number)][1], text) for _, number, text in found]
 
     def variable(self, name: str) -> Value | None:
         """What a variable is before the statement, in the round of the fault."""
         fault = self.outcome([], f"{COUNT} == {self.rounds} and error('{MARK}', [{name}])\n").fault
         if fault is None or not fault.text.startswith(MARK):
             return None
-        return value_in(fault.text[len(MARK):].strip())
+        return value_in(self.printed(fault))
+
+    def made(self, node: tree.Node) -> str | None:
+        """Of which kind an object is by the call that makes it; of a variable, by all calls that set it."""
+        if isinstance(node, tree.Call):
+            return MAKES.get(node.name) if node.receiver is None or node.name in OF_METHODS else None
+        if isinstance(node, tree.Name) and node.text in OWN:
+            return OWN[node.text]
+        set_to = self.set_to.get(node.text, []) if isinstance(node, tree.Name) else []
+        kinds = {self.made(it) if isinstance(it, tree.Call) else None for it in set_to}
+        return kinds.pop() if len(kinds) == 1 else None
 
     def kind(self, node: tree.Node) -> str:
-        """Of which kind an object is."""
+        """Of which kind an object is by the methods that it has."""
         for method, name in METHODS.items():
             source = self.place.source(node)
             new = f"[{COUNT} == {self.rounds} and ({source}).{method}(), {source}][1]"
             fault = self.outcome([(node.start, node.end, new)]).fault
             if fault is None or fault.number != 8 or fault.name != method:
-                return self.finer(node, name)
+                return name
         return OBJECT
-
-    def finer(self, node: tree.Node, name: str) -> str:
-        """A call of a function says what it makes."""
-        made = tree.plain(node)
-        if isinstance(made, tree.Call) and made.receiver is None and made.name in ("files", "include_directories", "disabler"):
-            return {"files": "list of files", "include_directories": "include_directories object", "disabler": "disabler"}[made.name]
-        return name
 
     def without(self, call: tree.Call) -> tree.Keyword | None:
         """The keyword without which the call is not refused so."""
@@ -110,19 +156,56 @@ class Probe:
                     return item
         return None
 
+    @functools.cached_property
     def culprit(self) -> tree.Node | None:
         """The innermost node that is begun and doesn't complete; none where all expressions of the statement do."""
-        for root in tree.expressions_of(self.place.statement):
-            is_alone = isinstance(self.place.statement, tree.Expression)
-            if is_alone or (not self.completes(root) and self.reaches(root)):
-                return self.innermost(root)
-        return None
+        root = next((it for it in tree.expressions_of(self.place.statement) if self.is_at_fault(it)), None)
+        return self.innermost(root) if root is not None else None
 
-    def innermost(self, node: tree.Node) -> tree.Node:
-        for part in parts(node):
+    def is_at_fault(self, root: tree.Node) -> bool:
+        """Whether the fault comes in an expression of the statement; where that is the statement itself, it does."""
+        if isinstance(self.place.statement, tree.Expression):
+            return True
+        opened = self.opened(root)
+        return opened[:1] == [root] if opened is not None else not self.completes(root) and self.reaches(root)
+
+    def innermost(self, root: tree.Node) -> tree.Node:
+        opened = self.opened(root)
+        if opened is not None:
+            return opened[-1] if opened else root
+        for part in parts(root):
             if not self.completes(part) and self.reaches(part):
                 return self.innermost(part)
-        return node
+        return root
+
+    def opened(self, root: tree.Node) -> list[tree.Node] | None:
+        """The nodes of an expression that are begun in the round of the fault and don't complete, outer ones first.
+
+        It is one run, in which each node asks a question before and one behind it. None where that run has another fault.
+        """
+        nodes: list[tree.Node] = []
+        is_alone = isinstance(self.place.statement, tree.Expression)
+        text = self.asking_parts(root, nodes) if is_alone else self.asking(root, nodes)
+        came = self.outcome([(root.start, root.end, text)])
+        if came.fault is None or (came.fault.number, came.fault.line - LINES_BEFORE) != (self.number, self.place.line):
+            return None
+        told = [(word, int(number)) for word, number in re.findall(MARK + r" (begin|end) (\d+)\"", came.asked)]
+        return [nodes[number] for word, number in told if word == "begin" and ("end", number) not in told]
+
+    def asking(self, node: tree.Node, nodes: list[tree.Node]) -> str:
+        """The text of a node that asks before and behind; it is put behind `nodes`, by whose numbers the questions name it."""
+        number = len(nodes)
+        nodes.append(node)
+        before, behind = (f"{COUNT} == {self.rounds} and meson.get_compiler('c').sizeof('{MARK} {it} {number}') == 0"
+                          for it in ("begin", "end"))
+        return f"[{before}, {self.asking_parts(node, nodes)}, {behind}][1]"
+
+    def asking_parts(self, node: tree.Node, nodes: list[tree.Node]) -> str:
+        text, at = "", node.start
+        for part in parts(node):
+            text += self.place.text[at:part.start] + self.asking(part, nodes)
+            at = part.end
+        return text + self.place.text[at:node.end]
 
 
 def parts(node: tree.Node) -> Iterator[tree.Node]:

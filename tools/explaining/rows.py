@@ -43,7 +43,7 @@ DEPENDENCIES = Kind("dependencies", (OBJECT,), True, ("dependency",))
 REQUIRED = Kind("a truth value or a feature option", (TRUTH, OBJECT), False, ("feature option",))
 WORDS = Kind("texts, files, programs and targets", (TEXT, OBJECT), True, ("list of files", "program", "target", "custom target"))
 ARGUMENTS = Kind("texts, files and targets", (TEXT, OBJECT), True, ("list of files", "target", "custom target"))
-PROGRAM = Kind("a program, a target or a file", (OBJECT, TEXT), True, ("program", "target", "custom target", "list of files"))
+PROGRAM = Kind("a program, a target or a file", (OBJECT,), True, ("program", "target", "custom target", "list of files"))
 ENVIRONMENT = Kind("a dictionary of texts, or texts NAME=VALUE", (TEXT, DICTIONARY), True)
 DEFAULTS = Kind("texts name=value, or a dictionary", (TEXT, DICTIONARY), True)
 DATA = Kind("configuration data or a dictionary", (DICTIONARY, OBJECT), False, ("configuration data object",))
@@ -124,29 +124,6 @@ FUNCTIONS = {
 }
 CHECK = {"prefix": TEXTS, "dependencies": DEPENDENCIES, "args": TEXTS, "include_directories": FOLDERS}
 ASKED = {**CHECK, "required": REQUIRED}
-# Of methods the kinds, by the name alone, where all objects that have it take the same.
-METHODS = {
-    **{name: Row((TEXT_,), 1, 1, ASKED) for name in ("has_header", "check_header", "has_function", "has_type", "has_argument",
-                                                     "has_link_argument")},
-    **{name: Row((TEXT_,), 2, 2, ASKED) for name in ("has_member", "has_header_symbol")},
-    **{name: Row((TEXT_,), 1, 1, CHECK) for name in ("sizeof", "alignment")},
-    "get_supported_arguments": Row((TEXTS,), 0, None, CHECK),
-    "find_library": Row((TEXT_,), 1, 1, {"required": REQUIRED, "dirs": TEXTS}),
-    "startswith": Row((TEXT_,), 1, 1), "endswith": Row((TEXT_,), 1, 1), "join": Row((TEXTS,), 0, None), "replace": Row((TEXT_,), 2, 2),
-    "split": Row((TEXT_,), 0, 1), "strip": Row((TEXT_,), 0, 1), "substring": Row((NUMBER,), 0, 2), "version_compare": Row((TEXT_,), 1, 1),
-    **{name: Row((ANY,), 0, 0) for name in (
-        "splitlines", "to_lower", "to_upper", "underscorify", "is_even", "is_odd", "to_int", "length", "enabled", "disabled", "auto",
-        "allowed", "found", "version", "full_path", "path", "to_list", "system", "cpu_family", "cpu", "endian", "project_name",
-        "project_version", "current_source_dir", "current_build_dir", "project_source_root", "project_build_root", "source_root",
-        "build_root", "is_subproject", "is_cross_build", "backend", "get_id", "name")},
-    "has_key": Row((TEXT_,), 1, 1), "has": Row((TEXT_,), 1, 1),
-    "set": Row((TEXT_, VALUE), 2, 2, {"description": TEXT_}), "set10": Row((TEXT_, TRUTH_), 2, 2, {"description": TEXT_}),
-    "set_quoted": Row((TEXT_, TEXT_), 2, 2, {"description": TEXT_}), "get_unquoted": Row((TEXT_, ANY), 1, 2),
-    "merge_from": Row((Kind("configuration data", (OBJECT,), False, ("configuration data object",)),), 1, 1),
-    "get_compiler": Row((TEXT_,), 1, 1),
-}
-# Methods whose arguments depend on the object.
-OTHER_METHODS = ("contains", "format", "get", "keys", "to_string")
 # Of which kind an object, or a value, is that has these methods.
 METHODS_OF = {
     TEXT: "contains startswith endswith format join replace split splitlines strip substring to_int to_lower to_upper underscorify "
@@ -159,6 +136,31 @@ METHODS_OF = {
                     "build_root is_subproject is_cross_build backend version get_compiler",
     "compiler": "get_id version has_header check_header has_function has_type has_member has_header_symbol has_argument has_link_argument "
                 "get_supported_arguments sizeof alignment find_library",
+}
+# Methods whose arguments depend on what has them.
+OF_KIND = {
+    (TEXT, "contains"): Row((TEXT_,), 1, 1), (LIST, "contains"): Row((ANY,), 1, 1), (TEXT, "format"): Row((ANY,), 0, None),
+    (LIST, "get"): Row((NUMBER, ANY), 1, 2), (DICTIONARY, "get"): Row((TEXT_, ANY), 1, 2),
+    ("configuration data object", "get"): Row((TEXT_, ANY), 1, 2), ("configuration data object", "keys"): Row((ANY,), 0, 0),
+    (DICTIONARY, "keys"): Row((ANY,), 0, 0), (INTEGER, "to_string"): Row((ANY,), 0, 0), (TRUTH, "to_string"): Row((TEXT_,), 0, 2),
+}
+# Of methods the kinds, by the name alone, where all objects that have it take the same.
+METHODS = {
+    **{name: Row((ANY,), 0, 0) for text in METHODS_OF.values() for name in text.split()
+       if name not in (it for _, it in OF_KIND)},
+    **{name: Row((TEXT_,), 1, 1, ASKED) for name in ("has_header", "check_header", "has_function", "has_type", "has_argument",
+                                                     "has_link_argument")},
+    **{name: Row((TEXT_,), 2, 2, ASKED) for name in ("has_member", "has_header_symbol")},
+    **{name: Row((TEXT_,), 1, 1, CHECK) for name in ("sizeof", "alignment")},
+    "get_supported_arguments": Row((TEXTS,), 0, None, CHECK),
+    "find_library": Row((TEXT_,), 1, 1, {"required": REQUIRED, "dirs": TEXTS}),
+    "startswith": Row((TEXT_,), 1, 1), "endswith": Row((TEXT_,), 1, 1), "join": Row((TEXTS,), 0, None), "replace": Row((TEXT_,), 2, 2),
+    "split": Row((TEXT_,), 0, 1), "strip": Row((TEXT_,), 0, 1), "substring": Row((NUMBER,), 0, 2), "version_compare": Row((TEXT_,), 1, 1),
+    "has_key": Row((TEXT_,), 1, 1), "has": Row((TEXT_,), 1, 1),
+    "set": Row((TEXT_, VALUE), 2, 2, {"description": TEXT_}), "set10": Row((TEXT_, TRUTH_), 2, 2, {"description": TEXT_}),
+    "set_quoted": Row((TEXT_, TEXT_), 2, 2, {"description": TEXT_}), "get_unquoted": Row((TEXT_, ANY), 1, 2),
+    "merge_from": Row((Kind("configuration data", (OBJECT,), False, ("configuration data object",)),), 1, 1),
+    "get_compiler": Row((TEXT_,), 1, 1),
 }
 
 

@@ -8,7 +8,7 @@ from porting import tree
 from porting.lexer import KEYWORDS
 from tools.explaining.context import Context
 from tools.explaining.detail import Detail, detail, quoted
-from tools.explaining.values import TEXT, Value, flat
+from tools.explaining.values import OWN, TEXT, Value, flat
 
 BUILDS = ("executable", "static_library", "shared_library", "library")
 # Of each function the arguments and keywords that are paths of sources; 'all' stands for each argument.
@@ -24,7 +24,7 @@ def broken_rule(context: Context, call: tree.Call, values: dict[str, Value]) -> 
     """The rule of a function that its values break."""
     if call.receiver is not None:
         return of_method(context, call, values)
-    for rule in (of_paths, of_targets, of_outputs, of_placeholders, of_variables, of_ranges, of_programs, of_environment):
+    for rule in (of_paths, of_targets, of_outputs, of_placeholders, of_variables, of_ranges, of_environment, of_programs):
         why = rule(context, call, values)
         if why:
             name, text = why
@@ -58,6 +58,8 @@ def of_paths(context: Context, call: tree.Call, values: dict[str, Value]) -> Why
                 return name, f"the path {quoted(text)} leaves the project"
             if not text:
                 return name, "a path is empty"
+            if call.name == "install_man" and name.isdigit() and not re.search(r"[0-9]", os.path.basename(text)):
+                return name, f"the page {quoted(text)} has no section: the last digit of its name says it, as in 'name.1'"
     return None
 
 
@@ -108,7 +110,8 @@ def of_placeholders(context: Context, call: tree.Call, values: dict[str, Value])
             if number and int(number) >= counts[word]:
                 return "command", f"'@{word}{number}@' in {quoted(text)}: there are {counts[word]} (counted from 0)"
             if not number and (counts[word] == 0 or counts[word] > 1 and text != f"@{word}@"):
-                return "command", f"'@{word}@' in {quoted(text)}: there are {counts[word]}, and one is needed inside of a word"
+                why = f"there are {counts[word]}, and one is needed inside of a word" if counts[word] else f"the call has no {word.lower()}"
+                return "command", f"'@{word}@' in {quoted(text)}: {why}"
         if "@DEPFILE@" in text and "depfile" not in values:
             return "command", "'@DEPFILE@' needs the keyword 'depfile'"
     for key in ("command", "output", "depfile"):
@@ -125,7 +128,7 @@ def of_variables(context: Context, call: tree.Call, values: dict[str, Value]) ->
     name = values["1"].text
     if not re.fullmatch(r"[A-Za-z_]\w*", name) or name in KEYWORDS:
         return "1", f"{quoted(name)} is no name of a variable"
-    if name in ("meson", "host_machine", "build_machine", "target_machine") and call.name in ("set_variable", "unset_variable"):
+    if name in OWN and call.name in ("set_variable", "unset_variable"):
         return "1", f"{quoted(name)} is a variable of the program's own, and can't be changed"
     return None
 
@@ -158,6 +161,8 @@ def of_method(context: Context, call: tree.Call, values: dict[str, Value]) -> De
     receiver = context.value(call.receiver) if call.receiver is not None else None
     if receiver is None:
         return None
+    if call.name == "get_compiler" and "1" in values:
+        return detail(f"get_compiler: the language is 'c', and here {quoted(values['1'].text)}", at=place_of(call, "1"))
     if call.name == "to_int" and receiver.kind == TEXT:
         return detail(f"to_int: {receiver.shown()} is no number: an optional sign and digits", at=call.start)
     if call.name in ("path", "full_path") and receiver.kind == "program":

@@ -1,17 +1,17 @@
-"""Runs of the program over a temporary folder of links to the sources, in which one file may be another one."""
+"""Runs of the program: over the sources, and over a temporary folder of links to them in which one file is another one."""
 from __future__ import annotations
 
 import contextlib
 import dataclasses
 import os
 import re
-import shutil
 import subprocess
 import tempfile
+import time
 from collections.abc import Iterator
 
-from porting.trial import linked_copy
 from tools.last_setup import build_folder_of
+from tools.links import linked_copy
 
 FAULT = re.compile(r"(.+?):(\d+): ERROR: E(\d+) ?(.*)", re.S)
 MACHINE, WORDS = "<machine file>", "<command line>"
@@ -21,11 +21,12 @@ LONGEST, MOST_BYTES = 300, (32 << 20) + 1
 
 @dataclasses.dataclass(frozen=True)
 class Fault:
-    """A fault line: its file, the line there, its number, and the text behind that."""
+    """A fault line: its file, the line there, its number, the text behind that; and what its run asked, a line of JSON each."""
     file: str
     line: int
     number: int
     text: str
+    asked: str
 
     def shown(self) -> str:
         return f"{self.file}:{self.line}: ERROR: E{self.number} {self.text}"
@@ -38,19 +39,21 @@ class Fault:
 
 @dataclasses.dataclass(frozen=True)
 class Outcome:
+    """What came of a run; `asked` as of a fault."""
     status: int
     fault: Fault | None
-    log: str
+    asked: str
     complaint: str
 
 
 @dataclasses.dataclass(frozen=True)
 class Asked:
-    """What is asked for: the program, the folder of the sources, the words, and the bytes of the machine file."""
+    """What is asked for, and since when: the program, the folder of the sources, the words, and the bytes of the machine file."""
     program: str
     root: str
     words: list[str]
     machine: bytes | None
+    begun: float = dataclasses.field(default_factory=time.monotonic)
 
     @property
     def build(self) -> str | None:
@@ -106,48 +109,46 @@ def with_machine(words: list[str], path: str) -> list[str]:
     return made
 
 
+def questions(asked: Asked, folder: str, scratch: str) -> Outcome:
+    """What the program says of a folder, which it writes nothing in: the fault that `setup` would end in, and what was asked before.
+
+    The bytes of the machine file stand in a file of their own, since they may have come through a pipe.
+    """
+    words = asked.words
+    if asked.machine is not None:
+        path = os.path.join(scratch, "native.ini")
+        with open(path, "wb") as it:
+            it.write(asked.machine)
+        words = with_machine(words, path)
+    done = subprocess.run(["meson", "questions", *words], executable=asked.program, cwd=folder, stdin=subprocess.DEVNULL,
+                          capture_output=True, timeout=LONGEST)
+    told, complaint = (it.decode(errors="backslashreplace") for it in (done.stdout, done.stderr))
+    found = FAULT.fullmatch(complaint.removesuffix("\n"))
+    fault = Fault(found[1], int(found[2]), int(found[3]), found[4], told) if found and done.returncode == 1 else None
+    return Outcome(done.returncode, fault, told, complaint)
+
+
+def in_place(asked: Asked) -> Outcome:
+    """What the program says of the sources themselves."""
+    with tempfile.TemporaryDirectory(prefix="meson-explain-") as scratch:
+        return questions(asked, asked.root, scratch)
+
+
 class Room:
-    """A folder of links to the sources, with other files in the place of some."""
+    """A folder of links to the sources, with another file in the place of one."""
 
-    def __init__(self, asked: Asked, scratch: str, changed: dict[str, str]) -> None:
-        self.asked, self.folder = asked, os.path.join(scratch, "sources")
-        self.words = asked.words
-        if asked.machine is not None:
-            path = os.path.join(scratch, "native.ini")
-            with open(path, "wb") as it:
-                it.write(asked.machine)
-            self.words = with_machine(asked.words, path)
-        self.link(changed)
+    def __init__(self, asked: Asked, scratch: str, path: str, text: str) -> None:
+        self.asked, self.scratch, self.folder, self.path = asked, scratch, os.path.join(scratch, "sources"), path
+        linked_copy(asked.root, self.folder, {path: text})
 
-    def link(self, changed: dict[str, str]) -> None:
-        results: dict[str, tuple[str | None, str]] = {path: (None, text) for path, text in changed.items()}
-        build = self.asked.build
-        if build is not None and os.path.dirname(build):
-            # So that the folders above BUILDDIR are folders, and no links.
-            results[os.path.join(os.path.dirname(build), "|explain")] = (None, "")
-        linked_copy(self.asked.root, self.folder, results)
-        if build is not None and os.path.islink(os.path.join(self.folder, build)):
-            os.unlink(os.path.join(self.folder, build))
-
-    def put(self, path: str, text: str) -> None:
-        """Changes a file that was among those that are changed."""
-        with open(os.path.join(self.folder, path), "w", encoding="utf-8", newline="") as it:
+    def run(self, text: str) -> Outcome:
+        """What the program says where the file has this text."""
+        with open(os.path.join(self.folder, self.path), "w", encoding="utf-8", newline="") as it:
             it.write(text)
-
-    def run(self) -> Outcome:
-        """What the program makes of the folder as it is; its outputs go."""
-        done = subprocess.run(["meson", "setup", *self.words], executable=self.asked.program, cwd=self.folder, stdin=subprocess.DEVNULL,
-                              capture_output=True, timeout=LONGEST)
-        build = self.asked.build
-        if build is not None:
-            shutil.rmtree(os.path.join(self.folder, build), ignore_errors=True)
-        complaint = done.stderr.decode(errors="backslashreplace")
-        found = FAULT.fullmatch(complaint.removesuffix("\n"))
-        fault = Fault(found[1], int(found[2]), int(found[3]), found[4]) if found and done.returncode == 1 else None
-        return Outcome(done.returncode, fault, done.stdout.decode(errors="backslashreplace"), complaint)
+        return questions(self.asked, self.folder, self.scratch)
 
 
 @contextlib.contextmanager
-def room_of(asked: Asked, changed: dict[str, str]) -> Iterator[Room]:
+def room_of(asked: Asked, path: str, text: str) -> Iterator[Room]:
     with tempfile.TemporaryDirectory(prefix="meson-explain-") as scratch:
-        yield Room(asked, scratch, changed)
+        yield Room(asked, scratch, path, text)

@@ -6,10 +6,11 @@ import re
 
 from porting import tree
 from porting.lexer import SyntaxFault
+from porting.options import declarations
 from porting.parser import parse
 from tools.explaining.context import Context, read
 from tools.explaining.detail import Detail, detail, listed, near, quoted
-from tools.explaining.instead import instead_of
+from tools.explaining.instead import in_its_place
 from tools.explaining.machine import cut, section_at
 from tools.explaining.run import Asked, Fault
 
@@ -23,6 +24,7 @@ BUILT_IN = {
 }
 TYPES = ("string", "boolean", "combo", "integer", "array", "feature")
 WORDS = ("type", "value", "description", "choices", "min", "max", "yield")
+BOTH = ("default_library", "both")
 LEFT_OUT = ("kwargs", "fallback", "deprecated")
 FILES = ("meson.options", "meson_options.txt")
 
@@ -34,12 +36,9 @@ def declared(root: str) -> dict[str, tree.Call]:
         if text is None:
             continue
         try:
-            body = parse(text)
+            return declarations(parse(text))
         except (SyntaxFault, RecursionError):
             return {}
-        values = [it.value for it in body if isinstance(it, tree.Expression)]
-        calls = [it for it in values if isinstance(it, tree.Call) and it.name == "option"]
-        return {first.value: it for it in calls if it.arguments and isinstance(first := it.arguments[0], tree.Text)}
     return {}
 
 
@@ -48,13 +47,20 @@ def takes(options: dict[str, tree.Call], name: str) -> str:
     if name in BUILT_IN:
         words = BUILT_IN[name]
         return words if isinstance(words, str) else f"one of {listed(words)}"
-    given = options[name].keywords
-    kind = plain_text(given["type"].value) if "type" in given else ""
-    choices = [it.value for it in tree.inside(given["choices"].value) if isinstance(it, tree.Text)] if "choices" in given else []
+    given, kind, choices = options[name].keywords, kind_of(options[name]), choices_of(options[name])
     bounds = [f"{it} {number_of(given[it].value)}" for it in ("min", "max") if it in given]
     return {"combo": f"one of {listed(choices)}", "array": f"words among {listed(choices)}" if choices else "words between commas",
             "boolean": TRUTH, "feature": "enabled, disabled or auto",
             "integer": "an integer" + (f" ({listed(bounds)})" if bounds else "")}.get(kind, "a text")
+
+
+def kind_of(option: tree.Call) -> str:
+    return plain_text(option.keywords["type"].value) if "type" in option.keywords else ""
+
+
+def choices_of(option: tree.Call) -> list[str]:
+    given = option.keywords.get("choices")
+    return [it.value for it in tree.inside(given.value) if isinstance(it, tree.Text)] if given is not None else []
 
 
 def plain_text(node: tree.Node) -> str:
@@ -73,11 +79,25 @@ def given(asked: Asked, name: str, value: str | None) -> Detail:
     if value is None:
         return detail(f"{quoted(name)} has no '=': it is NAME=VALUE")
     if name not in BUILT_IN and name not in options:
-        told = instead_of("Options", name) or (instead_of("Options", "b_") if name.startswith("b_") else "")
-        return detail(f"there is no option {quoted(name)}{near(name, [*BUILT_IN, *options])}",
-                      f"write in its place: {told}" if told else "",
+        told = in_its_place("Options", name) or (in_its_place("Options", "b_") if name.startswith("b_") else "")
+        return detail(f"there is no option {quoted(name)}{near(name, [*BUILT_IN, *options]) if not told else ''}", told,
                       f"the options of this project: {listed(options)}" if options and not told else "")
-    return detail(f"option {quoted(name)}: the value {quoted(value)} is none that it has: it takes {takes(options, name)}")
+    if (name, value) == BOTH:
+        return detail(f"option {quoted(name)}: the value {quoted(value)} is left out", in_its_place("Functions", "default_library=both"))
+    return detail(f"option {quoted(name)}: the value {quoted(value)} is none that it has: {misfit(options, name, value)}")
+
+
+def misfit(options: dict[str, tree.Call], name: str, value: str) -> str:
+    """What is wrong with a value, or else what the option takes."""
+    known = [] if name in BUILT_IN else choices_of(options[name])
+    words = re.findall(r"'([^']*)'", value) if value.startswith("[") else value.split(",")
+    others = [it for it in words if it not in known]
+    told = f"it takes {takes(options, name)}"
+    if known and kind_of(options[name]) == "array" and others:
+        return f"{quoted(others[0])} is none of its words; {told}"
+    if known and value.startswith("[") and not words:
+        return f"a list of texts is ['a', 'b'], or a,b; {told}"
+    return told
 
 
 def of_word(asked: Asked, fault: Fault) -> Detail:
@@ -128,8 +148,7 @@ def of_option(call: tree.Call, calls: list[tree.Call]) -> Detail:
             seen.add(item.name)
     for key, word in call.keywords.items():
         if key in LEFT_OUT:
-            told = instead_of("Keywords", key)
-            return detail(f"{named}the keyword {quoted(key)} is left out", f"write in its place: {told}" if told else "", at=word.start)
+            return detail(f"{named}the keyword {quoted(key)} is left out", in_its_place("Keywords", key), at=word.start)
         if key not in WORDS:
             return detail(f"{named}keyword {quoted(key)}: there is none{near(key, WORDS)}", f"option takes {listed(WORDS)}", at=word.start)
     if len(call.arguments) != 1 or not isinstance(call.arguments[0], tree.Text):
@@ -158,11 +177,18 @@ def of_type(call: tree.Call, named: str) -> Detail:
         return detail(f"{named}the type combo needs 'choices', a list of texts", at=call.start)
     if kind == "integer" and "value" not in words:
         return detail(f"{named}the type integer needs a 'value'", at=call.start)
-    for key in ("choices", "min", "max"):
-        if key in words and (isinstance(words[key].value, tree.List) != (key == "choices")):
-            return detail(f"{named}{quoted(key)} is {'a list of texts' if key == 'choices' else 'an integer'}", at=words[key].value.start)
+    for key in (it for it in ("choices", "min", "max") if it in words):
+        node = words[key].value
+        if key == "choices" and not (isinstance(node, tree.List) and all(isinstance(it, tree.Text) for it in node.items)):
+            return detail(f"{named}'choices' is a list of texts", at=node.start)
+        if key != "choices" and not re.fullmatch(r"-?\d+", number_of(node)) or isinstance(node, tree.Text):
+            return detail(f"{named}{quoted(key)} is an integer", at=node.start)
+    if kind == "integer" and {"min", "max"} <= words.keys() and int(number_of(words["min"].value)) > int(number_of(words["max"].value)):
+        return detail(f"{named}'min' is greater than 'max', so it has no values", at=words["min"].value.start)
     if "value" in words:
-        return detail(f"{named}its default is none of its values: it takes {takes({'': call}, '')}", at=words["value"].value.start)
+        value = shown_plain(words["value"].value)
+        return detail(f"{named}its default {quoted(value)} is none of its values: {misfit({'': call}, '', value)}",
+                      at=words["value"].value.start)
     return detail(f"{named}its arguments don't go together", at=call.start)
 
 
@@ -192,6 +218,9 @@ def of_defaults(context: Context, node: tree.Node) -> Detail:
 
 
 def shown_plain(node: tree.Node) -> str:
+    """A value as a word of the command line gives it."""
+    if isinstance(node, tree.List):
+        return "[" + listed(f"'{shown_plain(it)}'" for it in node.items) + "]"
     return str(node.value).lower() if isinstance(node, tree.Truth) else number_of(node)
 
 

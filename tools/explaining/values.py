@@ -6,6 +6,8 @@ import dataclasses
 from tools.explaining.detail import quoted
 
 TEXT, INTEGER, TRUTH, LIST, DICTIONARY, OBJECT = "text", "integer", "truth value", "list", "dictionary", "object"
+# The variables that each project has, and of which kind they are.
+OWN = {"meson": "meson object", "host_machine": "machine", "build_machine": "machine", "target_machine": "machine"}
 
 
 @dataclasses.dataclass(frozen=True)

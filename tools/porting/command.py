@@ -29,7 +29,7 @@ def arguments(doc: str | None, given: list[str] | None) -> argparse.Namespace:
     parser.add_argument("--list-rules", action="store_true", help="list the rules, and do nothing")
     parser.add_argument("--program", metavar="PATH", help="the program that is asked at the end; without it the one of this checkout")
     parser.add_argument("--no-trial", action="store_true", help="don't ask the program at the end")
-    parser.add_argument("-D", metavar="NAME=VALUE", action="append", default=[], dest="options", help="a word for `meson setup` at the end")
+    parser.add_argument("-D", metavar="NAME=VALUE", action="append", default=[], dest="options", help="a word for the run at the end")
     words = parser.parse_args(given)
     for name in words.only + words.also:
         if name not in BY_NAME:
@@ -134,7 +134,8 @@ def try_out(project: Project, words: argparse.Namespace) -> int:
     if words.no_trial or program is None:
         print("the program was not asked" + ("" if words.no_trial else ": it isn't built (--program names another)"))
         return 0
-    fault = first_fault(program, project.root, project.results(), [f"-D{it}" for it in words.options], lambda text: print(f"note: {text}"))
+    unwritten = {path: text for path, (_, text) in project.results().items()} if words.dry_run else {}
+    fault = first_fault(program, project.root, unwritten, [f"-D{it}" for it in words.options], lambda text: print(f"note: {text}"))
     print("meson setup takes the result" if fault is None else f"meson setup stops at: {fault}")
     return 0 if fault is None else 1
 

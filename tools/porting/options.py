@@ -27,15 +27,21 @@ def option_file(project: Project) -> tuple[str, str]:
     return (file.path, file.text) if file else ("meson_options.txt", "")
 
 
+def declarations(body: list[tree.Statement]) -> dict[str, tree.Call]:
+    """The options that the statements of an option file declare."""
+    found: dict[str, tree.Call] = {}
+    for statement in body:
+        call = statement.value if isinstance(statement, tree.Expression) else None
+        first = call.arguments[0] if isinstance(call, tree.Call) and call.name == "option" and call.arguments else None
+        if isinstance(call, tree.Call) and isinstance(first, tree.Text):
+            found.setdefault(first.value, call)
+    return found
+
+
 def declared(project: Project, name: str) -> tree.Call | None:
     """The declaration of an option."""
     file = project.option_file()
-    for statement in file.body if file else []:
-        call = statement.value if isinstance(statement, tree.Expression) else None
-        first = call.arguments[0] if isinstance(call, tree.Call) and call.arguments else None
-        if isinstance(call, tree.Call) and isinstance(first, tree.Text) and first.value == name:
-            return call
-    return None
+    return declarations(file.body).get(name) if file else None
 
 
 def option_name(project: Project, wanted: str, description: str) -> str:

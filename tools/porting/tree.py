@@ -182,6 +182,16 @@ def names_in(node: Node) -> set[str]:
     return {it.text for it in inside(node) if isinstance(it, Name)}
 
 
+def names_set_by(statement: Statement) -> list[str]:
+    """The variables that a statement sets itself, not by its body."""
+    match statement:
+        case Assignment():
+            return [statement.name]
+        case Foreach():
+            return statement.names
+    return []
+
+
 def expressions_of(statement: Statement) -> list[Node]:
     """The expressions that a statement has itself, not those of its body."""
     match statement:

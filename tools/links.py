@@ -1,0 +1,21 @@
+"""A folder that shows sources as they would be: links to what stays, files for what is another."""
+import os
+
+
+def linked_copy(root: str, folder: str, changed: dict[str, str]) -> None:
+    """Makes the folder; `changed` says of each path that is another file which text it has."""
+    copied = {""}
+    for path in changed:
+        while path:
+            path = os.path.dirname(path)
+            copied.add(path)
+    for inner in sorted(copied):
+        os.makedirs(os.path.join(folder, inner), exist_ok=True)
+        before = os.path.join(root, inner)
+        for name in os.listdir(before) if os.path.isdir(before) else []:
+            path = os.path.normpath(os.path.join(inner, name))
+            if path not in copied and path not in changed:
+                os.symlink(os.path.abspath(os.path.join(before, name)), os.path.join(folder, path))
+    for path, text in changed.items():
+        with open(os.path.join(folder, path), "w", encoding="utf-8", newline="") as it:
+            it.write(text)
