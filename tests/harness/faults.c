@@ -10,11 +10,11 @@
  *   FAULTS_SYNC    none: fsync and fdatasync do nothing; all: a file is synced before each rename of it
  *   FAULTS_COUNTS  a file of 24 bytes: how many calls of memory, of devices and late ones were made so far
  *   FAULTS_TRACE   a file to which the paths are added that were looked at ('look PATH'), made ('make PATH'), synced ('sync PATH') and
- *                  renamed to ('end PATH'), the call that failed and the path that it is of ('fail NAME PATH'), and the one that told
- *                  of a write that was lost ('told NAME PATH')
+ *                  renamed to ('end PATH'), the call that failed and the path that it is of ('fail NAME PATH'), each call of a device
+ *                  that came after that ('after NAME PATH'), and the one that told of a write that was lost ('told NAME PATH')
  *
  * Where none is set, nothing is changed. A path is told as the call has it, also where it begins at a folder that is open; of an open
- * file it is that with which it was opened. */
+ * file it is that with which it was opened, and of the standard streams '<1>' and '<2>'. */
 #define _GNU_SOURCE
 #include <dirent.h>
 #include <dlfcn.h>
@@ -55,7 +55,7 @@ static int device_error = EIO;
 static enum sync sync_how = AS_ASKED;
 static size_t piece = SIZE_MAX;
 static int trace = -1;
-static int is_ready;
+static int is_ready, has_failed;
 
 static uint64_t number(const char *name)
 {
@@ -102,6 +102,8 @@ __attribute__((constructor)) static void begin(void)
     if (fd >= 0)
         syscall(SYS_close, fd);
     trace = own_file("FAULTS_TRACE", O_WRONLY | O_APPEND | O_CREAT);
+    strcpy(files[1].path, "<1>");
+    strcpy(files[2].path, "<2>");
     is_ready = 1;
 }
 
@@ -126,9 +128,12 @@ static int is_to_fail(enum kind kind, const char *name, const char *path)
 {
     if (!is_ready)
         return 0;
+    if (has_failed && kind == DEVICE)
+        tell_call("after", name, path);
     counts[kind]++;
     if (counts[kind] != fails_at[kind])
         return 0;
+    has_failed = 1;
     tell_call("fail", name, path);
     errno = kind == MEMORY ? ENOMEM : device_error;
     return 1;

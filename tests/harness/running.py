@@ -45,6 +45,8 @@ class Came:
     begun: tuple = ()
     failed: str = ""
     may_go_on: bool = False
+    # The calls of devices that came after it, each with its path.
+    after: tuple = ()
     # How many calls of each kind were made.
     counts: dict = dataclasses.field(default_factory=dict)
 
@@ -232,6 +234,7 @@ class Room:
         if failed:
             came.failed, _, path = failed[0].partition(" ")
             came.may_go_on = self.may_go_on(came.failed, path, came.begun)
+            came.after = tuple(path for word, path in lines if word == "after")
         with open(counts, "rb") as file:
             came.counts = dict(zip(KINDS, struct.unpack("=3Q", file.read(24))))
 
@@ -362,12 +365,21 @@ def differs_from_failing(came, whole, kind):
     statuses = (3, 2) if kind == "memory" else (2,)
     if came.status not in statuses:
         return f"status {' or '.join(map(str, statuses))} must come, and {came.status} came"
+    more = [it for it in came.after if not is_of_the_end(it)]
+    if more:
+        return f"these calls came after it: {more}"
     if not whole.log.startswith(came.log):
         return f"the log is no beginning of the whole one:\n{shown(came.log)}"
     said = came.complaint.removesuffix(SAID[came.status])
     if said == came.complaint or not whole.complaint.startswith(said):
         return f"it complained:\n{shown(came.complaint)}"
     return why_no_beginning(begun_outputs(came), begun_outputs(whole), whole.begun)
+
+
+def is_of_the_end(call):
+    """Whether a call, which is told with its path, may come after one that failed: what was taken before is written, the end is told, and
+    files are closed. Nothing is looked at, read, made, synced or renamed any more."""
+    return call.partition(" ")[0] in ("write", "close")
 
 
 def begun_outputs(came):
