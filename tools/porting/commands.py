@@ -263,7 +263,8 @@ def lack_of_variable(project: Project, package: str, name: str) -> str:
     done = run(project, [*pkg_config(), "--exists", package], project.root)
     if done is not None and done.returncode == 0:
         return f"pkg-config has no variable {name} of {package}"
-    return f"the variable {name} of {package} is not known, as pkg-config has no {package}: install it and run this again, or write an option"
+    return (f"the variable {name} of {package} is not known, as pkg-config has no {package}: install it and run this again, "
+            "or write an option")
 
 
 def pkg_config() -> list[str]:

@@ -77,6 +77,7 @@ RULES = (
     Rule("install-modes", "`install_mode:` of another mode: dropped; a step of the package", keywords.other_modes, is_sure=False),
     Rule("link-order", "static libraries of one target that use one another: named once more in `link_args:`", dependencies.link_order,
          is_sure=False),
+    Rule("numbers", "compute_int of what isn't negative: sizeof of an array", compiler.numbers, is_sure=False),
     Rule("test-protocol", "`protocol: 'tap'` of a test: dropped, so that its status alone decides", keywords.test_protocol, is_sure=False),
 )
 BY_NAME = {it.name: it for it in RULES}
