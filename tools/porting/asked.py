@@ -14,7 +14,7 @@ from tools.asking.dependencies import dependency
 from tools.ending import Stop
 
 from porting import tree
-from porting.commands import NOT_ASKED, spoken
+from porting.commands import spoken
 from porting.edits import Change
 from porting.lexer import escaped
 from porting.options import option_name, with_option
@@ -26,6 +26,7 @@ from porting.values import Thing, flat
 
 # Of each method, what its option is.
 TYPES = {"compiles": "boolean", "links": "boolean", "get_define": "string", "compute_int": "integer"}
+WITH_RUN = "--run asks for it once, and writes an option"
 TAKEN = {"args", "dependencies", "include_directories", "name", "prefix", "low", "high", "guess"}
 
 
@@ -51,9 +52,9 @@ def answers(project: Project) -> Iterator[Change]:
 
 def left_for_later(project: Project, site: Site) -> None:
     """Says that --run would ask, behind what another rule has said of it."""
-    why = project.doubts.get(site.call, "")
-    if NOT_ASKED not in why:
-        project.doubt(site, f"{why or site.call.name} {'; what it says ' if why else ''}{NOT_ASKED}".replace(" ;", ";"))
+    why = project.doubts.get(site.call, site.call.name + ": an option")
+    if WITH_RUN not in why:
+        project.doubt(site, f"{why}; {WITH_RUN}")
 
 
 def as_option(project: Project, site: Site, value: bool | int | str) -> Change:
