@@ -17,6 +17,7 @@ from porting import tree
 from porting.commands import spoken
 from porting.edits import Change
 from porting.lexer import escaped
+from porting.left import METHODS
 from porting.options import option_name, with_option
 from porting.project import Project, Site
 from porting.rounds import ending_of
@@ -52,7 +53,7 @@ def answers(project: Project) -> Iterator[Change]:
 
 def left_for_later(project: Project, site: Site) -> None:
     """Says that --run would ask, behind what another rule has said of it."""
-    why = project.doubts.get(site.call, site.call.name + ": an option")
+    why = project.doubts.get(site.call, f"{site.call.name}: {METHODS['compiler'][site.call.name]}")
     if WITH_RUN not in why:
         project.doubt(site, f"{why}; {WITH_RUN}")
 
