@@ -82,11 +82,11 @@ class Compiler:
                 given = shlex.join([*self.c, *self.standard, *self.c_args, *(self.c_link_args if mode == "link" else [])])
                 raise Stop(f"the C compiler can't {mode} an empty program: `{given}`: {done.why}")
 
-    def attempt(self, mode: str, source: str, flags: Flags = Flags(), hears: bool = False) -> Done:
-        """How it takes a source, with the words of a check in the order of the real Meson."""
+    def attempt(self, mode: str, source: str, flags: Flags = Flags(), hears: bool = False, ending: str = ".c") -> Done:
+        """How it takes a source, in a file of this ending, with the words of a check in the order of the real Meson."""
         with tempfile.TemporaryDirectory(dir=self.scratch) as folder:
             # The words of a check can't name the source, whose text is the project's too.
-            file = os.path.join(folder, f"{secrets.token_hex(8)}.c")
+            file = os.path.join(folder, secrets.token_hex(8) + ending)
             with open(file, "w", encoding="utf-8", errors="surrogatepass") as it:
                 it.write(source + "\n")
             own = (OF_CLANG + (OF_CLANG_THAT_COMPILES if mode == "compile" else [])) if self.id == "clang" else []
@@ -94,12 +94,16 @@ class Compiler:
             given += [GUARD, *flags.link_args, *self.c_link_args, GUARD] if mode == "link" else []
             to = [] if hears and mode == "preprocess" else ["-o", os.path.join(folder, "made")]
             done = run([*given, *to], folder, hears=hears)
-            return dataclasses.replace(done, said=done.said.replace(file, "empty.c"))
+            return dataclasses.replace(done, said=done.said.replace(file, "empty" + ending))
 
     def takes(self, mode: str, source: str, flags: Flags = Flags()) -> bool:
         return self.attempt(mode, source, flags).is_good
 
-    def define(self, name: str, prefix: str, flags: Flags = Flags()) -> str:
-        """What a macro stands for behind a prefix, without quotation marks; empty where it is none."""
+    def expansion(self, name: str, prefix: str, flags: Flags = Flags()) -> str:
+        """What a macro stands for behind a prefix; empty where it is none."""
         printed = self.attempt("preprocess", f'{prefix}\n#ifndef {name}\n#define {name}\n#endif\n"it is" {name}', flags, hears=True).printed
-        return printed.rpartition('"it is"')[2].strip().strip('"')
+        return printed.rpartition('"it is"')[2].strip()
+
+    def define(self, name: str, prefix: str, flags: Flags = Flags()) -> str:
+        """The same without quotation marks."""
+        return self.expansion(name, prefix, flags).strip('"')

@@ -64,7 +64,8 @@ TABLES: dict[str, list[tuple[str, str]]] = {
         ('`get_argument_syntax`',
          "`get_id`, as `cc.get_id() in ['msvc', 'clang-cl']`"),
         ('`get_define`, `compute_int`',
-         "`sizeof`, `alignment`, or an option; `get_define` beside `''` is `has_type`, as `has_define`"),
+         "`sizeof`, `alignment`, or an option; `get_define` beside `''` is `has_type`, as `has_define`; a number that isn't "
+         "negative is `sizeof('char [NUMBER]')`, which `meson port --also numbers` writes"),
         ('`preprocess`',
          'a `custom_target`'),
         ('`first_supported_argument`, `get_supported_link_arguments`',

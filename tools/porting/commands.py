@@ -252,11 +252,23 @@ def variables(project: Project) -> Iterator[Change]:
         if declared(project, option) is None:
             value = variable_value(project, site, package, name)
             if value is None:
-                project.doubt(site, f"pkg-config has no variable {name} of {package}")
+                project.doubt(site, lack_of_variable(project, package, name))
                 continue
             text = f"option('{option}', type: 'string', value: {escaped(value)}, description: {escaped(description)})\n"
             change.edits.append(with_option(project, text))
         yield change
+
+
+def lack_of_variable(project: Project, package: str, name: str) -> str:
+    done = run(project, [*pkg_config(), "--exists", package], project.root)
+    if done is not None and done.returncode == 0:
+        return f"pkg-config has no variable {name} of {package}"
+    return (f"the variable {name} of {package} is not known, as pkg-config has no {package}: install it and run this again, "
+            "or write an option")
+
+
+def pkg_config() -> list[str]:
+    return shlex.split(os.environ.get("PKG_CONFIG") or "pkg-config")
 
 
 def variable_name(project: Project, site: Site) -> str | None:
@@ -268,7 +280,7 @@ def variable_name(project: Project, site: Site) -> str | None:
 def variable_value(project: Project, site: Site, package: str, name: str) -> str | None:
     defined = site.call.keywords.get("pkgconfig_define") or site.call.keywords.get("define_variable")
     pairs = texts_at(project, defined.value) if defined else []
-    words = [*shlex.split(os.environ.get("PKG_CONFIG") or "pkg-config"), f"--variable={name}"]
+    words = [*pkg_config(), f"--variable={name}"]
     words += [f"--define-variable={key}={value}" for key, value in zip((pairs or [])[::2], (pairs or [])[1::2])]
     done = run(project, [*words, package], project.root)
     value = done.stdout.strip() if done is not None and done.returncode == 0 else ""

@@ -99,6 +99,19 @@ def defined(name: str, macro: str, outer: tree.Binary | None) -> str:
                    f"typedef char {name}[sizeof(check_text_of({macro})) > 1 ? 1 : -1];\n")
 
 
+def numbers(project: Project) -> Iterator[Change]:
+    """A number that isn't negative is the size of an array of so many bytes."""
+    for site in of_compiler(project, "compute_int"):
+        words = site.call.keywords
+        expression = text_of(project, site.call.arguments[0]) if len(site.call.arguments) == 1 else None
+        if expression is None or "\n" in expression:
+            project.doubt(site, "compute_int: its expression is not one plain text of one line")
+            continue
+        kept = [site.file.source(it) for name, it in words.items() if name not in ("low", "high", "guess")]
+        text = f"{site.file.source(site.call.receiver)}.sizeof({', '.join([escaped(f'char [{expression}]'), *kept])})"
+        yield site.change("compute_int becomes the size of an array", replaced(site, site.call, text))
+
+
 def after_prefix(site: Site, text: str) -> list[tuple[int, int, str]]:
     """The edits that put a text, which is a literal, behind the prefix of a check."""
     prefix = site.call.keywords.get("prefix")

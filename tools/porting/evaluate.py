@@ -10,7 +10,7 @@ from collections.abc import Callable
 
 from porting import tree
 from porting.operators import binary, indexed, truth_of
-from porting.text_methods import method_of_value
+from porting.text_methods import method_of_value, version_compare
 from porting.values import (ROOT, UNKNOWN, Either, Item, Many, Table, Thing, Unknown, choices_of, either, flat, kind_of, texts_of,
                             without_root)
 
@@ -46,6 +46,8 @@ GIVES = {
 # Answers that are the same on every machine that this is for.
 ANSWERS = {("meson", "is_subproject"): False, ("meson", "is_cross_build"): False, ("meson", "backend"): "ninja",
            ("machine", "system"): "linux", ("machine", "kernel"): "linux", ("machine", "subsystem"): "linux"}
+# The version of Meson that is told here. Its text is not known: the real Meson has another one.
+VERSION = "1.3.0"
 SOURCE_FOLDERS = ("current_source_dir", "project_source_root", "source_root", "global_source_root")
 COMPILERS = Either(("gcc", "clang"))
 CHOICES = {"default_library": ("shared", "static"), "buildtype": ("plain", "debug", "debugoptimized", "release", "minsize"),
@@ -375,6 +377,9 @@ class Evaluation:
         thing.kind = GIVES.get((kind, name), "")
         if (kind, name) in ANSWERS:
             return ANSWERS[kind, name]
+        if name == "version_compare" and is_version_of_meson(thing.call) and len(thing.arguments) == 1:
+            answer = version_compare(VERSION, thing.arguments[0]) if isinstance(thing.arguments[0], str) else None
+            return Unknown("truth") if answer is None else answer
         if kind == "dependency" and name == "found" and isinstance(receiver, Thing) and receiver.name == "":
             return False
         if kind == "meson" and name == "get_compiler":
@@ -403,3 +408,10 @@ class Evaluation:
             thing.kind = "program"
             return thing
         return UNKNOWN
+
+
+def is_version_of_meson(call: tree.Call | None) -> bool:
+    """Whether a method is called upon `meson.version()`."""
+    receiver = tree.plain(call.receiver) if call and call.receiver else None
+    return (isinstance(receiver, tree.Call) and receiver.name == "version" and isinstance(receiver.receiver, tree.Name)
+            and receiver.receiver.text == "meson")

@@ -42,7 +42,8 @@ OVERRIDDEN = {"werror=false": ["-Wno-error"], "werror=true": ["-Werror"], "warni
               "warning_level=2": ["-Wall", "-Wextra"], "warning_level=3": ["-Wall", "-Wextra", "-Wpedantic"],
               "optimization=0": ["-O0"], "optimization=1": ["-O1"], "optimization=2": ["-O2"], "optimization=3": ["-O3"],
               "optimization=s": ["-Os"], "optimization=g": ["-Og"], "unity=off": [], "unity=on": [],
-              "b_pch=false": [], "debug=true": ["-g"]}
+              "b_pch=false": [], "debug=true": ["-g"], "b_sanitize=none": ["-fno-sanitize=all"], "b_lto=false": ["-fno-lto"],
+              "b_ndebug=true": ["-DNDEBUG"], "b_ndebug=false": ["-UNDEBUG"], "b_coverage=false": []}
 
 
 def drop_keywords(project: Project) -> Iterator[Change]:

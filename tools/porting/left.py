@@ -27,7 +27,8 @@ FUNCTIONS = {
 METHODS = {
     "compiler": {
         "compiles": "has_type, has_function or has_member; or an option", "links": "has_function, or an option", "run": "an option",
-        "get_define": "an option", "compute_int": "sizeof, alignment, or an option", "preprocess": "a custom_target",
+        "get_define": "an option", "compute_int": "sizeof, alignment, or an option; `--also numbers` where it isn't negative",
+        "preprocess": "a custom_target",
         "first_supported_argument": "get_supported_arguments", "get_supported_link_arguments": "has_link_argument in an `if`",
         "first_supported_link_argument": "has_link_argument in an `if`", "has_function_attribute": "has_type with the attribute before it",
         "get_supported_function_attributes": "has_type with the attribute before it", "has_multi_arguments": "has_argument for each",
@@ -62,8 +63,8 @@ KEYWORDS = {
                 "name_prefix": "a name that begins with lib", "name_suffix": "the usual ending", "c_pch": "the header in each source",
                 "install_rpath": "`link_args: '-Wl,-rpath,..'`", "gnu_symbol_visibility": "`c_args:` with -fvisibility=..",
                 "export_dynamic": "`link_args: '-rdynamic'`", "c_static_args": "`c_args:`", "c_shared_args": "`c_args:`"},
-    "custom_target": {"feed": "`sh -c` that feeds the command", "env": "a script that does it", "build_always_stale": "a script that does it",
-                      "install_mode": "a step of the package"},
+    "custom_target": {"feed": "`sh -c` that feeds the command", "env": "a script that does it",
+                      "build_always_stale": "a script that does it", "install_mode": "a step of the package"},
     "configure_file": {"command": "a custom_target", "copy": "`configuration: {}`, or a custom_target with cp",
                        "capture": "a custom_target",
                        "depfile": "a custom_target", "install_mode": "a step of the package", "install": "`install_dir:` alone"},

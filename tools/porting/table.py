@@ -1,7 +1,7 @@
 """The rules, in the order in which they are carried out."""
 from __future__ import annotations
 
-from porting import (calls, commands, compiler, dependencies, features, generators, installs, keywords, modules, options, outside,
+from porting import (asked, calls, commands, compiler, dependencies, features, generators, installs, keywords, modules, options, outside,
                      pkgconfig, scripts, sources, test_calls, twice)
 from porting.rule import Rule
 
@@ -74,9 +74,12 @@ RULES = (
     Rule("subprojects", "subproject(required: false): missing here", modules.subprojects),
     Rule("imports", "a module that nothing uses: dropped; one that an option alone needs: left to the real Meson",
          modules.unused_imports),
+    Rule("compiler-options", "compiles, links, get_define, compute_int that no check says: an option with the value of now (--run alone)",
+         asked.answers),
     Rule("install-modes", "`install_mode:` of another mode: dropped; a step of the package", keywords.other_modes, is_sure=False),
     Rule("link-order", "static libraries of one target that use one another: named once more in `link_args:`", dependencies.link_order,
          is_sure=False),
+    Rule("numbers", "compute_int of what isn't negative: sizeof of an array", compiler.numbers, is_sure=False),
     Rule("test-protocol", "`protocol: 'tap'` of a test: dropped, so that its status alone decides", keywords.test_protocol, is_sure=False),
 )
 BY_NAME = {it.name: it for it in RULES}

@@ -46,6 +46,15 @@ TEXT: dict[str, Callable[..., object]] = {
 }
 
 
+def version_compare(version: str, wanted: str) -> bool | None:
+    """Whether a version is as wanted, by an operator and another version; none where that is written in another way."""
+    found = re.fullmatch(r"\s*(>=|<=|!=|==|=|>|<)?\s*([0-9.]+)\s*", wanted)
+    if found is None:
+        return None
+    one, other = ([int(it) for it in re.findall(r"[0-9]+", text)] for text in (version, found[2]))
+    return {">=": one >= other, "<=": one <= other, "!=": one != other, ">": one > other, "<": one < other}.get(found[1], one == other)
+
+
 def method_of_text(text: str, name: str, arguments: list) -> object:
     if name == "format":
         return formatted(text, arguments)
