@@ -12,6 +12,8 @@ from tools.explaining.place import with_loops
 
 WORD = re.compile(r"[A-Za-z_0-9]+|'''|f?'[^'\n]*'?|\S")
 CLOSING = {"(": ")", "[": "]", "{": "}"}
+OPERATORS = ("+", "-", "*", "/", "%", "==", "!=", "<", ">", "<=", ">=", "and", "or", "not", "=", "+=")
+LIKE_ENDS = re.compile(r"(?m)^[ \t]*(end\w*|done|fi)[ \t]*$")
 # What is often meant by a character that begins no token.
 SIGNS = {
     '"': "a text stands between single quotes, as 'text'", "&": "both of two conditions is 'a and b'",
@@ -24,11 +26,14 @@ SIGNS = {
 BEGINNINGS = {
     **dict.fromkeys(("for", "while"), "a loop is 'foreach NAME : LIST', up to 'endforeach'"),
     **dict.fromkeys(("def", "function", "func"), "no functions are defined in these files"),
+    **dict.fromkeys(("elsif", "elseif"), "a further condition is 'elif'"),
     **dict.fromkeys(("let", "var", "const", "set"), "a variable is set by 'NAME = value'"),
 }
 # What is often meant by what stands behind a part of a statement: the word before, the word itself.
 FOLLOWING = {
-    ("else", "if"): "a further condition is 'elif'", ("+", "+"): "one more is 'NAME += 1'", ("+", "="): "'+=' is one sign",
+    ("else", "if"): "a further condition is 'elif'", ("end", "if"): "the end of a block is one word, 'endif'",
+    **{(sign, "="): f"'NAME = NAME {sign} value': of such signs '+=' is the only one" for sign in "-*/"},
+    ("+", "+"): "one more is 'NAME += 1'", ("+", "="): "'+=' is one sign",
     ("=", "="): "'==' is one sign, and compares", ("-", "-"): "one less is 'NAME = NAME - 1'",
 }
 
@@ -158,8 +163,16 @@ def hint_of(parser: Parser) -> str:
         return BEGINNINGS[before.text]
     if before.text == "." and token.kind == "number":
         return "a number has no '.': a version is a text"
+    if parser.text[token.start:token.start + 2] in ("//", "/*"):
+        return "a comment begins with '#'"
+    if token.text == "." and before.kind == "newline" or token.kind == "newline" and before.text in OPERATORS:
+        return "a statement goes on in the next line inside of brackets, or behind a '\\' at the end of its line"
+    if token.text == "?":
+        return "'?' stands in a branch of another '?': that needs a variable of its own"
     if opened and opened[0] in CLOSING:
         return in_brackets(opened[0], before, token)
+    if token.kind == "end" and opened and (wrong := [it for it in LIKE_ENDS.findall(parser.text) if it not in ("endif", "endforeach")]):
+        return f"{quoted(wrong[0])} ends no block"
     if opened == ["foreach"] and token.text in ("in", "="):
         return "a loop is 'foreach NAME : LIST'"
     if opened == ["if"] and token.text == "=":
