@@ -50,8 +50,8 @@ def output_names(project: Project) -> Iterator[Change]:
         if output is None or name is None or ("@BASENAME@" not in name and "@PLAINNAME@" not in name):
             continue
         if not texts:
-            project.doubt(site, "configure_file: @BASENAME@ and @PLAINNAME@ stay as they are in `output:`: in a loop over texts, the name by "
-                                "`split('/')[-1]`")
+            project.doubt(site, "configure_file: @BASENAME@ and @PLAINNAME@ stay as they are in `output:`: "
+                                "in a loop over texts, the name by `split('/')[-1]`")
             continue
         plain = os.path.basename(texts[0])
         better = name.replace("@BASENAME@", os.path.splitext(plain)[0]).replace("@PLAINNAME@", plain)
