@@ -157,7 +157,7 @@ def compiled(site: Site, code: Source, name: Named) -> str:
 def linked(site: Site, code: Source, name: Named) -> str:
     """Its `main` gets the name of the check, so that the check's own `main` can name it; a source of a shared library gets a function."""
     if not any(OF_PROGRAM.search(it) for it in code.texts):
-        return around(site, code, "", "\nint ", name, "(void) { return 0; }\n", "#include <stddef.h>\n")
+        return around(site, code, "", "\nstatic int ", name, "(void) { return 0; }\n", "#include <stddef.h>\n")
     return around(site, code, "#include <stddef.h>\n#define main ", "\n#undef main\n", name, "\n")
 
 
