@@ -20,7 +20,7 @@ from tools.variables import words_of
 MAIN = "int main(void) { return 0; }"
 # Words that name a path and only read there, or don't look at it.
 READING = re.compile(r"-[DUILl].*|-(?:isystem|iquote|idirafter).+|-f(?:debug|file|macro|profile)-prefix-map=.*"
-                     r"|-Wl,-(?:-?rpath|-?rpath-link)[,=][^,]*|-Wl,-L[^,]*|-Wl,--version-script[,=][^,]*", re.DOTALL)
+                     r"|-Wl,-(?:-?rpath|-?rpath-link)[,=][^,]*|-Wl,-L[^,]*|-Wl,--?version-script[,=][^,]*", re.DOTALL)
 # Words that run another program, that hand the next word on, and that stand for words of a file.
 FORBIDDEN = re.compile(r"--?(?:wrapper|run)\b.*|-X.*|(?:.*,)?@.*", re.DOTALL)
 DANGER = "with %r the compiler could write elsewhere or run a program"

@@ -71,7 +71,7 @@ TABLES: dict[str, list[tuple[str, str]]] = {
         ('`first_supported_argument`, `get_supported_link_arguments`',
          '`get_supported_arguments`, and `has_link_argument` in an `if`'),
         ('`get_variable`, `get_pkgconfig_variable` of a dependency',
-         'an option'),
+         "an option; of a program's path, its name in `find_program`"),
         ('`type_name` of a dependency',
          '`found`, or a text'),
         ('`require`, `disable_if`, `enable_if`, `disable_auto_if`, `enable_auto_if` of a feature option',

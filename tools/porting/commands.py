@@ -13,7 +13,7 @@ from porting.edits import Change
 from porting.lexer import escaped
 from porting.options import declared, option_name, with_option
 from porting.project import Project, Site
-from porting.rule import identifier, replaced, text_of, texts_at
+from porting.rule import assigned_name, identifier, replaced, text_of, texts_at, uses_of
 from porting.scripts import interpreter_of
 from porting.values import ROOT, Item, Thing, flat, kind_of
 
@@ -246,6 +246,10 @@ def variables(project: Project) -> Iterator[Change]:
         if not project.is_asked_to_run or name is None or package is None:
             project.doubt(site, f"{site.call.name} of a dependency {NOT_ASKED if not project.is_asked_to_run else 'can not be followed'}")
             continue
+        program = program_of_variable(project, site, package, name)
+        if program is not None:
+            yield site.change(f"{site.call.name} of a program that PATH has becomes its name", replaced(site, site.call, escaped(program)))
+            continue
         description = f"The variable {name} of {package}"
         option = option_name(project, f"{identifier(package)}_{identifier(name)}", description)
         change = site.change(f"{site.call.name} becomes the option {option}", replaced(site, site.call, f"get_option('{option}')"))
@@ -257,6 +261,19 @@ def variables(project: Project) -> Iterator[Change]:
             text = f"option('{option}', type: 'string', value: {escaped(value)}, description: {escaped(description)})\n"
             change.edits.append(with_option(project, text))
         yield change
+
+
+def program_of_variable(project: Project, site: Site, package: str, name: str) -> str | None:
+    """The name of the program whose path a variable is, where `find_program` alone is given it and finds that very program by its name."""
+    asked = [tree.plain(it.call.arguments[0]) for it in project.functions("find_program") if len(it.call.arguments) == 1]
+    variable = assigned_name(site)
+    uses = [node for _, statement in uses_of(project, variable) for expression in tree.expressions_of(statement)
+            for node in tree.inside(expression) if isinstance(node, tree.Name) and node.text == variable] if variable else []
+    if not any(it is site.call for it in asked) and not (uses and all(any(it is use for it in asked) for use in uses)):
+        return None
+    value = variable_value(project, site, package, name) or ""
+    found = shutil.which(os.path.basename(value)) if value.startswith("/") else None
+    return os.path.basename(value) if found and os.path.realpath(found) == os.path.realpath(value) else None
 
 
 def lack_of_variable(project: Project, package: str, name: str) -> str:

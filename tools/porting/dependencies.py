@@ -6,7 +6,7 @@ from collections.abc import Iterator
 from porting import tree
 from porting.edits import Change
 from porting.lexer import escaped
-from porting.project import Project
+from porting.project import Project, Site
 from porting.rule import added_behind, comparison_of, replaced
 from porting.values import Item, Many, Thing, flat, kind_of, texts_of
 
@@ -56,15 +56,41 @@ def dependency_link_whole(project: Project) -> Iterator[Change]:
             yield site.change("declare_dependency: `link_whole:` becomes `link_with:`", edit)
 
 
+def static_libraries(project: Project, site: Site) -> list[str]:
+    """How the static libraries are named at a call that are linked there, by `link_with:` or by dependencies that the project declares."""
+    rounds = project.known.things[site.call]
+    found = [[name for it in linked_in(thing) if (name := named_at(project, site, thing, it))] for thing in rounds]
+    return list(dict.fromkeys(found[0])) if found and all(it == found[0] for it in found) else []
+
+
+def linked_in(thing: Thing, depth: int = 8) -> list[Thing]:
+    """The static libraries below a target or a dependency, each before those below it."""
+    found: list[Thing] = []
+    for keyword in ("link_with", "dependencies"):
+        for item in flat(thing.keywords.get(keyword, Many([]))):
+            value = item.value
+            if not isinstance(value, Thing) or not item.is_sure:
+                continue
+            if value.function == "static_library":
+                found.append(value)
+            if depth and (value.function == "static_library" or value.kind == "internal"):
+                found += linked_in(value, depth - 1)
+    return found
+
+
+def named_at(project: Project, site: Site, thing: Thing, library: Thing) -> str | None:
+    """A variable that has a library, or the item of `link_with:` that is it."""
+    word = site.call.keywords.get("link_with")
+    value = tree.plain(word.value) if word else None
+    items = value.items if isinstance(value, tree.List) else []
+    written = [site.file.source(it) for it in items if isinstance(it, tree.Index) and project.known.value(it) is library]
+    return next((name for name, held in thing.names.items() if held is library), written[0] if written else None)
+
+
 def link_order(project: Project) -> Iterator[Change]:
-    """Static libraries that use one another in both ways: named once more, behind all of them."""
+    """Static libraries that may use one another in both ways: named once more, behind all of them."""
     for site in project.functions("executable", "shared_library", "library"):
-        word = site.call.keywords.get("link_with")
-        value = tree.plain(word.value) if word else None
-        if not isinstance(value, tree.List):
-            continue
-        known = [(it, project.known.value(it)) for it in value.items if isinstance(it, (tree.Name, tree.Index))]
-        paths = [f"{site.file.source(node)}.full_path()" for node, it in known if isinstance(it, Thing) and it.function == "static_library"]
+        paths = [f"{it}.full_path()" for it in static_libraries(project, site)]
         before = site.file.source(site.call.keywords["link_args"]) if "link_args" in site.call.keywords else ""
         if len(paths) > 1 and not all(it in before for it in paths):
             edit = added_behind(site, "link_args", ", ".join(paths))

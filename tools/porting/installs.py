@@ -47,7 +47,11 @@ def output_names(project: Project) -> Iterator[Change]:
         output, source = site.call.keywords.get("output"), site.call.keywords.get("input")
         name = text_of(project, output.value) if output else None
         texts = input_names(project, source.value) if source else None
-        if output is None or name is None or not texts or ("@BASENAME@" not in name and "@PLAINNAME@" not in name):
+        if output is None or name is None or ("@BASENAME@" not in name and "@PLAINNAME@" not in name):
+            continue
+        if not texts:
+            project.doubt(site, "configure_file: @BASENAME@ and @PLAINNAME@ stay as they are in `output:`: "
+                                "in a loop over texts, the name by `split('/')[-1]`")
             continue
         plain = os.path.basename(texts[0])
         better = name.replace("@BASENAME@", os.path.splitext(plain)[0]).replace("@PLAINNAME@", plain)

@@ -16,7 +16,7 @@ def files_outside(project: Project) -> Iterator[Change]:
         name, arguments = assigned_name(site), site.call.arguments
         if name is None or len(arguments) != 1 or not is_outside(project, arguments[0]):
             continue
-        uses = [is_of_commands(statement, name) for file, statement in uses_of(project, name)]
+        uses = [is_of_commands(statement, name) for _, statement in uses_of(project, name)]
         if not uses or not all(uses):
             continue
         change = site.change("files: a path outside of the project is a text", replaced(site, site.call, site.file.source(arguments[0])))

@@ -18,6 +18,7 @@ from porting.values import Thing, choices_of, flat
 KEPT = {"args", "dependencies", "include_directories", "required"}
 # What a check of a type names itself, so that a source before it gets another name for it.
 OF_CHECK = re.compile(r"\b(bar|check)\b")
+OF_PROGRAM = re.compile(r"\bmain\b")
 # The place of a check's name in a text.
 MARK = "\0"
 
@@ -74,6 +75,9 @@ def sources(project: Project) -> Iterator[Change]:
         if code is None or ending is None:
             why = "its source is not one plain text" if code is None else "it asks for more than one thing by the same words"
             project.doubt(site, f"{site.call.name}: {why}")
+            continue
+        if is_link and not is_linked_whole(site, code):
+            project.doubt(site, "links: its source has no `main`, and its words no '-shared'")
             continue
         plain = names.free(wanted_name(project, site))
         name = Named(plain, f"{escaped(plain + '_')} + {ending}" if ending else escaped(plain))
@@ -151,8 +155,17 @@ def compiled(site: Site, code: Source, name: Named) -> str:
 
 
 def linked(site: Site, code: Source, name: Named) -> str:
-    """Its `main` gets the name of the check, so that the check's own `main` can name it."""
+    """Its `main` gets the name of the check, so that the check's own `main` can name it; a source of a shared library gets a function."""
+    if not any(OF_PROGRAM.search(it) for it in code.texts):
+        return around(site, code, "", "\nstatic int ", name, "(void) { return 0; }\n", "#include <stddef.h>\n")
     return around(site, code, "#include <stddef.h>\n#define main ", "\n#undef main\n", name, "\n")
+
+
+def is_linked_whole(site: Site, code: Source) -> bool:
+    """Whether a source has a `main` where it needs one."""
+    args = site.call.keywords.get("args")
+    is_library = args is not None and "-shared" in site.file.source(args.value)
+    return all(OF_PROGRAM.search(it) for it in code.texts) or (is_library and not any(OF_PROGRAM.search(it) for it in code.texts))
 
 
 def around(site: Site, code: Source, before: str, after: str, name: Named, behind: str, first: str = "") -> str:

@@ -1,6 +1,7 @@
 """Checks that are asked twice with other words beside them: each of them gets a name of its own, and so an answer of its own."""
 from __future__ import annotations
 
+import re
 from collections.abc import Iterator
 
 from porting import tree
@@ -16,6 +17,8 @@ from porting.values import choices_of
 BESIDE = ("prefix", "args", "dependencies", "include_directories")
 # Functions that a compiler has itself, under this name alone.
 OF_COMPILER = ("alloca",)
+# A function, and a type before whose other name it can stand.
+NAMED = {"has_function": re.compile(r"[A-Za-z_]\w*"), "has_type": re.compile(r"[A-Za-z_][\w ]*[ *]*")}
 
 
 def asked_twice(project: Project) -> Iterator[Change]:
@@ -24,7 +27,7 @@ def asked_twice(project: Project) -> Iterator[Change]:
     given: dict[tuple[object, ...], str] = {}
     for site in of_compiler(project, "has_function", "has_type"):
         name = text_of(project, site.call.arguments[0]) if len(site.call.arguments) == 1 else None
-        if name is None or name in OF_COMPILER or name.startswith("__"):
+        if name is None or not NAMED[site.call.name].fullmatch(name) or name in OF_COMPILER or name.startswith("__"):
             continue
         key, words = (site.call.name, name), words_of(site)
         if first.setdefault(key, words) == words:
