@@ -20,7 +20,10 @@ ON_STATEMENTS = {
     24: others.too_late,
 }
 ON_TEXTS = {2: grammar.token_detail, 3: grammar.grammar_detail, 4: grammar.nesting_detail}
+# How long a file is that is looked at, and what is said of one that isn't.
+MOST_CHARACTERS = 1 << 20
 TOO_LONG = "a text or a definition file may have 16,777,216 bytes, a machine file 33,554,432, and a line of a template 65,536"
+UNSEEN = {13: "a project begins with project(NAME, 'c')", 22: TOO_LONG}
 
 
 def main(told: str, program: str, words: list[str]) -> int:
@@ -107,6 +110,8 @@ def detail_of(asked: Asked, fault: Fault, text: str | None) -> Detail:
         return settings.of_machine(asked, fault) if fault.number in (15, 23) else of_machine(asked, fault)
     if text is None:
         return detail(f"the folder has no {fault.file}: `meson explain` is called in the folder of the sources, as `meson setup`")
+    if len(text) > MOST_CHARACTERS:
+        return detail(UNSEEN.get(fault.number, f"the file has more than {MOST_CHARACTERS:,} characters, and isn't looked at"))
     if fault.number in ON_TEXTS:
         return ON_TEXTS[fault.number](text, fault.line)
     if fault.file in settings.FILES:
@@ -130,9 +135,7 @@ def bytes_of(asked: Asked, fault: Fault) -> bytes:
 def on_statement(asked: Asked, fault: Fault, text: str) -> Detail:
     """A fault of a statement: its values are asked of the program."""
     place = place_of(fault.file, text, fault.line) if read(os.path.join(asked.root, fault.file)) is not None else None
-    if fault.number == 22 and place is None:
-        return detail(TOO_LONG)
     if place is None:
-        return detail("a project begins with project(NAME, 'c')" if fault.number == 13 else "what is refused stands in this line")
+        return detail(UNSEEN.get(fault.number, "what is refused stands in this line"))
     with room_of(asked, fault.file, text) as room:
         return ON_STATEMENTS[fault.number](Context(asked, fault, place, Probe(room, place, fault.number, set_in(asked.root))))

@@ -5,8 +5,8 @@ import dataclasses
 import difflib
 from collections.abc import Iterable
 
-# How much of a text is shown.
-LONGEST = 40
+# How much of a text is shown, and of a line.
+LONGEST, WIDEST = 40, 400
 
 
 @dataclasses.dataclass(frozen=True)
@@ -50,10 +50,12 @@ def shown(text: str, line: int, at: int | None) -> list[str]:
     lines = text.split("\n")
     numbers = [line] if at is None else sorted({line, line_at(text, at)})
     width = len(str(numbers[-1]))
-    found = [f"  {number:{width}} | {printable(lines[number - 1])}" for number in numbers if number <= len(lines)]
+    start = text.rfind("\n", 0, at) + 1 if at is not None else 0
+    # Of a long line what stands round the place.
+    begin = max(0, at - start - WIDEST // 2) if at is not None and len(lines[line_at(text, at) - 1]) > WIDEST else 0
+    found = [f"  {number:{width}} | {printable(lines[number - 1][begin:begin + WIDEST])}" for number in numbers if number <= len(lines)]
     if at is not None and found:
-        start = text.rfind("\n", 0, at) + 1
-        before = "".join("\t" if it == "\t" else " " for it in printable(text[start:at]))
+        before = "".join("\t" if it == "\t" else " " for it in printable(text[start + begin:at]))
         mark = f"  {'':{width}} | {before}^"
         found.insert(len(found) if line_at(text, at) == numbers[-1] else 1, mark)
     return found

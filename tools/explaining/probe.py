@@ -32,7 +32,7 @@ MAKES = {
     "include_directories": "include_directories object", "configuration_data": "configuration data object", "disabler": "disabler",
 }
 # How often the program is asked of one fault, at most, and up to how many seconds after the beginning.
-MOST, MOST_SECONDS = 400, 30
+MOST, MOST_SECONDS = 400, 120
 LINES_BEFORE = 2  # that stand before the statement when it is asked
 
 
