@@ -63,3 +63,9 @@ pub given_within : {T : Type 0} {gives : T → List ℕ → ℕ → ℕ → List
     → GivenWhole gives path size start bytes t → length bytes ≤ size
 given_within (full bytes t before e) = omega (arith, e)
 given_within (ended bytes room t u before some fits gave) = omega (arith, fits)
+
+-- the same, with the size and the bytes written otherwise
+pub given_same : {T : Type 0} (gives : T → List ℕ → ℕ → ℕ → List ℕ → T → Type 0) (path : List ℕ) (size n : ℕ) (start : T) (bytes l : List ℕ) (t : T)
+    → size ≡ n → l ≡ bytes → GivenWhole gives path size start bytes t → GivenWhole gives path n start l t
+given_same gives path size n start bytes l t same is given =
+    subst (λ b. GivenWhole gives path n start b t) (sym is) (subst (λ m. GivenWhole gives path m start bytes t) same given)

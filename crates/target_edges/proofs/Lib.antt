@@ -1,2 +1,3 @@
 pub mod WayTexts
 pub mod Joining
+mod Examples

@@ -5,3 +5,4 @@ pub mod Reading
 pub mod Scan
 pub mod Words
 pub mod Undoing
+mod Examples
