@@ -54,9 +54,9 @@ abbrev pub has_unwanted_disabler : Function → ArgumentsData → Bool
 has_unwanted_disabler functions.Project a = gives_disabler a
 has_unwanted_disabler f a = false
 
--- a function on its arguments, which its row looks at first; but `project` given a disabler is E9, whatever its row says
+-- a function on its arguments, which its row looks at first; then `project` given a disabler is E9, also where its row lets that through
 unfoldable pub call : Function → ArgumentsData → Deed (Option Data)
 call f a = do
-  _ ← need (not (has_unwanted_disabler f a)) refusals.Arguments []
   _ ← fitting (checked (row_for f a) a)
+  _ ← need (not (has_unwanted_disabler f a)) refusals.Arguments []
   does f a

@@ -122,7 +122,7 @@ pub fn call<T: Tree, O: Outputs>(
     ensures { Carries (option_map data_of) (call function (arguments_data arguments.now)) (state_of T.seen O.seen caller.old) result
         (state_of T.seen O.seen caller.new) }
 {
-    refuse_disabler(caller, function, arguments)?;
     fit(caller, function, arguments)?;
+    refuse_disabler(caller, function, arguments)?;
     act(caller, function, arguments)
 }
