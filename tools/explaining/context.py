@@ -49,9 +49,9 @@ class Context:
 
     def call(self) -> tree.Call | None:
         """The call at fault; where that isn't known, the outermost of the line."""
-        node = self.probe.culprit if self.probe.can_ask else None
-        calls = [node] if isinstance(node, tree.Call) else self.place.calls()
-        return calls[0] if calls else None
+        calls = self.place.calls()
+        node = self.probe.culprit if calls and self.probe.can_ask else None
+        return node if isinstance(node, tree.Call) else calls[0] if calls else None
 
     def answer(self, section: str) -> dict[str, object] | None:
         """What the machine file answered where a whole section was asked."""

@@ -66,7 +66,9 @@ class Probe:
         return self.room.run(text)
 
     def said(self, node: tree.Node, form: str) -> str | None:
-        """What the run says behind the mark where the node is changed; none where it doesn't come there."""
+        """What the run says behind the mark where the node is changed; none where it doesn't come there, or isn't asked any more."""
+        if not self.can_ask:
+            return None
         source = self.place.source(node)
         condition = f"{COUNT} == {self.rounds}"
         new = form.replace("ROUND", condition).replace("MARK", f"'{MARK}'").replace("NODE", source)
@@ -190,7 +192,8 @@ class Probe:
         if came.fault is None or (came.fault.number, came.fault.line - LINES_BEFORE) != (self.number, self.place.line):
             return None
         told = [(word, int(number)) for word, number in re.findall(MARK + r" (begin|end) (\d+)\"", came.asked)]
-        return [nodes[number] for word, number in told if word == "begin" and ("end", number) not in told]
+        ended = {number for word, number in told if word == "end"}
+        return [nodes[number] for word, number in told if word == "begin" and number not in ended]
 
     def asking(self, node: tree.Node, nodes: list[tree.Node]) -> str:
         """The text of a node that asks before and behind; it is put behind `nodes`, by whose numbers the questions name it."""
