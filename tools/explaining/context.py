@@ -13,7 +13,7 @@ from porting.parser import parse
 from tools.explaining.place import Place
 from tools.explaining.probe import Probe
 from tools.explaining.run import Asked, Fault
-from tools.explaining.values import OWN, Value
+from tools.explaining.values import DICTIONARY, OWN, Value
 
 
 @dataclasses.dataclass
@@ -36,7 +36,12 @@ class Context:
         if isinstance(node, tree.List) and not self.probe.can_ask:
             items = [self.value(it) for it in node.items]
             return Value("list", "[]", tuple(it for it in items if it is not None))
-        return self.probe.value(node) if self.probe.can_ask else None
+        if self.probe.can_ask:
+            return self.probe.value(node)
+        if isinstance(node, tree.Dictionary):
+            return Value(DICTIONARY, "{}")
+        made = self.probe.made(node)
+        return Value(made) if made is not None else None
 
     def text_of(self, node: tree.Node | None) -> str | None:
         """A node that is a text."""

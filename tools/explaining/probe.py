@@ -15,18 +15,19 @@ from collections.abc import Iterator
 from porting import tree
 from tools.explaining.place import Place
 from tools.explaining.run import Fault, Outcome, Room
-from tools.explaining.values import LIST, OBJECT, OWN, Value, value_in
+from tools.explaining.values import DICTIONARY, LIST, OBJECT, OWN, Value, value_in
 
 MARK, COUNT = "the explanation is asked here", "explain_rounds_of_the_fault"
 # Of which kind an object is that has a method.
 METHODS = {
-    "length": LIST, "enabled": "feature option", "get_id": "compiler", "set10": "configuration data object", "system": "machine",
-    "project_name": "meson object", "version": "dependency", "path": "program", "to_list": "custom target", "full_path": "target",
+    "has_key": DICTIONARY, "length": LIST, "enabled": "feature option", "get_id": "compiler", "set10": "configuration data object",
+    "system": "machine", "project_name": "meson object", "version": "dependency", "path": "program", "to_list": "custom target",
+    "full_path": "target",
 }
 # Of which kind an object is that a call makes.
 OF_METHODS = {"get_compiler": "compiler", "find_library": "dependency"}
 MAKES = {
-    **OF_METHODS, **dict.fromkeys(("executable", "static_library", "shared_library", "library"), "target"),
+    **OF_METHODS, "executable": "executable", **dict.fromkeys(("static_library", "shared_library", "library"), "library"),
     "custom_target": "custom target",
     **dict.fromkeys(("dependency", "declare_dependency"), "dependency"), "find_program": "program", "files": "list of files",
     "include_directories": "include_directories object", "configuration_data": "configuration data object", "disabler": "disabler",
