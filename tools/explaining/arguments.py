@@ -6,7 +6,7 @@ from tools.explaining.context import Context
 from tools.explaining.detail import Detail, detail, listed, near, quoted
 from tools.explaining.instead import in_its_place
 from tools.explaining.rows import FUNCTIONS, METHODS, OF_KIND, Kind, Row
-from tools.explaining.rules import broken_rule
+from tools.explaining.rules import BUILDS, broken_rule
 from tools.explaining.values import OWN, Value
 
 
@@ -66,6 +66,10 @@ def of_values(context: Context, call: tree.Call) -> Detail:
         kind = (row.keywords.get(name) if number is None else row.kind(number)) if row else None
         if kind is not None and value is not None and (misfit := misfit_of(kind, value)):
             return detail(f"{call.name}: {name_of(name, number)}: takes {kind.words}, and got {misfit}", at=item.start)
+    if call.name == "project" and not context.probe.can_ask:
+        for node in (it for item in call.items for it in tree.inside(item)):
+            if isinstance(node, (tree.Call, tree.Name)) and node is not call:
+                return detail(f"project: its values are plain ones, and {quoted(context.place.source(node))} is none", at=node.start)
     rule = broken_rule(context, call, {name: it for name, it in values.items() if it is not None})
     if rule is not None:
         return rule
@@ -99,6 +103,9 @@ def all_values(context: Context, call: tree.Call, values: dict[str, Value | None
     on = f" of {value.shown()}" if call.receiver is not None and (value := context.value(call.receiver)) else ""
     given = [f"{name_of(name, number)} is {value.shown()}" for name, number, _ in items_of(call) if (value := values.get(name))]
     row = row_of(context, call)
+    if call.name in BUILDS:
+        why = f"{call.name}: among its sources is a file that ends in neither '.c' nor '.h', or none that ends in '.c'"
+        return detail(why, f"it got: {listed(given)}", at=call.start)
     takes = [f"argument {it + 1} {row.kind(it).words}" for it in range(min(row.most or len(row.kinds), 4))] if row and row.most != 0 else []
     told = f"it takes: {listed(takes)}" if takes else ""
     return detail(f"{call.name}{on}: it can't do with what it got: {listed(given) or 'nothing'}", told, at=call.start)

@@ -13,7 +13,7 @@ from porting.parser import parse
 from tools.explaining.place import Place
 from tools.explaining.probe import Probe
 from tools.explaining.run import Asked, Fault
-from tools.explaining.values import OWN, Value
+from tools.explaining.values import DICTIONARY, OWN, Value
 
 
 @dataclasses.dataclass
@@ -36,7 +36,12 @@ class Context:
         if isinstance(node, tree.List) and not self.probe.can_ask:
             items = [self.value(it) for it in node.items]
             return Value("list", "[]", tuple(it for it in items if it is not None))
-        return self.probe.value(node) if self.probe.can_ask else None
+        if self.probe.can_ask:
+            return self.probe.value(node)
+        if isinstance(node, tree.Dictionary):
+            return Value(DICTIONARY, "{}")
+        made = self.probe.made(node)
+        return Value(made) if made is not None else None
 
     def text_of(self, node: tree.Node | None) -> str | None:
         """A node that is a text."""
@@ -49,9 +54,9 @@ class Context:
 
     def call(self) -> tree.Call | None:
         """The call at fault; where that isn't known, the outermost of the line."""
-        node = self.probe.culprit if self.probe.can_ask else None
-        calls = [node] if isinstance(node, tree.Call) else self.place.calls()
-        return calls[0] if calls else None
+        calls = self.place.calls()
+        node = self.probe.culprit if calls and self.probe.can_ask else None
+        return node if isinstance(node, tree.Call) else calls[0] if calls else None
 
     def answer(self, section: str) -> dict[str, object] | None:
         """What the machine file answered where a whole section was asked."""

@@ -15,18 +15,19 @@ from collections.abc import Iterator
 from porting import tree
 from tools.explaining.place import Place
 from tools.explaining.run import Fault, Outcome, Room
-from tools.explaining.values import LIST, OBJECT, OWN, Value, value_in
+from tools.explaining.values import DICTIONARY, LIST, OBJECT, OWN, Value, value_in
 
 MARK, COUNT = "the explanation is asked here", "explain_rounds_of_the_fault"
 # Of which kind an object is that has a method.
 METHODS = {
-    "length": LIST, "enabled": "feature option", "get_id": "compiler", "set10": "configuration data object", "system": "machine",
-    "project_name": "meson object", "version": "dependency", "path": "program", "to_list": "custom target", "full_path": "target",
+    "has_key": DICTIONARY, "length": LIST, "enabled": "feature option", "get_id": "compiler", "set10": "configuration data object",
+    "system": "machine", "project_name": "meson object", "version": "dependency", "path": "program", "to_list": "custom target",
+    "full_path": "target",
 }
 # Of which kind an object is that a call makes.
 OF_METHODS = {"get_compiler": "compiler", "find_library": "dependency"}
 MAKES = {
-    **OF_METHODS, **dict.fromkeys(("executable", "static_library", "shared_library", "library"), "target"),
+    **OF_METHODS, "executable": "executable", **dict.fromkeys(("static_library", "shared_library", "library"), "library"),
     "custom_target": "custom target",
     **dict.fromkeys(("dependency", "declare_dependency"), "dependency"), "find_program": "program", "files": "list of files",
     "include_directories": "include_directories object", "configuration_data": "configuration data object", "disabler": "disabler",
@@ -66,7 +67,9 @@ class Probe:
         return self.room.run(text)
 
     def said(self, node: tree.Node, form: str) -> str | None:
-        """What the run says behind the mark where the node is changed; none where it doesn't come there."""
+        """What the run says behind the mark where the node is changed; none where it doesn't come there, or isn't asked any more."""
+        if not self.can_ask:
+            return None
         source = self.place.source(node)
         condition = f"{COUNT} == {self.rounds}"
         new = form.replace("ROUND", condition).replace("MARK", f"'{MARK}'").replace("NODE", source)
@@ -190,7 +193,8 @@ class Probe:
         if came.fault is None or (came.fault.number, came.fault.line - LINES_BEFORE) != (self.number, self.place.line):
             return None
         told = [(word, int(number)) for word, number in re.findall(MARK + r" (begin|end) (\d+)\"", came.asked)]
-        return [nodes[number] for word, number in told if word == "begin" and ("end", number) not in told]
+        ended = {number for word, number in told if word == "end"}
+        return [nodes[number] for word, number in told if word == "begin" and number not in ended]
 
     def asking(self, node: tree.Node, nodes: list[tree.Node]) -> str:
         """The text of a node that asks before and behind; it is put behind `nodes`, by whose numbers the questions name it."""

@@ -34,16 +34,18 @@ ANY = Kind("any value", (TEXT, INTEGER, TRUTH, LIST, DICTIONARY, OBJECT))
 VALUE = Kind("a text, an integer or a truth value", (TEXT, INTEGER, TRUTH))
 LISTED = Kind("a list or a dictionary", (LIST, DICTIONARY))
 SOURCES = Kind("texts, files and custom targets", (TEXT, OBJECT), True, ("list of files", "custom target"))
-FILES = Kind("texts and files", (TEXT, OBJECT), True, ("list of files", "custom target"))
-ONE_FILE = Kind("one text or file", (TEXT, OBJECT), True, ("list of files", "custom target"))
+FILES = Kind("texts and files", (TEXT, OBJECT), True, ("list of files",))
+ONE_FILE = Kind("one text or file", (TEXT, OBJECT), True, ("list of files",))
+PRINTED = Kind("texts, integers, truth values, and lists and dictionaries of these", (TEXT, INTEGER, TRUTH, DICTIONARY), True)
 FOLDERS = Kind("texts and include_directories", (TEXT, OBJECT), True, ("include_directories object",))
-LIBRARIES = Kind("libraries", (OBJECT,), True, ("target",))
-TARGETS = Kind("targets", (OBJECT,), True, ("target", "custom target"))
+LIBRARIES = Kind("libraries", (OBJECT,), True, ("library", "target"))
+TARGETS = Kind("targets", (OBJECT,), True, ("executable", "library", "target", "custom target"))
 DEPENDENCIES = Kind("dependencies", (OBJECT,), True, ("dependency",))
 REQUIRED = Kind("a truth value or a feature option", (TRUTH, OBJECT), False, ("feature option",))
-WORDS = Kind("texts, files, programs and targets", (TEXT, OBJECT), True, ("list of files", "program", "target", "custom target"))
-ARGUMENTS = Kind("texts, files and targets", (TEXT, OBJECT), True, ("list of files", "target", "custom target"))
-PROGRAM = Kind("a program, a target or a file", (OBJECT,), True, ("program", "target", "custom target", "list of files"))
+WORDS = Kind("texts, files, programs and targets", (TEXT, OBJECT), True, ("list of files", "program", *TARGETS.objects))
+ARGUMENTS = Kind("texts, files and targets", (TEXT, OBJECT), True, ("list of files", *TARGETS.objects))
+PROGRAM = Kind("a program, an executable, a custom target or a file", (OBJECT,), False,
+               ("program", "executable", "target", "custom target"))
 ENVIRONMENT = Kind("a dictionary of texts, or texts NAME=VALUE", (TEXT, DICTIONARY), True)
 DEFAULTS = Kind("texts name=value, or a dictionary", (TEXT, DICTIONARY), True)
 DATA = Kind("configuration data or a dictionary", (DICTIONARY, OBJECT), False, ("configuration data object",))
@@ -110,9 +112,9 @@ FUNCTIONS = {
     "join_paths": Row((TEXT_,), 1, None),
     "get_option": Row((TEXT_,), 1, 1),
     "range": Row((NUMBER,), 1, 3),
-    "message": Row((ANY,), 1, None),
-    "warning": Row((ANY,), 1, None),
-    "error": Row((ANY,), 1, None),
+    "message": Row((PRINTED,), 1, None),
+    "warning": Row((PRINTED,), 1, None),
+    "error": Row((PRINTED,), 1, None),
     "assert": Row((TRUTH_, TEXT_), 1, 2),
     "set_variable": Row((TEXT_, ANY), 2, 2),
     "get_variable": Row((TEXT_, ANY), 1, 2),
@@ -139,7 +141,7 @@ METHODS_OF = {
 }
 # Methods whose arguments depend on what has them.
 OF_KIND = {
-    (TEXT, "contains"): Row((TEXT_,), 1, 1), (LIST, "contains"): Row((ANY,), 1, 1), (TEXT, "format"): Row((ANY,), 0, None),
+    (TEXT, "contains"): Row((TEXT_,), 1, 1), (LIST, "contains"): Row((ANY,), 1, 1), (TEXT, "format"): Row((PRINTED,), 0, None),
     (LIST, "get"): Row((NUMBER, ANY), 1, 2), (DICTIONARY, "get"): Row((TEXT_, ANY), 1, 2),
     ("configuration data object", "get"): Row((TEXT_, ANY), 1, 2), ("configuration data object", "keys"): Row((ANY,), 0, 0),
     (DICTIONARY, "keys"): Row((ANY,), 0, 0), (INTEGER, "to_string"): Row((ANY,), 0, 0), (TRUTH, "to_string"): Row((TEXT_,), 0, 2),
@@ -165,4 +167,4 @@ METHODS = {
 
 
 def methods_of(kind: str) -> list[str]:
-    return METHODS_OF.get(kind, "").split()
+    return METHODS_OF.get("target" if kind in ("executable", "library") else kind, "").split()

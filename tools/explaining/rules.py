@@ -8,15 +8,17 @@ from porting import tree
 from porting.lexer import KEYWORDS
 from tools.explaining.context import Context
 from tools.explaining.detail import Detail, detail, quoted
-from tools.explaining.values import OWN, TEXT, Value, flat
+from tools.explaining.values import DICTIONARY, INTEGER, OWN, TEXT, TRUTH, Value, flat
 
 BUILDS = ("executable", "static_library", "shared_library", "library")
 # Of each function the arguments and keywords that are paths of sources; 'all' stands for each argument.
 PATHS = {
     **{name: ("rest", "sources", "include_directories") for name in BUILDS}, "custom_target": ("input", "depend_files"),
+    "declare_dependency": ("sources", "include_directories"),
     "files": ("all",), "include_directories": ("all",), "configure_file": ("input",), "install_headers": ("all",), "install_data": ("all",),
     "install_man": ("all",), "find_program": ("all",),
 }
+NAME = re.compile(r"[-A-Za-z0-9_]+")
 TARGET_NAMES = re.compile(r"[0-9]+(\.[0-9]+){0,2}")
 
 
@@ -24,7 +26,8 @@ def broken_rule(context: Context, call: tree.Call, values: dict[str, Value]) -> 
     """The rule of a function that its values break."""
     if call.receiver is not None:
         return of_method(context, call, values)
-    for rule in (of_paths, of_targets, of_outputs, of_placeholders, of_variables, of_ranges, of_environment, of_programs):
+    for rule in (of_paths, of_targets, of_outputs, of_placeholders, of_variables, of_ranges, of_environment, of_programs,
+                 of_configuration):
         why = rule(context, call, values)
         if why:
             name, text = why
@@ -58,6 +61,8 @@ def of_paths(context: Context, call: tree.Call, values: dict[str, Value]) -> Why
                 return name, f"the path {quoted(text)} leaves the project"
             if not text:
                 return name, "a path is empty"
+            if os.path.basename(text) in (".", "..") and "include_directories" not in (call.name, name):
+                return name, f"the path {quoted(text)} is that of a folder"
             if call.name == "install_man" and name.isdigit() and not re.search(r"[0-9]", os.path.basename(text)):
                 return name, f"the page {quoted(text)} has no section: the last digit of its name says it, as in 'name.1'"
     return None
@@ -67,8 +72,8 @@ def of_targets(context: Context, call: tree.Call, values: dict[str, Value]) -> W
     if call.name not in BUILDS:
         return None
     name = values.get("1")
-    if name is not None and (not name.text or "/" in name.text or name.text.startswith("-")):
-        return "1", f"{quoted(name.text)} is no name of a target: it isn't empty, has no '/' and begins with no '-'"
+    if name is not None and (name.text in ("", ".", "..") or "/" in name.text or name.text.startswith("-")):
+        return "1", f"{quoted(name.text)} is no name of a target: it isn't empty, '.' or '..', has no '/' and begins with no '-'"
     given = [(key, text) for key, value in values.items() if key == "sources" or key.isdigit() and key != "1" for text in texts(value)]
     for key, text in given:
         if not text.endswith((".c", ".h")):
@@ -151,10 +156,28 @@ def of_environment(context: Context, call: tree.Call, values: dict[str, Value]) 
     for text in texts(values["env"]) if "env" in values else []:
         if "=" not in text:
             return "env", f"{quoted(text)} is no NAME=VALUE"
+    for key, value in pairs(values["env"]) if "env" in values else []:
+        if value.kind != TEXT:
+            return "env", f"the value of {quoted(key)} is {value.shown()}, and no text"
     if call.name.startswith("add_project_") and texts(values.get("language", Value(TEXT))) != ["c"]:
         given = ", ".join(texts(values["language"])) if "language" in values else ""
         return "language", f"the language is 'c', and here {quoted(given)}"
     return None
+
+
+def of_configuration(context: Context, call: tree.Call, values: dict[str, Value]) -> Why:
+    given = {"configuration_data": "1", "configure_file": "configuration"}.get(call.name, "")
+    for key, value in pairs(values[given]) if given in values else []:
+        if not NAME.fullmatch(key):
+            return given, f"{quoted(key)} is no name: it has letters, digits, '_' and '-'"
+        if value.kind not in (TEXT, INTEGER, TRUTH):
+            return given, f"the value of {quoted(key)} is {value.shown()}, and no text, integer or truth value"
+    return None
+
+
+def pairs(value: Value) -> list[tuple[str, Value]]:
+    """The keys and values of a dictionary."""
+    return [(key.text, it) for key, it in zip(value.items[::2], value.items[1::2])] if value.kind == DICTIONARY else []
 
 
 def of_method(context: Context, call: tree.Call, values: dict[str, Value]) -> Detail | None:
@@ -169,7 +192,11 @@ def of_method(context: Context, call: tree.Call, values: dict[str, Value]) -> De
         return detail(f"{call.name}: the program was not found: ask 'found()' first", at=call.start)
     if call.name in ("replace", "split") and "1" in values and values["1"].text == "":
         return detail(f"{call.name}: the text that is looked for is empty", at=place_of(call, "1"))
+    if call.name == "full_path" and receiver.kind == "custom target":
+        return detail("full_path: a custom target of several outputs has no path of its own: t[0].full_path()", at=call.name_start)
+    if call.name == "to_string" and len(call.arguments) == 1:
+        return detail("to_string: it takes two texts, of true and of false, or none", at=call.name_start)
     is_data = receiver.kind == "configuration data object"
-    if is_data and "1" in values and not re.fullmatch(r"[-A-Za-z0-9_]+", values["1"].text):
+    if is_data and "1" in values and not NAME.fullmatch(values["1"].text):
         return detail(f"{call.name}: {quoted(values['1'].text)} is no name: it has letters, digits, '_' and '-'", at=place_of(call, "1"))
     return None

@@ -54,6 +54,11 @@ def takes(options: dict[str, tree.Call], name: str) -> str:
             "integer": "an integer" + (f" ({listed(bounds)})" if bounds else "")}.get(kind, "a text")
 
 
+def words_in(value: str) -> list[str]:
+    """The texts of a list, as a word of the command line gives it."""
+    return re.findall(r"'([^']*)'", value) if value.startswith("[") else value.split(",")
+
+
 def kind_of(option: tree.Call) -> str:
     return plain_text(option.keywords["type"].value) if "type" in option.keywords else ""
 
@@ -90,7 +95,7 @@ def given(asked: Asked, name: str, value: str | None) -> Detail:
 def misfit(options: dict[str, tree.Call], name: str, value: str) -> str:
     """What is wrong with a value, or else what the option takes."""
     known = [] if name in BUILT_IN else choices_of(options[name])
-    words = re.findall(r"'([^']*)'", value) if value.startswith("[") else value.split(",")
+    words = words_in(value)
     others = [it for it in words if it not in known]
     told = f"it takes {takes(options, name)}"
     if known and kind_of(options[name]) == "array" and others:
@@ -153,6 +158,8 @@ def of_option(call: tree.Call, calls: list[tree.Call]) -> Detail:
             return detail(f"{named}keyword {quoted(key)}: there is none{near(key, WORDS)}", f"option takes {listed(WORDS)}", at=word.start)
     if len(call.arguments) != 1 or not isinstance(call.arguments[0], tree.Text):
         return detail("option: it takes one text without a name, that of the option", at=call.start)
+    if call.arguments[0].has_names:
+        return detail(f"{named}its name is a plain text, and no f-string", at=at)
     if not re.fullmatch(r"[-A-Za-z0-9_]+", name):
         return detail(f"{named}a name has letters, digits, '_' and '-'", at=at)
     if name in BUILT_IN:
@@ -227,6 +234,8 @@ def shown_plain(node: tree.Node) -> str:
 def fits(options: dict[str, tree.Call], name: str, value: str) -> bool:
     """Whether an option may have a value, as far as its choices say."""
     words = takes(options, name)
+    if words.startswith("words among "):
+        return set(words_in(value)) <= set(choices_of(options[name]))
     if words.startswith("one of "):
         return value in words.removeprefix("one of ").split(", ")
     if words == TRUTH:

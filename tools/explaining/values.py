@@ -12,7 +12,7 @@ OWN = {"meson": "meson object", "host_machine": "machine", "build_machine": "mac
 
 @dataclasses.dataclass(frozen=True)
 class Value:
-    """Its type, and of a text the text, of others what is printed; `items` are those of a list, where they are known."""
+    """Its type, and of a text the text, of others what is printed; `items` of a list, or keys and values, where they are known."""
     kind: str
     text: str = ""
     items: tuple["Value", ...] = ()
@@ -27,7 +27,7 @@ class Value:
         if self.kind == LIST and self.items:
             return f"a list with {self.items[0].shown()}" + (f" and {len(self.items) - 1} more" if len(self.items) > 1 else "")
         if self.kind == DICTIONARY:
-            return "a dictionary"
+            return "a dictionary" if self.text else "a dictionary with an object in it"
         return f"{'an' if self.kind[0] in 'aeiou' else 'a'} {self.kind}"
 
 
@@ -60,11 +60,12 @@ def value_at(printed: str, at: int) -> tuple[Value, int]:
             end += 2 * printed.startswith(", ", end)
         return Value(LIST, printed[at:end + 1], tuple(items)), end + 1
     if sign == "{":
-        end = at + 1
+        items, end = [], at + 1
         while end < len(printed) and printed[end] != "}":
-            _, end = value_at(printed, end)
+            item, end = value_at(printed, end)
+            items.append(item)
             end += 3 * printed.startswith(" : ", end) or 2 * printed.startswith(", ", end)
-        return Value(DICTIONARY, printed[at:end + 1]), end + 1
+        return Value(DICTIONARY, printed[at:end + 1], tuple(items)), end + 1
     end = at + 1
     while end < len(printed) and printed[end] not in ",]} ":
         end += 1
