@@ -45,7 +45,8 @@ TABLES: dict[str, list[tuple[str, str]]] = {
         ('`build_target`',
          'the function of the kind that is wanted'),
         ('`add_languages`',
-         "nothing: C alone. Where it is asked, `not is_variable('meson') and add_languages('cpp')`"),
+         "nothing: C alone. Where it is asked, `not is_variable('meson') and add_languages('cpp')`; a language of `project` that no source "
+         "is written in, behind `if not is_variable('meson')`"),
         ('`add_global_arguments`, `add_global_link_arguments`',
          '`add_project_arguments`, `add_project_link_arguments`'),
         ('`add_test_setup`',

@@ -8,7 +8,11 @@ from porting.edits import Change
 from porting.lexer import escaped
 from porting.project import Project, Site
 from porting.rule import (REAL, REAL_ALONE, assigned_name, guarded, in_place_of_statement, is_whole_statement, replaced, text_of, uses_of)
-from porting.values import Thing
+from porting.values import Thing, flat
+
+# How the names of sources end, by their language.
+SOURCES = {"cpp": (".cpp", ".cc", ".cxx", ".c++", ".cp"), "objc": (".m",), "objcpp": (".mm",), "rust": (".rs",), "vala": (".vala",),
+           "cuda": (".cu",), "d": (".d",), "fortran": (".f", ".for", ".f90", ".f95"), "cython": (".pyx",)}
 
 
 def python(project: Project) -> Iterator[Change]:
@@ -62,6 +66,25 @@ def languages(project: Project) -> Iterator[Change]:
                               replaced(site, site.call, f"({REAL} and {site.file.source(site.call)})"))
         elif is_optional(project, site):
             yield guarded(site, REAL_ALONE, f"add_languages: {', '.join(map(str, texts))} is left to the real Meson")
+
+
+def languages_of_project(project: Project) -> Iterator[Change]:
+    """A language beside C that `project` names, and that no source is written in, is added by the real Meson alone."""
+    for site in project.functions("project"):
+        texts = [it.value for node in site.call.arguments[1:] for it in flat(project.known.value(node))]
+        others = [str(it) for it in texts if it != "c"]
+        if "c" not in texts or not others or not is_whole_statement(site) or not all(is_unused(project, it) for it in others):
+            continue
+        added = f"\n{REAL_ALONE}\n  add_languages({', '.join(map(escaped, others))}, native: false)\nendif"
+        yield site.change(f"project: {', '.join(others)}, which no source is written in, is left to the real Meson",
+                          (site.call.arguments[1].start, site.call.arguments[-1].end, "'c'"), (site.statement.end, site.statement.end, added))
+
+
+def is_unused(project: Project, language: str) -> bool:
+    """Whether no text of the definition files names a source of a language."""
+    texts = (it.value for _, statement in project.statements() for expression in tree.expressions_of(statement)
+             for it in tree.inside(expression) if isinstance(it, tree.Text))
+    return language in SOURCES and not any(it.lower().endswith(SOURCES[language]) for it in texts)
 
 
 def is_optional(project: Project, site: Site) -> bool:
