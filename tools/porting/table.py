@@ -2,7 +2,7 @@
 from __future__ import annotations
 
 from porting import (asked, calls, commands, compiler, dependencies, features, generators, installs, keywords, modules, options, outside,
-                     pkgconfig, scripts, sources, test_calls, twice)
+                     pkgconfig, runs, scripts, sources, test_calls, twice)
 from porting.rule import Rule
 
 RULES = (
@@ -25,6 +25,7 @@ RULES = (
     Rule("partial-dependency", "partial_dependency, as_system: the dependency itself", dependencies.partial_dependency),
     Rule("type-name", "type_name of a dependency: what it is, where it is found", dependencies.names_of_types),
     Rule("sources", "compiles, links: has_type, has_function, with the source before it", sources.sources),
+    Rule("runs", "run of a compiler: what the program came to, in options and texts (with --run alone)", runs.runs),
     Rule("attributes", "has_function_attribute: has_type", compiler.attributes),
     Rule("defines", "has_define: has_type", compiler.defines),
     Rule("link-arguments", "get_supported_link_arguments: has_link_argument in a loop", compiler.link_arguments),
