@@ -285,7 +285,7 @@ def lack_of_variable(project: Project, package: str, name: str) -> str:
 
 
 def pkg_config() -> list[str]:
-    return shlex.split(os.environ.get("PKG_CONFIG") or "pkg-config")
+    return words_of("PKG_CONFIG") or ["pkg-config"]
 
 
 def variable_name(project: Project, site: Site) -> str | None:

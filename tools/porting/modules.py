@@ -75,9 +75,10 @@ def languages_of_project(project: Project) -> Iterator[Change]:
         others = [str(it) for it in texts if it != "c"]
         if "c" not in texts or not others or not is_whole_statement(site) or not all(is_unused(project, it) for it in others):
             continue
+        end, named = site.statement.end, site.call.arguments[1:]
         added = f"\n{REAL_ALONE}\n  add_languages({', '.join(map(escaped, others))}, native: false)\nendif"
         yield site.change(f"project: {', '.join(others)}, which no source is written in, is left to the real Meson",
-                          (site.call.arguments[1].start, site.call.arguments[-1].end, "'c'"), (site.statement.end, site.statement.end, added))
+                          (named[0].start, named[-1].end, "'c'"), (end, end, added))
 
 
 def is_unused(project: Project, language: str) -> bool:
