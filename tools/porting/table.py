@@ -1,8 +1,8 @@
 """The rules, in the order in which they are carried out."""
 from __future__ import annotations
 
-from porting import (asked, calls, commands, compiler, dependencies, features, generators, installs, keywords, modules, options, outside,
-                     pkgconfig, runs, scripts, sources, test_calls, twice)
+from porting import (asked, calls, commands, compiler, dependencies, features, generators, installs, keywords, modules, objects, options,
+                     outside, pkgconfig, runs, scripts, sources, test_calls, twice)
 from porting.rule import Rule
 
 RULES = (
@@ -22,6 +22,7 @@ RULES = (
     Rule("built-in-options", "b_ndebug and other options: the value that the real Meson begins with", options.others),
     Rule("features", "require, disable_auto_if and their like of a feature option: statements before it", features.features),
     Rule("option-file", "`deprecated:` of an option; integers without a value", options.deprecated_options),
+    Rule("option-texts", "texts with `+` between them in the option file: one text", options.summed_texts),
     Rule("partial-dependency", "partial_dependency, as_system: the dependency itself", dependencies.partial_dependency),
     Rule("type-name", "type_name of a dependency: what it is, where it is found", dependencies.names_of_types),
     Rule("sources", "compiles, links: has_type, has_function, with the source before it", sources.sources),
@@ -80,6 +81,7 @@ RULES = (
          modules.unused_imports),
     Rule("compiler-options", "compiles, links, get_define, compute_int that no check says: an option with the value of now (--run alone)",
          asked.answers),
+    Rule("objects", "`objects:` of a whole target: a static library of its sources", objects.extracted, is_sure=False),
     Rule("install-modes", "`install_mode:` of another mode: dropped; a step of the package", keywords.other_modes, is_sure=False),
     Rule("link-order", "static libraries of one target that use one another: named once more in `link_args:`", dependencies.link_order,
          is_sure=False),
