@@ -7,7 +7,8 @@ from porting import tree
 from porting.edits import Change
 from porting.lexer import escaped
 from porting.project import Project, Site
-from porting.rule import (REAL, REAL_ALONE, assigned_name, guarded, in_place_of_statement, is_whole_statement, replaced, text_of, uses_of)
+from porting.rule import (REAL, REAL_ALONE, assigned_name, guarded, in_place_of_statement, is_whole_statement, languages_of_real, replaced,
+                          text_of, uses_of)
 from porting.values import Thing, flat
 
 # How the names of sources end, by their language.
@@ -82,10 +83,21 @@ def languages_of_project(project: Project) -> Iterator[Change]:
 
 
 def is_unused(project: Project, language: str) -> bool:
-    """Whether no text of the definition files names a source of a language."""
-    texts = (it.value for _, statement in project.statements() for expression in tree.expressions_of(statement)
-             for it in tree.inside(expression) if isinstance(it, tree.Text))
+    """Whether no call that is surely carried out names a source of a language."""
+    texts = (it.value for site in project.sites() if site.call not in project.known.called_maybe
+             for it in tree.inside(site.call) if isinstance(it, tree.Text))
     return language in SOURCES and not any(it.lower().endswith(SOURCES[language]) for it in texts)
+
+
+def other_compilers(project: Project) -> Iterator[Change]:
+    """The compiler of a language that the real Meson alone adds is here that of C."""
+    added = languages_of_real(project)
+    for site in project.methods("get_compiler"):
+        language = text_of(project, site.call.arguments[0]) if site.call.arguments else None
+        if language in added:
+            source = site.file.source(site.call.arguments[0])
+            yield site.change(f"get_compiler: that of {language} is asked in the real Meson alone, here that of C",
+                              replaced(site, site.call.arguments[0], f"{REAL} ? {source} : 'c'"))
 
 
 def is_optional(project: Project, site: Site) -> bool:

@@ -76,6 +76,7 @@ RULES = (
     Rule("languages-added", "add_languages: of another language than C asked in the real Meson alone", modules.languages),
     Rule("languages-named", "project of C and a language that no source is written in: C, and add_languages in the real Meson alone",
          modules.languages_of_project),
+    Rule("compilers", "get_compiler of a language that the real Meson alone adds: that of C here", modules.other_compilers),
     Rule("subprojects", "subproject(required: false): missing here", modules.subprojects),
     Rule("imports", "a module that nothing uses: dropped; one that an option alone needs: left to the real Meson",
          modules.unused_imports),
