@@ -117,7 +117,7 @@ def refused(project: Project, site: Site) -> list[str]:
             advice = METHODS.get(kind_of(choice), {}).get(call.name)
             if advice:
                 texts.append(f"{call.name}: {advice}")
-    if call.receiver is not None and call.name == "get_compiler" and any(it != "c" for it in paths_of(project, call) if isinstance(it, str)):
+    if call.name == "get_compiler" and any(it != "c" for it in paths_of(project, call) if isinstance(it, str)):
         texts.append("get_compiler: C alone is built here")
     for name, word in call.keywords.items():
         advice = KEYWORDS.get(call.name, {}).get(name) or KEYWORDS["*"].get(name)
