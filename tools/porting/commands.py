@@ -189,7 +189,7 @@ def asked_files(project: Project) -> Iterator[Change]:
 
 def texts_of_rounds(project: Project, site: Site) -> list[str]:
     """The absolute paths of which a call is given one in each round of a loop; none where not all are known."""
-    texts = [it for it in choices_of(project.known.value(site.call.arguments[0]))] if site.call.arguments else []
+    texts = choices_of(project.known.value(site.call.arguments[0])) if site.call.arguments else ()
     return [str(it) for it in texts] if all(isinstance(it, str) and it.startswith("/") for it in texts) else []
 
 
@@ -198,7 +198,7 @@ def answer_of_several(project: Project, site: Site, texts: list[str]) -> str:
     there = [it for it in texts if QUESTIONS[site.call.name](it)]
     if len(there) in (0, len(texts)):
         return str(bool(there)).lower()
-    return f"({site.file.source(site.call.arguments[0])} in [{', '.join(map(escaped, there))}])"
+    return f"({grouped(site)} in [{', '.join(map(escaped, there))}])"
 
 
 def answer_of(project: Project, site: Site, path: str) -> str | None:
@@ -300,7 +300,7 @@ def lack_of_variable(project: Project, package: str, name: str) -> str:
 
 
 def pkg_config() -> list[str]:
-    return words_of("PKG_CONFIG") or ["pkg-config"]
+    return shlex.split(os.environ.get("PKG_CONFIG") or "pkg-config")
 
 
 def variable_name(project: Project, site: Site) -> str | None:

@@ -89,8 +89,8 @@ def outcome(project: Project, site: Site) -> subprocess.CompletedProcess[str]:
         beside = ["-iquote", os.path.dirname(path)] if path else []
         with open(file, "w", encoding="utf-8") as it:
             it.write(text + "\n")
-        words = [*compiler.c, file, *flags.compile_args, *compiler.c_args, "-O0", *beside, *flags.args, *flags.link_args, *compiler.c_link_args]
-        built = run(project, [*words, "-o", made], folder)
+        words = [*compiler.c, file, *flags.compile_args, *compiler.c_args, "-O0", *beside, *flags.args, *flags.link_args]
+        built = run(project, [*words, *compiler.c_link_args, "-o", made], folder)
         done = UNDEFINED if built is not None and built.returncode != 0 else run(project, [made], folder)
     if done is None or len(done.stdout) + len(done.stderr) > LARGEST:
         raise NotFollowed("its program can't be run here")
