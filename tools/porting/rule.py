@@ -117,10 +117,6 @@ def texts_at(project: Project, node: tree.Node | None) -> list[str] | None:
     return texts_of(project.known.value(node)) if node else None
 
 
-def is_in_block(file: File, statement: tree.Statement) -> bool:
-    return not any(it is statement for it in file.body)
-
-
 def uses_of(project: Project, name: str) -> Iterator[tuple[File, tree.Statement]]:
     """The statements that use a variable's value, reached or not."""
     for path in project.known.entered:

@@ -4,7 +4,6 @@ from __future__ import annotations
 import re
 from collections.abc import Iterator
 
-from porting import tree
 from porting.compiler import after_prefix
 from porting.edits import Change
 from porting.lexer import escaped
