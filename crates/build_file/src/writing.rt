@@ -1,5 +1,5 @@
 //! `build.ninja`, part by part.
-ghost use Rattle.std.specs.Prelude.{◌≡◌, true, ◌++◌, flat_map, map, IfOk, string_bytes};
+ghost use Rattle.std.specs.Prelude.{◌≡◌, true, ◌++◌, flat_map, IfOk, string_bytes};
 ghost use Rattle.ports.specs.Endings.{HasRoom, ended};
 ghost use Rattle.ports.specs.Outputs.{IsOpen, Makes, Writes, puts};
 ghost use Rattle.edge.specs.Holding.{is_some_list};

@@ -1,5 +1,5 @@
 -- What can be held as a path can be held as a value.
-use Rattle.std.proofs.Common.{◌≡◌, ℕ, Bool, true, false, eqb, List, [], ◌∷◌, refl, sym, ap, ◌∙◌, true≢false}
+use Rattle.std.proofs.Common.{◌≡◌, ℕ, Bool, true, false, eqb, [], ◌∷◌, refl, sym, ap, ◌∙◌, true≢false}
 use Rattle.std.proofs.lemmas.Bool.{and_parts, eqb-true, false_from_ne_true}
 use Rattle.edge.specs.Texts.{Path}
 use Rattle.edge.specs.Holding.{path_byte_held, path_held, value_byte_held, value_held, is_path}

@@ -1,12 +1,12 @@
 -- The text of words, as a value, in the pieces in which it is made.
-use Rattle.std.proofs.Common.{◌≡◌, ℕ, true, false, eqb, ◌&&◌, not, List, [], ◌∷◌, ◌++◌, length, Option, Some, None, String, Global, string_bytes, codes, ◌<◌, ◌≤◌, ◌-◌, take, drop, get_or, take_all, sub-one, arith, refl, sym, ap, ◌∙◌, append_assoc, append-nil, inl, inr}
+use Rattle.std.proofs.Common.{◌≡◌, ℕ, true, false, eqb, ◌&&◌, not, List, [], ◌∷◌, ◌++◌, length, Option, Some, None, String, Global, string_bytes, ◌<◌, ◌≤◌, ◌-◌, take, drop, get_or, take_all, sub-one, arith, refl, sym, ap, ◌∙◌, append_assoc, append-nil, inl, inr}
 use Rattle.std.specs.List.{flat_map}
 use Rattle.std.proofs.lemmas.Bool.{and_parts, cases_Bool}
 use Rattle.std.proofs.lemmas.List.Concat.{flat_map-append}
 use Rattle.edge.specs.Texts.{texts}
 use Rattle.ninja.specs.Shell.{is_bare_byte, is_no_first_word}
 use Rattle.ninja.specs.Escapes.{value_byte_text, value_rest_text, value_text}
-use Rattle.ninja.specs.Words.{is_all_bare, is_bare, quoted_byte, quoted_bytes, quoted, word_text, first_word_text, later_word_text, later_words_text, redirect_text, lone_redirect_text, words_text}
+use Rattle.ninja.specs.Words.{is_all_bare, is_bare, quoted_byte, quoted_bytes, quoted, first_word_text, later_word_text, later_words_text, redirect_text, lone_redirect_text, words_text}
 use Rattle.ninja.specs.Places.{byte_text}
 use Rattle.ninja.specs.declared.escapes.Place.TheVariants.{InQuotes}
 use Rattle.ninja.proofs.ShellWords.{other_than}

@@ -1,5 +1,5 @@
 //! The blocks of edges.
-ghost use Rattle.std.specs.Prelude.{◌≡◌, true, ℕ, List, ◌∷◌, ◌++◌, None, IfOk, codes, option_map, string_bytes};
+ghost use Rattle.std.specs.Prelude.{◌≡◌, true, ℕ, List, ◌∷◌, ◌++◌, None, IfOk, option_map, string_bytes};
 ghost use Rattle.edge.specs.Holding.{is_writable};
 ghost use Rattle.edge.specs.Own.{own_view};
 ghost use Rattle.edge.specs.Parts.{joined};

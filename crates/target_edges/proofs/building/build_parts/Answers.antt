@@ -4,7 +4,7 @@ use Rattle.edge.specs.Paths.{object_path}
 use Rattle.edge.specs.View.{edge_view}
 use Rattle.targets.specs.Sources.{InputData, compiled, generated}
 use Rattle.targets.specs.Inputs.{input_view}
-use Rattle.targets.specs.Files.{file_path, object_paths}
+use Rattle.targets.specs.Files.{file_path}
 use Rattle.targets.specs.View.{linked_view, surroundings_view, build_view}
 use Rattle.target_edges.specs.Words.{compile_words}
 use Rattle.target_edges.specs.Edges.{file_edge, link_edges}
