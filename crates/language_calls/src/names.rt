@@ -29,9 +29,6 @@ const KEYWORDS: [&str; 14] = [
     "continue",
 ];
 
-/// The variables that stand for things of the run.
-const PREDEFINED: [&str; 4] = ["meson", "host_machine", "build_machine", "target_machine"];
-
 /// The functions of Meson that are left out for good, in the order of the alphabet.
 const LEFT_OUT: [&str; 21] = [
     "add_global_arguments",
@@ -61,7 +58,10 @@ const LEFT_OUT: [&str; 21] = [
 pub fn is_predefined(name: &str) -> bool
     ensures { result ≡ is_predefined name.now }
 {
-    is_among(&PREDEFINED, name)
+    matches!(
+        name,
+        "meson" | "host_machine" | "build_machine" | "target_machine"
+    )
 }
 
 /// What such a name stands for: the object `meson`, or the machine. What the machine file says of the machine is asked by the methods of

@@ -11,6 +11,6 @@ pub mod Marks
 pub mod Noting
 pub mod Numbers
 pub mod Running
-mod Setting
+pub mod Setting
 pub mod Tells
 pub mod Values

@@ -108,6 +108,12 @@ slots_fit names new slots room name n v put number few fits =
     let within = (name_at name new n number).0 in
     rw (length-set room n v) (room_fits (length slots) (length names) (length new) (length room) n few fits longer within)
 
+-- the same where the name is there
+pub slots_within : (names : List (List ℕ)) (slots room : List (Option Value)) (n : ℕ) (v : Option Value) → n < length names
+    → length room ≤ max (length slots) (n + 1) → length slots ≤ length names → length (set room n v) ≤ length names
+slots_within names slots room n v within few fits =
+    rw (length-set room n v) (room_fits (length slots) (length names) (length names) (length room) n few fits (omega arith) within)
+
 -- ---- a table of names that stays
 
 any_at : (b : Bool) (n m : ℕ) (rest : Bool) → nat_lt n m ≡ rest → nat_lt (cond (not b) (1 + n) 0) (suc m) ≡ (b || rest)
