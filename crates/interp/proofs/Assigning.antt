@@ -19,7 +19,7 @@ use Rattle.basics.specs.declared.faults.refusal.Refusal.TheVariants as refusals
 use Rattle.operators.specs.declared.operator.Binary.TheVariants.{Add}
 use Rattle.operators.specs.Operations.{binary_answer}
 use Rattle.language_calls.specs.Names.{is_predefined}
-use Rattle.world.specs.World.{World, Facts, LeavesNotes, with_facts, with_line, with_variable, with_variables, variables_with}
+use Rattle.world.specs.World.{World, Facts, LeavesPaths, with_facts, with_line, with_variable, with_variables, variables_with}
 use Rattle.world.specs.declared.stop.Stop.{Stop}
 use Rattle.world.specs.declared.stop.Stop.TheVariants as stops
 use Rattle.world.proofs.Follow.{ends_grown, gives_at, wanted_grown}
@@ -30,7 +30,7 @@ use Rattle.interp.proofs.Evaluating.{given_as, given_read, given_refuse, given_s
 use Rattle.interp.specs.Statements.{added, assigned, assigned_by}
 
 -- the facts change, and the table of names may grow
-pub given_grown : {files : Files} {f : Facts → Facts} {leaves : LeavesNotes f} {w w1 : World} {names names1 : List (List ℕ)} {tree : TreeState} {out : OutputState} {n : ℕ}
+pub given_grown : {files : Files} {f : Facts → Facts} {leaves : LeavesPaths f} {w w1 : World} {names names1 : List (List ℕ)} {tree : TreeState} {out : OutputState} {n : ℕ}
     → Holds tree files → w1 ≡ changing f w → IsFront names names1
     → Given (λ (u : Unit {0}). u) files (deed (change f leaves)) (record { world = w; names = names; tree = tree; out = out; ticks = n }) (Ok tt) (record { world = w1; names = names1; tree = tree; out = out; ticks = n })
 given_grown {files = files} {f = f} {leaves = leaves} {w = w} {w1 = w1} {names = names} {names1 = names1} {tree = tree} {out = out} {n = n} h is more = record {

@@ -20,8 +20,8 @@ use Rattle.project_calls.specs.Flags.{flags_in}
 use Rattle.project_calls.specs.Programs.{ProgramsData, programs}
 use Rattle.project_calls.specs.Resolution.{resolution}
 use Rattle.targets.specs.Data.{FactsData}
-use Rattle.world.specs.World.{Facts, begun, with_options}
-use Rattle.world.specs.Deed.{Deed, give, refuse, read, change, ◌>>=◌, answered, fitting, say}
+use Rattle.world.specs.World.{Facts, with_options}
+use Rattle.world.specs.Deed.{Deed, give, refuse, read, change, begin_project, ◌>>=◌, answered, fitting, say}
 
 -- what stands behind the name
 abbrev pub texts_behind : ArgumentsData → List (List ℕ)
@@ -74,8 +74,8 @@ begin a path r = do
   options ← settled path r.outcome call.line
   found ← programs
   facts ← read
-  _ ← change (with_options options) (λ facts once. refl)
-  change (begun (facts_of a options found facts)) (λ facts once. once)
+  _ ← change (with_options options) (λ facts. refl)
+  begin_project (facts_of a options found facts)
 
 -- the first call: its arguments, the option file, the options
 unfoldable pub first_project : ArgumentsData → Deed (Option Data)

@@ -1,4 +1,6 @@
+pub mod Acting
 pub mod Answering
+pub mod Closing
 pub mod Configuring
 pub mod Costs
 mod Counts

@@ -22,7 +22,7 @@ use Rattle.world.proofs.Numbers.{number_at}
 use Rattle.std.specs.Prelude.{codes, Result, Ok, Err, OnOk}
 use Rattle.machine_file.specs.Files.{Section}
 use Rattle.project.specs.World.{WorldData, new_world}
-use Rattle.world.specs.Declaring.{declaring}
+use Rattle.world.specs.World.{declaring}
 use Rattle.world.specs.Settings.{SettingsData}
 use Rattle.world.specs.Start.{first_world, unnamed}
 

@@ -7,6 +7,8 @@ pub mod Declaring
 pub mod Deed
 pub mod Gives
 pub mod Look
+pub mod Made
+pub mod Making
 pub mod Noted
 pub mod Options
 pub mod Plan
