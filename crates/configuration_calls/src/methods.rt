@@ -2,13 +2,12 @@
 ghost use Rattle.std.specs.Prelude.{◌≡◌, IfOk, map, option_and_then, option_map};
 ghost use Rattle.arguments.specs.Arguments.{arguments_data};
 ghost use Rattle.arguments.specs.Given.{argument};
-ghost use Rattle.arguments.specs.Row.{checked};
 ghost use Rattle.data.specs.View.{data_of};
 ghost use Rattle.template.specs.Config.{names, value_of};
 ghost use Rattle.template.specs.ConfigData.{content_of};
 ghost use Rattle.world.specs.Answering.{Carries};
 ghost use Rattle.world.specs.Caller.{state_of};
-ghost use Rattle.world.specs.Deed.{fitting};
+ghost use Rattle.fitting.specs.Fit.{fit};
 ghost use Rattle.world.specs.Store.{world_of};
 ghost use Rattle.configuration_calls.specs.Contents.{content_in};
 ghost use Rattle.configuration_calls.specs.Given.{entries_of, number_in};
@@ -19,7 +18,7 @@ ghost use Rattle.configuration_calls.specs.Rows.{row_of};
 use crate::contents::{content_in, found_or, found_unquoted, is_name};
 use crate::data_call::copy_of;
 use crate::rows::row_of;
-use arguments::{Arguments, check};
+use arguments::Arguments;
 use basics::faults::Refusal;
 use data::{Object, Value};
 use operators::text_list;
@@ -305,11 +304,10 @@ fn fit<T: Tree, O: Outputs>(
     method: Method,
     arguments: &Arguments,
 ) -> Result<(), Stop>
-    ensures { Carries (λ u. u) (fitting (checked (row_of method) (arguments_data arguments.now)))
+    ensures { Carries (λ u. u) (fit (row_of method) (arguments_data arguments.now))
         (state_of T.seen O.seen caller.now) result (state_of T.seen O.seen caller.now) }
 {
-    let answer = check(caller.alloc, &row_of(method), arguments)?;
-    caller.fitting(answer)
+    fitting::fit(caller, &row_of(method), arguments)
 }
 
 fn fitting_act<T: Tree, O: Outputs>(
