@@ -1,10 +1,15 @@
 """What is measured: each generator writes a load of some size into a folder, and gives how many items or bytes the load has."""
+import collections.abc
 import functools
 import itertools
 import os
+import typing
+
+# A generator: a load of this size, or of this kind, is written into the folder.
+Maker = collections.abc.Callable[[str, typing.Any], int]
 
 
-def write(folder, path, text):
+def write(folder: str, path: str, text: str) -> int:
     """Writes a file below the folder, and gives its length."""
     whole = os.path.join(folder, path)
     os.makedirs(os.path.dirname(whole), exist_ok=True)
@@ -15,7 +20,7 @@ def write(folder, path, text):
 # Definition files of about so many bytes, each as the file 'source.build'.
 
 
-def repeated(text):
+def repeated(text: str) -> Maker:
     """A generator of definition files with this text again and again."""
     return lambda folder, size: write(folder, "source.build", text * (size // len(text)))
 
@@ -32,7 +37,7 @@ dense_lists = repeated("x=[" + "1," * 60_000 + "]\n")
 NAMES = {f"NAME_{i}": f"value-{i}" for i in range(10)}
 
 
-def template(folder, size):
+def template(folder: str, size: int) -> int:
     names, lines = size // 50, []
     for i in range(size // 100):
         text = f"#define SETTING_{i:07} "
@@ -43,14 +48,14 @@ def template(folder, size):
     return write(folder, "t.in", "".join(lines))
 
 
-def configured(folder, size):
+def configured(folder: str, size: int) -> int:
     """A project whose `configure_file` writes that template, each of its names from a dictionary."""
     entries = ", ".join(f"'{name}': '{value}'" for name, value in NAMES.items())
     write(folder, "meson.build", f"project('p','c')\nconfigure_file(input: 't.in', output: 't.out', configuration: {{{entries}}})\n")
     return template(folder, size)
 
 
-def headers(folder, count):
+def headers(folder: str, count: int) -> int:
     """A project with so many headers by `configure_file`, each of a template of 20 lines; its option `value` stands in all of them."""
     write(folder, "meson.options", "option('value', type: 'string')\n")
     write(folder, "h.in", "".join(f'#define SETTING_{i} "@value@"\n' for i in range(20)))
@@ -63,13 +68,34 @@ def headers(folder, count):
 # Projects of a whole run, with so many items.
 
 
-def assignments(folder, count):
+def assignments(folder: str, count: int) -> int:
     """The smallest project, with so many assignments between its two calls."""
     write(folder, "main.c", "int main(void) { return 0; }\n")
-    between = "".join(f"name_{i % 1000} = 'text {i}'\n" for i in range(count))
-    write(folder, "meson.build", f"project('p','c')\n{between}executable('prog','main.c')\n")
+    write(folder, "meson.build", f"project('p','c')\n{assigned(count)}executable('prog','main.c')\n")
     return count
 
+
+def assigned(count: int) -> str:
+    return "".join(f"name_{i % 1000} = 'text {i}'\n" for i in range(count))
+
+
+# A loop walks at most so many numbers, so a greater one is repeated.
+MOST_WALKED = 60_000
+
+
+def walks(count: int) -> list[int]:
+    """How many each of the loops walks that together have so many rounds."""
+    times, left = divmod(count, MOST_WALKED)
+    return [MOST_WALKED] * times + [left] * (left > 0)
+
+
+def looped(count: int, body: str) -> str:
+    return "".join(f"foreach i : range({walked})\n{body}endforeach\n" for walked in walks(count))
+
+
+WORDS = ", ".join(f"'word{i}'" for i in range(10))
+TABLE = ", ".join(f"'word{i}': {i}" for i in range(0, 20, 2))
+ROUNDS_BEGIN = f"words = [{WORDS}]\ntable = {{{TABLE}}}\ne = ''\nn = 0\n"
 
 OPERATIONS = """\
   a = words[i % 10]
@@ -91,22 +117,28 @@ OPERATIONS = """\
 OPERATIONS_A_ROUND = 10
 
 
-def rounds(folder, count):
-    """Rounds of a loop with ten operations each; one item is an operation. A loop walks at most 60,000, so a greater one is repeated."""
-    words = ", ".join(f"'word{i}'" for i in range(10))
-    table = ", ".join(f"'word{i}': {i}" for i in range(0, 20, 2))
-    times, left = divmod(count, 60_000)
-    loops = [60_000] * times + [left] * (left > 0)
-    text = "".join(f"foreach i : range({loop})\n{OPERATIONS}endforeach\n" for loop in loops)
-    write(folder, "meson.build", f"project('p','c')\nwords = [{words}]\ntable = {{{table}}}\ne = ''\nn = 0\n{text}")
+def rounds(folder: str, count: int) -> int:
+    """Rounds of a loop with ten operations each; one item is an operation."""
+    write(folder, "meson.build", f"project('p','c')\n{ROUNDS_BEGIN}{looped(count, OPERATIONS)}")
     return count * OPERATIONS_A_ROUND
 
 
-def growing(begin, step):
+ADDITIONS_BEGIN = "n = 0\n"
+ADDITION = "  n = n + i * 2 - 1\n"
+
+
+def additions(folder: str, count: int) -> int:
+    """Rounds of a loop with one sum each."""
+    write(folder, "meson.build", f"project('p','c')\n{ADDITIONS_BEGIN}{looped(count, ADDITION)}")
+    return count
+
+
+def growing(begin: str, step: str) -> Maker:
     """A generator of loops that put something more to a value in each round."""
 
-    def make(folder, count):
-        write(folder, "meson.build", f"project('p','c')\nx = {begin}\nforeach i : range({count})\n  x += {step}\nendforeach\n")
+    def make(folder: str, count: int) -> int:
+        body = f"  x += {step}\n"
+        write(folder, "meson.build", f"project('p','c')\nx = {begin}\n{looped(count, body)}")
         return count
 
     return make
@@ -117,12 +149,28 @@ growing_text = growing("''", "'.'")
 growing_dictionary = growing("{}", "{f'key_@i@': i}")
 
 
-def folders(folder, count):
-    """So many folders, each entered once, with an assignment; the root is one of them."""
-    write(folder, "meson.build", "project('p','c')\n" + "".join(f"subdir('d{i}')\n" for i in range(count - 1)))
-    for i in range(count - 1):
-        write(folder, f"d{i}/meson.build", f"name_{i} = 'text'\n")
-    return count
+def bare_names(folder: str, size: int) -> int:
+    """About so many bytes of a variable's name, alone on each line."""
+    begin = "project('p','c')\na = 1\n"
+    return write(folder, "meson.build", begin + "a\n" * ((size - len(begin)) // 2))
+
+
+def entered(statements: str, *sources: str) -> Maker:
+    """A generator of so many folders, each entered once, with these statements, in which {0} is its number; the root is one of them."""
+
+    def make(folder: str, count: int) -> int:
+        write(folder, "meson.build", "project('p','c')\n" + "".join(f"subdir('d{i}')\n" for i in range(count - 1)))
+        for i in range(count - 1):
+            write(folder, f"d{i}/meson.build", statements.format(i))
+            for name in sources:
+                write(folder, f"d{i}/{name}", "")
+        return count
+
+    return make
+
+
+folders = entered("name_{0} = 'text'\n")
+folders_of_programs = entered("name_{0} = 'text'\nexecutable('p{0}', 'm.c', c_args: '-DNAME=' + name_{0})\n", "m.c")
 
 
 # Projects of many targets.
@@ -131,31 +179,39 @@ SOURCES_A_PROGRAM = 10
 SOURCES_A_FOLDER = 200
 
 
-def sources_and_programs(folder, count):
-    """So many sources, and the lines of their programs, ten sources for each."""
+def sources_and_programs(folder: str, count: int, keywords: str = "") -> str:
+    """So many sources, and the lines of their programs, ten sources for each, with these keywords, in which {0} is a program's number."""
     for i in range(count):
         write(folder, f"s{i}.c", "")
     named = [f"'s{i}.c'" for i in range(count)]
-    return "".join(f"executable('p{i}', {', '.join(named[i : i + SOURCES_A_PROGRAM])})\n" for i in range(0, count, SOURCES_A_PROGRAM))
+    line = "executable('p{0}', {1}" + keywords + ")\n"
+    return "".join(line.format(i, ", ".join(named[i : i + SOURCES_A_PROGRAM])) for i in range(0, count, SOURCES_A_PROGRAM))
 
 
-def programs(folder, count):
+def programs(folder: str, count: int) -> int:
     """So many sources, ten for each program."""
     write(folder, "meson.build", "project('p','c')\n" + sources_and_programs(folder, count))
     return count
 
 
-def programs_in_folders(folder, count):
-    """So many sources, ten for each program and twenty programs in each folder."""
+def programs_in_folders(folder: str, count: int, begin: str = "", keywords: str = "") -> int:
+    """So many sources, ten for each program and twenty programs in each folder; with something at the beginning, and keywords for each."""
     numbers = range(count // SOURCES_A_FOLDER)
-    write(folder, "meson.build", "project('p','c')\n" + "".join(f"subdir('d{i}')\n" for i in numbers))
+    write(folder, "meson.build", f"project('p','c')\n{begin}" + "".join(f"subdir('d{i}')\n" for i in numbers))
     for i in numbers:
         inner = os.path.join(folder, f"d{i}")
-        write(inner, "meson.build", sources_and_programs(inner, SOURCES_A_FOLDER))
+        write(inner, "meson.build", sources_and_programs(inner, SOURCES_A_FOLDER, keywords))
     return count
 
 
-def one_program(folder, count):
+def programs_with_arguments(folder: str, count: int) -> int:
+    """The same, with a folder of headers and two arguments of the compiler for each program."""
+    os.mkdir(os.path.join(folder, "include"))
+    begin = "headers = include_directories('include')\n"
+    return programs_in_folders(folder, count, begin, """, include_directories: headers, c_args: ['-DNUMBER={0}', '-DNAME="x"']""")
+
+
+def one_program(folder: str, count: int) -> int:
     """One program of so many sources."""
     for i in range(count):
         write(folder, f"s{i}.c", "")
@@ -163,7 +219,7 @@ def one_program(folder, count):
     return count
 
 
-def chain(folder, count):
+def chain(folder: str, count: int) -> int:
     """So many static libraries, each over the one before, and a program over the last."""
     write(folder, "x.c", "")
     lines = "".join(f"l = static_library('l{i}', 'x.c', link_with: l)\n" for i in range(count))
@@ -171,7 +227,7 @@ def chain(folder, count):
     return count
 
 
-def ladder(folder, count):
+def ladder(folder: str, count: int) -> int:
     """So many static libraries, each over the two before, and a program over the last two."""
     write(folder, "x.c", "")
     step = "a = b\nb = c\n"
@@ -180,14 +236,14 @@ def ladder(folder, count):
     return count
 
 
-def ladder_by_libraries(folder, count):
+def ladder_by_libraries(folder: str, count: int) -> int:
     """The same ladder; one item is a library in the list of those that one target links. The i-th library, from 0, has the i before it
     in its list, since of equal ones one is kept, and the program has all."""
     ladder(folder, count)
     return count * (count + 1) // 2
 
 
-def custom_targets(folder, count):
+def custom_targets(folder: str, count: int) -> int:
     """So many custom targets, each with an input of its own, and with the output of the one before in its command."""
     line = "g = custom_target('g{0}', input: 'g{0}.in', output: 'g{0}.out', command: ['gen', '@INPUT@', '@OUTPUT@', g])\n"
     for i in range(count):
@@ -202,13 +258,13 @@ def custom_targets(folder, count):
 LETTERS = "ABCDEFGHIJKLMNOPQRSTUVWXYZabcdefghijklmnopqrstuvwxyz0123456789_"
 
 
-def folded(a, b):
+def folded(a: int, b: int) -> int:
     product = a * b
     return (product ^ (product >> 64)) & (2**64 - 1)
 
 
 @functools.cache
-def colliding_prefix():
+def colliding_prefix() -> str:
     letters = LETTERS.encode()
     for i in itertools.count():
         prefix = f"prefix_{i:09}".encode()
@@ -218,7 +274,7 @@ def colliding_prefix():
             return (prefix + state).decode()
 
 
-def keys(kind, count):
+def keys(kind: str, count: int) -> list[str]:
     """So many names of 32 characters, of the kind 'plain' or 'colliding'."""
     prefix = colliding_prefix() if kind == "colliding" else "prefix_of_a_plain_name__"
     return [f"{prefix}{i:08}" for i in range(count)]
@@ -227,35 +283,35 @@ def keys(kind, count):
 HOSTILE_KEYS = 60_000
 
 
-def hostile_names(folder, kind):
+def hostile_names(folder: str, kind: str) -> int:
     """Assignments to so many names."""
     lines = "".join(f"{name} = 1\n" for name in keys(kind, HOSTILE_KEYS))
     write(folder, "meson.build", f"project('p','c')\n{lines}")
     return HOSTILE_KEYS
 
 
-def hostile_dictionary(folder, kind):
+def hostile_dictionary(folder: str, kind: str) -> int:
     """A dictionary with so many keys."""
     entries = ", ".join(f"'{key}': 1" for key in keys(kind, HOSTILE_KEYS))
     write(folder, "meson.build", f"project('p','c')\nd = {{{entries}}}\n")
     return HOSTILE_KEYS
 
 
-def hostile_options(folder, kind):
+def hostile_options(folder: str, kind: str) -> int:
     """An option file with so many options."""
     write(folder, "meson.options", "".join(f"option('{key}', type: 'boolean')\n" for key in keys(kind, HOSTILE_KEYS)))
     write(folder, "meson.build", "project('p','c')\n")
     return HOSTILE_KEYS
 
 
-def hostile_outputs(folder, kind):
+def hostile_outputs(folder: str, kind: str) -> int:
     """A custom target with so many outputs."""
     names = ", ".join(f"'{name}'" for name in keys(kind, HOSTILE_KEYS))
     write(folder, "meson.build", f"project('p','c')\ncustom_target('t', output: [{names}], command: ['gen'])\n")
     return HOSTILE_KEYS
 
 
-def hostile_paths(folder, kind):
+def hostile_paths(folder: str, kind: str) -> int:
     """So many files of the tree that are looked at."""
     for name in keys(kind, HOSTILE_KEYS):
         write(folder, name, "")
@@ -264,7 +320,7 @@ def hostile_paths(folder, kind):
     return HOSTILE_KEYS
 
 
-def hostile_sections(folder, kind):
+def hostile_sections(folder: str, kind: str) -> int:
     """A machine file with so many values in a section that names what programs are called."""
     lines = "".join(f"{name} = 'x'\n" for name in keys(kind, HOSTILE_KEYS))
     write(folder, "machine.ini", f"[binaries]\n{lines}")

@@ -4,20 +4,26 @@
     bench/run.py                    all groups
     bench/run.py values options     these groups
     bench/run.py --rounds 1 ..      with fewer runs of each load
+    bench/run.py --program PATH ..  with another program of whole runs than this checkout's
 
 The table GROUPS says what is measured, and loads.py makes the loads. The status is 0 where each judged figure is within its bound.
 """
 import argparse
+import collections.abc
 import dataclasses
 import os
 import shutil
-import subprocess
 import sys
 import tempfile
-import time
 import typing
 
-import loads
+sys.dont_write_bytecode = True
+
+import in_python  # noqa: E402
+import loads  # noqa: E402
+from built import built  # noqa: E402
+from needed_calls import needed_calls  # noqa: E402
+from running import Ran, ran  # noqa: E402
 
 CHECKOUT = os.path.dirname(os.path.dirname(os.path.realpath(__file__)))
 
@@ -28,8 +34,8 @@ CALLS = os.path.join(CHECKOUT, "crates", "bench", "out", "bench")
 # Other programs of the same use, whose times are shown beside ours where they are installed.
 OTHERS = ("muon-meson", "muon", "meson")
 
-# Starts a program from a small process: what this interpreter holds would count as the peak of a program that it starts.
-GNU_TIME = "/usr/bin/time"
+# The folders of the builds of ours and of the limit, and the list of the limit's calls, all in the folder of a load.
+BUILD, LIMIT_BUILD, LIMIT_CALLS = "build", "limit", "calls"
 
 
 @dataclasses.dataclass
@@ -38,15 +44,21 @@ class Load:
 
     name: str
     sizes: tuple
-    make: typing.Callable = None
+    make: loads.Maker | None = None
     # The most that the time of one at the last size may be over that at the first, and the most bytes of memory for one; None: not judged.
-    growth: float = 2.0
-    memory: float = None
+    growth: float | None = 2.0
+    memory: float | None = None
     # The most seconds of one at the last size, and the most bytes of memory of a whole run; None: not judged.
-    seconds: float = None
-    peak: float = None
+    seconds: float | None = None
+    peak: float | None = None
     # The most that the memory of one at the last size may be over that at the first; None: not judged.
-    memory_growth: float = None
+    memory_growth: float | None = None
+    # The name of a command beside ours, and the most that the time of ours may be over that of it; None: not judged.
+    over: tuple[str, float] | None = None
+
+
+Command = collections.abc.Callable[[Load, typing.Any], list[str]]
+Commands = collections.abc.Callable[[Load, typing.Any], dict[str, list[str]]]
 
 
 @dataclasses.dataclass
@@ -55,25 +67,32 @@ class Group:
 
     says: str
     one: str
-    command: typing.Callable
-    loads: list
+    command: Command
+    loads: list[Load]
     rounds: int = 5
     is_told: bool = False
-    # Other commands on the same load, by name, and the files that must be the same after ours and theirs.
-    beside: typing.Callable = lambda load, size: {}
-    beside_rounds: int = 5
-    alike: tuple = ()
+    # Other commands on the same load, by name, how often they are run (None: as often as ours), and the files that must be the same
+    # after ours and theirs.
+    beside: Commands = lambda load, size: {}
+    beside_rounds: int | None = None
+    alike: tuple[str, ...] = ()
+    # Folders that are taken away before each run.
+    anew: tuple[str, ...] = ()
 
 
-def calls(group):
+def calls(group: str) -> Command:
     return lambda load, size: [CALLS, f"{group}:{load.name}:{size}"]
 
 
-def replace_names(load, size):
+def setup(load: Load, size: typing.Any) -> list[str]:
+    return [MESON, "setup", BUILD]
+
+
+def replace_names(load: Load, size: typing.Any) -> list[str]:
     return [CALLS, "template:t.in:" + ",".join(f"{name}={value}" for name, value in loads.NAMES.items())]
 
 
-def replace_names_otherwise(load, size):
+def replace_names_otherwise(load: Load, size: typing.Any) -> dict[str, list[str]]:
     """The same by `sed` and by Python."""
     sed = ";".join(f"s/@{name}@/{value}/g" for name, value in loads.NAMES.items())
     python = (
@@ -83,27 +102,56 @@ def replace_names_otherwise(load, size):
     return {"sed": ["sed", "-n", f"{sed};w t.sed", "t.in"], "python": [sys.executable, "-c", python]}
 
 
-def setup_hostile(load, size):
+def setup_hostile(load: Load, size: typing.Any) -> list[str]:
     machine = ["--native-file", "machine.ini"] if load.name == "sections" else []
-    return [MESON, "setup", "build", *machine]
+    return [*setup(load, size), *machine]
 
 
-def setup_otherwise(load, size):
+def setup_otherwise(load: Load, size: typing.Any) -> dict[str, list[str]]:
     found = [(name, shutil.which(name)) for name in OTHERS]
     return {name: [path, "setup", f"build-{name}"] for name, path in found if path}
 
 
-def setup_within_limit(load, size):
+def setup_for_120_seconds(load: Load, size: typing.Any) -> dict[str, list[str]]:
     """The same, ended with status 124 after 120 seconds."""
     return {name: ["timeout", "120", *command] for name, command in setup_otherwise(load, size).items()}
 
 
-def setup_sources_otherwise(load, size):
+def setup_sources_otherwise(load: Load, size: typing.Any) -> dict[str, list[str]]:
     """The same without libraries behind one another, of which thousands take others longer than can be waited for."""
     return {} if load.name in ("chain", "ladder") else setup_otherwise(load, size)
 
 
-def tenfold(name, size, make):
+# What a load of the group `limits` stands beside, and the most that ours may take of its time.
+BESIDE_LIMIT = ("limit", 3.0)
+BESIDE_PYTHON = ("python", 1.0)
+
+
+def what_limits(load: Load, size: typing.Any) -> dict[str, list[str]]:
+    """The limit of a project, or Python on the same statements."""
+    if load.over == BESIDE_LIMIT:
+        return {"limit": [built("limit"), LIMIT_CALLS]}
+    return {"python": [sys.executable, "-I", "-S", in_python.SCRIPT]} if load.over == BESIDE_PYTHON else {}
+
+
+def limited(name: str, size: int, make: loads.Maker, peak: float | None = None) -> Load:
+    """A project beside the limit. Its outputs are told by a run before those that are measured."""
+
+    def make_and_list(folder: str, count: int) -> int:
+        items = make(folder, count)
+        ran([MESON, "setup", BUILD], folder, False)
+        loads.write(folder, LIMIT_CALLS, needed_calls(folder, BUILD, LIMIT_BUILD))
+        return items
+
+    return Load(name, (size,), make_and_list, peak=peak, over=BESIDE_LIMIT)
+
+
+def spoken(name: str, size: int, make: loads.Maker) -> Load:
+    """Statements beside the same in Python."""
+    return Load(name, (size,), make, over=BESIDE_PYTHON)
+
+
+def tenfold(name: str, size: int, make: loads.Maker) -> Load:
     """A load at a tenth of a size and the whole, whose time and memory may grow with an exponent of 1.1: 10^0.1 times as much for one."""
     return Load(name, (size // 10, size), make, growth=10**0.1, memory_growth=10**0.1)
 
@@ -113,7 +161,7 @@ LISTS_GROWTH = 100**1.1 / 10
 
 GROUPS = {
     "run": Group(
-        "whole runs, beside others: the smallest project, and great ones of each kind", "one", lambda load, size: [MESON, "setup", "build"],
+        "whole runs, beside others: the smallest project, and great ones of each kind", "one", setup,
         [
             Load("smallest", (0,), loads.assignments, growth=None),
             tenfold("programs", 20_000, loads.programs_in_folders),
@@ -125,11 +173,11 @@ GROUPS = {
             tenfold("growing_list", 60_000, loads.growing_list),
             tenfold("growing_dictionary", 60_000, loads.growing_dictionary),
         ],
-        rounds=3, beside=setup_within_limit, beside_rounds=3,
+        rounds=3, beside=setup_for_120_seconds,
     ),
     "first_path": Group(
         "whole runs: the smallest project, and so many assignments before its program", "an assignment",
-        lambda load, size: [MESON, "setup", "build"],
+        setup,
         [
             Load("smallest", (0,), loads.assignments, growth=None),
             Load("assignments", (50_000, 200_000), loads.assignments, growth=1.25),
@@ -137,7 +185,7 @@ GROUPS = {
         beside=setup_otherwise, beside_rounds=1,
     ),
     "language": Group(
-        "whole runs: rounds of ten operations, values that grow by +=, folders", "one", lambda load, size: [MESON, "setup", "build"],
+        "whole runs: rounds of ten operations, values that grow by +=, folders", "one", setup,
         [
             Load("rounds", (6_000, 60_000), loads.rounds, growth=1.26, seconds=2e-6, peak=20 * 2**20),
             Load("growing_list", (6_000, 60_000), loads.growing_list, growth=1.26),
@@ -149,7 +197,7 @@ GROUPS = {
         beside=setup_otherwise, beside_rounds=1,
     ),
     "project": Group(
-        "whole runs: projects of many sources, libraries and custom targets", "one", lambda load, size: [MESON, "setup", "build"],
+        "whole runs: projects of many sources, libraries and custom targets", "one", setup,
         [
             tenfold("programs", 20_000, loads.programs),
             tenfold("one_program", 8_000, loads.one_program),
@@ -159,6 +207,25 @@ GROUPS = {
             tenfold("custom_targets", 5_000, loads.custom_targets),
         ],
         rounds=3, beside=setup_sources_otherwise, beside_rounds=1,
+    ),
+    "limits": Group(
+        "whole runs: projects beside the calls of the system that they need, statements beside the same in Python", "one", setup,
+        [
+            limited("programs", 20_000, loads.programs_with_arguments),
+            limited("one_program", 8_000, loads.one_program, peak=18 * 2**20),
+            limited("chain", 960, loads.chain),
+            limited("ladder", 960, loads.ladder),
+            limited("folders", 2_000, loads.folders_of_programs),
+            limited("custom_targets", 5_000, loads.custom_targets),
+            spoken("rounds", 60_000, in_python.rounds),
+            spoken("growing_list", 60_000, in_python.growing_list),
+            spoken("growing_dictionary", 60_000, in_python.growing_dictionary),
+            spoken("growing_text", 60_000, in_python.growing_text),
+            spoken("additions", 600_000, in_python.additions),
+            spoken("assignments", 200_000, in_python.assignments),
+            Load("bare_names", (4_000_000,), loads.bare_names, memory=70),
+        ],
+        beside=what_limits, anew=(BUILD, LIMIT_BUILD),
     ),
     "hostile": Group(
         "whole runs: tables whose keys collide in a hash that is quick", "a key", setup_hostile,
@@ -206,78 +273,45 @@ GROUPS = {
 }
 
 
-@dataclasses.dataclass
-class Ran:
-    """One run, or the least of some: seconds of the processor and of the clock, the most memory, and what was printed."""
-
-    processor: float
-    wall: float
-    peak: int
-    printed: str = ""
-    told: float = None
-
-    def seconds(self):
-        return self.processor if self.told is None else self.told
-
-    def least(self, other):
-        told = None if self.told is None else min(self.told, other.told)
-        return Ran(min(self.processor, other.processor), min(self.wall, other.wall), max(self.peak, other.peak), self.printed, told)
-
-
-def ran(command, folder, is_told):
-    """Runs a command in the folder of its load."""
-    peak = os.path.join(folder, ".peak")
-    has_time = os.access(GNU_TIME, os.X_OK)
-    words = [GNU_TIME, "-q", "-f", "%M", "-o", peak, *command] if has_time else command
-    with tempfile.TemporaryFile("w+") as out, tempfile.TemporaryFile("w+") as err:
-        start = time.perf_counter()
-        running = subprocess.Popen(words, cwd=folder, stdin=subprocess.DEVNULL, stdout=out, stderr=err)
-        _, status, used = os.wait4(running.pid, 0)
-        wall = time.perf_counter() - start
-        running.returncode = os.waitstatus_to_exitcode(status)
-        out.seek(0), err.seek(0)
-        said = err.read()
-        if running.returncode != 0:
-            raise RuntimeError(f"{' '.join(command)[:200]} ended with status {running.returncode}: {said.strip()[-500:]}")
-        kibibytes = used.ru_maxrss
-        if has_time:
-            with open(peak, encoding="utf-8") as file:
-                kibibytes = int(file.read().split()[-1])
-        told = int(said.split()[-1]) / 1e9 if is_told else None
-        return Ran(used.ru_utime + used.ru_stime, wall, kibibytes * 1024, out.read().strip()[-60:], told)
-
-
-def shown_time(seconds):
+def shown_time(seconds: float) -> str:
     for unit, scale in (("s", 1), ("ms", 1e3), ("us", 1e6)):
         if seconds * scale >= 1:
             return f"{seconds * scale:8.2f} {unit:<2}"
     return f"{seconds * 1e9:8.1f} ns"
 
 
-def shown_size(size):
+def shown_size(size: int | str) -> str:
     return size if isinstance(size, str) else f"{size:,}"
 
 
-def measured(group, load, size, rounds):
-    """How many items a load of this size has, and the least run of ours, after those of others beside it."""
+def least_runs(group: Group, commands: dict[str, list[str]], folder: str, rounds: int) -> dict[str, Ran]:
+    """The least run of each command, all of which take turns. What one of the others can't do is said once, and is no failure of ours."""
+    best: dict[str, Ran] = {}
+    left_out: set[str] = set()
+    for number in range(rounds):
+        for name, command in commands.items():
+            is_ours = name == "ours"
+            if name in left_out or not is_ours and group.beside_rounds is not None and number >= group.beside_rounds:
+                continue
+            for it in group.anew:
+                shutil.rmtree(os.path.join(folder, it), ignore_errors=True)
+            try:
+                one = ran(command, folder, group.is_told and is_ours)
+            except RuntimeError as error:
+                if is_ours:
+                    raise
+                print(f"  ({name} is left out: {str(error)[:120]})")
+                left_out.add(name)
+                continue
+            best[name] = best[name].least(one) if name in best else one
+    return best
+
+
+def measured(group: Group, load: Load, size: typing.Any, rounds: int) -> tuple[int, dict[str, Ran]]:
+    """How many items a load of this size has, and the least runs of ours and of the others beside it, by their names."""
     with tempfile.TemporaryDirectory() as folder:
         count = load.make(folder, size) if load.make else size
-        commands = {"ours": group.command(load, size), **group.beside(load, size)}
-        best = {}
-        for number in range(rounds):
-            for name, command in list(commands.items()):
-                if name != "ours" and number >= group.beside_rounds:
-                    continue
-                # What another program can't do is said once, and is no failure of ours.
-                try:
-                    one = ran(command, folder, group.is_told and name == "ours")
-                except RuntimeError as error:
-                    if name == "ours":
-                        raise
-                    print(f"  ({name} is left out: {str(error)[:120]})")
-                    del commands[name]
-                    continue
-                best[name] = best[name].least(one) if name in best else one
+        best = least_runs(group, {"ours": group.command(load, size), **group.beside(load, size)}, folder, rounds)
         texts = [open(os.path.join(folder, it), "rb").read() for it in group.alike]
         if texts and any(it != texts[0] for it in texts):
             raise RuntimeError(f"the files {', '.join(group.alike)} differ")
@@ -289,47 +323,60 @@ def measured(group, load, size, rounds):
         if name != "ours":
             ratio = other.wall / ours.wall
             clock = f"{shown_time(other.wall)} by the clock, {ratio:.1f} times ours"
-            processor = f"{shown_time(other.processor)} of the processor, {other.processor / max(ours.processor, 1e-4):.1f} times"
+            processor = f"{shown_time(other.processor)} of the processor, {other.processor / max(ours.processor, 1e-4):.2f} times"
             print(f"  {'by ' + name:<30} {clock}, {processor} {other.peak / 2**20:9.1f} MiB", flush=True)
-    return count, ours
+    return count, best
 
 
-def judged(group, load, rounds):
+def is_within(load: Load, what: str, figure: float, most: float | None, shown: collections.abc.Callable[[float], str]) -> bool:
+    """Says a figure of a load with its bound, and answers whether it is within it."""
+    bound = "not judged" if most is None else f"at most {shown(most).strip()}"
+    print(f"  {load.name:<19}{what}: {shown(figure).strip()} ({bound})", flush=True)
+    return most is None or figure <= most
+
+
+def shown_times(times: float) -> str:
+    return f"{times:.2f}"
+
+
+def judged(group: Group, load: Load, rounds: int) -> bool:
     """Measures a load in its sizes, and answers whether its figures are within their bounds."""
     runs = [measured(group, load, size, rounds) for size in load.sizes]
-    is_good = True
+    (few, first), (many, last) = [(count, best["ours"]) for count, best in (runs[0], runs[-1])]
+    small, great = shown_size(load.sizes[0]), shown_size(load.sizes[-1])
+    good = []
     if len(runs) > 1:
-        (few, first), (many, last) = runs[0], runs[-1]
         growth = last.seconds() / many / (first.seconds() / few)
-        bound = "not judged" if load.growth is None else f"at most {load.growth:.3g}"
-        print(f"  {load.name:<19}{group.one} at {shown_size(load.sizes[-1])} over {group.one} at {shown_size(load.sizes[0])}: {growth:.2f} ({bound})", flush=True)
-        is_good = load.growth is None or growth <= load.growth
-        if load.memory_growth is not None:
-            growth = last.peak / many / (first.peak / few)
-            print(f"  {load.name:<19}the same of memory: {growth:.2f} (at most {load.memory_growth:.2f})", flush=True)
-            is_good = is_good and growth <= load.memory_growth
+        good.append(is_within(load, f"{group.one} at {great} over {group.one} at {small}", growth, load.growth, shown_times))
+    if load.memory_growth is not None:
+        growth = last.peak / many / (first.peak / few)
+        good.append(is_within(load, "the same of memory", growth, load.memory_growth, shown_times))
+    if load.over is not None:
+        name, most = load.over
+        if name not in runs[-1][1]:
+            raise RuntimeError(f"there is no time of {name}")
+        ratio = last.processor / runs[-1][1][name].processor
+        good.append(is_within(load, f"time of ours over that of {name}", ratio, most, shown_times))
     if load.memory is not None:
-        most = max(it.peak / count for count, it in runs)
-        print(f"  {load.name:<19}most memory for {group.one}: {most:.1f} bytes (at most {load.memory:g})", flush=True)
-        is_good = is_good and most <= load.memory
-    many, last = runs[-1]
+        most_memory = max(best["ours"].peak / count for count, best in runs)
+        good.append(is_within(load, f"most memory for {group.one}", most_memory, load.memory, lambda it: f"{it:.1f} bytes"))
     if load.seconds is not None:
-        each = last.seconds() / many
-        print(f"  {load.name:<19}time of {group.one} at {shown_size(load.sizes[-1])}: {shown_time(each)} (at most {shown_time(load.seconds)})", flush=True)
-        is_good = is_good and each <= load.seconds
+        good.append(is_within(load, f"time of {group.one} at {great}", last.seconds() / many, load.seconds, shown_time))
     if load.peak is not None:
-        print(f"  {load.name:<19}memory of the whole run: {last.peak / 2**20:.1f} MiB (at most {load.peak / 2**20:g})", flush=True)
-        is_good = is_good and last.peak <= load.peak
-    if not is_good:
+        good.append(is_within(load, "memory of the whole run", last.peak, load.peak, lambda it: f"{it / 2**20:.1f} MiB"))
+    if not all(good):
         print(f"  {load.name:<19}IS OVER ITS BOUND", flush=True)
-    return is_good
+    return all(good)
 
 
-def main():
+def main() -> int:
+    global MESON
     parser = argparse.ArgumentParser(description=__doc__, formatter_class=argparse.RawDescriptionHelpFormatter)
     parser.add_argument("groups", nargs="*", metavar="GROUP", help=", ".join(GROUPS))
     parser.add_argument("--rounds", type=int, help="how often each load is run")
+    parser.add_argument("--program", default=MESON, help="another program of whole runs than this checkout's")
     words = parser.parse_args()
+    MESON = os.path.abspath(words.program)
     for name in words.groups:
         if name not in GROUPS:
             parser.error(f"there is no group {name}; there are {', '.join(GROUPS)}")

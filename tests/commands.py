@@ -134,7 +134,7 @@ def test_commands() -> None:
     check("meson: help", is_good and done.stderr == "" and meson("-h").stdout == done.stdout, f"{done}")
     for words in ([], ["such"], ["build-program"], ["../tools/test"], [""], ["port"], ["-C", "b", "test"], ["--such"]):
         done = meson(*words)
-        is_good = done.returncode == 4 and done.stdout == "" and listed(done.stderr) == ["setup", "questions", *FURTHER]
+        is_good = done.returncode == 4 and done.stdout == "" and listed(done.stderr) == ["setup", "questions", "fault", *FURTHER]
         check(f"meson: {words} is no command", is_good and repr(words[0] if words else "")[1:-1] in done.stderr, f"{done}")
     put("checkout/tools/port", '#!/bin/sh\necho port "$@"\n', 0o755)
     check("meson port: where it is there", meson("port", "a b").stdout == "port a b\n" and "port" in listed(meson("such").stderr))
@@ -187,6 +187,8 @@ def test_questions() -> None:
     done = meson("questions", "-Dx=1", "b", cwd=f"{WORK}/sources")
     is_passed_on = (done.returncode, done.stdout, done.stderr) == (1, "questions -Dx=1 b\n", "said\n")
     check("meson questions: the program's output and status", is_passed_on, f"{done}")
+    done = meson("fault", "-Dx=1", "b", cwd=f"{WORK}/sources")
+    check("meson fault: the program's own", done.returncode == 0 and done.stdout == "program fault -Dx=1 b\n", f"{done}")
     put("questions", NOTHING_ASKED)
     put("asks/meson.build", "project('p', 'c')\n")
     done = meson("machine-file", "asks")

@@ -45,6 +45,8 @@ class Expected:
         self.looks = None
         # Whether the run tells its questions; the texts of those behind the call of 'project', and of those of that call.
         self.tells, self.asked, self.asked_by_project = False, None, None
+        # What 'fault' tells in the log of the run's fault, where the case says so.
+        self.about = None
         # The paths below which nothing may change.
         self.stays = []
         self.says = False
@@ -85,6 +87,8 @@ class Expected:
             self.looks = {out(it).decode() for it in text.split()}
         elif word == "asks":
             self.take_questions(text, out(content).decode(), out)
+        elif word == "about":
+            self.about, self.says = (b"" if text == "nothing" else line) + b"\n", True
         elif word == "stays":
             self.says = True
             self.stays += [out(it).decode() for it in text.split()]
@@ -274,7 +278,7 @@ def filled(text, columns):
 
 def result_parts(case):
     """The directives that a row's result stands for: a word and the rest of its line."""
-    words = "log|fault|status|complaint|has|lacks|json|out|no|edge|looks|stays|asks"
+    words = "log|fault|status|complaint|has|lacks|json|out|no|edge|looks|stays|asks|about"
     parts = re.split(rf" & (?=(?:ok$|E\d+(?:$| at |: )|(?:{words}) ))", case.result)
     made = []
     for number, part in enumerate(parts):

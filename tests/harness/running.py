@@ -8,7 +8,7 @@ import subprocess
 import tempfile
 
 from form import FormError, written_out
-from judge import DOCUMENT, FAULT_LINE, SAID, UNENDED, Expected, filled, result_parts, row_place, shown
+from judge import DOCUMENT, FAULT_LINE, SAID, UNENDED, Expected, differing, filled, result_parts, row_place, shown
 from over_old import each_fails_over_old
 from places import changes, kind_of, locked, make_thing, pipe_of, states_below, stream_changer
 
@@ -308,7 +308,18 @@ def as_it_is(room):
     found = room.expected.differences(came)
     if not found and came.status == 0 and DOCUMENT in came.outputs:
         found = over_present(room, came)
+    if not found and room.expected.about is not None:
+        found = told_otherwise(room, came)
     return found
+
+
+def told_otherwise(room, whole):
+    """Where 'fault' doesn't tell the fault of the whole run and what it is about, or writes something."""
+    room.task = b"fault"
+    came = room.run()
+    found = [] if came.status == whole.status else [f"status of 'fault': {whole.status} must come, and {came.status} came"]
+    found += differing("about", room.expected.about, came.log) + differing("complaint of 'fault'", whole.complaint, came.complaint)
+    return found + [f"there is an output {it}, and 'fault' writes none" for it in sorted(came.outputs)]
 
 
 def cut(room, path, share, shares):

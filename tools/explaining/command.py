@@ -10,7 +10,7 @@ from tools.explaining.context import Context, read, set_in
 from tools.explaining.detail import Detail, detail, shown
 from tools.explaining.place import place_of
 from tools.explaining.probe import Probe
-from tools.explaining.run import LONGEST, MACHINE, MOST_BYTES, WORDS, Asked, Fault, Outcome, in_place, machine_path, room_of
+from tools.explaining.run import LONGEST, MACHINE, MOST_BYTES, WORDS, Asked, Fault, Outcome, about, in_place, machine_path, room_of
 
 DONE, NOT_READ, BAD_WORDS = 0, 2, 4
 ON_STATEMENTS = {
@@ -20,6 +20,8 @@ ON_STATEMENTS = {
     24: others.too_late,
 }
 ON_TEXTS = {2: grammar.token_detail, 3: grammar.grammar_detail, 4: grammar.nesting_detail}
+# The faults of which the program may say which argument they are about.
+OF_ARGUMENTS = (9, 11, 23)
 # How long a file is that is looked at, and what is said of one that isn't.
 MOST_CHARACTERS = 1 << 20
 TOO_LONG = "a text or a definition file may have 16,777,216 bytes, a machine file 33,554,432, and a line of a template 65,536"
@@ -81,9 +83,18 @@ def explained(asked: Asked, fault: Fault) -> list[str]:
     text = text_of(asked, fault)
     try:
         found = detail_of(asked, fault, text)
+        if fault.number in OF_ARGUMENTS:
+            found = with_told(found, about(asked, fault))
     except subprocess.TimeoutExpired:
         found = detail("it takes too long to ask what stands there")
     return [one_line(fault.shown()), *(shown(text, fault.line, found.at) if text is not None else []), *map(one_line, found.lines)]
+
+
+def with_told(found: Detail, told: str) -> Detail:
+    """A detail; before it what the program says of the arguments, where the detail is about another one."""
+    subject = told.partition(": ")[0]
+    words = {"arguments": "without a name"}.get(subject, subject)
+    return found if not told or any(words in it for it in found.lines) else Detail((told, *found.lines), found.at)
 
 
 def text_of(asked: Asked, fault: Fault) -> str | None:

@@ -109,8 +109,9 @@ def with_machine(words: list[str], path: str) -> list[str]:
     return made
 
 
-def questions(asked: Asked, folder: str, scratch: str) -> Outcome:
-    """What the program says of a folder, which it writes nothing in: the fault that `setup` would end in, and what was asked before.
+def questions(asked: Asked, folder: str, scratch: str, task: str = "questions") -> Outcome:
+    """What the program says of a folder, which it writes nothing in: the fault that `setup` would end in, and what was asked before; of
+    the task `fault` what that is about in place of what was asked.
 
     The bytes of the machine file stand in a file of their own, since they may have come through a pipe.
     """
@@ -120,7 +121,7 @@ def questions(asked: Asked, folder: str, scratch: str) -> Outcome:
         with open(path, "wb") as it:
             it.write(asked.machine)
         words = with_machine(words, path)
-    done = subprocess.run(["meson", "questions", *words], executable=asked.program, cwd=folder, stdin=subprocess.DEVNULL,
+    done = subprocess.run(["meson", task, *words], executable=asked.program, cwd=folder, stdin=subprocess.DEVNULL,
                           capture_output=True, timeout=LONGEST)
     told, complaint = (it.decode(errors="backslashreplace") for it in (done.stdout, done.stderr))
     found = FAULT.fullmatch(complaint.removesuffix("\n"))
@@ -132,6 +133,14 @@ def in_place(asked: Asked) -> Outcome:
     """What the program says of the sources themselves."""
     with tempfile.TemporaryDirectory(prefix="meson-explain-") as scratch:
         return questions(asked, asked.root, scratch)
+
+
+def about(asked: Asked, fault: Fault) -> str:
+    """What the program says that the fault is about; nothing where it says no more than the fault's line."""
+    with tempfile.TemporaryDirectory(prefix="meson-explain-") as scratch:
+        outcome = questions(asked, asked.root, scratch, "fault")
+    is_same = outcome.fault is not None and outcome.fault.shown() == fault.shown()
+    return outcome.asked.removesuffix("\n") if is_same else ""
 
 
 class Room:

@@ -83,7 +83,7 @@ def question_of(project: Project, site: Site) -> str:
     if ending_of(project, site) != "":
         raise NotFollowed("it asks for more than one thing by the same words")
     text = text_of(project, site.call.arguments[0])
-    if text is None and site.call.name in ("compiles", "links"):
+    if text is None and site.call.name in ("compiles", "links", "run"):
         text = read(file_of(project, site))
     if text is None:
         raise NotFollowed("its source is not one plain text")

@@ -156,6 +156,19 @@ def methods_of_meson(project: Project) -> Iterator[Change]:
             yield site.change(f"{name} becomes {text}", replaced(site, site.call, text))
 
 
+def truth_values(project: Project) -> Iterator[Change]:
+    """`set10` takes a truth value; a number is true where it isn't 0."""
+    for site in project.methods("set10"):
+        node = site.call.arguments[1] if site.call.receiver and len(site.call.arguments) == 2 else None
+        kind = kind_of(project.known.value(site.call.receiver)) if site.call.receiver else ""
+        value = project.known.value(node) if node else None
+        if node is None or kind != "configuration" or kind_of(value) != "integer":
+            continue
+        source = site.file.source(node)
+        text = str(node.value != 0).lower() if isinstance(node, tree.Number) else f"({source}) != 0"
+        yield site.change(f"set10: the number {source} becomes {text}", replaced(site, node, text))
+
+
 def files_in_texts(project: Project) -> Iterator[Change]:
     """A file that `format` puts into a text is its path."""
     for site in project.methods("format"):

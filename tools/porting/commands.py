@@ -15,12 +15,13 @@ from porting.options import declared, option_name, with_option
 from porting.project import Project, Site
 from porting.rule import assigned_name, identifier, replaced, text_of, texts_at, uses_of
 from porting.scripts import interpreter_of
-from porting.values import ROOT, Item, Thing, flat, kind_of
+from porting.values import ROOT, Item, Thing, choices_of, flat, kind_of
 
 # How long a command may run, in seconds.
 LONGEST = 60
 # A text of more bytes than this is not written into a definition file.
 LARGEST = 1 << 20
+QUESTIONS = {"exists": os.path.exists, "is_file": os.path.isfile, "is_dir": os.path.isdir, "is_symlink": os.path.islink}
 NOT_ASKED = "needs to be run once: --run does that, and writes what it says"
 
 
@@ -176,19 +177,33 @@ def asked_files(project: Project) -> Iterator[Change]:
     """Whether a path is there, what it holds: the answers of now."""
     for site in module_sites(project, "fs", "exists", "is_file", "is_dir", "is_symlink", "size", "hash"):
         path = path_at(project, site, site.call.arguments[0]) if site.call.arguments else None
-        if not project.is_asked_to_run or path is None:
-            project.doubt(site, f"fs.{site.call.name} {NOT_ASKED}")
+        several = texts_of_rounds(project, site) if path is None and site.call.name in QUESTIONS else []
+        if not project.is_asked_to_run or (path is None and not several):
+            project.doubt(site, f"fs.{site.call.name} {NOT_ASKED if not project.is_asked_to_run else 'of a path that is not known'}")
             continue
-        answer = answer_of(project, site, path)
+        answer = answer_of(project, site, path) if path is not None else answer_of_several(project, site, several)
         if answer is not None:
-            spoken(project, f"asked: {site.call.name} of {os.path.relpath(path, project.root)}: {answer}")
+            spoken(project, f"asked: {site.call.name} of {', '.join(several) or os.path.relpath(path or '', project.root)}: {answer}")
             yield site.change(f"fs.{site.call.name} becomes its answer", replaced(site, site.call, answer))
 
 
+def texts_of_rounds(project: Project, site: Site) -> list[str]:
+    """The absolute paths of which a call is given one in each round of a loop; none where not all are known."""
+    texts = choices_of(project.known.value(site.call.arguments[0])) if site.call.arguments else ()
+    return [str(it) for it in texts] if all(isinstance(it, str) and it.startswith("/") for it in texts) else []
+
+
+def answer_of_several(project: Project, site: Site, texts: list[str]) -> str:
+    """Whether the path of a round is one of those that are there."""
+    there = [it for it in texts if QUESTIONS[site.call.name](it)]
+    if len(there) in (0, len(texts)):
+        return str(bool(there)).lower()
+    return f"({grouped(site)} in [{', '.join(map(escaped, there))}])"
+
+
 def answer_of(project: Project, site: Site, path: str) -> str | None:
-    questions = {"exists": os.path.exists, "is_file": os.path.isfile, "is_dir": os.path.isdir, "is_symlink": os.path.islink}
-    if site.call.name in questions:
-        return str(questions[site.call.name](path)).lower()
+    if site.call.name in QUESTIONS:
+        return str(QUESTIONS[site.call.name](path)).lower()
     try:
         if site.call.name == "size":
             return str(os.path.getsize(path))

@@ -8,8 +8,8 @@ from porting.edits import Change, indent_at, without_item
 from porting.lexer import escaped
 from porting.parser import parse
 from porting.project import Project, Site
-from porting.rule import (LIBRARIES, TARGETS, added_to_list, compiler_text, drop_keyword, in_place_of_statement,
-                          is_whole_statement, assigned_name, replaced, text_of, texts_at)
+from porting.rule import (LIBRARIES, REAL, REAL_ALONE, TARGETS, added_to_list, compiler_text, drop_keyword, guarded, in_place_of_statement,
+                          is_whole_statement, assigned_name, languages_of_real, replaced, text_of, texts_at)
 from porting.values import Either, Item, Many, Table, flat, kind_of, texts_of
 
 OF_TARGETS = {"native", "link_depends", "link_language", "vs_module_defs", "darwin_versions", "extra_files", "pic", "pie", "install_tag",
@@ -286,16 +286,19 @@ def language_of_arguments(project: Project) -> Iterator[Change]:
     """`language: ['c', 'cpp']` of a project that has C alone."""
     if any(True for _ in project.functions("add_languages")) or not is_c_alone(project):
         return
+    is_in_real = bool(languages_of_real(project))
     for site in project.functions("add_project_arguments", "add_project_link_arguments"):
         word = site.call.keywords.get("language")
         texts = texts_at(project, word.value) if word else None
         if word is None or texts is None:
             continue
         if "c" in texts and set(texts) != {"c"}:
-            yield site.change(f"{site.call.name}: for C alone", replaced(site, word.value, "'c'"))
+            text = f"{REAL} ? {site.file.source(word.value)} : 'c'" if is_in_real else "'c'"
+            yield site.change(f"{site.call.name}: for C alone", replaced(site, word.value, text))
         elif "c" not in texts and is_whole_statement(site):
-            yield site.change(f"{site.call.name}: of another language than C, is dropped",
-                              in_place_of_statement(site.file, site.statement, []))
+            what = f"{site.call.name}: of another language than C, is "
+            yield (guarded(site, REAL_ALONE, what + "left to the real Meson") if is_in_real else
+                   site.change(what + "dropped", in_place_of_statement(site.file, site.statement, [])))
 
 
 def is_c_alone(project: Project) -> bool:

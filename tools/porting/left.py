@@ -41,7 +41,7 @@ METHODS = {
         "as_link_whole": "the dependency itself", "as_static": "the dependency itself", "as_shared": "the dependency itself",
         "include_type": "nothing"},
     "target": {"extract_objects": "a static library that both targets link",
-               "extract_all_objects": "a static library that both targets link",
+               "extract_all_objects": "a static library that both targets link, which --also objects writes",
                "private_dir_include": "include_directories", "outdir": "a text", "get_static_lib": "the static library itself",
                "get_shared_lib": "the shared library itself", "found": "nothing", "path": "full_path"},
     "meson": {
@@ -117,6 +117,8 @@ def refused(project: Project, site: Site) -> list[str]:
             advice = METHODS.get(kind_of(choice), {}).get(call.name)
             if advice:
                 texts.append(f"{call.name}: {advice}")
+    if call.name == "get_compiler" and any(it != "c" for it in paths_of(project, call) if isinstance(it, str)):
+        texts.append("get_compiler: C alone is built here")
     for name, word in call.keywords.items():
         advice = KEYWORDS.get(call.name, {}).get(name) or KEYWORDS["*"].get(name)
         if advice and not (call.name == "test" and name == "protocol" and project.known.value(word.value) == "exitcode"):

@@ -7,8 +7,13 @@ from porting import tree
 from porting.edits import Change
 from porting.lexer import escaped
 from porting.project import Project, Site
-from porting.rule import (REAL, REAL_ALONE, assigned_name, guarded, in_place_of_statement, is_whole_statement, replaced, text_of, uses_of)
-from porting.values import Thing
+from porting.rule import (REAL, REAL_ALONE, assigned_name, guarded, in_place_of_statement, is_whole_statement, languages_of_real, replaced,
+                          text_of, uses_of)
+from porting.values import Thing, flat
+
+# How the names of sources end, by their language.
+SOURCES = {"cpp": (".cpp", ".cc", ".cxx", ".c++", ".cp"), "objc": (".m",), "objcpp": (".mm",), "rust": (".rs",), "vala": (".vala",),
+           "cuda": (".cu",), "d": (".d",), "fortran": (".f", ".for", ".f90", ".f95"), "cython": (".pyx",)}
 
 
 def python(project: Project) -> Iterator[Change]:
@@ -62,6 +67,37 @@ def languages(project: Project) -> Iterator[Change]:
                               replaced(site, site.call, f"({REAL} and {site.file.source(site.call)})"))
         elif is_optional(project, site):
             yield guarded(site, REAL_ALONE, f"add_languages: {', '.join(map(str, texts))} is left to the real Meson")
+
+
+def languages_of_project(project: Project) -> Iterator[Change]:
+    """A language beside C that `project` names, and that no source is written in, is added by the real Meson alone."""
+    for site in project.functions("project"):
+        texts = [it.value for node in site.call.arguments[1:] for it in flat(project.known.value(node))]
+        others = [str(it) for it in texts if it != "c"]
+        if "c" not in texts or not others or not is_whole_statement(site) or not all(is_unused(project, it) for it in others):
+            continue
+        end, named = site.statement.end, site.call.arguments[1:]
+        added = f"\n{REAL_ALONE}\n  add_languages({', '.join(map(escaped, others))}, native: false)\nendif"
+        yield site.change(f"project: {', '.join(others)}, which no source is written in, is left to the real Meson",
+                          (named[0].start, named[-1].end, "'c'"), (end, end, added))
+
+
+def is_unused(project: Project, language: str) -> bool:
+    """Whether no call that is surely carried out names a source of a language."""
+    texts = (it.value for site in project.sites() if site.call not in project.known.called_maybe
+             for it in tree.inside(site.call) if isinstance(it, tree.Text))
+    return language in SOURCES and not any(it.lower().endswith(SOURCES[language]) for it in texts)
+
+
+def other_compilers(project: Project) -> Iterator[Change]:
+    """The compiler of a language that the real Meson alone adds is here that of C."""
+    added = languages_of_real(project)
+    for site in project.methods("get_compiler"):
+        language = text_of(project, site.call.arguments[0]) if site.call.arguments else None
+        if language in added:
+            source = site.file.source(site.call.arguments[0])
+            yield site.change(f"get_compiler: that of {language} is asked in the real Meson alone, here that of C",
+                              replaced(site, site.call.arguments[0], f"{REAL} ? {source} : 'c'"))
 
 
 def is_optional(project: Project, site: Site) -> bool:

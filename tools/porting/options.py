@@ -86,14 +86,37 @@ def others(project: Project) -> Iterator[Change]:
             yield site.change(f"get_option('{name}') is {VALUES[name]} here", replaced(site, site.call, text))
 
 
-def deprecated_options(project: Project) -> Iterator[Change]:
-    """`deprecated:` of an option, which changes nothing for those who give the option its present values."""
+def option_calls(project: Project) -> Iterator[Site]:
+    """The declarations of the option file."""
     file = project.option_file()
     for statement in file.body if file else []:
         call = statement.value if isinstance(statement, tree.Expression) else None
-        if not isinstance(call, tree.Call) or call.name != "option":
-            continue
-        site = Site(file, statement, call)
+        if file and isinstance(call, tree.Call) and call.name == "option":
+            yield Site(file, statement, call)
+
+
+def summed_texts(project: Project) -> Iterator[Change]:
+    """Texts with `+` between them, which a declaration takes as one text alone."""
+    for site in option_calls(project):
+        for node in [it.value if isinstance(it, tree.Keyword) else it for it in site.call.items]:
+            text = sum_of(node)
+            if text is not None and not isinstance(tree.plain(node), tree.Text):
+                yield site.change("option: a sum of texts is one text", replaced(site, node, escaped(text)))
+
+
+def sum_of(node: tree.Node) -> str | None:
+    """The text that a text, or a sum of texts, is."""
+    node = tree.plain(node)
+    if isinstance(node, tree.Binary) and node.operator == "+":
+        left, right = sum_of(node.left), sum_of(node.right)
+        return None if left is None or right is None else left + right
+    return node.value if isinstance(node, tree.Text) and not node.has_names else None
+
+
+def deprecated_options(project: Project) -> Iterator[Change]:
+    """`deprecated:` of an option, which changes nothing for those who give the option its present values."""
+    for site in option_calls(project):
+        call, file = site.call, site.file
         if "deprecated" in call.keywords:
             yield drop_keyword(site, "deprecated")
         kind = call.keywords.get("type")

@@ -167,6 +167,14 @@ def of_compiler(project: Project, *names: str) -> Iterator[Site]:
             yield site
 
 
+def languages_of_real(project: Project) -> set[str]:
+    """The languages that the real Meson alone adds to the project."""
+    calls = [it for path in project.known.entered for statement in tree.statements_in(project.files[path].body)
+             for expression in tree.expressions_of(statement) for it in tree.inside(expression)
+             if isinstance(it, tree.Call) and it.name == "add_languages" and it not in project.known.reached]
+    return {it.value for call in calls for it in call.arguments if isinstance(it, tree.Text)}
+
+
 def comparison_of(site: Site) -> tree.Binary | None:
     """The comparison whose left side is a call."""
     for expression in tree.expressions_of(site.statement):

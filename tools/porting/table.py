@@ -1,8 +1,8 @@
 """The rules, in the order in which they are carried out."""
 from __future__ import annotations
 
-from porting import (asked, calls, commands, compiler, dependencies, features, generators, installs, keywords, modules, options, outside,
-                     pkgconfig, scripts, sources, test_calls, twice)
+from porting import (asked, calls, commands, compiler, dependencies, features, generators, installs, keywords, modules, objects, options,
+                     outside, pkgconfig, runs, scripts, sources, test_calls, twice)
 from porting.rule import Rule
 
 RULES = (
@@ -22,13 +22,16 @@ RULES = (
     Rule("built-in-options", "b_ndebug and other options: the value that the real Meson begins with", options.others),
     Rule("features", "require, disable_auto_if and their like of a feature option: statements before it", features.features),
     Rule("option-file", "`deprecated:` of an option; integers without a value", options.deprecated_options),
+    Rule("option-texts", "texts with `+` between them in the option file: one text", options.summed_texts),
     Rule("partial-dependency", "partial_dependency, as_system: the dependency itself", dependencies.partial_dependency),
     Rule("type-name", "type_name of a dependency: what it is, where it is found", dependencies.names_of_types),
     Rule("sources", "compiles, links: has_type, has_function, with the source before it", sources.sources),
+    Rule("runs", "run of a compiler: what the program came to, in options and texts (with --run alone)", runs.runs),
     Rule("attributes", "has_function_attribute: has_type", compiler.attributes),
     Rule("defines", "has_define: has_type", compiler.defines),
     Rule("link-arguments", "get_supported_link_arguments: has_link_argument in a loop", compiler.link_arguments),
     Rule("first-argument", "first_supported_argument: has_argument in a loop", compiler.first_argument),
+    Rule("set10", "a number that set10 is given: a truth value", calls.truth_values),
     Rule("several", "has_multi_arguments, has_members: has_argument, has_member for each", compiler.several),
     Rule("compiler-answers", "get_argument_syntax, get_linker_id: by get_id, or a text", compiler.plain_answers),
     Rule("asked-twice", "has_function, has_type asked twice with other words beside them: a name of its own for each", twice.asked_twice),
@@ -71,11 +74,15 @@ RULES = (
     Rule("steps", "add_install_script, install_symlink and their like: left to the real Meson", installs.steps),
     Rule("summary", "summary, debug: message", calls.summary),
     Rule("languages-added", "add_languages: of another language than C asked in the real Meson alone", modules.languages),
+    Rule("languages-named", "project of C and a language that no source is written in: C, and add_languages in the real Meson alone",
+         modules.languages_of_project),
+    Rule("compilers", "get_compiler of a language that the real Meson alone adds: that of C here", modules.other_compilers),
     Rule("subprojects", "subproject(required: false): missing here", modules.subprojects),
     Rule("imports", "a module that nothing uses: dropped; one that an option alone needs: left to the real Meson",
          modules.unused_imports),
     Rule("compiler-options", "compiles, links, get_define, compute_int that no check says: an option with the value of now (--run alone)",
          asked.answers),
+    Rule("objects", "`objects:` of a whole target: a static library of its sources", objects.extracted, is_sure=False),
     Rule("install-modes", "`install_mode:` of another mode: dropped; a step of the package", keywords.other_modes, is_sure=False),
     Rule("link-order", "static libraries of one target that use one another: named once more in `link_args:`", dependencies.link_order,
          is_sure=False),

@@ -4,6 +4,10 @@ pub mod Disablers
 pub mod Given
 pub mod Leaves
 pub mod Maybe
+pub mod MisfitView
+pub mod Misfits
 pub mod Pieces
+pub mod Refused
 pub mod Row
 pub mod RowView
+pub mod Words

@@ -6,13 +6,17 @@ mod dependencies;
 mod disablers;
 mod given;
 mod leaves;
+mod misfit;
 mod pieces;
 mod reader;
+mod refused;
 mod row;
+mod words;
 
 pub use arguments::{Arguments, Named, add_argument, no_arguments};
 pub use dependencies::are_found;
 pub use disablers::gives_disabler;
 pub use given::Requirement;
 pub use reader::check;
+pub use refused::Refused;
 pub use row::{Keyword, Kind, Piece, Row};

@@ -1,21 +1,24 @@
 //! Whether the arguments of a call are what its row says.
 ghost use Rattle.std.specs.Prelude.{◌≡◌, ◌&&◌, ◌||◌, ◌++◌, ◌∷◌, [], IfOk, IsTrue, bytes_eq, false, not};
-ghost use Rattle.std.specs.Prelude.{flat_map, is_some, map, string_bytes};
+ghost use Rattle.std.specs.Prelude.{flat_map, is_some, map, option_map, string_bytes};
 ghost use Rattle.std.specs.List.{list_any};
 ghost use Rattle.basics.specs.Among.{is_among};
+ghost use Rattle.arguments.specs.Refused.{answer_data};
 ghost use Rattle.data.specs.View.{data_of};
 ghost use Rattle.arguments.specs.Arguments.{arguments_data, named_data};
-ghost use Rattle.arguments.specs.Row.{checked, common_left_out, each_fits, each_is_given, each_named_fits, fits, has_left_out, has_twice};
-ghost use Rattle.arguments.specs.Row.{is_object, is_of, is_of_some, keyword_kind, kind_at};
+ghost use Rattle.arguments.specs.MisfitView.{misfit_data};
+ghost use Rattle.arguments.specs.Misfits.{at_place, checked, left_out, misfit, misnamed, misplaced, missing, of_keyword, too_few, twice, unfit};
+ghost use Rattle.arguments.specs.Row.{common_left_out, is_object, is_of, keyword_kind, kind_at};
 ghost use Rattle.arguments.specs.Pieces.{is_command, is_configuration, is_feature, is_file};
 ghost use Rattle.arguments.specs.RowView.{keyword_data, row_data};
 
 use crate::arguments::{Arguments, Named};
 use crate::dependencies::are_dependencies;
 use crate::given::value_named;
+use crate::misfit::Misfit;
 use crate::pieces::{are_pieces, is_command, is_configuration, is_feature, is_file};
+use crate::refused::Refused;
 use crate::row::{Keyword, Kind, Row};
-use basics::faults::Refusal;
 use basics::tables::{SipSet, new_set};
 use basics::text_lists::is_among;
 use data::{Value, is_texts};
@@ -90,15 +93,6 @@ fn is_of(kind: Kind, value: &Value) -> bool
     }
 }
 
-fn is_of_some(kind: Option<Kind>, value: &Value) -> bool
-    ensures { result ≡ is_of_some kind (data_of value.now) }
-{
-    match kind {
-        Some(kind) => is_of(kind, value),
-        None => false,
-    }
-}
-
 // What the positional argument at a place has to be.
 fn kind_at(row: &Row, place: usize) -> Option<Kind>
     ensures { result ≡ kind_at (row_data row.now) place }
@@ -109,15 +103,27 @@ fn kind_at(row: &Row, place: usize) -> Option<Kind>
     }
 }
 
-fn each_fits(row: &Row, values: &[Value]) -> bool
-    ensures { result ≡ each_fits (row_data row.now) 0 (map data_of values.now) }
+fn at_place(place: usize, kind: Option<Kind>, value: &Value) -> Option<Misfit<'_>>
+    ensures { option_map misfit_data result ≡ at_place place kind (data_of value.now) }
+{
+    match kind {
+        None => Some(Misfit::TooMany(place)),
+        Some(kind) if is_of(kind, value) => None,
+        Some(kind) => Some(Misfit::Place(place, kind, value)),
+    }
+}
+
+// The first positional argument that is not what the row says.
+fn misplaced<'a>(row: &Row, values: &'a [Value]) -> Option<Misfit<'a>>
+    ensures { option_map misfit_data result ≡ misplaced (row_data row.now) 0 (map data_of values.now) }
 {
     for (i, value) in values.iter().enumerate() {
-        if !is_of_some(kind_at(row, i), value) {
-            return false;
+        let misfit = at_place(i, kind_at(row, i), value);
+        if misfit.is_some() {
+            return misfit;
         }
     }
-    true
+    None
 }
 
 fn keyword_kind(name: &str, lists: &[&[Keyword]]) -> Option<Kind>
@@ -133,28 +139,44 @@ fn keyword_kind(name: &str, lists: &[&[Keyword]]) -> Option<Kind>
     None
 }
 
-fn each_named_fits(lists: &[&[Keyword]], named: &[Named]) -> bool
-    ensures { result ≡ each_named_fits (flat_map (λ ks. map keyword_data ks.now) lists.now) (map named_data named.now) }
+fn of_keyword<'a>(name: &'a str, kind: Option<Kind>, value: &'a Value) -> Option<Misfit<'a>>
+    ensures { option_map misfit_data result ≡ of_keyword name.now kind (data_of value.now) }
 {
-    for one in named {
-        if !is_of_some(keyword_kind(one.name.as_str(), lists), &one.value) {
-            return false;
-        }
+    match kind {
+        None => Some(Misfit::Unknown(name)),
+        Some(kind) if is_of(kind, value) => None,
+        Some(kind) => Some(Misfit::Keyword(name, kind, value)),
     }
-    true
 }
 
-fn each_is_given(lists: &[&[Keyword]], named: &[Named]) -> bool
-    ensures { result ≡ each_is_given (flat_map (λ ks. map keyword_data ks.now) lists.now) (map named_data named.now) }
+// The first keyword that is not what the row says.
+fn misnamed<'a>(lists: &[&[Keyword]], named: &'a [Named]) -> Option<Misfit<'a>>
+    ensures { option_map misfit_data result
+        ≡ misnamed (flat_map (λ ks. map keyword_data ks.now) lists.now) (map named_data named.now) }
+{
+    for one in named {
+        let name = one.name.as_str();
+        let misfit = of_keyword(name, keyword_kind(name, lists), &one.value);
+        if misfit.is_some() {
+            return misfit;
+        }
+    }
+    None
+}
+
+// The first keyword that is needed and not given.
+fn missing<'a>(lists: &[&[Keyword]], named: &[Named]) -> Option<Misfit<'a>>
+    ensures { option_map misfit_data result
+        ≡ missing (flat_map (λ ks. map keyword_data ks.now) lists.now) (map named_data named.now) }
 {
     for keywords in lists {
         for keyword in *keywords {
             if keyword.is_needed() && value_named(keyword.name(), named).is_none() {
-                return false;
+                return Some(Misfit::Missing(keyword.name()));
             }
         }
     }
-    true
+    None
 }
 
 // Puts a name behind the others; false where it stands among them.
@@ -178,16 +200,17 @@ fn comes_again(alloc: Global, names: &mut SipSet<String>, name: &str) -> Result<
     Ok(!new)
 }
 
-fn has_twice(alloc: Global, named: &[Named]) -> Result<bool, AllocError>
-    ensures { IfOk result (λ twice. twice ≡ has_twice (map named_data named.now)) }
+// The first keyword that stands twice.
+fn twice<'a>(alloc: Global, named: &'a [Named]) -> Result<Option<Misfit<'a>>, AllocError>
+    ensures { IfOk result (λ found. option_map misfit_data found ≡ twice (map named_data named.now)) }
 {
     let mut names = new_set(alloc);
     for one in named {
         if comes_again(alloc, &mut names, one.name.as_str())? {
-            return Ok(true);
+            return Ok(Some(Misfit::Twice(one.name.as_str())));
         }
     }
-    Ok(false)
+    Ok(None)
 }
 
 // Whether no call takes a keyword of this name.
@@ -197,44 +220,73 @@ fn is_common_left_out(name: &str) -> bool
     is_among(&["kwargs", "fallback", "deprecated"], name)
 }
 
-fn has_left_out(names: &[&str], named: &[Named]) -> bool
-    ensures { result ≡ has_left_out (map (λ n. n.now) names.now) (map named_data named.now) }
+// The first keyword that is left out.
+fn left_out<'a>(names: &[&str], named: &'a [Named]) -> Option<Misfit<'a>>
+    ensures { option_map misfit_data result ≡ left_out (map (λ n. n.now) names.now) (map named_data named.now) }
 {
     for one in named {
-        if is_common_left_out(one.name.as_str()) || is_among(names, one.name.as_str()) {
-            return true;
+        let name = one.name.as_str();
+        if is_common_left_out(name) || is_among(names, name) {
+            return Some(Misfit::LeftOut(name));
         }
     }
-    false
+    None
 }
 
-fn fits(row: &Row, arguments: &Arguments) -> bool
-    ensures { result ≡ fits (row_data row.now) (arguments_data arguments.now) }
+fn too_few<'a>(needed: usize, given: usize) -> Option<Misfit<'a>>
+    ensures { option_map misfit_data result ≡ too_few needed given }
 {
-    row.needed <= arguments.positional.len()
-        && each_fits(row, &arguments.positional)
-        && each_named_fits(row.keywords, &arguments.named)
-        && each_is_given(row.keywords, &arguments.named)
+    if needed <= given {
+        None
+    } else {
+        Some(Misfit::TooFew(needed, given))
+    }
+}
+
+// What does not fit, keywords that stand twice aside.
+fn unfit<'a>(row: &Row, arguments: &'a Arguments) -> Option<Misfit<'a>>
+    ensures { option_map misfit_data result ≡ unfit (row_data row.now) (arguments_data arguments.now) }
+{
+    if let Some(misfit) = left_out(row.left_out, &arguments.named) {
+        return Some(misfit);
+    }
+    if let Some(misfit) = too_few(row.needed, arguments.positional.len()) {
+        return Some(misfit);
+    }
+    if let Some(misfit) = misplaced(row, &arguments.positional) {
+        return Some(misfit);
+    }
+    if let Some(misfit) = misnamed(row.keywords, &arguments.named) {
+        return Some(misfit);
+    }
+    missing(row.keywords, &arguments.named)
+}
+
+fn misfit<'a>(
+    alloc: Global,
+    row: &Row,
+    arguments: &'a Arguments,
+) -> Result<Option<Misfit<'a>>, AllocError>
+    ensures { IfOk result (λ found. option_map misfit_data found ≡ misfit (row_data row.now) (arguments_data arguments.now)) }
+{
+    if let Some(misfit) = twice(alloc, &arguments.named)? {
+        return Ok(Some(misfit));
+    }
+    Ok(unfit(row, arguments))
 }
 
 /// Checks the arguments against the row of the call: E11 for a keyword twice, else E23 for one that is left out, else E9 for a
-/// wrong count or type, a keyword that the call does not take, or one that it needs. The time is linear in their number.
+/// wrong count or type, a keyword that the call does not take, or one that it needs; and what of the arguments that is. The time is
+/// linear in their number.
 pub fn check(
     alloc: Global,
     row: &Row,
     arguments: &Arguments,
-) -> Result<Result<(), Refusal>, AllocError>
-    ensures { IfOk result (λ r. r ≡ checked (row_data row.now) (arguments_data arguments.now)) }
+) -> Result<Result<(), Refused>, AllocError>
+    ensures { IfOk result (λ r. answer_data r ≡ checked (row_data row.now) (arguments_data arguments.now)) }
 {
-    if has_twice(alloc, &arguments.named)? {
-        return Ok(Err(Refusal::Duplicate));
-    }
-    if has_left_out(row.left_out, &arguments.named) {
-        return Ok(Err(Refusal::LeftOut));
-    }
-    if fits(row, arguments) {
-        Ok(Ok(()))
-    } else {
-        Ok(Err(Refusal::Arguments))
+    match misfit(alloc, row, arguments)? {
+        Some(misfit) => Ok(Err(misfit.refused(alloc)?)),
+        None => Ok(Ok(())),
     }
 }

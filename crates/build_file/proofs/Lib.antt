@@ -1,5 +1,7 @@
 pub mod Stopping
+pub mod Puts
 pub mod Parts
+pub mod TargetTexts
 pub mod DefaultPaths
 pub mod FileEdges
 pub mod Counting

@@ -1,34 +1,18 @@
 -- The text of `build.ninja` is its parts, target by target.
-use Rattle.std.proofs.Common.{◌≡◌, ℕ, zero, suc, ◌+◌, ◌-◌, ◌<◌, List, [], ◌∷◌, ◌++◌, length, map, take, refl, sym, ap, ◌∙◌, append_assoc, append-nil, codes, arith}
+use Rattle.std.proofs.Common.{◌≡◌, ℕ, zero, suc, ◌+◌, ◌-◌, ◌<◌, List, [], ◌++◌, length, take, sym, ap, ◌∙◌, append_assoc, append-nil, codes, arith}
 use Rattle.std.specs.Prelude.{slice_get}
-use Rattle.std.specs.List.{flat_map}
 use Rattle.std.proofs.lemmas.Grind.{flat_map-append}
 use Rattle.ports.specs.Outputs.{Step, opening, closing, puts}
 use Rattle.edge.specs.Data.{EdgeData}
 use Rattle.edge.specs.Texts.{Path}
-use Rattle.edge.specs.View.{edge_view}
-use Rattle.edge.specs.declared.edge.Edge.{Edge}
 use Rattle.targets.specs.Data.{SurroundingsData}
 use Rattle.targets.specs.Libraries.{LinkedData, linked_of}
 use Rattle.project.specs.World.{WorldData, edges_in}
 use Rattle.project.specs.Adding.{edges_at, edges_between, edges_by_number, edges_if}
-use Rattle.ninja.proofs.Puts.{puts-append}
 use Rattle.ninja.specs.Writing.{edge_text, edges_text, head_text, tail_text}
 use Rattle.build_file.specs.BuildFile.{build_steps, default_outputs}
 use Rattle.build_file.specs.Parts.{head_steps, parts_steps, tail_steps, target_steps, targets_steps}
-
-puts-nil : puts [] ≡ []
-unfolding puts
-puts-nil = refl
-
--- the edges of a target, edge by edge
-pub edge_steps : (es : List Edge) → flat_map (λ e. puts (edge_text (edge_view e))) es ≡ puts (edges_text (map edge_view es))
-edge_steps [] = sym puts-nil
-edge_steps (e ∷ es) = ap (λ r. puts (edge_text (edge_view e)) ++ r) (edge_steps es) ∙ sym (puts-append (edge_text (edge_view e)) (edges_text (map edge_view es)))
-
-pub target_is : (w : WorldData) (n : ℕ) (es : List Edge) (xs : List Edge) → xs ≡ es → map edge_view es ≡ edges_at w n → flat_map (λ e. puts (edge_text (edge_view e))) xs ≡ target_steps w n
-unfolding target_steps
-target_is w n es xs same e = edge_steps xs ∙ ap (λ ys. puts (edges_text (map edge_view ys))) same ∙ ap (λ es. puts (edges_text es)) e
+use Rattle.build_file.proofs.Puts.{puts-append, puts-nil}
 
 -- ---- one target after another
 

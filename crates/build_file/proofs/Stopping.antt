@@ -1,8 +1,11 @@
 -- Where a call that writes stops.
-use Rattle.std.proofs.Common.{◌≡◌, List, ◌++◌, Result, Ok, Err, IsErrAnd, refl, sym, subst}
-use Rattle.ports.specs.Endings.{Failed}
-use Rattle.ports.specs.Outputs.{OutputState, Step, Makes, Writes}
-use Rattle.ports.proofs.Sending.{makes_stop, makes_writes, writes_cut, writes_none}
+use Rattle.std.proofs.Common.{◌≡◌, ℕ, ◌+◌, ◌<◌, List, ◌++◌, length, take, drop, get_or, Result, Ok, Err, IsErrAnd, refl, sym, subst}
+use Rattle.std.specs.List.{flat_map}
+use Rattle.std.proofs.lemmas.List.{drop_more, take-append-drop}
+use Rattle.std.proofs.lemmas.Grind.{flat_map-append}
+use Rattle.ports.specs.Endings.{Ending, Failed, Whole}
+use Rattle.ports.specs.Outputs.{OutputState, Step, Makes, Writes, puts}
+use Rattle.ports.proofs.Sending.{makes_stop, makes_writes, writes_cut, writes_none, writes_then}
 use Rattle.build_file.specs.BuildFile.{ending_of}
 use Rattle.build_file.specs.declared.stop.WriteStop.{WriteStop}
 use Rattle.build_file.specs.declared.stop.WriteStop.TheVariants as stops
@@ -36,3 +39,18 @@ pub makes_ends : {B : Type 0} {old new : OutputState} {a : List Step} (r : Resul
 makes_ends (Ok y) x b e w = absurd e
 makes_ends {old = old} {new = new} {a = a} (Err y) stops.Device b e w = subst (λ x. Makes old (a ++ b) (ending_of {B = Unit {0}} (Err x)) new) (sym e) (makes_stop b refl w)
 makes_ends {old = old} {new = new} {a = a} (Err y) stops.Memory b e w = subst (λ x. Makes old (a ++ b) (ending_of {B = Unit {0}} (Err x)) new) (sym e) (makes_stop b refl w)
+
+-- a loop that sends one run for each item: where an item's run stopped
+pub writes_ends_at : {X B : Type 0} (f : X → List Step) {old mid new : OutputState} (xs : List X) (i : ℕ) (x : X) (r : Result B WriteStop) (s : WriteStop)
+    → Writes old (flat_map f (take i xs)) Whole mid → i < length xs → x ≡ get_or xs i x → IsErrAnd r (λ e. e ≡ s)
+    → Writes mid (f x) (ending_of {B = Unit {0}} (Err s)) new → Writes old (flat_map f xs) (ending_of r) new
+writes_ends_at f xs i x r s before lt at e w =
+    rw (← take-append-drop i xs, flat_map-append, drop_more xs i x lt, ← at) (writes_then before (writes_ends r s (flat_map f (drop (i + 1) xs)) e w))
+
+-- bytes that are put, as the text that they are
+pub writes_as : {old new : OutputState} {e : Ending} (bytes text : List ℕ) → bytes ≡ text → Writes old (puts bytes) e new → Writes old (puts text) e new
+writes_as {old = old} {new = new} {e = e} bytes text same w = subst (λ b. Writes old (puts b) e new) same w
+
+-- a run, as the run that it is
+pub writes_over : {old new : OutputState} {e : Ending} (a b : List Step) → a ≡ b → Writes old a e new → Writes old b e new
+writes_over {old = old} {new = new} {e = e} a b same w = subst (λ run. Writes old run e new) same w

@@ -1,71 +1,180 @@
 //! `build.ninja`, part by part.
-ghost use Rattle.std.specs.Prelude.{◌≡◌, flat_map};
+ghost use Rattle.std.specs.Prelude.{◌≡◌, true, ◌++◌, flat_map, IfOk, string_bytes};
 ghost use Rattle.ports.specs.Endings.{HasRoom, ended};
 ghost use Rattle.ports.specs.Outputs.{IsOpen, Makes, Writes, puts};
+ghost use Rattle.edge.specs.Holding.{is_some_list};
 ghost use Rattle.edge.specs.Texts.{texts};
 ghost use Rattle.edge.specs.View.{edge_view};
+ghost use Rattle.targets.specs.Inputs.{input_view};
+ghost use Rattle.target_edges.specs.Parts.{joined_edge};
+ghost use Rattle.ninja.specs.Parts.{shared_text};
 ghost use Rattle.ninja.specs.Writing.{edge_text};
 ghost use Rattle.build_file.specs.BuildFile.{build_steps, ending_of};
 ghost use Rattle.build_file.specs.Parts.{head_steps, parts_steps, tail_steps, target_steps, targets_steps};
 
 use crate::defaults::default_paths;
 use crate::stop::WriteStop;
-use edge::Edge;
-use ninja::{write_edge, write_head, write_tail};
-use ports::{DeviceFault, Outputs};
-use project::{Project, edges, edges_stand_in_order};
-use std::alloc::Global;
+use edge::{Edge, Rule};
+use ninja::{head, push_edge, push_joined, push_shared, push_tail};
+use ports::{DeviceFault, Outputs, put_all};
+use project::{Project, edges_stand_in_order, parts};
+use std::alloc::{AllocError, Global};
+use target_edges::{TargetParts, last_words, own_parts, source_texts};
+use targets::Input;
+
+// ---- the edges of a target
+
+// What the compile edges of a target are written from.
+#[derive(Clone, Copy)]
+struct Compiling<'a> {
+    alloc: Global,
+    parts: &'a TargetParts,
+    // What they share, as text.
+    shared: &'a [u8],
+}
+
+fn shared_of(alloc: Global, parts: &TargetParts) -> Result<Vec<u8>, AllocError>
+    ensures { IfOk result (λ v. v.items ≡ shared_text (texts parts.now.generated.items) (texts parts.now.words.items)) }
+{
+    let mut text = Vec::new(alloc);
+    push_shared(&mut text, &parts.generated, &parts.words)?;
+    Ok(text)
+}
+
+fn push_compile(text: &mut Vec<u8>, from: &Compiling, input: &Input) -> Result<(), AllocError>
+    requires shared { from.now.shared.now ≡ shared_text (texts from.now.parts.now.generated.items) (texts from.now.parts.now.words.items) }
+    requires first { is_some_list (texts from.now.parts.now.words.items) ≡ true }
+    ensures { let p = from.now.parts.now in
+        let edge = joined_edge (texts p.words.items) (texts p.generated.items) (string_bytes p.file) (input_view input.now) in
+        IfOk result (λ _. text.new.items ≡ text.old.items ++ edge_text edge) }
+{
+    let texts = source_texts(from.alloc, &from.parts.file, input)?;
+    let words = last_words(&texts, &input.path);
+    let own = own_parts(&texts, &input.path, &words);
+    push_joined(text, Rule::CCompile, from.shared, &own)
+}
+
+// The edge that compiles an input. Its text is gathered, and put at once.
+fn write_compile<O: Outputs>(
+    text: &mut Vec<u8>,
+    from: &Compiling,
+    input: &Input,
+    out: &mut O,
+) -> Result<(), WriteStop>
+    requires shared { from.now.shared.now ≡ shared_text (texts from.now.parts.now.generated.items) (texts from.now.parts.now.words.items) }
+    requires first { is_some_list (texts from.now.parts.now.words.items) ≡ true }
+    requires out { IsOpen (O.seen out.old) }
+    ensures { let p = from.now.parts.now in
+        let edge = joined_edge (texts p.words.items) (texts p.generated.items) (string_bytes p.file) (input_view input.now) in
+        Writes (O.seen out.old) (puts (edge_text edge)) (ending_of result) (O.seen out.new) }
+{
+    text.clear();
+    push_compile(text, from, input)?;
+    put_all(out, text)?;
+    Ok(())
+}
 
 #[tactic(auto, using(ports::proofs::Sending::sending))]
-fn write_edges<O: Outputs>(edges: &[Edge], out: &mut O) -> Result<(), DeviceFault>
-    requires { IsOpen (O.seen out.old) }
-    ensures { Writes (O.seen out.old) (flat_map (λ e. puts (edge_text (edge_view e))) edges.now) (ended result) (O.seen out.new) }
+fn write_compiles<O: Outputs>(
+    text: &mut Vec<u8>,
+    from: &Compiling,
+    out: &mut O,
+) -> Result<(), WriteStop>
+    requires shared { from.now.shared.now ≡ shared_text (texts from.now.parts.now.generated.items) (texts from.now.parts.now.words.items) }
+    requires out { IsOpen (O.seen out.old) }
+    ensures { let p = from.now.parts.now in
+        let edge = joined_edge (texts p.words.items) (texts p.generated.items) (string_bytes p.file) in
+        Writes (O.seen out.old) (flat_map (λ i. puts (edge_text (edge (input_view i)))) p.inputs.items) (ending_of result) (O.seen out.new) }
 {
-    for edge in edges {
-        write_edge(edge, out)?;
+    for input in &from.parts.inputs {
+        write_compile(text, from, input, out)?;
     }
     Ok(())
 }
+
+fn write_edge<O: Outputs>(text: &mut Vec<u8>, edge: &Edge, out: &mut O) -> Result<(), WriteStop>
+    requires { IsOpen (O.seen out.old) }
+    ensures { Writes (O.seen out.old) (puts (edge_text (edge_view edge.now))) (ending_of result) (O.seen out.new) }
+{
+    text.clear();
+    push_edge(text, edge)?;
+    put_all(out, text)?;
+    Ok(())
+}
+
+#[tactic(auto, using(ports::proofs::Sending::sending))]
+fn write_edges<O: Outputs>(text: &mut Vec<u8>, edges: &[Edge], out: &mut O) -> Result<(), WriteStop>
+    requires { IsOpen (O.seen out.old) }
+    ensures { Writes (O.seen out.old) (flat_map (λ e. puts (edge_text (edge_view e))) edges.now) (ending_of result) (O.seen out.new) }
+{
+    for edge in edges {
+        write_edge(text, edge, out)?;
+    }
+    Ok(())
+}
+
+// The edges of one target. No more than its parts are held at a time, and the text of one edge.
+#[tactic(auto, using(ports::proofs::Sending::sending))]
+fn write_target<O: Outputs>(
+    alloc: Global,
+    text: &mut Vec<u8>,
+    project: &Project,
+    number: usize,
+    out: &mut O,
+) -> Result<(), WriteStop>
+    requires { IsOpen (O.seen out.old) }
+    ensures { Writes (O.seen out.old) (target_steps project.now number) (ending_of result) (O.seen out.new) }
+{
+    let parts = parts(project, number)?;
+    let shared = shared_of(alloc, &parts)?;
+    let from = Compiling {
+        alloc,
+        parts: &parts,
+        shared: &shared,
+    };
+    write_compiles(text, &from, out)?;
+    write_edges(text, &parts.rest, out)
+}
+
+// ---- the file
 
 #[tactic(auto, unfolding(crate::specs::Parts::head_steps))]
 fn put_head<O: Outputs>(out: &mut O) -> Result<(), DeviceFault>
     requires { IsOpen (O.seen out.old) }
     ensures { Writes (O.seen out.old) head_steps (ended result) (O.seen out.new) }
 {
-    write_head(out)
+    put_all(out, head())
 }
 
-#[tactic(auto, unfolding(crate::specs::Parts::tail_steps))]
-fn put_tail<O: Outputs>(paths: &[String], out: &mut O) -> Result<(), DeviceFault>
+fn put_tail<O: Outputs>(text: &mut Vec<u8>, paths: &[String], out: &mut O) -> Result<(), WriteStop>
     requires { IsOpen (O.seen out.old) }
-    ensures { Writes (O.seen out.old) (tail_steps (texts paths.now)) (ended result) (O.seen out.new) }
+    ensures { Writes (O.seen out.old) (tail_steps (texts paths.now)) (ending_of result) (O.seen out.new) }
 {
-    write_tail(paths, out)
-}
-
-// The edges of one target. No more than these are held at a time.
-fn write_target<O: Outputs>(project: &Project, number: usize, out: &mut O) -> Result<(), WriteStop>
-    requires { IsOpen (O.seen out.old) }
-    ensures { Writes (O.seen out.old) (target_steps project.now number) (ending_of result) (O.seen out.new) }
-{
-    let edges = edges(project, number)?;
-    write_edges(&edges, out)?;
+    text.clear();
+    push_tail(text, paths)?;
+    put_all(out, text)?;
     Ok(())
 }
 
 #[tactic(auto, using(ports::proofs::Sending::sending))]
-fn write_targets<O: Outputs>(project: &Project, out: &mut O) -> Result<(), WriteStop>
+fn write_targets<O: Outputs>(
+    alloc: Global,
+    text: &mut Vec<u8>,
+    project: &Project,
+    out: &mut O,
+) -> Result<(), WriteStop>
     requires { IsOpen (O.seen out.old) }
     ensures { Writes (O.seen out.old) (targets_steps project.now) (ending_of result) (O.seen out.new) }
 {
     for number in 0..project.targets().len() {
-        write_target(project, number, out)?;
+        write_target(alloc, text, project, number, out)?;
     }
     Ok(())
 }
 
 #[tactic(auto, using(ports::proofs::Sending::sending))]
 fn write_parts<O: Outputs>(
+    alloc: Global,
     project: &Project,
     paths: &[String],
     out: &mut O,
@@ -73,10 +182,11 @@ fn write_parts<O: Outputs>(
     requires { HasRoom (O.seen out.old).failures }
     ensures { Makes (O.seen out.old) (parts_steps project.now (texts paths.now)) (ending_of result) (O.seen out.new) }
 {
+    let mut text = Vec::new(alloc);
     out.open("build.ninja")?;
     put_head(out)?;
-    write_targets(project, out)?;
-    put_tail(paths, out)?;
+    write_targets(alloc, &mut text, project, out)?;
+    put_tail(&mut text, paths, out)?;
     out.close()?;
     Ok(())
 }
@@ -94,5 +204,5 @@ pub fn write_build_file<O: Outputs>(
 {
     let paths = default_paths(alloc, project)?;
     edges_stand_in_order(project);
-    write_parts(project, &paths, out)
+    write_parts(alloc, project, &paths, out)
 }

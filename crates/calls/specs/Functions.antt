@@ -4,10 +4,11 @@ use Rattle.data.specs.Data.{Data}
 use Rattle.arguments.specs.Arguments.{ArgumentsData}
 use Rattle.arguments.specs.Disablers.{gives_disabler}
 use Rattle.basics.specs.declared.faults.refusal.Refusal.TheVariants as refusals
-use Rattle.arguments.specs.Row.{RowData, checked}
+use Rattle.arguments.specs.Row.{RowData}
 use Rattle.configuration_calls.specs.ConfigureFile.{has_meson_format}
 use Rattle.configuration_calls.specs.Rows.{other_format_row}
-use Rattle.world.specs.Deed.{Deed, give, ◌>>=◌, fitting, need}
+use Rattle.world.specs.Deed.{Deed, give, ◌>>=◌, need}
+use Rattle.world.specs.Fit.{fit}
 use Rattle.language_calls.specs.Disablers.{give_disabler, tell_disabler}
 use Rattle.language_calls.specs.JoinPaths.{join_paths}
 use Rattle.language_calls.specs.Messages.{message, warning, error, assert}
@@ -57,6 +58,6 @@ has_unwanted_disabler f a = false
 -- a function on its arguments, which its row looks at first; then `project` given a disabler is E9, also where its row lets that through
 unfoldable pub call : Function → ArgumentsData → Deed (Option Data)
 call f a = do
-  _ ← fitting (checked (row_for f a) a)
+  _ ← fit (row_for f a) a
   _ ← need (not (has_unwanted_disabler f a)) refusals.Arguments []
   does f a

@@ -10,14 +10,17 @@ use Rattle.project_calls.specs.GetOption.{get_option}
 use Rattle.project_calls.specs.Rows.{get_option_row}
 use Rattle.resource_calls.specs.DeclareDependency.{declare_dependency}
 use Rattle.resource_calls.specs.Dependency.{dependency}
-use Rattle.resource_calls.specs.Installs.{install_data, install_headers, install_man}
+use Rattle.resource_calls.specs.Installs.{install}
 use Rattle.resource_calls.specs.Programs.{find_program}
-use Rattle.resource_calls.specs.Rows.{declare_dependency_row, dependency_row, find_program_row, install_data_row, install_headers_row, install_man_row, test_row}
+use Rattle.resource_calls.specs.Rows.{declare_dependency_row, dependency_row, find_program_row, install_data_row}
+use Rattle.resource_calls.specs.Rows.{install_headers_row, install_man_row, test_row}
 use Rattle.resource_calls.specs.Tests.{test}
+use Rattle.resource_calls.specs.declared.destinations.Sort.TheVariants as sorts
 use Rattle.target_calls.specs.CustomCalls.{custom_target}
 use Rattle.target_calls.specs.Files.{files, include_directories}
 use Rattle.target_calls.specs.ProjectWords.{add_project_arguments, add_project_link_arguments}
-use Rattle.target_calls.specs.Rows.{custom_target_row, files_row, include_directories_row, project_words_row, shared_library_row, target_row}
+use Rattle.target_calls.specs.Rows.{custom_target_row, files_row, include_directories_row, project_words_row, shared_library_row}
+use Rattle.target_calls.specs.Rows.{target_row}
 use Rattle.target_calls.specs.Targets.{declare, library}
 use Rattle.targets.specs.declared.target.Kind.TheVariants as kinds
 use Rattle.world.specs.Deed.{Deed}
@@ -60,9 +63,9 @@ project_function functions.Files a = files a
 project_function functions.FindProgram a = find_program a
 project_function functions.GetOption a = get_option a
 project_function functions.IncludeDirectories a = include_directories a
-project_function functions.InstallData a = install_data a
-project_function functions.InstallHeaders a = install_headers a
-project_function functions.InstallMan a = install_man a
+project_function functions.InstallData a = install sorts.Data a
+project_function functions.InstallHeaders a = install sorts.Header a
+project_function functions.InstallMan a = install sorts.ManPage a
 project_function functions.Library a = library a
 project_function functions.SharedLibrary a = declare kinds.SharedLibrary a
 project_function functions.StaticLibrary a = declare kinds.StaticLibrary a

@@ -2,18 +2,18 @@
 ghost use Rattle.std.specs.Prelude.{◌≡◌, not, ◌&&◌, [], option_map};
 ghost use Rattle.data.specs.View.{data_of};
 ghost use Rattle.arguments.specs.Arguments.{arguments_data};
-ghost use Rattle.arguments.specs.Row.{checked};
 ghost use Rattle.arguments.specs.RowView.{row_data};
 ghost use Rattle.world.specs.Answering.{Carries, HasRoom};
 ghost use Rattle.world.specs.Caller.{state_of};
-ghost use Rattle.world.specs.Deed.{fitting, need};
+ghost use Rattle.world.specs.Deed.{need};
+ghost use Rattle.world.specs.Fit.{fit};
 ghost use Rattle.calls.specs.Functions.{call, does, has_other_format, has_unwanted_disabler, row_for};
 ghost use Rattle.basics.specs.declared.faults.refusal.Refusal.TheVariants as refusals;
 ghost use Rattle.language_calls.specs.Turning.{makes_file};
 
 use crate::project_functions::project_function;
 use crate::rows::row;
-use arguments::{Arguments, Row, check, gives_disabler};
+use arguments::{Arguments, Row, gives_disabler};
 use basics::faults::Refusal;
 use configuration_calls::{has_meson_format, other_format_row};
 use data::Value;
@@ -73,12 +73,11 @@ fn fit<T: Tree, O: Outputs>(
     function: Function,
     arguments: &Arguments,
 ) -> Result<(), Stop>
-    ensures { Carries (λ u. u) (fitting (checked (row_for function (arguments_data arguments.now)) (arguments_data arguments.now)))
+    ensures { Carries (λ u. u) (fit (row_for function (arguments_data arguments.now)) (arguments_data arguments.now))
         (state_of T.seen O.seen caller.now)
         result (state_of T.seen O.seen caller.now) }
 {
-    let answer = check(caller.alloc, &row_for(function, arguments), arguments)?;
-    caller.fitting(answer)
+    caller.fit(&row_for(function, arguments), arguments)
 }
 
 // What a function does with arguments that its row has let through.

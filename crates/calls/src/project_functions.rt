@@ -16,15 +16,16 @@ use language_calls::ProjectFunction;
 use ports::{Outputs, Tree};
 use project_calls::{get_option, get_option_row};
 use resource_calls::{
-    declare_dependency, declare_dependency_row, dependency, dependency_row, find_program,
-    find_program_row, install_data, install_data_row, install_headers, install_headers_row,
-    install_man, install_man_row, test, test_row,
+    Sort, declare_dependency, declare_dependency_row, dependency, dependency_row, find_program,
+    find_program_row, install, install_data_row, install_headers_row, install_man_row, test,
+    test_row,
 };
 use target_calls::{
-    add_project_arguments, add_project_link_arguments, custom_target, custom_target_row,
-    executable, files, files_row, include_directories, include_directories_row, library,
-    project_words_row, shared_library, shared_library_row, static_library, target_row,
+    add_project_arguments, add_project_link_arguments, custom_target, custom_target_row, declare,
+    files, files_row, include_directories, include_directories_row, library, project_words_row,
+    shared_library_row, target_row,
 };
+use targets::Kind;
 use world::{Caller, Stop};
 
 /// What a function takes.
@@ -67,7 +68,7 @@ pub fn project_function<T: Tree, O: Outputs>(
         ProjectFunction::AddProjectArguments => add_project_arguments(caller, arguments),
         ProjectFunction::AddProjectLinkArguments => add_project_link_arguments(caller, arguments),
         ProjectFunction::CustomTarget => custom_target(caller, arguments),
-        ProjectFunction::Executable => executable(caller, arguments),
+        ProjectFunction::Executable => declare(caller, Kind::Executable, arguments),
         ProjectFunction::Files => files(caller, arguments),
         ProjectFunction::IncludeDirectories => include_directories(caller, arguments),
         ProjectFunction::ConfigurationData => configuration_data(caller, arguments),
@@ -76,12 +77,12 @@ pub fn project_function<T: Tree, O: Outputs>(
         ProjectFunction::Dependency => dependency(caller, arguments),
         ProjectFunction::FindProgram => find_program(caller, arguments),
         ProjectFunction::GetOption => get_option(caller, arguments),
-        ProjectFunction::InstallData => install_data(caller, arguments),
-        ProjectFunction::InstallHeaders => install_headers(caller, arguments),
-        ProjectFunction::InstallMan => install_man(caller, arguments),
+        ProjectFunction::InstallData => install(caller, Sort::Data, arguments),
+        ProjectFunction::InstallHeaders => install(caller, Sort::Header, arguments),
+        ProjectFunction::InstallMan => install(caller, Sort::ManPage, arguments),
         ProjectFunction::Test => test(caller, arguments),
         ProjectFunction::Library => library(caller, arguments),
-        ProjectFunction::SharedLibrary => shared_library(caller, arguments),
-        ProjectFunction::StaticLibrary => static_library(caller, arguments),
+        ProjectFunction::SharedLibrary => declare(caller, Kind::SharedLibrary, arguments),
+        ProjectFunction::StaticLibrary => declare(caller, Kind::StaticLibrary, arguments),
     }
 }

@@ -31,7 +31,7 @@ link_at ts (Index i) = IndexTree (tree_at ts i)
 -- the tree of a node, by the table of names and the trees of the nodes before it
 abbrev pub tree_of : List (List ℕ) → List ExpressionTree → Node → ExpressionTree
 tree_of names ts (flat.Name number line) = NameTree (slice_index_or names number []) line
-tree_of names ts (flat.Literal literal text line) = LiteralTree literal (string_bytes text) line
+tree_of names ts (flat.Literal node line) = LiteralTree node.value.literal (string_bytes node.value.text) line
 tree_of names ts (flat.List items line) = ListTree (expressions (map (tree_at ts) items.items)) line
 tree_of names ts (flat.Dictionary es line) = DictionaryTree (entries (map (entry_at ts) es.items)) line
 tree_of names ts (flat.Call name items line) = FunctionTree (string_bytes name) (arguments (map (argument_at ts) items.items)) line
@@ -65,7 +65,7 @@ link_within n (Index i) = nat_lt i n
 
 abbrev pub within : ℕ → ℕ → Node → Bool
 within k n (flat.Name number line) = nat_lt number k
-within k n (flat.Literal literal text line) = true
+within k n (flat.Literal node line) = true
 within k n (flat.List items line) = list_all (λ i. nat_lt i n) items.items
 within k n (flat.Dictionary es line) = list_all (entry_within n) es.items
 within k n (flat.Call name items line) = list_all (argument_within n) items.items

@@ -4,6 +4,7 @@ ghost use Rattle.grammar.specs.ExpressionTree.{NameTree, LiteralTree, ListTree, 
 ghost use Rattle.code.specs.Nodes.{argument_at, link_at, argument_within, link_within};
 
 use crate::draft::Draft;
+use crate::literal::LiteralNode;
 use crate::node::{ArgumentNode, EntryNode, LinkNode, Node, OperandNode};
 use grammar::tree::{Argument, Entry, Expression, Link, Literal, Operand, Prefix};
 use std::alloc::{AllocError, Global};
@@ -75,12 +76,9 @@ impl Draft {
         ensures grows { Grows self.old self.new }
         ensures stands { IfOk result (λ number. Stands (trees_in self.new) number (LiteralTree literal text.now line)) }
     {
-        let text = String::from_str(self.alloc, text)?;
-        self.push(Node::Literal {
-            literal,
-            text,
-            line,
-        })
+        let literal = LiteralNode::new(self.alloc, literal, text)?;
+        let literal = Box::new(self.alloc, literal)?;
+        self.push(Node::Literal { literal, line })
     }
 
     // `[first, second]`

@@ -1,5 +1,6 @@
 //! The nodes of expressions.
-use grammar::tree::{Literal, Operator, Prefix};
+use crate::literal::LiteralNode;
+use grammar::tree::{Operator, Prefix};
 
 /// An expression whose parts are named by their numbers in the list of nodes. Each node has the line of its first token.
 #[derive(Drop)]
@@ -9,10 +10,9 @@ pub enum Node {
         number: usize,
         line: usize,
     },
-    /// A literal, as it stands in the source: a string has its quotes.
+    /// A literal.
     Literal {
-        literal: Literal,
-        text: String,
+        literal: Box<LiteralNode>,
         line: usize,
     },
     /// `[first, second]`

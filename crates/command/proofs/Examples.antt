@@ -3,7 +3,7 @@ use Rattle.std.proofs.Common.{◌≡◌, ◌∷◌, [], List, ℕ, Some, None, c
 use Rattle.clap.proofs.OnLiterals.{clap_on_literals}
 use Rattle.clap.specs.declared.error.kind.ErrorKind.TheVariants.{DisplayHelp, MissingRequiredArgument, MissingSubcommand, UnknownArgument, ArgumentConflict, InvalidSubcommand}
 use Rattle.command.specs.CommandLine.{faults_of, given_in}
-use Rattle.command.specs.declared.line.Task.TheVariants.{Setup, Questions}
+use Rattle.command.specs.declared.line.Task.TheVariants.{Setup, Questions, Fault}
 
 abbrev Words : Type 0
 Words = List (List ℕ)
@@ -36,7 +36,7 @@ full_gives : given_in full ≡ Some (record {
 unfolding clap_on_literals
 full_gives = refl
 
--- the same words of the other task
+-- the same words of another task
 abbrev asking : Words
 asking = codes "meson" ∷ codes "questions" ∷ codes "-Da=b" ∷ codes ".//out/./x/" ∷ codes "-D" ∷ codes "c=-d" ∷ codes "--native-file"
     ∷ codes "m.ini" ∷ []
@@ -53,6 +53,18 @@ asking_gives : given_in asking ≡ Some (record {
 })
 unfolding clap_on_literals
 asking_gives = refl
+
+-- and of the third
+abbrev telling : Words
+telling = codes "meson" ∷ codes "fault" ∷ codes "build" ∷ []
+
+telling_passes : faults_of telling ≡ []
+unfolding clap_on_literals
+telling_passes = refl
+
+telling_gives : given_in telling ≡ Some (record { task = Fault; words = []; machine_file = None; folder = codes "build" })
+unfolding clap_on_literals
+telling_gives = refl
 
 -- a task is named whole
 other_is_none : faults_of (codes "meson" ∷ codes "question" ∷ codes "build" ∷ []) ≡ UnknownArgument ∷ InvalidSubcommand ∷ []

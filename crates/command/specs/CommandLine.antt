@@ -1,4 +1,5 @@
--- What a command line asks for: `meson setup [-Dname=value].. [--native-file FILE] BUILDDIR`, or `meson questions` with the same words.
+-- What a command line asks for: `meson setup [-Dname=value].. [--native-file FILE] BUILDDIR`, or `meson questions` or `meson fault` with
+-- the same words.
 use Rattle.std.specs.Prelude.{◌≡◌, ◌≢◌, ◌⊎◌, ⊤, ℕ, Bool, true, List, [], Option, Some, None, codes, map, unwrap_or, option_map, if◌then◌else◌, Result, Ok, Err, string_bytes}
 use Rattle.std.specs.Str.{bytes_eq}
 use Rattle.clap.specs.Words.{App, Row, Rule, IsAmong, all_of, fault_of, first_of, new_app, new_rule, subcommand_of, with_rule, with_subcommand}
@@ -10,7 +11,7 @@ use Rattle.clap.specs.declared.error.kind.ErrorKind.TheVariants as kind
 use Rattle.command.specs.BuildFolder.{names_build_folder, tidy_path}
 use Rattle.command.specs.declared.line.Line.{Line}
 use Rattle.command.specs.declared.line.Task.{Task}
-use Rattle.command.specs.declared.line.Task.TheVariants.{Setup, Questions}
+use Rattle.command.specs.declared.line.Task.TheVariants.{Setup, Questions, Fault}
 use Rattle.command.specs.declared.fault.LineFault.{LineFault}
 use Rattle.command.specs.declared.fault.LineFault.TheVariants.{Help, Usage, Memory}
 
@@ -43,7 +44,8 @@ bare_app = record (new_app (codes "meson")) {
 }
 
 abbrev pub meson_app : App
-meson_app = with_subcommand (with_subcommand bare_app (task_app (codes "setup")).top) (task_app (codes "questions")).top
+meson_app = with_subcommand (with_subcommand (with_subcommand bare_app (task_app (codes "setup")).top) (task_app (codes "questions")).top)
+    (task_app (codes "fault")).top
 
 -- an argument of the command or of a subcommand is global
 abbrev pub has_globals : Command → Bool
@@ -60,7 +62,10 @@ abbrev pub found_by : List (List ℕ) → List ℕ × List Row
 found_by words = unwrap_or (subcommand_of meson_app words) ([], [])
 
 abbrev pub task_named : List ℕ → Task
-task_named name = if bytes_eq name (codes "questions") then Questions else Setup
+task_named name =
+    if bytes_eq name (codes "questions") then Questions
+    else if bytes_eq name (codes "fault") then Fault
+    else Setup
 
 -- ---- what a line gives
 

@@ -24,9 +24,15 @@ pub(crate) fn command<'a>(alloc: Global) -> Result<Command<'a>, AllocError>
         "questions",
         "Tells what a setup asks of the machine, and writes nothing.",
     )?;
+    let fault = task(
+        alloc,
+        "fault",
+        "Tells the fault of a setup and what it is about, and writes nothing.",
+    )?;
     let named = bare.bin_name("meson")?;
     let first = named.subcommand(setup)?;
-    first.subcommand(questions)
+    let second = first.subcommand(questions)?;
+    second.subcommand(fault)
 }
 
 // `-D NAME=VALUE`, as often as wanted.

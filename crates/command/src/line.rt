@@ -9,6 +9,8 @@ pub enum Task {
     Setup,
     /// What that asks of the machine is told.
     Questions,
+    /// The fault in which that ends is told, and what it is about.
+    Fault,
 }
 
 /// What a command line asks for.

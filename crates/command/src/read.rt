@@ -62,6 +62,7 @@ fn folder_fault(alloc: Global, task: Task, path: &str) -> Result<String, AllocEr
     let name = match task {
         Task::Setup => "setup",
         Task::Questions => "questions",
+        Task::Fault => "fault",
     };
     format!(in alloc;
         "error: '{path}' cannot be the folder of a build: it has to be a relative path of 1 to 64 parts, none of them '..'\n\n\
@@ -73,10 +74,10 @@ fn folder_fault(alloc: Global, task: Task, path: &str) -> Result<String, AllocEr
 fn task_named(name: &str) -> Task
     ensures { result ≡ task_named name.now }
 {
-    if name == "questions" {
-        Task::Questions
-    } else {
-        Task::Setup
+    match name {
+        "questions" => Task::Questions,
+        "fault" => Task::Fault,
+        _ => Task::Setup,
     }
 }
 

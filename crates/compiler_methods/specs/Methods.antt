@@ -4,13 +4,13 @@ use Rattle.arguments.specs.Arguments.{ArgumentsData}
 use Rattle.data.specs.Flat.{flat_all}
 use Rattle.arguments.specs.Given.{text_or_none}
 use Rattle.arguments.specs.Leaves.{leaves_from}
-use Rattle.arguments.specs.Row.{checked}
 use Rattle.data.specs.Data.{Data, integer, list, text, Items, no_items, item, items_append}
 use Rattle.data.specs.Limits.{within}
 use Rattle.basics.specs.declared.faults.refusal.Refusal.TheVariants as refusals
 use Rattle.machine_file.specs.Questions.{Answer, check_topic, plain}
 use Rattle.resources.specs.Beside.{call_question}
-use Rattle.world.specs.Deed.{Deed, give, refuse, consult, ◌>>=◌, answered, fitting}
+use Rattle.world.specs.Deed.{Deed, give, refuse, consult, ◌>>=◌, answered}
+use Rattle.world.specs.Fit.{fit}
 use Rattle.compiler_methods.specs.Checks.{check, find_library}
 use Rattle.compiler_methods.specs.Names.{named}
 use Rattle.compiler_methods.specs.Rows.{row_of}
@@ -73,7 +73,7 @@ has_method name = is_some (named name)
 -- a method on its arguments, which its row looks at first
 unfoldable pub called : CompilerMethod → (name : List ℕ) → ArgumentsData → Deed (Option Data)
 called method name a = do
-  _ ← fitting (checked (row_of method) a)
+  _ ← fit (row_of method) a
   does method name a
 
 abbrev pub called_by : Option CompilerMethod → (name : List ℕ) → ArgumentsData → Deed (Option Data)

@@ -2,7 +2,6 @@
 ghost use Rattle.std.specs.Prelude.{◌≡◌, IfOk, OnOk, Some, map, option_map};
 ghost use Rattle.arguments.specs.Arguments.{arguments_data};
 ghost use Rattle.arguments.specs.Given.{text_or_none};
-ghost use Rattle.arguments.specs.Row.{checked};
 ghost use Rattle.data.specs.Data.{integer, items_append, list, no_items, text};
 ghost use Rattle.data.specs.Limits.{within};
 ghost use Rattle.data.specs.Tables.{Answers};
@@ -11,7 +10,8 @@ ghost use Rattle.machine_file.specs.Questions.{answer_to, check_topic, plain};
 ghost use Rattle.machine_file.specs.View.{machine_in};
 ghost use Rattle.world.specs.Answering.{Carries};
 ghost use Rattle.world.specs.Caller.{state_of};
-ghost use Rattle.world.specs.Deed.{consult, fitting};
+ghost use Rattle.world.specs.Deed.{consult};
+ghost use Rattle.world.specs.Fit.{fit};
 ghost use Rattle.compiler_methods.specs.Methods.{called, compiler_method, does, get_id, get_supported_arguments, kept, number};
 ghost use Rattle.compiler_methods.specs.Methods.{supported, version};
 ghost use Rattle.compiler_methods.specs.Rows.{row_of};
@@ -21,7 +21,7 @@ use crate::checks::{ask_check, check, find_library};
 use crate::names::CompilerMethod;
 use crate::rows::row;
 use crate::said::{id_of, is_true, number_of, version_of};
-use arguments::{Arguments, check as check_row};
+use arguments::Arguments;
 use data::{List, Refusal, Value};
 use machine_file::{Machine, Question, Topic};
 use ports::{Outputs, Tree};
@@ -179,11 +179,10 @@ fn fit<T: Tree, O: Outputs>(
     method: CompilerMethod,
     arguments: &Arguments,
 ) -> Result<(), Stop>
-    ensures { Carries (λ u. u) (fitting (checked (row_of method) (arguments_data arguments.now)))
+    ensures { Carries (λ u. u) (fit (row_of method) (arguments_data arguments.now))
         (state_of T.seen O.seen caller.now) result (state_of T.seen O.seen caller.now) }
 {
-    let answer = check_row(caller.alloc, &row(method), arguments)?;
-    caller.fitting(answer)
+    caller.fit(&row(method), arguments)
 }
 
 // What a method does with arguments that its row has let through.

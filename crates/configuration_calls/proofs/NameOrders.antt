@@ -14,7 +14,8 @@ use Rattle.std.proofs.lemmas.Slice.Eq.{bytes_eq-Decides}
 use Rattle.data.specs.Data.{Data, Entries as DictionaryEntries, no_entries, entry, keys_in, entry_values}
 use Rattle.template.specs.Config.{Content, Entries, names, with_value}
 use Rattle.configuration_calls.specs.Contents.{content_at, set_then, all_set}
-use Rattle.configuration_calls.specs.NameOrder.{Ascend, is_among, NamesAscend}
+use Rattle.basics.specs.Among.{is_among}
+use Rattle.configuration_calls.specs.NameOrder.{Ascend, NamesAscend}
 
 abbrev cmp : List ℕ → List ℕ → Ordering
 cmp = slice_cmp nat_cmp
@@ -55,17 +56,17 @@ or_twice : (a c : Bool) → (a || c) ≡ (a || (a || c))
 or_twice true c = refl
 or_twice false c = refl
 
-among_inserted : (q : List ℕ) (xs : List (List ℕ)) (k : List ℕ) → is_among q (insert_key cmp xs k) ≡ (bytes_eq q k || is_among q xs)
+among_inserted : (q : List ℕ) (xs : List (List ℕ)) (k : List ℕ) → is_among (insert_key cmp xs k) q ≡ (bytes_eq q k || is_among xs q)
 among_inserted q [] k = refl
 among_inserted q (x ∷ xs) k = by (cmp k x) refl (among_inserted q xs k)
   where
-    by : (o : Ordering) → cmp k x ≡ o → is_among q (insert_key cmp xs k) ≡ (bytes_eq q k || is_among q xs)
-        → is_among q (match_ordering o (k ∷ x ∷ xs) (x ∷ xs) (x ∷ insert_key cmp xs k)) ≡ (bytes_eq q k || (bytes_eq q x || is_among q xs))
+    by : (o : Ordering) → cmp k x ≡ o → is_among (insert_key cmp xs k) q ≡ (bytes_eq q k || is_among xs q)
+        → is_among (match_ordering o (k ∷ x ∷ xs) (x ∷ xs) (x ∷ insert_key cmp xs k)) q ≡ (bytes_eq q k || (bytes_eq q x || is_among xs q))
     by ordering.Less e h = refl
     by ordering.Equal e h =
         let same : k ≡ x = (bytes_eq-Decides k x).0 (sym (is_eq-slice_cmp k x) ∙ ap is_eq e) in
-        or_twice (bytes_eq q x) (is_among q xs) ∙ ap (λ z. bytes_eq q z || (bytes_eq q x || is_among q xs)) (sym same)
-    by ordering.Greater e h = ap (λ b. bytes_eq q x || b) h ∙ or_swapped (bytes_eq q x) (bytes_eq q k) (is_among q xs)
+        or_twice (bytes_eq q x) (is_among xs q) ∙ ap (λ z. bytes_eq q z || (bytes_eq q x || is_among xs q)) (sym same)
+    by ordering.Greater e h = ap (λ b. bytes_eq q x || b) h ∙ or_swapped (bytes_eq q x) (bytes_eq q k) (is_among xs q)
 
 or_moved : (a b c : Bool) → ((a || b) || c) ≡ (b || (a || c))
 or_moved true true c = refl
@@ -97,7 +98,7 @@ names_with entries k v = names_inserted entries k v
 -- ---- all of a dictionary
 
 abbrev Kept : (before keys : List (List ℕ)) (result : Entries) → Type 0
-Kept before keys result = Ascend (names result) × ((q : List ℕ) → is_among q (names result) ≡ (is_among q before || is_among q keys))
+Kept before keys result = Ascend (names result) × ((q : List ℕ) → is_among (names result) q ≡ (is_among before q || is_among keys q))
 
 absent : {X : Type 0} (r : X) → None ≡ Some r → {P : Type 0} → P
 absent r e = absurd cc
@@ -108,7 +109,7 @@ some_is a b e = cc
 all_kept : (entries : Entries) (es : DictionaryEntries) (r : Entries) → Ascend (names entries) → all_set entries (keys_in es) (entry_values es) ≡ Some r
     → Kept (names entries) (keys_in es) r
 all_kept entries no_entries r a e =
-    subst (λ x. Kept (names entries) [] x) (some_is entries r e) (a, λ q. or_none (is_among q (names entries)))
+    subst (λ x. Kept (names entries) [] x) (some_is entries r e) (a, λ q. or_none (is_among (names entries) q))
 all_kept entries (entry k d es) r a e =
     by (content_at k d) e
     (λ content. all_kept (with_value entries k content) es r (subst Ascend (sym (names_with entries k content)) (ascend_inserted (names entries) k a)))
@@ -122,9 +123,9 @@ all_kept entries (entry k d es) r a e =
           h.0,
           λ q.
               h.1 q
-              ∙ ap (λ ns. is_among q ns || is_among q (keys_in es)) (names_with entries k content)
-              ∙ ap (λ b. b || is_among q (keys_in es)) (among_inserted q (names entries) k)
-              ∙ or_moved (bytes_eq q k) (is_among q (names entries)) (is_among q (keys_in es)),
+              ∙ ap (λ ns. is_among ns q || is_among (keys_in es) q) (names_with entries k content)
+              ∙ ap (λ b. b || is_among (keys_in es) q) (among_inserted q (names entries) k)
+              ∙ or_moved (bytes_eq q k) (is_among (names entries) q) (is_among (keys_in es) q),
         )
 
 pub names_do : NamesAscend

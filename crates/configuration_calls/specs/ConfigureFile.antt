@@ -1,5 +1,6 @@
 -- `configure_file`: a file that is made while the definition files are read.
-use Rattle.std.specs.Prelude.{ℕ, Bool, true, false, List, [], ◌∷◌, Option, Some, None, codes, bytes_eq, is_some, ok_or, option_and_then, option_map}
+use Rattle.std.specs.Prelude.{ℕ, Bool, true, false, List, [], ◌∷◌, Option, Some, None, codes, bytes_eq, is_some, ok_or, option_and_then}
+use Rattle.std.specs.Prelude.{option_map}
 use Rattle.std.specs.Prelude.{if◌then◌else◌}
 use Rattle.arguments.specs.Arguments.{ArgumentsData}
 use Rattle.arguments.specs.Given.{keyword, text_given, text_of}
@@ -17,12 +18,13 @@ use Rattle.project.specs.World.{InstallData}
 use Rattle.resources.specs.Installs.{destination}
 use Rattle.targets.specs.Files.{path_in}
 use Rattle.world.specs.Configuring.{freeze_configured}
-use Rattle.world.specs.Declaring.{add_install, add_output}
-use Rattle.world.specs.Deed.{Deed, give, read, ◌>>=◌, answered, fitting, need}
+use Rattle.world.specs.Declaring.{add_install}
+use Rattle.world.specs.Deed.{Deed, give, read, make, ◌>>=◌, answered, fitting, need}
+use Rattle.world.specs.Making.{Filling}
 use Rattle.world.specs.Options.{option_text}
 use Rattle.world.specs.World.{Facts}
 use Rattle.configuration_calls.specs.Given.{GivenData, given_by}
-use Rattle.configuration_calls.specs.Written.{header_written, output_written, template_at, template_written}
+use Rattle.configuration_calls.specs.Written.{header_filling, template_at, template_filling}
 
 -- ---- what the arguments say
 
@@ -99,28 +101,32 @@ unfoldable pub frozen_by : Option ℕ → Deed (Unit {0})
 frozen_by None = give tt
 frozen_by (Some number) = freeze_configured number
 
--- the path of the output: E21, E11
-unfoldable pub output_given : ArgumentsData → Deed Path
-output_given a = do
-  facts ← read
-  _ ← add_output facts.folder (text_of (codes "output") a)
-  answered (within_bytes (path_in facts.folder (text_of (codes "output") a)))
+-- before the output is opened: its path is a text that is not too long (E22), and the data are frozen
+unfoldable pub prepared : Path → Option ℕ → Deed Path
+prepared path number = do
+  given ← answered (within_bytes path)
+  _ ← frozen_by number
+  give given
 
--- The output is taken, the data are frozen, and only then the output is opened. It is filled so, and the call gives it as a file.
-unfoldable pub made : ArgumentsData → GivenData → (filling : Deed (Unit {0})) → Deed (Option Data)
+-- the output is made in the present folder (E21, E11), and its path given
+unfoldable pub output_made : ArgumentsData → GivenData → Filling → Deed Path
+output_made a values filling = do
+  facts ← read
+  make facts.folder (text_of (codes "output") a) (prepared (path_in facts.folder (text_of (codes "output") a)) values.number) filling
+
+-- and the call gives it as a file
+unfoldable pub made : ArgumentsData → GivenData → Filling → Deed (Option Data)
 made a values filling = do
-  path ← output_given a
-  _ ← frozen_by values.number
-  _ ← output_written path filling
+  path ← output_made a values filling
   _ ← installed path a
   give (Some (object (objects.File path true)))
 
 -- with a template, or without one
 unfoldable pub configured : ArgumentsData → Option Path → GivenData → Deed (Option Data)
-configured a None values = made a values (header_written values.entries)
+configured a None values = made a values (header_filling values.entries)
 configured a (Some path) values = do
   bytes ← template_at path
-  made a values (template_written values.entries path bytes)
+  made a values (template_filling values.entries path bytes)
 
 -- `configure_file()`: E9, E14, E21, E11; E19 or E22 at the template's first line that is refused, when the lines before it are written
 unfoldable pub configure_file : ArgumentsData → Deed (Option Data)

@@ -1,14 +1,15 @@
 -- The methods of configuration data: the type `cfg_data` of the page "Reference manual".
-use Rattle.std.specs.Prelude.{ℕ, pos, Bool, false, List, [], Option, Some, None, codes, is_some, ok_or, option_and_then, bytes_eq, if◌then◌else◌}
+use Rattle.std.specs.Prelude.{ℕ, pos, Bool, false, List, [], Option, Some, None, codes, is_some, ok_or, option_and_then, bytes_eq}
+use Rattle.std.specs.Prelude.{if◌then◌else◌}
 use Rattle.arguments.specs.Arguments.{ArgumentsData}
 use Rattle.arguments.specs.Given.{argument, flag_at, text_at}
-use Rattle.arguments.specs.Row.{checked}
 use Rattle.data.specs.Data.{Data, boolean}
 use Rattle.basics.specs.declared.faults.refusal.Refusal.TheVariants as refusals
 use Rattle.template.specs.Config.{Content, Number, names, value_of}
 use Rattle.template.specs.Line.{is_name}
 use Rattle.world.specs.Configuring.{configuration_at, merge_configured, set_configured, set_quoted}
 use Rattle.world.specs.Deed.{Deed, give, refuse, read, ◌>>=◌, answered, fitting, need}
+use Rattle.world.specs.Fit.{fit}
 use Rattle.configuration_calls.specs.Contents.{content_in, found_or, found_unquoted}
 use Rattle.operators.specs.TextLists.{text_list}
 use Rattle.configuration_calls.specs.Given.{entries_of, number_in}
@@ -122,7 +123,7 @@ does methods.SetQuoted number a = set_text_quoted number a
 
 unfoldable pub fitting_does : Method → ℕ → ArgumentsData → Deed (Option Data)
 fitting_does method number a = do
-  _ ← fitting (checked (row_of method) a)
+  _ ← fit (row_of method) a
   does method number a
 
 abbrev pub does_if : Option Method → ℕ → ArgumentsData → Deed (Option Data)

@@ -1,9 +1,10 @@
 -- What configuration data that is made of a dictionary comes to.
-use Rattle.std.specs.Prelude.{◌≡◌, ℕ, Bool, List, [], ◌∷◌, bytes_eq, Some}
+use Rattle.std.specs.Prelude.{◌≡◌, ℕ, List, [], ◌∷◌, Some}
 use Rattle.std.specs.Ordering.{nat_cmp}
 use Rattle.std.specs.Cmp.Lexicographic.{slice_cmp}
-use Rattle.std.specs.List.{AllByRecursion, list_any}
+use Rattle.std.specs.List.{AllByRecursion}
 use Rattle.std.specs.declared.cmp.Ordering.TheVariants.{Less}
+use Rattle.basics.specs.Among.{is_among}
 use Rattle.data.specs.Data.{Entries as DictionaryEntries, keys_in}
 use Rattle.template.specs.Config.{Entries, names}
 use Rattle.configuration_calls.specs.Contents.{entries_in}
@@ -13,10 +14,7 @@ abbrev pub Ascend : List (List ℕ) → Type 0
 Ascend [] = Unit {0}
 Ascend (t ∷ ts) = AllByRecursion (λ u. slice_cmp nat_cmp t u ≡ Less) ts × Ascend ts
 
-abbrev pub is_among : List ℕ → List (List ℕ) → Bool
-is_among t ts = list_any (bytes_eq t) ts
-
 -- its names ascend, and they are the keys of the dictionary
 abbrev pub NamesAscend : Type 0
 NamesAscend = (es : DictionaryEntries) (entries : Entries) → entries_in es ≡ Some entries
-    → Ascend (names entries) × ((k : List ℕ) → is_among k (names entries) ≡ is_among k (keys_in es))
+    → Ascend (names entries) × ((k : List ℕ) → is_among (names entries) k ≡ is_among (keys_in es) k)

@@ -1,10 +1,9 @@
--- What `configure_file` writes into its output, and what the answer of code says that reads a file of the tree as it writes.
-use Rattle.std.specs.Prelude.{◌≡◌, ℕ, List, [], Option, Some, None, Result, is_some, unwrap_or, refl}
+-- What `configure_file` fills its output with.
+use Rattle.std.specs.Prelude.{◌≡◌, ℕ, List, [], Option, Some, None, Result, is_some, option_map, unwrap_or}
 use Rattle.edge.specs.Texts.{Path}
-use Rattle.basics.specs.Faults.{plain_fault}
+use Rattle.basics.specs.Faults.{FaultData, plain_fault}
 use Rattle.basics.specs.declared.faults.refusal.Refusal.{Refusal}
 use Rattle.basics.specs.declared.faults.refusal.Refusal.TheVariants as refusals
-use Rattle.ports.specs.Outputs.{closing, opening}
 use Rattle.ports.specs.Tree.{Stays, bytes_at}
 use Rattle.template.specs.Config.{Entries}
 use Rattle.template.specs.Header.{header_steps}
@@ -12,10 +11,11 @@ use Rattle.template.specs.Line.{BadDefine, LongLine, Refusal as LineRefusal}
 use Rattle.template.specs.Template.{template_fault, template_steps}
 use Rattle.template.specs.declared.stop.PassStop.{PassStop}
 use Rattle.template.specs.declared.stop.PassStop.TheVariants as pass_stops
+use Rattle.template.proofs.Staying.{header_stays, template_stays}
 use Rattle.world.specs.Answering.{Fails, State, seen_at}
-use Rattle.world.specs.Deed.{Deed, Files, give, refuse, tell, ask, change, ◌>>=◌, need, perform}
+use Rattle.world.specs.Deed.{Deed, Files, give, ask, ◌>>=◌, need, perform}
 use Rattle.world.specs.Gives.{Gives, Holds, IsRefusal}
-use Rattle.world.specs.World.{Facts}
+use Rattle.world.specs.Making.{Filling}
 use Rattle.world.specs.declared.stop.Stop.{Stop}
 use Rattle.world.specs.declared.stop.Stop.TheVariants as stops
 
@@ -33,45 +33,28 @@ abbrev pub of_line : LineRefusal → Refusal
 of_line BadDefine = refusals.Template
 of_line LongLine = refusals.Limit
 
--- the place of a fault in a template
-abbrev pub at_line : Path → ℕ → Facts → Facts
-at_line path line facts = record facts { file = path; line = line }
-
--- a line of the template is refused, at its own place
-unfoldable pub refuse_line : Path → ℕ → Refusal → Deed (Unit {0})
-refuse_line path line refusal = do
-  _ ← change (at_line path line) (λ facts once. refl)
-  refuse refusal []
-
-unfoldable pub lines_fit : Path → Option (ℕ × LineRefusal) → Deed (Unit {0})
-lines_fit path None = give tt
-lines_fit path (Some fault) = refuse_line path fault.0 (of_line fault.1)
+-- the fault of a line that is refused, at its own place
+abbrev pub fault_at : Path → ℕ × LineRefusal → FaultData
+fault_at path found = plain_fault path found.0 (of_line found.1)
 
 -- the template's lines, up to the first one that is refused
-unfoldable pub template_written : Entries → Path → List ℕ → Deed (Unit {0})
-template_written entries path bytes = do
-  _ ← tell (template_steps entries path bytes)
-  lines_fit path (template_fault bytes)
-
--- ---- an output
+unfoldable pub template_filling : Entries → Path → List ℕ → Filling
+template_filling entries path bytes = record {
+  steps = template_steps entries path bytes;
+  stays = (template_stays entries path bytes).is;
+  fault = option_map (fault_at path) (template_fault bytes);
+}
 
 -- the whole text of an output that is made without template
-unfoldable pub header_written : Entries → Deed (Unit {0})
-header_written entries = tell (header_steps entries)
-
--- an output is opened, filled so, and closed
-unfoldable pub output_written : Path → Deed (Unit {0}) → Deed (Unit {0})
-output_written path filling = do
-  _ ← tell (opening path)
-  _ ← filling
-  tell closing
-
--- ---- code that reads a file of the tree as it writes
+unfoldable pub header_filling : Entries → Filling
+header_filling entries = record { steps = header_steps entries; stays = (header_stays entries).is; fault = None }
 
 -- what an output is filled with, where the tree has these files
-abbrev pub filling_in : Entries → Option Path → Files → Deed (Unit {0})
-filling_in entries None files = header_written entries
-filling_in entries (Some path) files = template_written entries path (bytes_at files path)
+abbrev pub filling_in : Entries → Option Path → Files → Filling
+filling_in entries None files = header_filling entries
+filling_in entries (Some path) files = template_filling entries path (bytes_at files path)
+
+-- ---- code that reads a file of the tree as it writes
 
 -- the call ended as the deed does that these files make, or after a beginning of what it tells
 pub record CarriesOf {A B : Type 0} (view : B → A) (deed : Files → Deed A) (old : State) (result : Result B Stop) (new : State) : Type 0 where

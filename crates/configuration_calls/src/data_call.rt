@@ -46,10 +46,7 @@ fn said_data<T: Tree, O: Outputs>(
         (state_of T.seen O.seen caller.now) result (state_of T.seen O.seen caller.now) }
 {
     let found = data_given(caller.alloc, arguments.argument(0))?;
-    match found {
-        Some(values) => Ok(values),
-        None => caller.refuse(Refusal::Arguments, ""),
-    }
+    caller.fitting(found.ok_or(Refusal::Arguments))
 }
 
 /// `configuration_data(dictionary)`: E9 where a key is no name, or a value no text, integer or truth value.

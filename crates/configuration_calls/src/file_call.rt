@@ -3,10 +3,12 @@ ghost use Rattle.std.specs.Prelude.{◌≡◌, IfOk, Some, option_map, string_by
 ghost use Rattle.arguments.specs.Arguments.{arguments_data};
 ghost use Rattle.data.specs.View.{data_of};
 ghost use Rattle.project.specs.View.{install_view};
+ghost use Rattle.targets.specs.Files.{path_in};
 ghost use Rattle.world.specs.Answering.{Carries, HasRoom};
 ghost use Rattle.world.specs.Caller.{state_of};
 ghost use Rattle.world.specs.Store.{world_of};
-ghost use Rattle.configuration_calls.specs.ConfigureFile.{configure_file, configured, frozen_by, install_at, installed, made, output_given};
+ghost use Rattle.configuration_calls.specs.ConfigureFile.{configure_file, configured, frozen_by, install_at, installed, made, output_made};
+ghost use Rattle.configuration_calls.specs.ConfigureFile.{prepared};
 ghost use Rattle.configuration_calls.specs.GivenView.{given_view};
 ghost use Rattle.configuration_calls.specs.Written.{CarriesOf, filling_in};
 
@@ -59,22 +61,6 @@ fn install<T: Tree, O: Outputs>(
     }
 }
 
-// Takes the path of the output.
-fn output_given<T: Tree, O: Outputs>(
-    caller: &mut Caller<'_, T, O>,
-    arguments: &Arguments,
-) -> Result<Text, Stop>
-    ensures { Carries (λ t. t) (output_given (arguments_data arguments.now))
-        (state_of T.seen O.seen caller.old) result (state_of T.seen O.seen caller.new) }
-{
-    let name = arguments.text("output");
-    let folder = String::from_str(caller.alloc, caller.store.folder())?;
-    caller.add_output(folder.as_str(), name)?;
-    let path = path_in(caller.alloc, folder.as_str(), name)?;
-    let text = Text::new(caller.alloc, path)?;
-    caller.answered(text)
-}
-
 // Lets no call change the data from now on.
 fn freeze<T: Tree, O: Outputs>(
     caller: &mut Caller<'_, T, O>,
@@ -89,7 +75,45 @@ fn freeze<T: Tree, O: Outputs>(
     }
 }
 
-// Makes the output, with a template or without one.
+// What is done once the path of an output is taken: gives it as a text, and freezes the data.
+fn prepared<T: Tree, O: Outputs>(
+    caller: &mut Caller<'_, T, O>,
+    folder: &str,
+    name: &str,
+    number: Option<usize>,
+) -> Result<Text, Stop>
+    ensures carries { Carries (λ t. t) (prepared (path_in folder.now name.now) number)
+        (state_of T.seen O.seen caller.old) result (state_of T.seen O.seen caller.new) }
+    ensures path { IfOk result (λ t. t ≡ path_in folder.now name.now) }
+{
+    let path = path_in(caller.alloc, folder, name)?;
+    let answer = Text::new(caller.alloc, path)?;
+    let text = caller.answered(answer)?;
+    freeze(caller, number)?;
+    Ok(text)
+}
+
+// Makes the output, with a template or without one, and gives its path.
+fn output_made<T: Tree, O: Outputs>(
+    caller: &mut Caller<'_, T, O>,
+    arguments: &Arguments,
+    given: &Given,
+    template: Option<&str>,
+) -> Result<Text, Stop>
+    requires { HasRoom (state_of T.seen O.seen caller.old) }
+    ensures { CarriesOf (λ t. t) (λ files. output_made (arguments_data arguments.now) (given_view given.now)
+        (filling_in (given_view given.now).entries (option_map (λ t. t.now) template.entry) files))
+        (state_of T.seen O.seen caller.old) result (state_of T.seen O.seen caller.new) }
+{
+    let name = arguments.text("output");
+    let folder = String::from_str(caller.alloc, caller.store.folder())?;
+    caller.take_output(folder.as_str(), name)?;
+    let path = prepared(caller, folder.as_str(), name, given.number)?;
+    write_output(caller, path.as_str(), &given.values, template)?;
+    Ok(path)
+}
+
+// Makes the output, and gives it as a file.
 fn make<T: Tree, O: Outputs>(
     caller: &mut Caller<'_, T, O>,
     arguments: &Arguments,
@@ -101,9 +125,7 @@ fn make<T: Tree, O: Outputs>(
         (filling_in (given_view given.now).entries (option_map (λ t. t.now) template.entry) files))
         (state_of T.seen O.seen caller.old) result (state_of T.seen O.seen caller.new) }
 {
-    let path = output_given(caller, arguments)?;
-    freeze(caller, given.number)?;
-    write_output(caller, path.as_str(), &given.values, template)?;
+    let path = output_made(caller, arguments, given, template)?;
     install(caller, path.as_str(), arguments)?;
     let is_built = true;
     let value = Value::of_object(caller.alloc, Object::File { path, is_built })?;

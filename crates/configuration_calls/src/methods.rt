@@ -2,24 +2,25 @@
 ghost use Rattle.std.specs.Prelude.{◌≡◌, IfOk, map, option_and_then, option_map};
 ghost use Rattle.arguments.specs.Arguments.{arguments_data};
 ghost use Rattle.arguments.specs.Given.{argument};
-ghost use Rattle.arguments.specs.Row.{checked};
 ghost use Rattle.data.specs.View.{data_of};
 ghost use Rattle.template.specs.Config.{names, value_of};
 ghost use Rattle.template.specs.ConfigData.{content_of};
 ghost use Rattle.world.specs.Answering.{Carries};
 ghost use Rattle.world.specs.Caller.{state_of};
-ghost use Rattle.world.specs.Deed.{fitting};
+ghost use Rattle.world.specs.Fit.{fit};
 ghost use Rattle.world.specs.Store.{world_of};
 ghost use Rattle.configuration_calls.specs.Contents.{content_in};
 ghost use Rattle.configuration_calls.specs.Given.{entries_of, number_in};
-ghost use Rattle.configuration_calls.specs.Methods.{configuration_method, content_given, does, fitting_does, get, get_unquoted, has, has_method};
-ghost use Rattle.configuration_calls.specs.Methods.{keys, merge_from, name_given, named, one_or_zero, other_given, set, set10, set_text_quoted};
+ghost use Rattle.configuration_calls.specs.Methods.{configuration_method, content_given, does, fitting_does, get, get_unquoted, has};
+ghost use Rattle.configuration_calls.specs.Methods.{has_method};
+ghost use Rattle.configuration_calls.specs.Methods.{keys, merge_from, name_given, named, one_or_zero, other_given, set, set10};
+ghost use Rattle.configuration_calls.specs.Methods.{set_text_quoted};
 ghost use Rattle.configuration_calls.specs.Rows.{row_of};
 
 use crate::contents::{content_in, found_or, found_unquoted, is_name};
 use crate::data_call::copy_of;
 use crate::rows::row_of;
-use arguments::{Arguments, check};
+use arguments::Arguments;
 use basics::faults::Refusal;
 use data::{Object, Value};
 use operators::text_list;
@@ -186,10 +187,7 @@ fn other_given<T: Tree, O: Outputs>(
     ensures { Carries (λ n. n) (other_given (arguments_data arguments.now))
         (state_of T.seen O.seen caller.now) result (state_of T.seen O.seen caller.now) }
 {
-    match first_number(arguments) {
-        Some(number) => Ok(number),
-        None => caller.refuse(Refusal::Arguments, ""),
-    }
+    caller.fitting(first_number(arguments).ok_or(Refusal::Arguments))
 }
 
 fn merge_from<T: Tree, O: Outputs>(
@@ -224,10 +222,7 @@ fn content_given<T: Tree, O: Outputs>(
         (state_of T.seen O.seen caller.now) result (state_of T.seen O.seen caller.now) }
 {
     let found = content_or_none(caller.alloc, arguments.argument(1))?;
-    match found {
-        Some(content) => Ok(content),
-        None => caller.refuse(Refusal::Arguments, ""),
-    }
+    caller.fitting(found.ok_or(Refusal::Arguments))
 }
 
 fn set<T: Tree, O: Outputs>(
@@ -305,11 +300,10 @@ fn fit<T: Tree, O: Outputs>(
     method: Method,
     arguments: &Arguments,
 ) -> Result<(), Stop>
-    ensures { Carries (λ u. u) (fitting (checked (row_of method) (arguments_data arguments.now)))
+    ensures { Carries (λ u. u) (fit (row_of method) (arguments_data arguments.now))
         (state_of T.seen O.seen caller.now) result (state_of T.seen O.seen caller.now) }
 {
-    let answer = check(caller.alloc, &row_of(method), arguments)?;
-    caller.fitting(answer)
+    caller.fit(&row_of(method), arguments)
 }
 
 fn fitting_act<T: Tree, O: Outputs>(

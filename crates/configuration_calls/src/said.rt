@@ -6,7 +6,8 @@ ghost use Rattle.data.specs.View.{data_of};
 ghost use Rattle.world.specs.Answering.{Carries};
 ghost use Rattle.world.specs.Caller.{state_of};
 ghost use Rattle.world.specs.Store.{world_of};
-ghost use Rattle.configuration_calls.specs.ConfigureFile.{file_named, has_meson_format, input_given, input_named, one_file, tree_file, values_given};
+ghost use Rattle.configuration_calls.specs.ConfigureFile.{file_named, has_meson_format, input_given, input_named, one_file, tree_file};
+ghost use Rattle.configuration_calls.specs.ConfigureFile.{values_given};
 ghost use Rattle.configuration_calls.specs.Given.{dictionary_given, given_by};
 ghost use Rattle.configuration_calls.specs.GivenView.{given_view};
 
@@ -118,10 +119,7 @@ pub fn input_given<T: Tree, O: Outputs>(
 {
     let source_root = caller.store.settings().source_root.as_str();
     let input = input_named(caller.alloc, source_root, caller.store.folder(), arguments)?;
-    match input {
-        Some(input) => Ok(input),
-        None => caller.refuse(Refusal::Arguments, ""),
-    }
+    caller.fitting(input.ok_or(Refusal::Arguments))
 }
 
 // The values of a dictionary.
@@ -177,8 +175,5 @@ pub fn values_given<T: Tree, O: Outputs>(
 {
     let value = arguments.keyword("configuration");
     let found = values_of(caller.alloc, caller.store, value)?;
-    match found {
-        Some(given) => Ok(given),
-        None => caller.refuse(Refusal::Arguments, ""),
-    }
+    caller.fitting(found.ok_or(Refusal::Arguments))
 }

@@ -3,11 +3,11 @@ ghost use Rattle.std.specs.Prelude.{◌≡◌, IfOk, OnOk, length, option_map};
 ghost use Rattle.basics.specs.Faults.{plain_fault};
 ghost use Rattle.ports.specs.Outputs.{IsOpen, closing, opening};
 ghost use Rattle.ports.specs.Tree.{bytes_at};
-ghost use Rattle.world.specs.Answering.{Carries, HasRoom};
+ghost use Rattle.world.specs.Answering.{Acts, HasRoom};
 ghost use Rattle.world.specs.Caller.{state_of};
-ghost use Rattle.world.specs.Deed.{tell};
 ghost use Rattle.world.specs.Gives.{IsRefusal};
-ghost use Rattle.configuration_calls.specs.Written.{CarriesOf, StopsSo, filling_in, header_written, output_written, template_written};
+ghost use Rattle.world.specs.Making.{filled, telling, written};
+ghost use Rattle.configuration_calls.specs.Written.{StopsSo, filling_in, header_filling, template_filling};
 
 use basics::faults::{Fault, Refusal};
 use ports::{Outputs, Tree};
@@ -18,7 +18,7 @@ use world::{Caller, Stop};
 // Opens an output.
 fn open<T: Tree, O: Outputs>(caller: &mut Caller<'_, T, O>, path: &str) -> Result<(), Stop>
     requires { HasRoom (state_of T.seen O.seen caller.old) }
-    ensures carries { Carries (λ u. u) (tell (opening path.now))
+    ensures acts { Acts (λ u. u) (λ files. telling (opening path.now))
         (state_of T.seen O.seen caller.old) result (state_of T.seen O.seen caller.new) }
     ensures open { OnOk result (IsOpen (state_of T.seen O.seen caller.new).out) }
 {
@@ -29,7 +29,7 @@ fn open<T: Tree, O: Outputs>(caller: &mut Caller<'_, T, O>, path: &str) -> Resul
 // Closes the open output.
 fn close<T: Tree, O: Outputs>(caller: &mut Caller<'_, T, O>) -> Result<(), Stop>
     requires { IsOpen (state_of T.seen O.seen caller.old).out }
-    ensures { Carries (λ u. u) (tell closing)
+    ensures { Acts (λ u. u) (λ files. telling closing)
         (state_of T.seen O.seen caller.old) result (state_of T.seen O.seen caller.new) }
 {
     caller.out.close()?;
@@ -42,7 +42,7 @@ fn fill_header<T: Tree, O: Outputs>(
     values: &ConfigData,
 ) -> Result<(), Stop>
     requires { IsOpen (state_of T.seen O.seen caller.old).out }
-    ensures carries { Carries (λ u. u) (header_written values.now.entries)
+    ensures acts { Acts (λ u. u) (λ files. filled (header_filling values.now.entries))
         (state_of T.seen O.seen caller.old) result (state_of T.seen O.seen caller.new) }
     ensures open { OnOk result (IsOpen (state_of T.seen O.seen caller.new).out) }
 {
@@ -81,7 +81,7 @@ fn fill_template<T: Tree, O: Outputs>(
     requires room { HasRoom (state_of T.seen O.seen caller.old) }
     requires open { IsOpen (state_of T.seen O.seen caller.old).out }
     requires line { length line.old ≡ LINE_LIMIT }
-    ensures carries { CarriesOf (λ u. u) (λ files. template_written values.now.entries template.now (bytes_at files template.now))
+    ensures acts { Acts (λ u. u) (λ files. filled (template_filling values.now.entries template.now (bytes_at files template.now)))
         (state_of T.seen O.seen caller.old) result (state_of T.seen O.seen caller.new) }
     ensures open { OnOk result (IsOpen (state_of T.seen O.seen caller.new).out) }
 {
@@ -98,7 +98,7 @@ fn write_header<T: Tree, O: Outputs>(
     values: &ConfigData,
 ) -> Result<(), Stop>
     requires { HasRoom (state_of T.seen O.seen caller.old) }
-    ensures { Carries (λ u. u) (output_written path.now (header_written values.now.entries))
+    ensures { Acts (λ u. u) (λ files. written path.now (header_filling values.now.entries))
         (state_of T.seen O.seen caller.old) result (state_of T.seen O.seen caller.new) }
 {
     open(caller, path)?;
@@ -121,8 +121,7 @@ fn write_template<T: Tree, O: Outputs>(
     template: &str,
 ) -> Result<(), Stop>
     requires { HasRoom (state_of T.seen O.seen caller.old) }
-    ensures { CarriesOf (λ u. u)
-        (λ files. output_written path.now (template_written values.now.entries template.now (bytes_at files template.now)))
+    ensures { Acts (λ u. u) (λ files. written path.now (template_filling values.now.entries template.now (bytes_at files template.now)))
         (state_of T.seen O.seen caller.old) result (state_of T.seen O.seen caller.new) }
 {
     let mut line = empty_line(caller.alloc)?;
@@ -139,8 +138,7 @@ pub fn write_output<T: Tree, O: Outputs>(
     template: Option<&str>,
 ) -> Result<(), Stop>
     requires { HasRoom (state_of T.seen O.seen caller.old) }
-    ensures { CarriesOf (λ u. u)
-        (λ files. output_written path.now (filling_in values.now.entries (option_map (λ t. t.now) template.entry) files))
+    ensures { Acts (λ u. u) (λ files. written path.now (filling_in values.now.entries (option_map (λ t. t.now) template.entry) files))
         (state_of T.seen O.seen caller.old) result (state_of T.seen O.seen caller.new) }
 {
     match template {

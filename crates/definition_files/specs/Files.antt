@@ -29,7 +29,7 @@ refusal_of kinds.Nesting = refusals.Nesting
 -- a refusal at a line of the present file
 unfoldable pub refuse_line : {A : Type 0} → ℕ → Refusal → Deed A
 refuse_line line refusal = do
-  _ ← change (with_line line) (λ facts once. refl)
+  _ ← change (with_line line) (λ facts. refl)
   refuse refusal []
 
 unfoldable pub tree_or_fault : Result FileTree SyntaxFault → Deed Statements

@@ -7,5 +7,5 @@ use Rattle.world.specs.Deed.{Deed, refuse, change, ◌>>=◌}
 -- what stands in a line of a file is refused
 unfoldable pub refuse_at : {A : Type 0} → List ℕ → ℕ → Refusal → Deed A
 refuse_at file line refusal = do
-  _ ← change (with_place file [] line) (λ facts once. refl)
+  _ ← change (with_place file [] line) (λ facts. refl)
   refuse refusal []

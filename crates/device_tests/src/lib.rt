@@ -1,5 +1,5 @@
-//! Tests of calls that the program can't show: devices in memory with their plans, and templates over them; the writer's calls for edges
-//! that no project has yet. Runs over such devices are tests of the program's crate; what the program shows of whole runs, with its own
+//! Tests of calls that the program can't show: devices in memory with their plans, and templates over them; the text of edges that no
+//! project has yet. Runs over such devices are tests of the program's crate; what the program shows of whole runs, with its own
 //! devices and memory failing too, is written as cases.
 #![tactic(auto)]
 

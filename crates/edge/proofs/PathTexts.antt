@@ -1,8 +1,9 @@
 -- Ways up, and paths as names.
-use Rattle.std.proofs.Common.{◌≡◌, ◌≢◌, ℕ, zero, suc, ◌+◌, ◌<◌, [], ◌∷◌, ◌++◌, length, get_or, codes, refl, sym, ap, ◌∙◌, append_assoc, add-one, arith, inl, inr, eqb}
+use Rattle.std.proofs.Common.{◌≡◌, ◌≢◌, ℕ, Result, Ok, Err, IfOk, is_ok, zero, suc, ◌+◌, ◌<◌, [], ◌∷◌, ◌++◌, length, get_or, codes, refl, sym, ap, ◌∙◌, append_assoc, add-one, arith, inl, inr, eqb}
 use Rattle.std.specs.Prelude.{if◌then◌else◌}
 use Rattle.std.proofs.lemmas.Bool.{cases_Bool, eqb-true}
 use Rattle.std.proofs.lemmas.List.{map-append}
+use Rattle.std.proofs.lemmas.Result.{IfOk-from_err}
 use Rattle.edge.specs.Texts.{Path}
 use Rattle.edge.specs.Paths.{way_up, flat_name}
 
@@ -42,3 +43,8 @@ name-more name first next bs part behind whole e f g h plain =
     ∙ append_assoc name part (95 ∷ flat_name behind)
     ∙ ap (λ p. name ++ p) (sym (flat_name-parts bs part behind h plain))
     ∙ e
+
+-- at the last call, whose answer is handed on
+pub put_last : {T E : Type 0} (r : Result T E) (new now text all : Path) → new ≡ (if is_ok r then now ++ text else now) → now ++ text ≡ all → IfOk r (λ _. new ≡ all)
+put_last (Ok x) new now text all e f = e ∙ f
+put_last {T = T} {E = E} (Err x) new now text all e f = IfOk-from_err {T = T} {E = E} (Err x) (λ _. new ≡ all) refl

@@ -34,7 +34,8 @@ pub fn can_hold_value(text: &str) -> bool
     text.as_bytes().iter().all(|byte| holds_value_byte(*byte))
 }
 
-fn is_path(path: &str) -> bool
+/// Whether the path isn't empty and `build.ninja` can hold it.
+pub fn is_path(path: &str) -> bool
     ensures { result ≡ is_path path.now }
 {
     !path.is_empty() && can_hold_path(path)
@@ -46,7 +47,8 @@ fn all_paths(paths: &[String]) -> bool
     paths.iter().all(|path| is_path(path))
 }
 
-fn are_paths(paths: &[String]) -> bool
+/// Whether none of the paths is empty and `build.ninja` can hold each.
+pub fn are_paths(paths: &[String]) -> bool
     ensures { result ≡ list_all is_path (texts paths.now) }
 {
     all_paths(paths)

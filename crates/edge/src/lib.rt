@@ -3,13 +3,17 @@
 
 mod edge;
 mod holding;
+mod parts;
 mod paths;
 mod rule;
 mod texts;
 
 pub use basics::text_lists::{copies, strings};
 pub use edge::Edge;
-pub use holding::{are_writable, can_hold_path, can_hold_value, can_hold_values};
+pub use holding::{
+    are_paths, are_writable, can_hold_path, can_hold_value, can_hold_values, is_path,
+};
+pub use parts::OwnParts;
 pub use paths::{is_upward, object_path, source_path, source_root};
 pub use rule::Rule;
 pub use texts::{first_kept, holds, push_all, push_copies};

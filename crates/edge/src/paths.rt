@@ -28,7 +28,8 @@ pub fn source_root(alloc: Global, depth: usize) -> Result<String, AllocError>
 pub fn source_path(alloc: Global, depth: usize, path: &str) -> Result<String, AllocError>
     ensures { IfOk result (λ whole. string_bytes whole ≡ source_path depth path.now) }
 {
-    let mut whole = String::new(alloc);
+    let room = depth.saturating_mul(3).saturating_add(path.len());
+    let mut whole = String::with_capacity(alloc, room)?;
     push_way_up(&mut whole, depth.saturating_sub(1))?;
     whole.push_str("../")?;
     whole.push_str(path)?;
@@ -42,25 +43,28 @@ pub fn is_upward(path: &str) -> bool
     path.as_bytes().starts_with(b"../")
 }
 
-// The path as a file's name, with `_` for each `/`.
-fn flat_name(alloc: Global, path: &str) -> Result<String, AllocError>
-    ensures { IfOk result (λ name. string_bytes name ≡ flat_name path.now) }
+// Appends the path as a file's name, with `_` for each `/`.
+fn push_flat_name(name: &mut String, path: &str) -> Result<(), AllocError>
+    ensures { IfOk result (λ _. string_bytes name.new ≡ string_bytes name.old ++ flat_name path.now) }
 {
-    let mut name = String::new(alloc);
     let mut rest = path;
     while let Some((part, behind)) = rest.split_once('/') {
         name.push_str(part)?;
         name.push_str("_")?;
         rest = behind;
     }
-    name.push_str(rest)?;
-    Ok(name)
+    name.push_str(rest)
 }
 
 /// The object of a source, of the target whose file is `out`.
 pub fn object_path(alloc: Global, out: &str, source: &str) -> Result<String, AllocError>
     ensures { IfOk result (λ object. string_bytes object ≡ object_path out.now source.now) }
 {
-    let name = flat_name(alloc, source)?;
-    format!(in alloc; "{out}.p/{name}.o")
+    let room = out.len().saturating_add(source.len()).saturating_add(5);
+    let mut object = String::with_capacity(alloc, room)?;
+    object.push_str(out)?;
+    object.push_str(".p/")?;
+    push_flat_name(&mut object, source)?;
+    object.push_str(".o")?;
+    Ok(object)
 }

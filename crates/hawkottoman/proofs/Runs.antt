@@ -69,12 +69,12 @@ on_done statuses.Device h = tt
 on_done statuses.Memory h = tt
 
 -- a run is done only where its evaluation was, and then its project is that of the evaluation
-pub means : (run : Run (Unit {0})) (answer : Result Kept Stop) (status : Status) (old mid : Seen) (new : OutputState) → Evaluated run answer old mid → Settles answer status mid.out new
-    → OnProject answer Means → OnDone status (Means (world_after run).facts.project)
-means run (Ok kept) status old mid new e s m = on_done status (λ d. subst (λ r. Means (world_after r).facts.project) (sym e.is) m)
-means run (Err (stops.Refused fault)) status old mid new e s m = on_done status (λ d. absurd (let f : statuses.Done ≡ statuses.Fault = sym d ∙ s.agrees.status (ap is_finished d) in cc))
-means run (Err stops.Device) status old mid new e s m = on_done status (λ d. absurd (let f : statuses.Done ≡ statuses.Device = sym d ∙ s.ended in cc))
-means run (Err stops.Memory) status old mid new e s m = on_done status (λ d. absurd (let f : statuses.Done ≡ statuses.Memory = sym d ∙ s.ended in cc))
+pub means : {P : Type 0} (run : Run (Unit {0})) (answer : Result Kept Stop) (status : Status) (old mid : Seen) (new : OutputState) → Evaluated run answer old mid → Settles answer status mid.out new
+    → OnProject answer Means → (outcome_of run ≡ Done tt → Means (world_after run).facts.project → P) → OnDone status P
+means run (Ok kept) status old mid new e s m h = on_done status (λ d. h (ap outcome_of e.is) (subst (λ r. Means (world_after r).facts.project) (sym e.is) m))
+means run (Err (stops.Refused fault)) status old mid new e s m h = on_done status (λ d. absurd (let f : statuses.Done ≡ statuses.Fault = sym d ∙ s.agrees.status (ap is_finished d) in cc))
+means run (Err stops.Device) status old mid new e s m h = on_done status (λ d. absurd (let f : statuses.Done ≡ statuses.Device = sym d ∙ s.ended in cc))
+means run (Err stops.Memory) status old mid new e s m h = on_done status (λ d. absurd (let f : statuses.Done ≡ statuses.Memory = sym d ∙ s.ended in cc))
 
 -- ---- failures: `t` and `o` of the two devices before an evaluation, `u` and those of `mid` after it
 

@@ -77,7 +77,7 @@ agrees_asked run text (Err stops.Memory) status old new asks is =
     unfinished whole statuses.Memory status old old new refl is (sends_none old whole.steps)
 
 -- the devices: the tree's count of failures before and after, and the outputs
-kept_fails : (stop status : Status) (t u : ℕ) (old new : OutputState) → u ≡ t + failed_devices stop → Keeps stop status old new → FailsOnce status t old.failures u new.failures
+pub kept_fails : (stop status : Status) (t u : ℕ) (old new : OutputState) → u ≡ t + failed_devices stop → Keeps stop status old new → FailsOnce status t old.failures u new.failures
 kept_fails stop status t u old new e k =
     let same : new.failures ≡ old.failures = ap (λ (o : OutputState). o.failures) k.same in
     let by : failed_devices status ≡ failed_devices stop = ap failed_devices k.ended in

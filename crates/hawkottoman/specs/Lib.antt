@@ -1,3 +1,4 @@
+pub mod Ending
 pub mod Setup
 pub mod Laws
 pub mod Questions

@@ -134,7 +134,7 @@ fn ask_over<T: Tree, L: Ledger>(
 }
 
 // Evaluates the definitions, where the machine file has no fault.
-fn ask<T: Tree, L: Ledger>(
+pub fn ask<T: Tree, L: Ledger>(
     alloc: Global,
     tree: &mut T,
     inputs: &Inputs<'_>,

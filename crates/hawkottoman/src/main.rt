@@ -1,7 +1,8 @@
 //! `meson setup` for C projects: from the words of a command line and the bytes of a source tree to the bytes of a build folder.
 //!
 //! `main` hands the words and the runtime to [`run`]; [`running::setup`] is the run of a project, over any devices, and states the
-//! theorem of the whole. [`asking::questions`] tells what that run asks of the machine file. What is in `law` holds of every run.
+//! theorem of the whole. [`asking::questions`] tells what that run asks of the machine file, [`ending::fault`] which fault it ends in and
+//! what that is about. What is in `law` holds of every run.
 //!
 //! # Decisions
 //!
@@ -15,6 +16,7 @@
 mod asking;
 #[cfg(test)]
 mod device_failures;
+mod ending;
 #[cfg(test)]
 mod expected;
 #[cfg(test)]

@@ -4,6 +4,7 @@ ghost use Rattle.command.specs.CommandLine.{IsRefused, IsTaken};
 ghost use Rattle.build_file.specs.Concluding.{exit_status};
 
 use crate::asking::questions;
+use crate::ending::fault;
 use crate::running::setup;
 use build_file::Status;
 use command::{Line, LineFault, Task, command_line};
@@ -22,8 +23,8 @@ const BAD_LINE: u8 = 4;
 // The most bytes that are read of a machine file, which may be a pipe or a device. A text that is too long for a value fits.
 const MACHINE_FILE_BYTES: usize = 33_554_432;
 
-/// Configures the project in the folder `root`, or tells what that asks of the machine file, as the words say, of which the first is the
-/// program's name. The log goes to `log`, fault lines and the program's own texts to `faults`, outputs to the folder that the words name,
+/// Configures the project in the folder `root`, or tells what that asks of the machine file or which fault it ends in, as the words say,
+/// of which the first is the program's name. The log goes to `log`, fault lines and the program's own texts to `faults`, outputs to the folder that the words name,
 /// below `root`.
 ///
 /// Answers the exit status: 0 done, 1 a fault of the sources, 2 a device failed, 3 memory ran out,
@@ -86,6 +87,7 @@ fn perform<R: Files<File = File> + AllocGlobal, L: Write + Drop, F: Write + Drop
             setup(rt.alloc(), &mut tree, &settings, &machine, &mut out)
         }
         Task::Questions => questions(rt.alloc(), &mut tree, &settings, &machine, &mut out),
+        Task::Fault => fault(rt.alloc(), &mut tree, &settings, &machine, &mut out),
     };
     Ok(status)
 }

@@ -7,8 +7,10 @@ ghost use Rattle.interp.specs.Evaluation.{IsSaid, MachineSaid};
 ghost use Rattle.world.specs.Deed.{Files};
 ghost use Rattle.world.specs.Gives.{Holds};
 ghost use Rattle.world.specs.SettingsView.{settings_view};
+ghost use Rattle.hawkottoman.specs.Laws.{AreThere};
 ghost use Rattle.hawkottoman.specs.Setup.{FailsOnce, OnDone, OnEnd, OnFault, OnProject, Settles, Stops, project_of, run_of};
 
+use crate::law::needs_are_there;
 use build_file::{Status, conclude, refuse};
 use interp::{Inputs, evaluate};
 use ports::{Outputs, Tree};
@@ -58,9 +60,13 @@ fn run_with<T: Tree, O: Outputs, L: Ledger>(
         → Agrees (run_of files (settings_view inputs.now.settings.now) said) result (O.seen out.old) (O.seen out.new) }
     ensures meaning { (files : Files) (said : MachineSaid) → Holds (T.seen tree.old) files → IsSaid inputs.now.machine.now said
         → OnDone result (Means (project_of files (settings_view inputs.now.settings.now) said)) }
+    ensures there { (files : Files) (said : MachineSaid) → Holds (T.seen tree.old) files → IsSaid inputs.now.machine.now said
+        → OnDone result (AreThere files (settings_view inputs.now.settings.now) said) }
     ensures device { FailsOnce result (T.seen tree.old).failures (O.seen out.old).failures (T.seen tree.new).failures
         (O.seen out.new).failures }
 {
+    // The law that `there` rests on; the call does nothing.
+    needs_are_there();
     let mut steps = new_steps::<L>(blank);
     let answer = evaluate(alloc, tree, inputs, out, &mut steps);
     settle(alloc, answer, out)
@@ -90,6 +96,10 @@ pub fn setup<T: Tree, O: Outputs>(
     // words. No path is made twice, each that is needed is made before or there, and no edge reaches itself.
     ensures meaning { (files : Files) (said : MachineSaid) → Holds (T.seen tree.old) files → IsSaid machine.now said
         → OnDone result (Means (project_of files (settings_view settings.now) said)) }
+
+    // And each path that an edge needs is an output of an edge before it, a file of these that was looked at, or was closed in this run.
+    ensures there { (files : Files) (said : MachineSaid) → Holds (T.seen tree.old) files → IsSaid machine.now said
+        → OnDone result (AreThere files (settings_view settings.now) said) }
 
     // Of any devices: one of them has failed once where the status is `Device`, and else none has.
     ensures device { FailsOnce result (T.seen tree.old).failures (O.seen out.old).failures (T.seen tree.new).failures

@@ -19,25 +19,16 @@ use Rattle.basics.specs.declared.faults.refusal.Refusal.TheVariants as refusals
 use Rattle.operators.specs.declared.operator.Binary.TheVariants.{Add}
 use Rattle.operators.specs.Operations.{binary_answer}
 use Rattle.language_calls.specs.Names.{is_predefined}
-use Rattle.world.specs.World.{World, Facts, LeavesNotes, with_facts, with_line, with_variable, with_variables, variables_with}
+use Rattle.world.specs.World.{World, Facts, LeavesPaths, with_facts, with_line, with_variable, with_variables, variables_with}
 use Rattle.world.specs.declared.stop.Stop.{Stop}
 use Rattle.world.specs.declared.stop.Stop.TheVariants as stops
 use Rattle.world.proofs.Follow.{ends_grown, gives_at, wanted_grown}
+use Rattle.world.proofs.Setting.{world_lost}
 use Rattle.interp.specs.Evaluates.{Stand, Given, seen_of}
 use Rattle.world.specs.Answering.{Refuses}
 use Rattle.interp.specs.Expressions.{known, set_variable}
 use Rattle.interp.proofs.Evaluating.{given_as, given_read, given_refuse, given_stop}
 use Rattle.interp.specs.Statements.{added, assigned, assigned_by}
-
--- the facts change, and the table of names may grow
-pub given_grown : {files : Files} {f : Facts → Facts} {leaves : LeavesNotes f} {w w1 : World} {names names1 : List (List ℕ)} {tree : TreeState} {out : OutputState} {n : ℕ}
-    → Holds tree files → w1 ≡ changing f w → IsFront names names1
-    → Given (λ (u : Unit {0}). u) files (deed (change f leaves)) (record { world = w; names = names; tree = tree; out = out; ticks = n }) (Ok tt) (record { world = w1; names = names1; tree = tree; out = out; ticks = n })
-given_grown {files = files} {f = f} {leaves = leaves} {w = w} {w1 = w1} {names = names} {names1 = names1} {tree = tree} {out = out} {n = n} h is more = record {
-  gives = subst (λ v. Gives (λ (u : Unit {0}). u) (carry files (deed (change f leaves)) w) (Ok tt) v (seen out n names) (seen out n names1)) (sym is)
-      (ends_grown (carry files (deed (change f leaves)) w) _ (changing f w) (seen out n names) (seen out n names1) refl refl refl more);
-  holds = h;
-}
 
 -- want of memory, where the table of names may have grown
 pub given_none_grown : {A B : Type 0} {view : B → A} {files : Files} {p : Plan A} {w w1 : World} {names names1 : List (List ℕ)} {tree : TreeState} {out : OutputState} {n : ℕ} {result : Result B Stop}
@@ -104,6 +95,19 @@ given_unknown (Ok x) h none is = absurd is
 given_unknown {view = view} {files = files} {line = line} {name = name} {s = s} (Err e) h none is =
     given_stop {view = λ (d : Data). d} (given_read (given_as (ap (known line name) none)
     (given_refuse {A = Data} {B = Data} {view = λ (d : Data). d} {files = files} {line = line} {refusal = refusals.UndefinedName} {detail = name} {s = s} {result = Err e} h is))) refl
+
+-- the same after its value was to be taken
+pub given_untaken : {B C : Type 0} {view : C → B} {files : Files} {line : ℕ} {name detail : List ℕ} {others : Data → Plan B} {w w1 : World} {names names1 : List (List ℕ)} {tree : TreeState} {out : OutputState} {n : ℕ} (result : Result C Stop)
+    → Holds tree files → None ≡ w.facts.variables name → w1 ≡ changing (with_variable name None) w → names1 ≡ names → detail ≡ name
+    → Refuses (record { file = w1.facts.file; line = line; refusal = refusals.UndefinedName; detail = detail }) result
+    → Given view files (next (set_variable line name) others) (record { world = w; names = names; tree = tree; out = out; ticks = n }) result (record { world = w1; names = names1; tree = tree; out = out; ticks = n })
+given_untaken {view = view} {files = files} {line = line} {name = name} {detail = detail} {others = others} {w = w} {w1 = w1} {names = names} {names1 = names1} {tree = tree} {out = out} {n = n} result h none is same called refused =
+    let stays : w1 ≡ w = is ∙ sym (world_lost w name (sym none)) in
+    let told = subst (λ (d : List ℕ). Refuses (record { file = w.facts.file; line = line; refusal = refusals.UndefinedName; detail = d }) result) called
+    (subst (λ (v : World). Refuses (record { file = v.facts.file; line = line; refusal = refusals.UndefinedName; detail = detail }) result) stays refused) in
+    subst (λ (v : World). Given view files (next (set_variable line name) others) (record { world = w; names = names; tree = tree; out = out; ticks = n }) result (record { world = v; names = names1; tree = tree; out = out; ticks = n })) (sym stays)
+    (subst (λ (ns : List (List ℕ)). Given view files (next (set_variable line name) others) (record { world = w; names = names; tree = tree; out = out; ticks = n }) result (record { world = w; names = ns; tree = tree; out = out; ticks = n })) (sym same)
+    (given_unknown {line = line} {name = name} {s = record { world = w; names = names; tree = tree; out = out; ticks = n }} result h none told))
 
 -- a name keeps its number where the table grows
 pub name_stays : {old new : List (List ℕ)} → IsFront old new → (i : ℕ) → i < length old → (i < length new) × (get_or new i [] ≡ get_or old i [])

@@ -16,6 +16,7 @@ use Rattle.data.specs.declared.object.Object.TheVariants as objects
 use Rattle.data.specs.declared.refusal.Refusal.{Refusal as OperationRefusal}
 use Rattle.data.specs.Data.{Data, boolean, integer, text, list, dictionary, object, Items, no_items, item, items_append, boolean_in, object_in, is_disabler}
 use Rattle.data.specs.Limits.{within}
+use Rattle.arguments.specs.Refused.{RefusedData}
 use Rattle.basics.specs.declared.faults.refusal.Refusal.{Refusal}
 use Rattle.basics.specs.declared.faults.refusal.Refusal.TheVariants as refusals
 use Rattle.operators.specs.declared.operator.Binary.TheVariants.{Add}
@@ -150,7 +151,7 @@ module _ (files : Files) where
   needed-cost line None = refuse-cost line refusals.Type []
 
   refused_name-cost : {A : Type 0} (line : ℕ) (name : List ℕ) (b : Bool) → Takes file_cost files 0 (refused_name {A = A} line name b)
-  refused_name-cost line name true = refuse-cost line refusals.LeftOut []
+  refused_name-cost line name true = refuse-cost line refusals.LeftOut name
   refused_name-cost line name false = refuse-cost line refusals.UnknownFunction name
 
   known_function-cost : (line : ℕ) (name : List ℕ) (o : Option Function) → Takes file_cost files 0 (known_function line name o)
@@ -174,9 +175,9 @@ module _ (files : Files) where
   called-cost : (line : ℕ) (f : Function) (a : ArgumentsData) → Takes file_cost files 0 (called line f a)
   called-cost line f a = called_by-cost (is_turned_off f a) line f a
 
-  fitted-cost : (line : ℕ) (r : Result (Unit {0}) Refusal) → Takes file_cost files 0 (fitted line r)
+  fitted-cost : (line : ℕ) (r : Result (Unit {0}) RefusedData) → Takes file_cost files 0 (fitted line r)
   fitted-cost line (Ok u) = free _
-  fitted-cost line (Err refusal) = refuse-cost line refusal []
+  fitted-cost line (Err refused) = refuse-cost line refused.refusal refused.detail
 
   value_method-cost : (line : ℕ) (d : Data) (name : List ℕ) (a : ArgumentsData) → Takes file_cost files 0 (value_method line d name a)
   value_method-cost line d name a = first (fitted-cost line _) (λ v. first (answered-cost line (method_answer d name a.positional)) (λ e. none _))

@@ -11,7 +11,7 @@ use Rattle.world.specs.Gives.{Gives, Holds, is_ended}
 use Rattle.world.specs.Plan.{Plan, deed, ruled, next, carry, give, refuse}
 use Rattle.world.specs.Trace.{Mark, Ended, Seen, seen}
 use Rattle.world.specs.Run.{Run, ran, Act, Done, Faulted, after, follow, marks_of, with_end}
-use Rattle.world.specs.World.{World, Facts, LeavesNotes, with_facts, with_line}
+use Rattle.world.specs.World.{World, Facts, LeavesPaths, with_facts, with_line}
 use Rattle.world.specs.declared.stop.Stop.{Stop}
 use Rattle.world.specs.declared.stop.Stop.TheVariants as stops
 use Rattle.world.proofs.Follow.{begun, done, further, gives_later, stopped_later, wanted_later, ended_later, refused_later, gives_rule}
@@ -96,7 +96,7 @@ pub given_deed : {A B : Type 0} {view : B → A} {files : Files} {d : Deed A} {w
 given_deed {files = files} {n = n} h c = record { gives = c.gives files n h; holds = holds_later c.stays h }
 
 -- the facts change
-pub given_change : {files : Files} {f : Facts → Facts} {leaves : LeavesNotes f} {w w1 : World} {names names1 : List (List ℕ)} {tree : TreeState} {out : OutputState} {n : ℕ}
+pub given_change : {files : Files} {f : Facts → Facts} {leaves : LeavesPaths f} {w w1 : World} {names names1 : List (List ℕ)} {tree : TreeState} {out : OutputState} {n : ℕ}
     → Holds tree files → w1 ≡ changing f w → names1 ≡ names
     → Given (λ (u : Unit {0}). u) files (deed (change f leaves)) (record { world = w; names = names; tree = tree; out = out; ticks = n }) (Ok tt) (record { world = w1; names = names1; tree = tree; out = out; ticks = n })
 given_change {files = files} {f = f} {leaves = leaves} {w = w} {w1 = w1} {names = names} {names1 = names1} {tree = tree} {out = out} {n = n} h is same = record {

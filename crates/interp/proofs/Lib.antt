@@ -1,8 +1,10 @@
 pub mod Assigning
 pub mod Blocks
+mod Closing
 pub mod Coming
 mod Costs
 mod Depending
+mod Examples
 pub mod Ending
 pub mod Evaluating
 pub mod Filling

@@ -1,12 +1,12 @@
 -- What a call of `subdir` does, up to the folder that it enters.
 use Rattle.std.specs.Prelude.{ℕ, Bool, true, false, List, [], Option, Some, None, Result, Ok, Err, codes}
 use Rattle.data.specs.Data.{Data}
-use Rattle.basics.specs.declared.faults.refusal.Refusal.{Refusal}
+use Rattle.arguments.specs.Refused.{RefusedData}
 use Rattle.arguments.specs.Arguments.{ArgumentsData}
 use Rattle.arguments.specs.Dependencies.{are_found}
 use Rattle.arguments.specs.Disablers.{gives_disabler}
 use Rattle.arguments.specs.Given.{keyword, text_at}
-use Rattle.arguments.specs.Row.{checked}
+use Rattle.arguments.specs.Misfits.{checked}
 use Rattle.calls.specs.Rows.{row_of}
 use Rattle.language_calls.specs.declared.function.Function.{Function}
 use Rattle.language_calls.specs.declared.function.Function.TheVariants as functions
@@ -16,10 +16,10 @@ use Rattle.interp.specs.declared.acting.Action.TheVariants.{Call, Enter, Leave}
 use Rattle.interp.specs.declared.flow.Flow.{Flow}
 use Rattle.interp.specs.declared.flow.Flow.TheVariants.{Next}
 
--- what a test of arguments answers, or its refusal at a line
-abbrev pub fitted : ℕ → Result (Unit {0}) Refusal → Plan (Unit {0})
+-- what a test of arguments answers, or its refusal at a line, with what that is about
+abbrev pub fitted : ℕ → Result (Unit {0}) RefusedData → Plan (Unit {0})
 fitted line (Ok u) = give tt
-fitted line (Err refusal) = refuse line refusal []
+fitted line (Err refused) = refuse line refused.refusal refused.detail
 
 -- the statement has ended, or the folder that a text names is entered
 pub data WayData : Type 0 where

@@ -31,7 +31,7 @@ use Rattle.operators.specs.Literal.{literal_answer}
 use Rattle.methods.specs.Methods.{answer as method_answer, has_name}
 use Rattle.arguments.specs.Arguments.{ArgumentsData, no_arguments, with_argument}
 use Rattle.arguments.specs.Disablers.{gives_disabler}
-use Rattle.arguments.specs.Row.{checked}
+use Rattle.arguments.specs.Misfits.{checked}
 use Rattle.calls.specs.Functions.{call}
 use Rattle.language_calls.specs.Turning.{is_turned_off}
 use Rattle.language_calls.specs.Names.{function_named, is_left_out, is_predefined, predefined}
@@ -51,9 +51,9 @@ use Rattle.interp.specs.Entering.{action_of, by_way, entering, fitted}
 
 -- ---- names
 
--- what is left out by name
-abbrev pub left_out : {A : Type 0} → ℕ → Plan A
-left_out line = refuse line refusals.LeftOut []
+-- what is left out by this name
+abbrev pub left_out : {A : Type 0} → ℕ → List ℕ → Plan A
+left_out line name = refuse line refusals.LeftOut name
 
 abbrev pub known : ℕ → List ℕ → Option Data → Plan Data
 known line name (Some d) = give d
@@ -204,7 +204,7 @@ needed line (Some d) = give d
 needed line None = refuse line refusals.Type []
 
 abbrev pub refused_name : {A : Type 0} → ℕ → List ℕ → Bool → Plan A
-refused_name line name true = left_out line
+refused_name line name true = left_out line name
 refused_name line name false = refuse line refusals.UnknownFunction name
 
 abbrev pub known_function : ℕ → List ℕ → Option Function → Plan Function

@@ -15,11 +15,11 @@ use Rattle.interp.specs.Statements.{do_all}
 
 -- what is done next is done in a folder's definition file
 abbrev pub go_to : List ℕ → Plan (Unit {0})
-go_to folder = deed (change (with_place (definition_file folder) folder 1) (λ facts once. refl))
+go_to folder = deed (change (with_place (definition_file folder) folder 1) (λ facts. refl))
 
 -- what is done next is done at this place
 abbrev pub go_back : Facts → Plan (Unit {0})
-go_back outer = deed (change (with_place outer.file outer.folder outer.line) (λ facts once. refl))
+go_back outer = deed (change (with_place outer.file outer.folder outer.line) (λ facts. refl))
 
 -- a folder whose definition file has these bytes, or has none
 abbrev pub opened_by : List ℕ → Option (List ℕ) → Plan Statements

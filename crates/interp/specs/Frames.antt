@@ -54,7 +54,7 @@ one_round left line first second body r = do
 -- a file hands nothing on
 abbrev pub gone_back : List ℕ → List ℕ → ℕ → Flow → Plan Flow
 gone_back file folder line flow = do
-  _ ← deed (change (with_place file folder line) (λ facts once. refl))
+  _ ← deed (change (with_place file folder line) (λ facts. refl))
   give Next
 
 -- what is done, and what is left behind it

@@ -2,6 +2,7 @@
 use Rattle.std.specs.Prelude.{◌≡◌, ℕ, ◌≤◌, List, Ok, Err}
 use Rattle.world.specs.Deed.{Files}
 use Rattle.world.specs.Look.{Agree, AgreeOn, ran_over}
+use Rattle.world.specs.Made.{ClosesOutputs}
 use Rattle.world.specs.Noted.{NotesLooks, PresentAreFiles}
 use Rattle.world.specs.Run.{marks_of, world_after}
 use Rattle.world.specs.Settings.{SettingsData}
@@ -31,6 +32,10 @@ pub record NotesWhatItLooksAt : Type 0 where
   pub looks : (files : Files) (settings : SettingsData) (said : MachineSaid) → NotesLooks files (world_after (evaluated files settings said))
   pub present : (files : Files) (settings : SettingsData) (said : MachineSaid)
       → PresentAreFiles files (world_after (evaluated files settings said))
+
+-- After an evaluation that is done each output of `configure_file` has been closed.
+abbrev pub ClosesWhatItMakes : Type 0
+ClosesWhatItMakes = (files : Files) (settings : SettingsData) (said : MachineSaid) → ClosesOutputs (evaluated files settings said)
 
 -- an evaluation ends no more rules than its tree of files costs
 abbrev pub StepsWithinCost : Type 0

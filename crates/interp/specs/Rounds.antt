@@ -1,5 +1,5 @@
 -- The rounds of a loop, by their places.
-use Rattle.std.specs.Prelude.{◌≡◌, ℕ, ◌+◌, List, [], ◌∷◌, drop, Option, Some, None, Result, Ok, Err, option_map, is_some, Bool, nat_le, if◌then◌else◌}
+use Rattle.std.specs.Prelude.{◌≡◌, ◌≢◌, ℕ, ◌+◌, List, [], ◌∷◌, drop, Option, Some, None, Result, Ok, Err, option_map, is_some, Bool}
 use Rattle.data.specs.Data.{Data, boolean, integer, text, list, dictionary, object}
 use Rattle.data.specs.View.{data_of}
 use Rattle.basics.specs.declared.faults.refusal.Refusal.{Refusal}
@@ -24,11 +24,11 @@ abbrev pub RoundAt : List Round → ℕ → Option Declared → Type 0
 RoundAt rounds at None = drop at rounds ≡ []
 RoundAt rounds at (Some r) = drop at rounds ≡ round_data r ∷ drop (at + 1) rounds
 
--- so many rounds are not too many
-abbrev pub limit : ℕ → Result (Unit {0}) Refusal
-limit n = if nat_le n 65536 then Ok tt else Err refusals.Limit
-
 -- the rounds that one name or two walk, or their refusal
 abbrev pub Loops : Bool → Data → Result (Unit {0}) Refusal → Type 0
 Loops has_second d (Ok u) = (second : Option (List ℕ)) → is_some second ≡ has_second → looped second d ≡ Ok (rounds_in d)
 Loops has_second d (Err refusal) = (second : Option (List ℕ)) → is_some second ≡ has_second → looped second d ≡ Err refusal
+
+-- no loop over a value is refused for its length
+abbrev pub WalksAll : Data → Type 0
+WalksAll d = (second : Option (List ℕ)) → looped second d ≢ Err refusals.Limit

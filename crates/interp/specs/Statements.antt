@@ -47,7 +47,7 @@ own d = own_by (configuration_in d) d
 
 abbrev pub assigned_by : Bool → ℕ → List ℕ → Data → Plan (Unit {0})
 assigned_by true line name d = refuse line refusals.Arguments []
-assigned_by false line name d = deed (change (with_variable name (Some d)) (λ facts once. refl))
+assigned_by false line name d = deed (change (with_variable name (Some d)) (λ facts. refl))
 
 -- a variable takes a value, unless the name stands for a thing of the run
 abbrev pub assigned : ℕ → List ℕ → Data → Plan (Unit {0})

@@ -1,11 +1,13 @@
 //! Variables that take values.
-ghost use Rattle.std.specs.Prelude.{◌≡◌, ◌<◌, IsTrue, Some, length, nat_lt, option_map};
+ghost use Rattle.std.specs.Prelude.{◌≡◌, ◌<◌, ℕ, IsTrue, Some, length, nat_lt, option_map};
 ghost use Rattle.code.specs.Nodes.{tree_at};
 ghost use Rattle.code.specs.Statements.{name_at, second_within};
 ghost use Rattle.data.specs.View.{data_of};
 ghost use Rattle.configuration_calls.specs.ConfigurationData.{copy_configuration};
-ghost use Rattle.world.specs.Plan.{deed, ruled};
-ghost use Rattle.interp.specs.Expressions.{value_of};
+ghost use Rattle.world.specs.Answering.{Refuses};
+ghost use Rattle.world.specs.Gives.{failures_after};
+ghost use Rattle.world.specs.Plan.{deed, next, ruled};
+ghost use Rattle.interp.specs.Expressions.{thing, value_of};
 ghost use Rattle.interp.specs.Rounds.{round_data};
 ghost use Rattle.interp.specs.Statements.{added, appended, assigned, bound, configuration_in, configuration_of, copied, own, summed};
 
@@ -40,7 +42,7 @@ fn configuration_in(value: &Value) -> Option<usize>
 }
 
 impl<'a, T: Tree, O: Outputs, L: Ledger> Evaluator<'a, T, O, L> {
-    ghost use Rattle.interp.specs.Evaluates.{Answers, Evaluates, Fails, FailsInside, HasRoom, Same};
+    ghost use Rattle.interp.specs.Evaluates.{Answers, Evaluates, Fails, FailsInside, HasRoom, Same, fault_on};
 
     // The number of a copy of configuration data.
     fn copy_made(&mut self, number: usize) -> Result<usize, Stop>
@@ -82,19 +84,6 @@ impl<'a, T: Tree, O: Outputs, L: Ledger> Evaluator<'a, T, O, L> {
         }
     }
 
-    // The variable of a name takes a value, unless the name stands for a thing of the run.
-    fn set(&mut self, line: usize, name: &str, value: Value) -> Result<(), Stop>
-        ensures same { Same self.old self.new }
-        ensures device { Fails T.seen O.seen self.old result self.new }
-        ensures gives { Answers T.seen O.seen (λ u. u) (assigned line name.now (data_of value)) self.old result self.new }
-    {
-        if is_predefined(name) {
-            return self.refuse(line, Refusal::Arguments, "");
-        }
-        self.store.set(name, value)?;
-        Ok(())
-    }
-
     /// The variable of a number takes a value: error 11 where its name stands for a thing of the run.
     pub fn assign(&mut self, line: usize, number: usize, value: Value) -> Result<(), Stop>
         ensures same { Same self.old self.new }
@@ -102,8 +91,12 @@ impl<'a, T: Tree, O: Outputs, L: Ledger> Evaluator<'a, T, O, L> {
         ensures gives { number < length self.old.store.now.names → Answers T.seen O.seen
             (λ u. u) (assigned line (name_at self.old.store.now.names number) (data_of value)) self.old result self.new }
     {
-        let name = String::from_str(self.alloc, self.store.name(number))?;
-        self.set(line, &name, value)
+        let name = self.store.name(number);
+        if is_predefined(name) {
+            return self.refuse(line, Refusal::Arguments, "");
+        }
+        self.store.put(number, value)?;
+        Ok(())
     }
 
     /// The variables of a round take their values: the first, and the second where there is one.
@@ -183,40 +176,71 @@ impl<'a, T: Tree, O: Outputs, L: Ledger> Evaluator<'a, T, O, L> {
         ensures gives { number < length self.old.store.now.names → Evaluates T.seen O.seen (λ u. u) (λ into ts. appended line
             (name_at self.old.store.now.names number) (ruled (value_of into (tree_at ts value)))) code.now self.old result self.new }
     {
-        let name = String::from_str(self.alloc, self.store.name(number))?;
         let _ = self.variable(number, line)?;
         let right = self.eval(code, value)?;
-        Ok(self.add(line, &name, right)?)
+        Ok(self.add(line, number, right)?)
     }
 
-    // The variable of a name takes the sum of what it has and a value. Its value is taken out of it first: what nobody else holds grows
-    // in place.
-    fn add(&mut self, line: usize, name: &str, right: Value) -> Result<(), Stop>
+    // The variable of a number takes the sum of what it has and a value. Its value is taken out of it first: what nobody else holds
+    // grows in place.
+    fn add(&mut self, line: usize, number: usize, right: Value) -> Result<(), Stop>
         ensures same { Same self.old self.new }
         ensures device { Fails T.seen O.seen self.old result self.new }
-        ensures gives { Answers T.seen O.seen (λ u. u) (summed line name.now (data_of right)) self.old result self.new }
+        ensures gives { number < length self.old.store.now.names → Answers T.seen O.seen (λ u. u)
+            (summed line (name_at self.old.store.now.names number) (data_of right)) self.old result self.new }
     {
-        if is_predefined(name) {
-            let thing = self.thing(name)?;
-            return self.sum(line, name, thing, right);
+        let is_thing = is_predefined(self.store.name(number));
+        if is_thing {
+            return self.add_to_thing(line, number, right);
         }
-        match self.store.find(name)? {
-            Some(left) => {
-                self.store.unset(name);
-                self.sum(line, name, left, right)
-            }
-            None => self.refuse(line, Refusal::UndefinedName, name),
+        let taken = self.store.take(number);
+        match taken {
+            Some(left) => self.sum(line, number, left, right),
+            None => self.unknown(line, number),
         }
     }
 
-    // The variable of a name takes the sum of two values.
-    fn sum(&mut self, line: usize, name: &str, left: Value, right: Value) -> Result<(), Stop>
+    // The thing of the run that the name of a number stands for.
+    fn thing_at(&self, number: usize) -> Result<Value, Stop>
+        ensures gives { number < length self.now.store.now.names
+            → Answers T.seen O.seen data_of (thing (name_at self.now.store.now.names number)) self.now result self.now }
+        ensures quiet { (n : ℕ) → failures_after n result ≡ n }
+    {
+        let name = self.store.name(number);
+        self.thing(name)
+    }
+
+    // Refuses the name of a number, whose variable has no value.
+    fn unknown(&self, line: usize, number: usize) -> Result<(), Stop>
+        ensures refuses { number < length self.now.store.now.names → Refuses (fault_on self.now line Refusal.UndefinedName
+            (name_at self.now.store.now.names number)) result }
+        ensures quiet { (n : ℕ) → failures_after n result ≡ n }
+    {
+        let name = self.store.name(number);
+        self.refuse(line, Refusal::UndefinedName, name)
+    }
+
+    // The same where its name stands for a thing of the run.
+    fn add_to_thing(&mut self, line: usize, number: usize, right: Value) -> Result<(), Stop>
         ensures same { Same self.old self.new }
         ensures device { Fails T.seen O.seen self.old result self.new }
-        ensures gives { Answers T.seen O.seen (λ u. u) (added line name.now (data_of left) (data_of right)) self.old result self.new }
+        ensures gives { number < length self.old.store.now.names → Answers T.seen O.seen (λ u. u)
+            (next (thing (name_at self.old.store.now.names number))
+            (λ d. added line (name_at self.old.store.now.names number) d (data_of right))) self.old result self.new }
+    {
+        let thing = self.thing_at(number)?;
+        self.sum(line, number, thing, right)
+    }
+
+    // The variable of a number takes the sum of two values.
+    fn sum(&mut self, line: usize, number: usize, left: Value, right: Value) -> Result<(), Stop>
+        ensures same { Same self.old self.new }
+        ensures device { Fails T.seen O.seen self.old result self.new }
+        ensures gives { number < length self.old.store.now.names → Answers T.seen O.seen (λ u. u)
+            (added line (name_at self.old.store.now.names number) (data_of left) (data_of right)) self.old result self.new }
     {
         let answer = binary(self.alloc, Binary::Add, left, right)?;
         let sum = self.answered(line, answer)?;
-        self.set(line, name, sum)
+        self.assign(line, number, sum)
     }
 }

@@ -1,9 +1,10 @@
 //! What an evaluation works on, and the small answers that it gives.
-ghost use Rattle.std.specs.Prelude.{◌≡◌, ◌<◌, ℕ, IfOk, Result, None, [], length, option_map, slice_index_or};
+ghost use Rattle.std.specs.Prelude.{◌≡◌, ◌<◌, ℕ, IfOk, Result, None, length, option_map, slice_index_or};
 ghost use Rattle.data.specs.Data.{Data, is_disabler};
 ghost use Rattle.data.specs.Tables.{Answers as AnswersSo};
 ghost use Rattle.data.specs.View.{data_of};
 ghost use Rattle.data.specs.declared.refusal.Refusal.{Refusal as OperationRefusal};
+ghost use Rattle.arguments.specs.Refused.{answer_data};
 ghost use Rattle.basics.specs.View.{fault_view};
 ghost use Rattle.world.specs.Answering.{Refuses};
 ghost use Rattle.world.specs.Gives.{failures_after};
@@ -11,6 +12,7 @@ ghost use Rattle.world.specs.Plan.{answered};
 ghost use Rattle.interp.specs.Entering.{fitted};
 ghost use Rattle.interp.specs.Expressions.{needed, unchosen};
 
+use arguments::Refused;
 use basics::faults::{Fault, Refusal};
 use data::Value;
 use ports::{Outputs, Tree};
@@ -48,11 +50,11 @@ impl<'a, T: Tree, O: Outputs, L: Ledger> Evaluator<'a, T, O, L> {
         }
     }
 
-    /// Refuses what is left out by name.
-    pub fn left_out<A>(&self, line: usize) -> Result<A, Stop>
-        ensures { Refuses (fault_on self.now line Refusal.LeftOut []) result }
+    /// Refuses what is left out by this name.
+    pub fn left_out<A>(&self, line: usize, name: &str) -> Result<A, Stop>
+        ensures { Refuses (fault_on self.now line Refusal.LeftOut name.now) result }
     {
-        self.refuse(line, Refusal::LeftOut, "")
+        self.refuse(line, Refusal::LeftOut, name)
     }
 
     /// What an operation answered, or the stop of its refusal.
@@ -90,14 +92,14 @@ impl<'a, T: Tree, O: Outputs, L: Ledger> Evaluator<'a, T, O, L> {
         }
     }
 
-    /// What a test of arguments answered, or the stop of its refusal.
-    pub fn fitted(&self, line: usize, answer: Result<(), Refusal>) -> Result<(), Stop>
-        ensures gives { Answers T.seen O.seen (λ u. u) (fitted line answer) self.now result self.now }
+    /// What a test of arguments answered, or the stop of its refusal, with what that is about.
+    pub fn fitted(&self, line: usize, answer: Result<(), Refused>) -> Result<(), Stop>
+        ensures gives { Answers T.seen O.seen (λ u. u) (fitted line (answer_data answer)) self.now result self.now }
         ensures quiet { (n : ℕ) → failures_after n result ≡ n }
     {
         match answer {
             Ok(()) => Ok(()),
-            Err(refusal) => self.refuse(line, refusal, ""),
+            Err(refused) => self.refuse(line, refused.refusal, refused.detail.as_str()),
         }
     }
 }

@@ -46,11 +46,7 @@ impl<'a, T: Tree, O: Outputs, L: Ledger> Evaluator<'a, T, O, L> {
     {
         match &code.nodes[node] {
             Node::Name { number, line } => Ok(self.variable(*number, *line)?),
-            Node::Literal {
-                literal,
-                text,
-                line,
-            } => Ok(self.literal(*line, *literal, text)?),
+            Node::Literal { literal, line } => Ok(self.literal(*line, literal)?),
             Node::List { items, line } => self.list(code, items, *line),
             Node::Dictionary { entries, line } => self.dictionary(code, entries, *line),
             Node::Call {

@@ -1,5 +1,9 @@
 //! What holds of every evaluation.
-ghost use Rattle.interp.specs.Laws.{DependsOnLooked, MachineFilesSay, NotesWhatItLooksAt, StepsWithinCost};
+ghost use Rattle.data.specs.View.{data_of};
+ghost use Rattle.interp.specs.Laws.{ClosesWhatItMakes, DependsOnLooked, MachineFilesSay, NotesWhatItLooksAt, StepsWithinCost};
+ghost use Rattle.interp.specs.Rounds.{WalksAll};
+
+use data::{Value, values_have_few_items};
 
 /// Of any two trees of files that agree on the paths looked at by the evaluation of the first, and two machine files that agree on the
 /// questions that it asks, both evaluations are equal, but for the machine file that stands in the last world.
@@ -12,6 +16,18 @@ pub fn depends_on_looked()
 pub fn notes_what_it_looks_at()
     ensures { NotesWhatItLooksAt }
 {}
+
+/// After an evaluation that is done each path that `configure_file` made was closed.
+pub fn closes_what_it_makes()
+    ensures { ClosesWhatItMakes }
+{}
+
+/// No loop over a value is refused for its length: no list and no dictionary has more items than a loop can walk.
+pub fn loops_walk_all(value: &Value)
+    ensures { WalksAll (data_of value.now) }
+{
+    values_have_few_items(value);
+}
 
 /// An evaluation ends no more rules than its tree of files costs.
 pub fn steps_within_cost()

@@ -40,4 +40,7 @@ mod unwinding;
 
 pub use evaluation::{Inputs, definitions, evaluate, read_machine};
 pub use evaluator::Evaluator;
-pub use law::{depends_on_looked, machine_files_say, notes_what_it_looks_at, steps_within_cost};
+pub use law::{
+    closes_what_it_makes, depends_on_looked, loops_walk_all, machine_files_say,
+    notes_what_it_looks_at, steps_within_cost,
+};

@@ -1,5 +1,6 @@
 //! The values of literals.
-ghost use Rattle.std.specs.Prelude.{◌≡◌, ℕ};
+ghost use Rattle.std.specs.Prelude.{◌≡◌, ℕ, IfOk, Ok, string_bytes};
+ghost use Rattle.code.specs.Literals.{kind_of};
 ghost use Rattle.data.specs.Data.{text};
 ghost use Rattle.data.specs.Limits.{within};
 ghost use Rattle.data.specs.Tables.{Answers as AnswersSo};
@@ -11,11 +12,13 @@ ghost use Rattle.world.specs.Plan.{answered};
 ghost use Rattle.interp.specs.Expressions.{literal_value, number};
 
 use crate::evaluator::Evaluator;
-use data::Value;
+use code::LiteralNode;
+use data::{Text, Value};
 use grammar::tree::Literal;
 use lexer::token::Kind;
 use lexer::{magnitude, text_of_slice};
 use ports::{Outputs, Tree};
+use std::alloc::{AllocError, Global};
 use std::sync::ledger::Ledger;
 use world::Stop;
 
@@ -33,11 +36,38 @@ fn number(text: &str) -> Result<Value, data::Refusal>
     }
 }
 
+// The integer of a number that 64 bits hold.
+fn small_integer(n: u64) -> Value
+    ensures { number n ≡ Ok (data_of result) }
+{
+    Value::Integer(n as i128)
+}
+
+// The value of a text, shared.
+fn shared(string: &Text) -> Result<Value, AllocError>
+    ensures { IfOk result (λ v. within (text string.now) ≡ Ok (data_of v)) }
+{
+    let _within = string.as_str();
+    Ok(Value::Text(string.clone()?))
+}
+
 impl<'a, T: Tree, O: Outputs, L: Ledger> Evaluator<'a, T, O, L> {
     ghost use Rattle.interp.specs.Evaluates.{Answers};
 
+    // The integer of a number.
+    fn integer(&self, line: usize, literal: &LiteralNode) -> Result<Value, Stop>
+        ensures gives { Answers T.seen O.seen data_of (answered line (number (magnitude (string_bytes literal.now.text))))
+            self.now result self.now }
+        ensures quiet { (n : ℕ) → failures_after n result ≡ n }
+    {
+        match literal.number {
+            Some(n) => Ok(small_integer(n)),
+            None => self.answered(line, number(literal.text.as_str())),
+        }
+    }
+
     // The text of a string of this kind.
-    fn string(&self, line: usize, kind: Kind, slice: &str) -> Result<Value, Stop>
+    fn decoded(&self, line: usize, kind: Kind, slice: &str) -> Result<Value, Stop>
         ensures gives { Answers T.seen O.seen data_of (answered line (within (text (text_of kind slice.now)))) self.now result self.now }
         ensures quiet { (n : ℕ) → failures_after n result ≡ n }
     {
@@ -46,19 +76,32 @@ impl<'a, T: Tree, O: Outputs, L: Ledger> Evaluator<'a, T, O, L> {
         self.answered(line, answer)
     }
 
-    // The value of a literal.
-    pub fn literal(&self, line: usize, literal: Literal, text: &str) -> Result<Value, Stop>
-        ensures gives { Answers T.seen O.seen data_of (literal_value line literal text.now) self.now result self.now }
+    // The text of a string.
+    fn string(&self, line: usize, literal: &LiteralNode) -> Result<Value, Stop>
+        ensures gives { Answers T.seen O.seen data_of
+            (answered line (within (text (text_of (kind_of literal.now.literal) (string_bytes literal.now.text))))) self.now result self.now }
         ensures quiet { (n : ℕ) → failures_after n result ≡ n }
     {
-        match literal {
+        match &literal.string {
+            Some(string) => Ok(shared(string)?),
+            None => self.decoded(line, literal.kind(), literal.text.as_str()),
+        }
+    }
+
+    // The value of a literal.
+    pub fn literal(&self, line: usize, literal: &LiteralNode) -> Result<Value, Stop>
+        ensures gives { Answers T.seen O.seen data_of (literal_value line literal.now.literal (string_bytes literal.now.text))
+            self.now result self.now }
+        ensures quiet { (n : ℕ) → failures_after n result ≡ n }
+    {
+        match literal.literal {
             Literal::True => Ok(Value::Boolean(true)),
             Literal::False => Ok(Value::Boolean(false)),
-            Literal::Number => self.answered(line, number(text)),
-            Literal::String => self.string(line, Kind::String, text),
-            Literal::RawString => self.string(line, Kind::RawString, text),
-            Literal::FormatString => self.format_string(line, Kind::FormatString, text),
-            Literal::RawFormatString => self.format_string(line, Kind::RawFormatString, text),
+            Literal::Number => self.integer(line, literal),
+            Literal::String => self.string(line, literal),
+            Literal::RawString => self.string(line, literal),
+            Literal::FormatString => self.format_string(line, literal),
+            Literal::RawFormatString => self.format_string(line, literal),
         }
     }
 }

@@ -1,13 +1,13 @@
 //! The rounds of a loop.
-ghost use Rattle.std.specs.Prelude.{◌≡◌, IfOk, false, true};
+ghost use Rattle.std.specs.Prelude.{◌≡◌, ◌≤◌, IfOk, false, length, true};
 ghost use Rattle.data.specs.Data.{Data};
+ghost use Rattle.data.specs.Few.{item_count};
 ghost use Rattle.data.specs.View.{data_of, items_of};
 ghost use Rattle.interp.specs.Rounds.{Loops, RoundAt, rounds_in};
 ghost use Rattle.interp.specs.Statements.{entry_rounds, item_rounds};
 
 use basics::faults::Refusal;
-use basics::limits::ITEMS;
-use data::{Dictionary, Value};
+use data::{Dictionary, Value, values_have_few_items};
 use std::alloc::{AllocError, Global};
 
 /// The values of a round's variables: of the first, and of the second where there is one.
@@ -58,41 +58,35 @@ pub fn round_at(whole: &Value, at: usize) -> Result<Option<Round>, AllocError>
     }
 }
 
-// No list or dictionary has more items than this, so it never refuses.
-fn limited(rounds: usize) -> Result<(), Refusal>
-    ensures { result ≡ Rattle.interp.specs.Rounds.limit rounds }
-{
-    if rounds <= ITEMS {
-        Ok(())
-    } else {
-        Err(Refusal::Limit)
-    }
-}
-
 // Whether a loop with two names can walk a value.
 fn check_entries(whole: &Value) -> Result<(), Refusal>
+    requires { item_count (data_of whole.now) ≤ 65536 }
     ensures { Loops true (data_of whole.now) result }
 {
     match whole.as_dictionary() {
-        Some(dictionary) => limited(dictionary.len()),
+        Some(_) => Ok(()),
         None => Err(Refusal::Type),
     }
 }
 
 // Whether a loop with one name can walk a value.
 fn check_items(whole: &Value) -> Result<(), Refusal>
+    requires { item_count (data_of whole.now) ≤ 65536 }
     ensures { Loops false (data_of whole.now) result }
 {
     match whole.as_list() {
-        Some(list) => limited(list.len()),
+        Some(_) => Ok(()),
         None => Err(Refusal::Type),
     }
 }
 
 /// Whether a loop with one name or with two can walk a value: one walks a list, two a dictionary.
 pub fn check_loop(has_second: bool, whole: &Value) -> Result<(), Refusal>
-    ensures { Loops has_second (data_of whole.now) result }
+    ensures loops { Loops has_second (data_of whole.now) result }
+    ensures few { length (rounds_in (data_of whole.now)) ≤ 65536 }
 {
+    // The law by which nothing is too long to be walked; the call does nothing.
+    values_have_few_items(whole);
     if has_second {
         check_entries(whole)
     } else {

@@ -115,7 +115,7 @@ impl<'a, T: Tree, O: Outputs, L: Ledger> Evaluator<'a, T, O, L> {
             Some(function) => Ok(function),
             None => {
                 if is_left_out(name) {
-                    self.left_out(line)
+                    self.left_out(line, name)
                 } else {
                     self.refuse(line, Refusal::UnknownFunction, name)
                 }
@@ -215,7 +215,7 @@ impl<'a, T: Tree, O: Outputs, L: Ledger> Evaluator<'a, T, O, L> {
             return self.asked_of(line, object);
         }
         if is_left_out_method(object, name) {
-            self.left_out(line)
+            self.left_out(line, name)
         } else {
             self.refuse(line, Refusal::UnknownFunction, name)
         }

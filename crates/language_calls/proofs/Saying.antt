@@ -1,7 +1,7 @@
 -- Texts that are told one after another are told as one.
 use Rattle.std.proofs.Common.{◌≡◌, ℕ, Bool, suc, ◌+◌, ◌<◌, List, [], ◌∷◌, ◌++◌, map, drop, length, get_or, codes, MatchOption, Option, Some, None, Result, Ok, Err, arith, refl, sym, ap, subst, ◌∙◌, add-one}
 use Rattle.std.specs.Prelude.{◌&&◌}
-use Rattle.std.specs.List.{flat_map, list_all}
+use Rattle.std.specs.List.{list_all}
 use Rattle.std.proofs.Math.Seq.{drop-cons}
 use Rattle.std.proofs.lemmas.List.{map-append}
 use Rattle.data.specs.Data.{Data}
@@ -44,13 +44,6 @@ carries_whole {view = view} ts {s = s} {s1 = s1} {result = result} k = record {
   device = k.device;
   same = k.same;
 }
-
-spaces : (ds : List Data) → whole (behind_spaces ds) ≡ flat_map (λ next. codes " " ++ next) (map shown ds)
-spaces [] = refl
-spaces (d ∷ ds) = ap (λ x. codes " " ++ (shown d ++ x)) (spaces ds)
-
-pub whole_line : (d : Data) (ds : List Data) → whole (shown d ∷ behind_spaces ds) ≡ line_of (d ∷ ds)
-whole_line d ds = ap (λ x. shown d ++ x) (spaces ds)
 
 pub all_of : (test : Data → Bool) (vs : List Value) → list_all (λ v. test (data_of v)) vs ≡ list_all test (map data_of vs)
 all_of test [] = refl

@@ -1,21 +1,19 @@
 -- `message`, `warning`, `error` and `assert`: what is told to the user.
-use Rattle.std.specs.Prelude.{ℕ, true, List, [], ◌∷◌, ◌++◌, map, flat_map, Option, None, codes}
+use Rattle.std.specs.Prelude.{ℕ, true, List, [], ◌∷◌, ◌++◌, Option, None, codes}
 use Rattle.std.specs.List.{list_all}
 use Rattle.data.specs.Data.{Data}
 use Rattle.basics.specs.declared.faults.refusal.Refusal.TheVariants as refusals
+use Rattle.printing.specs.Pieces.{whole}
 use Rattle.printing.specs.Printed.{is_printable, shown}
 use Rattle.arguments.specs.Arguments.{ArgumentsData}
 use Rattle.arguments.specs.Given.{flag_at, text_or}
+use Rattle.language_calls.specs.Saying.{behind_spaces}
 use Rattle.world.specs.Deed.{Deed, give, refuse, ◌>>=◌, say, need}
 
--- values printed, with a space between each two
-abbrev pub spaced : List (List ℕ) → List ℕ
-spaced [] = []
-spaced (t ∷ ts) = t ++ flat_map (λ next. codes " " ++ next) ts
-
--- what is printed of values; it may be longer than a text can be
+-- what is printed of values, with a space between each two; it may be longer than a text can be
 abbrev pub line_of : List Data → List ℕ
-line_of ds = spaced (map shown ds)
+line_of [] = []
+line_of (d ∷ ds) = whole (shown d ∷ behind_spaces ds)
 
 -- values that have a printed text, or the call is refused (E9)
 unfoldable pub need_printable : List Data → Deed (Unit {0})

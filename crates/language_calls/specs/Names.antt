@@ -50,34 +50,29 @@ left_out_names =
 abbrev pub is_left_out : List ℕ → Bool
 is_left_out name = is_among left_out_names name
 
--- the function of a name that says what targets are made with, and what is installed and tested
-abbrev pub resource_function_named : List ℕ → Option ProjectFunction
-resource_function_named name =
-    if bytes_eq name (codes "configuration_data") then Some project.ConfigurationData
-    else if bytes_eq name (codes "configure_file") then Some project.ConfigureFile
-    else if bytes_eq name (codes "declare_dependency") then Some project.DeclareDependency
-    else if bytes_eq name (codes "dependency") then Some project.Dependency
-    else if bytes_eq name (codes "find_program") then Some project.FindProgram
-    else if bytes_eq name (codes "get_option") then Some project.GetOption
-    else if bytes_eq name (codes "install_data") then Some project.InstallData
-    else if bytes_eq name (codes "install_headers") then Some project.InstallHeaders
-    else if bytes_eq name (codes "install_man") then Some project.InstallMan
-    else if bytes_eq name (codes "test") then Some project.Test
-    else None
-
 -- the function of a name that says something of the project
 abbrev pub project_function_named : List ℕ → Option ProjectFunction
 project_function_named name =
     if bytes_eq name (codes "add_project_arguments") then Some project.AddProjectArguments
     else if bytes_eq name (codes "add_project_link_arguments") then Some project.AddProjectLinkArguments
+    else if bytes_eq name (codes "configuration_data") then Some project.ConfigurationData
+    else if bytes_eq name (codes "configure_file") then Some project.ConfigureFile
     else if bytes_eq name (codes "custom_target") then Some project.CustomTarget
+    else if bytes_eq name (codes "declare_dependency") then Some project.DeclareDependency
+    else if bytes_eq name (codes "dependency") then Some project.Dependency
     else if bytes_eq name (codes "executable") then Some project.Executable
     else if bytes_eq name (codes "files") then Some project.Files
+    else if bytes_eq name (codes "find_program") then Some project.FindProgram
+    else if bytes_eq name (codes "get_option") then Some project.GetOption
     else if bytes_eq name (codes "include_directories") then Some project.IncludeDirectories
+    else if bytes_eq name (codes "install_data") then Some project.InstallData
+    else if bytes_eq name (codes "install_headers") then Some project.InstallHeaders
+    else if bytes_eq name (codes "install_man") then Some project.InstallMan
     else if bytes_eq name (codes "library") then Some project.Library
     else if bytes_eq name (codes "shared_library") then Some project.SharedLibrary
     else if bytes_eq name (codes "static_library") then Some project.StaticLibrary
-    else resource_function_named name
+    else if bytes_eq name (codes "test") then Some project.Test
+    else None
 
 -- the function of a name
 abbrev pub function_named : List ℕ → Option Function

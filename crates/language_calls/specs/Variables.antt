@@ -13,7 +13,7 @@ abbrev pub is_settable : List ℕ → Bool
 is_settable name = is_name name && not (is_predefined name)
 
 unfoldable pub set_to : List ℕ → Option Data → Deed (Unit {0})
-set_to name (Some d) = change (with_variable name (Some d)) (λ facts once. refl)
+set_to name (Some d) = change (with_variable name (Some d)) (λ facts. refl)
 set_to name None = refuse refusals.Arguments []
 
 -- `set_variable(name, value)`
@@ -62,5 +62,5 @@ unset_variable a = do
   _ ← need (is_settable (text_at 0 a)) refusals.Arguments []
   facts ← read
   _ ← need (is_some (facts.variables (text_at 0 a))) refusals.UndefinedName (text_at 0 a)
-  _ ← change (with_variable (text_at 0 a) None) (λ facts once. refl)
+  _ ← change (with_variable (text_at 0 a) None) (λ facts. refl)
   give None

@@ -1,8 +1,8 @@
 //! The names that the language gives a meaning to.
 ghost use Rattle.std.specs.Prelude.{◌≡◌, IfOk, option_map};
 ghost use Rattle.std.specs.List.{list_all};
-ghost use Rattle.language_calls.specs.Names.{begins_name, function_named, is_left_out, is_name, is_name_byte, is_predefined, predefined, project_function_named};
-ghost use Rattle.language_calls.specs.Names.{resource_function_named};
+ghost use Rattle.language_calls.specs.Names.{begins_name, function_named, is_left_out, is_name, is_name_byte, is_predefined, predefined};
+ghost use Rattle.language_calls.specs.Names.{project_function_named};
 ghost use Rattle.data.specs.View.{data_of};
 ghost use Rattle.language_calls.specs.declared.function.Function.TheVariants as functions;
 
@@ -28,9 +28,6 @@ const KEYWORDS: [&str; 14] = [
     "break",
     "continue",
 ];
-
-/// The variables that stand for things of the run.
-const PREDEFINED: [&str; 4] = ["meson", "host_machine", "build_machine", "target_machine"];
 
 /// The functions of Meson that are left out for good, in the order of the alphabet.
 const LEFT_OUT: [&str; 21] = [
@@ -61,7 +58,10 @@ const LEFT_OUT: [&str; 21] = [
 pub fn is_predefined(name: &str) -> bool
     ensures { result ≡ is_predefined name.now }
 {
-    is_among(&PREDEFINED, name)
+    matches!(
+        name,
+        "meson" | "host_machine" | "build_machine" | "target_machine"
+    )
 }
 
 /// What such a name stands for: the object `meson`, or the machine. What the machine file says of the machine is asked by the methods of
@@ -148,31 +148,22 @@ fn project_function_named(name: &str) -> Option<ProjectFunction>
     match name {
         "add_project_arguments" => Some(ProjectFunction::AddProjectArguments),
         "add_project_link_arguments" => Some(ProjectFunction::AddProjectLinkArguments),
-        "custom_target" => Some(ProjectFunction::CustomTarget),
-        "executable" => Some(ProjectFunction::Executable),
-        "files" => Some(ProjectFunction::Files),
-        "include_directories" => Some(ProjectFunction::IncludeDirectories),
-        "library" => Some(ProjectFunction::Library),
-        "shared_library" => Some(ProjectFunction::SharedLibrary),
-        "static_library" => Some(ProjectFunction::StaticLibrary),
-        _ => resource_function_named(name),
-    }
-}
-
-// The function of a name that says what targets are made with, and what is installed and tested.
-fn resource_function_named(name: &str) -> Option<ProjectFunction>
-    ensures { result ≡ resource_function_named name.now }
-{
-    match name {
         "configuration_data" => Some(ProjectFunction::ConfigurationData),
         "configure_file" => Some(ProjectFunction::ConfigureFile),
+        "custom_target" => Some(ProjectFunction::CustomTarget),
         "declare_dependency" => Some(ProjectFunction::DeclareDependency),
         "dependency" => Some(ProjectFunction::Dependency),
+        "executable" => Some(ProjectFunction::Executable),
+        "files" => Some(ProjectFunction::Files),
         "find_program" => Some(ProjectFunction::FindProgram),
         "get_option" => Some(ProjectFunction::GetOption),
+        "include_directories" => Some(ProjectFunction::IncludeDirectories),
         "install_data" => Some(ProjectFunction::InstallData),
         "install_headers" => Some(ProjectFunction::InstallHeaders),
         "install_man" => Some(ProjectFunction::InstallMan),
+        "library" => Some(ProjectFunction::Library),
+        "shared_library" => Some(ProjectFunction::SharedLibrary),
+        "static_library" => Some(ProjectFunction::StaticLibrary),
         "test" => Some(ProjectFunction::Test),
         _ => None,
     }

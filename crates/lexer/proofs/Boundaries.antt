@@ -1,19 +1,20 @@
 -- A source is cut between characters.
-use Rattle.std.proofs.Common.{◌≡◌, ◌≢◌, ℕ, ◌+◌, ◌-◌, ◌≤◌, ◌<◌, Bool, true, false, List, [], ◌∷◌, length, drop, get_or, refl, sym, ap, subst, ◌∙◌, ◌⊎◌, inl, inr, arith, lit<, Some, length-drop, length-append}
+use Rattle.std.proofs.Common.{◌≡◌, ◌≢◌, ℕ, zero, suc, ◌+◌, ◌-◌, ◌≤◌, ◌<◌, Bool, true, false, List, [], ◌∷◌, length, drop, get_or, refl, sym, ap, subst, ◌∙◌, ◌⊎◌, inl, inr, arith, lit<, Some, length-drop, length-append}
 use Rattle.std.specs.Prelude.{◌==◌, ◌&&◌, not, nat_lt}
 use Rattle.std.specs.Str.{IsUtf8, IsCharBoundary}
 use Rattle.std.proofs.lemmas.Bool.{eqb-true}
 use Rattle.std.proofs.lemmas.Bool.Decides.{nat_tests}
 use Rattle.std.proofs.lemmas.List.{get_or-drop, get_or_append_left, drop-drop}
-use Rattle.std.proofs.lemmas.Str.{IsCharBoundary-after_ascii, IsCharBoundary-before_ascii, IsCharBoundary-end, IsCharBoundary-start}
+use Rattle.std.proofs.lemmas.Str.{IsCharBoundary-after_ascii, IsCharBoundary-before_ascii, IsCharBoundary-end, IsCharBoundary-start, IsUtf8-drop}
 use Rattle.lexer.specs.declared.token.Kind.{Kind}
 use Rattle.lexer.specs.declared.gap.GapPart.{GapPart}
 use Rattle.lexer.specs.declared.gap.GapPart.TheVariants.{Blank, Comment, Continuation}
-use Rattle.lexer.specs.Bytes.{newline, hash, backslash, is_blank}
-use Rattle.lexer.specs.Lexing.{continues_line, gap, in_gap, part_after, token_at}
+use Rattle.lexer.specs.Bytes.{newline, hash, backslash, is_blank, continues_word}
+use Rattle.lexer.specs.Lexing.{continues_line, gap, in_gap, part_after, run, token_at}
 use Rattle.lexer.proofs.Gaps.{gap_yes, gap_no}
+use Rattle.lexer.proofs.Runs.{run_le, run_passes}
 use Rattle.lexer.proofs.Tests.{cases_bool, neither, not_false, or_false, if_false}
-use Rattle.lexer.proofs.Lexemes.{token_sound, token_ascii}
+use Rattle.lexer.proofs.Lexemes.{continues_ascii, token_sound, token_ascii}
 
 newline_ascii : (b : ℕ) → (b == newline) ≡ true → b < 128
 newline_ascii b e = subst (λ (x : ℕ). x < 128) (sym (eqb-true b newline e)) (lit< tt)
@@ -84,6 +85,18 @@ pub gap_boundary : (bs : List ℕ) (depth n : ℕ) → IsUtf8 bs → n ≡ gap d
 gap_boundary bs depth n utf8 e =
     subst (IsCharBoundary bs) (let q : 0 + gap depth Blank bs ≡ n = omega (arith, e) in q)
     (gap_cut bs utf8 depth Blank 0 bs refl (omega arith) (λ f. IsCharBoundary-start bs utf8))
+
+-- what stands behind a gap
+pub after_gap : (bs rest : List ℕ) (depth n : ℕ) → IsUtf8 bs → n ≡ gap depth Blank bs → rest ≡ drop n bs → IsUtf8 rest
+after_gap bs rest depth n utf8 e r = subst IsUtf8 (sym r) (IsUtf8-drop bs n utf8 (gap_boundary bs depth n utf8 e))
+
+-- where a word ends
+pub word_boundary : (bs : List ℕ) (n : ℕ) → IsUtf8 bs → n ≡ run continues_word bs → IsCharBoundary bs n
+word_boundary bs zero utf8 e = IsCharBoundary-start bs utf8
+word_boundary bs (suc n) utf8 e =
+    let passes = run_passes continues_word bs n (omega (arith, e)) in
+    subst (IsCharBoundary bs) (let q : n + 1 ≡ suc n = omega arith in q)
+    (IsCharBoundary-after_ascii bs n utf8 (omega (arith, e, run_le continues_word bs)) (continues_ascii (get_or bs n 0) passes))
 
 -- where a token ends
 pub token_boundary : (bs : List ℕ) (k : Kind) (n : ℕ) → IsUtf8 bs → token_at bs ≡ Some (k, n) → IsCharBoundary bs n

@@ -310,7 +310,7 @@ token_reach _ _ _ (symbol k text rest e) = symbol_reach k text rest e
 
 -- ---- a token ends with an ASCII byte
 
-continues_ascii : (b : ℕ) → continues_word b ≡ true → b < 128
+pub continues_ascii : (b : ℕ) → continues_word b ≡ true → b < 128
 continues_ascii b h = grind (arith, nat_tests)
 
 single_ascii : (a : ℕ) (k : Kind) → single_kind a ≡ Some k → a < 128

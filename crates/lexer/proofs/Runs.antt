@@ -40,6 +40,15 @@ run_all p (b ∷ bs) = elim (cases_bool (p b)) [
   | inr n ↦ subst (λ (n : ℕ). list_all p (take n (b ∷ bs)) ≡ true) (sym (run_stop p b bs n)) refl
 ]
 
+-- each of them passes
+pub run_passes : (p : ℕ → Bool) (s : List ℕ) (i : ℕ) → i < run p s → p (get_or s i 0) ≡ true
+run_passes p [] i lt = absurd (omega arith)
+run_passes p (b ∷ bs) zero lt = elim (cases_bool (p b)) [ inl y ↦ y | inr n ↦ absurd (omega (arith, lt, run_stop p b bs n)) ]
+run_passes p (b ∷ bs) (suc i) lt = elim (cases_bool (p b)) [
+  | inl y ↦ run_passes p bs i (omega (arith, lt, run_step p b bs y))
+  | inr n ↦ absurd (omega (arith, lt, run_stop p b bs n))
+]
+
 pub run_at_least : (p : ℕ → Bool) (text rest : List ℕ) → list_all p text ≡ true → length text ≤ run p (text ++ rest)
 run_at_least p [] rest h = omega arith
 run_at_least p (b ∷ text) rest h = let w = all_first p b text h in omega (arith, run_step p b (text ++ rest) w.0, run_at_least p text rest w.1)

@@ -19,9 +19,10 @@ use std::alloc::Global;
 
 // The kind and length of the longest token at the front.
 #[tactic(auto, using(crate::proofs::Cuts::token_cases))]
-fn token_at(bytes: &[u8]) -> Option<(Kind, usize)>
-    ensures { result ≡ token_at bytes.now }
+fn token_at(text: &str) -> Option<(Kind, usize)>
+    ensures { result ≡ token_at text.now }
 {
+    let bytes = text.as_bytes();
     if bytes.is_empty() {
         return None;
     }
@@ -30,7 +31,7 @@ fn token_at(bytes: &[u8]) -> Option<(Kind, usize)>
         if opens_format(bytes) {
             format_at(bytes)
         } else {
-            Some(word_at(bytes))
+            Some(word_at(text))
         }
     } else if first.is_ascii_digit() {
         number_at(bytes)
@@ -83,7 +84,7 @@ pub fn tokens(alloc: Global, source: &str) -> Result<Vec<Token<'_>>, SyntaxError
         if here.is_empty() {
             return Ok(tokens);
         }
-        let Some((kind, length)) = token_at(here.as_bytes()) else {
+        let Some((kind, length)) = token_at(here) else {
             let kind = FaultKind::Token;
             return Err(SyntaxError::Fault(SyntaxFault { kind, line }));
         };

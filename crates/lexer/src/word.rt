@@ -21,33 +21,33 @@ pub(crate) fn word_length(bytes: &[u8]) -> usize
 }
 
 // What a word is: a keyword, or else a name.
-fn word_kind(word: &[u8]) -> Kind
+fn word_kind(word: &str) -> Kind
     ensures { result ≡ word_kind word.now }
 {
     match word {
-        b"true" => Kind::True,
-        b"false" => Kind::False,
-        b"if" => Kind::If,
-        b"elif" => Kind::Elif,
-        b"else" => Kind::Else,
-        b"endif" => Kind::EndIf,
-        b"and" => Kind::And,
-        b"or" => Kind::Or,
-        b"not" => Kind::Not,
-        b"in" => Kind::In,
-        b"foreach" => Kind::Foreach,
-        b"endforeach" => Kind::EndForeach,
-        b"break" => Kind::Break,
-        b"continue" => Kind::Continue,
+        "true" => Kind::True,
+        "false" => Kind::False,
+        "if" => Kind::If,
+        "elif" => Kind::Elif,
+        "else" => Kind::Else,
+        "endif" => Kind::EndIf,
+        "and" => Kind::And,
+        "or" => Kind::Or,
+        "not" => Kind::Not,
+        "in" => Kind::In,
+        "foreach" => Kind::Foreach,
+        "endforeach" => Kind::EndForeach,
+        "break" => Kind::Break,
+        "continue" => Kind::Continue,
         _ => Kind::Name,
     }
 }
 
 // The kind and length of the word at the front.
 #[tactic(auto, using(crate::proofs::Cuts::word_cases))]
-pub(crate) fn word_at(bytes: &[u8]) -> (Kind, usize)
-    ensures { result ≡ word_at bytes.now }
+pub(crate) fn word_at(text: &str) -> (Kind, usize)
+    ensures { result ≡ word_at text.now }
 {
-    let length = word_length(bytes);
-    (word_kind(&bytes[..length]), length)
+    let length = word_length(text.as_bytes());
+    (word_kind(&text[..length]), length)
 }

@@ -1,6 +1,6 @@
 //! Reads a machine file, line by line.
 
-ghost use Rattle.std.specs.Prelude.{◌≡◌, [], ◌∷◌, ◌++◌, false, is_some, string_bytes, IfOk, OnOk};
+ghost use Rattle.std.specs.Prelude.{◌≡◌, [], ◌∷◌, ◌++◌, false, is_some, string_bytes, IfOk, OnOk, Some, None, if◌then◌else◌};
 ghost use Rattle.std.specs.Option.{option_map};
 ghost use Rattle.indexmap.specs.IndexMap.{get_by_text};
 ghost use Rattle.machine_file.specs.Files.{has_key, has_name, takes, with_pair, lacks_version, default_entries, sections_said};
@@ -46,29 +46,29 @@ fn takes(
     kind.knows(key, value) && !has_key(entries, key)
 }
 
-// The entries of a section of this kind, and the one that a line gives; nothing where the line may not stand there.
-fn with_pair(
+// Puts the entry that a line gives behind those of a section of this kind; false where the line may not stand there.
+fn add_pair(
     alloc: Global,
     kind: SectionKind,
-    mut entries: SipMap<String, Entry>,
+    entries: &mut SipMap<String, Entry>,
     line: usize,
     text: &str,
-) -> Result<Option<SipMap<String, Entry>>, AllocError>
-    ensures { IfOk result (λ more. option_map (λ m. entries_in m.entries) more
-        ≡ with_pair kind (entries_in entries.entries) line text.now) }
+) -> Result<bool, AllocError>
+    ensures { IfOk result (λ added. (if added then Some (entries_in entries.new.entries) else None)
+        ≡ with_pair kind (entries_in entries.old.entries) line text.now) }
 {
     let Some((key, value)) = cut_pair(kind, text) else {
-        return Ok(None);
+        return Ok(false);
     };
     let Some(value) = read_value(alloc, value)? else {
-        return Ok(None);
+        return Ok(false);
     };
-    if !takes(kind, &entries, key, &value) {
-        return Ok(None);
+    if !takes(kind, entries, key, &value) {
+        return Ok(false);
     }
     let key = String::from_str(alloc, key)?;
-    put(&mut entries, key, Entry { value, line })?;
-    Ok(Some(entries))
+    put(entries, key, Entry { value, line })?;
+    Ok(true)
 }
 
 // Whether this is a dependency that has no version.
@@ -168,11 +168,12 @@ fn in_section(
         name,
         kind,
         line: begun,
-        entries,
+        mut entries,
     } = current;
-    let Some(entries) = with_pair(alloc, kind, entries, line, text)? else {
+    let added = add_pair(alloc, kind, &mut entries, line, text)?;
+    if !added {
         return Ok(None);
-    };
+    }
     let current = OpenSection {
         name,
         kind,

@@ -1,9 +1,10 @@
 -- The folders that the keyword `include_directories` names: texts that are paths of folders, and objects of `include_directories`.
-use Rattle.std.specs.Prelude.{ℕ, List, [], ◌∷◌, ◌++◌, Option, Some, None}
+use Rattle.std.specs.Prelude.{ℕ, List, [], ◌∷◌, Option, Some, None}
 use Rattle.data.specs.Data.{Data, text, object}
 use Rattle.data.specs.declared.object.Object.{Object}
 use Rattle.data.specs.declared.object.Object.TheVariants as objects
 use Rattle.paths.specs.Paths.{folder_path}
+use Rattle.named_sources.specs.Each.{all_behind}
 
 abbrev pub one_path : Option (List ℕ) → Option (List (List ℕ))
 one_path None = None
@@ -20,16 +21,6 @@ folders_in source_root folder (text t) = one_path (folder_path source_root folde
 folders_in source_root folder (object o) = of_object o
 folders_in source_root folder _ = None
 
-abbrev pub with_folders : Option (List (List ℕ)) → (List (List ℕ) → Option (List (List ℕ))) → Option (List (List ℕ))
-with_folders None next = None
-with_folders (Some ps) next = next ps
-
--- folders, and behind them those that values name, none where one value names none
-abbrev pub folders_behind : List ℕ → List ℕ → List (List ℕ) → List Data → Option (List (List ℕ))
-folders_behind source_root folder ps [] = Some ps
-folders_behind source_root folder ps (d ∷ ds) =
-    with_folders (folders_in source_root folder d) (λ qs. folders_behind source_root folder (ps ++ qs) ds)
-
 -- the folders that values name, all of them, or none where the call is refused (E9)
 abbrev pub folders_of : List ℕ → List ℕ → List Data → Option (List (List ℕ))
-folders_of source_root folder ds = folders_behind source_root folder [] ds
+folders_of source_root folder ds = all_behind (folders_in source_root folder) [] ds

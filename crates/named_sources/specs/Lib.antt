@@ -1,3 +1,4 @@
+pub mod Each
 pub mod Folders
 pub mod Libraries
 pub mod Outputs

@@ -1,8 +1,9 @@
 -- The build targets that `link_with` names, by their numbers. Whether each is a library is for the project to say.
-use Rattle.std.specs.Prelude.{ℕ, List, [], ◌∷◌, ◌++◌, Option, Some, None}
+use Rattle.std.specs.Prelude.{ℕ, List, Option, Some, None}
 use Rattle.data.specs.Data.{Data, object}
 use Rattle.data.specs.declared.object.Object.{Object}
 use Rattle.data.specs.declared.object.Object.TheVariants as objects
+use Rattle.named_sources.specs.Each.{each_or_none}
 
 abbrev pub of_object : Object → Option ℕ
 of_object (objects.BuildTarget number) = Some number
@@ -13,15 +14,6 @@ abbrev pub build_target_in : Data → Option ℕ
 build_target_in (object o) = of_object o
 build_target_in _ = None
 
-abbrev pub with_number : Option ℕ → (ℕ → Option (List ℕ)) → Option (List ℕ)
-with_number None next = None
-with_number (Some n) next = next n
-
--- numbers, and behind them those of values, none where one value is no build target
-abbrev pub numbers_behind : List ℕ → List Data → Option (List ℕ)
-numbers_behind ns [] = Some ns
-numbers_behind ns (d ∷ ds) = with_number (build_target_in d) (λ n. numbers_behind (ns ++ n ∷ []) ds)
-
 -- the numbers of the build targets that values are, or none where the call is refused (E9)
 abbrev pub numbers_of : List Data → Option (List ℕ)
-numbers_of ds = numbers_behind [] ds
+numbers_of ds = each_or_none build_target_in ds

@@ -1,11 +1,13 @@
 -- What sources a call names: texts that are paths of the tree, files, custom targets and their outputs.
-use Rattle.std.specs.Prelude.{ℕ, nat_eq, Bool, true, false, not, ◌||◌, List, [], ◌∷◌, ◌++◌, codes, Option, Some, None, option_map, if◌then◌else◌}
+use Rattle.std.specs.Prelude.{ℕ, nat_eq, Bool, true, false, not, ◌||◌, List, [], ◌++◌, codes}
+use Rattle.std.specs.Prelude.{Option, Some, None, option_map, if◌then◌else◌}
 use Rattle.std.specs.List.{ends_with}
 use Rattle.std.specs.Str.{bytes_eq}
 use Rattle.data.specs.Data.{Data, text, object}
 use Rattle.data.specs.declared.object.Object.{Object}
 use Rattle.data.specs.declared.object.Object.TheVariants as objects
 use Rattle.paths.specs.Paths.{tree_path}
+use Rattle.named_sources.specs.Each.{each_or_none}
 
 pub data NamedData : Type 0 where
   -- a file of the tree
@@ -39,16 +41,6 @@ source_of source_root folder (text t) = if ends_in_name t then option_map tree (
 source_of source_root folder (object o) = of_object o
 source_of source_root folder _ = None
 
-abbrev pub with_source : Option NamedData → (NamedData → Option (List NamedData)) → Option (List NamedData)
-with_source None next = None
-with_source (Some s) next = next s
-
--- sources, and behind them those that values name, none where one value names none
-abbrev pub sources_behind : List ℕ → List ℕ → List NamedData → List Data → Option (List NamedData)
-sources_behind source_root folder ss [] = Some ss
-sources_behind source_root folder ss (d ∷ ds) =
-    with_source (source_of source_root folder d) (λ s. sources_behind source_root folder (ss ++ s ∷ []) ds)
-
 -- the sources that values name, all of them, or none where the call is refused (E9)
 abbrev pub sources_of : List ℕ → List ℕ → List Data → Option (List NamedData)
-sources_of source_root folder ds = sources_behind source_root folder [] ds
+sources_of source_root folder ds = each_or_none (source_of source_root folder) ds

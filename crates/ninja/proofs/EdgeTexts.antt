@@ -1,26 +1,15 @@
--- The text of edges in the pieces in which it is put.
-use Rattle.std.proofs.Common.{◌≡◌, ℕ, true, false, eqb, List, [], ◌∷◌, ◌++◌, length, Option, Some, None, String, Global, string_bytes, codes, refl, ap, ◌∙◌, append-nil, suc, arith}
+-- The text of edges in the pieces in which it is made.
+use Rattle.std.proofs.Common.{◌≡◌, ℕ, true, false, eqb, List, [], ◌∷◌, ◌++◌, length, Option, Some, None, String, Global, codes, refl, sym, ap, ◌∙◌, append_assoc, append-nil, suc, arith}
 use Rattle.std.proofs.lemmas.Bool.{eqb-true}
-use Rattle.std.specs.List.{flat_map}
-use Rattle.ports.specs.Outputs.{puts}
 use Rattle.edge.specs.Texts.{texts}
 use Rattle.edge.specs.Data.{EdgeData}
-use Rattle.ninja.specs.Escapes.{path_text, value_text}
-use Rattle.ninja.specs.Words.{words_text}
-use Rattle.ninja.specs.Writing.{line, spaced_path_text, paths_text, signed_paths_text, rule_text, needs_text, build_line, binding_text, depfile_line, edge_text, tail_text}
-use Rattle.ninja.specs.Runs.{spaced_path_run, needs_run, build_run, end_run, bindings_run}
-use Rattle.ninja.proofs.Puts.{puts-append, puts_then}
-
-spaced_path_puts : (path : List ℕ) → puts (spaced_path_text path) ≡ spaced_path_run path
-spaced_path_puts path = puts-append (codes " ") (path_text path)
-
-pub paths_puts : (ss : List (String Global)) → puts (paths_text (texts ss)) ≡ flat_map (λ s. spaced_path_run (string_bytes s)) ss
-unfolding puts
-paths_puts [] = refl
-paths_puts (s ∷ ss) =
-    puts-append (spaced_path_text (string_bytes s)) (paths_text (texts ss))
-    ∙ ap (λ r. r ++ puts (paths_text (texts ss))) (spaced_path_puts (string_bytes s))
-    ∙ ap (λ r. spaced_path_run (string_bytes s) ++ r) (paths_puts ss)
+use Rattle.edge.specs.Parts.{OwnData, joined}
+use Rattle.edge.specs.declared.rule.Rule.{Rule}
+use Rattle.ninja.specs.Escapes.{value_rest_text, value_text}
+use Rattle.ninja.specs.Words.{later_words_text, words_text}
+use Rattle.ninja.specs.Writing.{spaced_path_text, paths_text, signed_paths_text, rule_text, build_line, depfile_line, edge_text, tail_text}
+use Rattle.ninja.specs.Parts.{end_text, bindings_text, shared_text, own_build_text, own_bindings_text}
+use Rattle.ninja.proofs.WordTexts.{words_more}
 
 -- no path, and so no sign
 pub signed_paths_text-none : (sign : List ℕ) (paths : List (String Global)) → eqb (length paths) 0 ≡ true → signed_paths_text sign (texts paths) ≡ []
@@ -31,44 +20,31 @@ pub signed_paths_text-some : (sign : List ℕ) (paths : List (String Global)) �
 signed_paths_text-some sign [] h = absurd cc
 signed_paths_text-some sign (p ∷ ps) h = refl
 
-needs_puts : (inputs implicit order_only : List (List ℕ)) → puts (needs_text inputs implicit order_only) ≡ needs_run inputs implicit order_only
-needs_puts inputs implicit order_only =
-    let a = signed_paths_text (codes " |") implicit in
-    let b = signed_paths_text (codes " ||") order_only in
-    puts_then (paths_text inputs) (a ++ b) (puts-append a b)
+end_is : (depfile : Option (List ℕ)) → end_text depfile ≡ depfile_line depfile (10 ∷ [])
+end_is None = refl
+end_is (Some path) = refl
 
-build_puts : (e : EdgeData) → puts (build_line e) ≡ build_run e
-build_puts e =
-    let needs = needs_text e.inputs e.implicit e.order_only in
-    let rule = rule_text e.rule in
-    puts_then (codes "build") (paths_text e.outputs ++ (codes ": " ++ (rule ++ needs)))
-    (puts_then (paths_text e.outputs) (codes ": " ++ (rule ++ needs))
-    (puts_then (codes ": ") (rule ++ needs) (puts_then rule needs (needs_puts e.inputs e.implicit e.order_only))))
-
-end_puts : (depfile : Option (List ℕ)) → puts (depfile_line depfile (10 ∷ [])) ≡ end_run depfile
-end_puts None = refl
-end_puts (Some path) = puts_then (codes " DEPFILE = ") (value_text path ++ 10 ∷ 10 ∷ []) (puts-append (value_text path) (10 ∷ 10 ∷ []))
-
-bindings_puts : (e : EdgeData)
-    → puts (10 ∷ line (binding_text (codes "COMMAND") (words_text e.words e.redirect)) (line (binding_text (codes "DESC") e.description) (depfile_line e.depfile (10 ∷ [])))) ≡ bindings_run e
-bindings_puts e =
+pub edge_is : (e : EdgeData) → build_line e ++ bindings_text e ≡ edge_text e
+edge_is e =
     let command = value_text (words_text e.words e.redirect) in
-    let description = value_text e.description in
-    let rest = depfile_line e.depfile (10 ∷ []) in
-    puts_then (codes "\n COMMAND = ") (command ++ (codes "\n DESC = " ++ (description ++ (codes "\n" ++ rest))))
-    (puts_then command (codes "\n DESC = " ++ (description ++ (codes "\n" ++ rest)))
-    (puts_then (codes "\n DESC = ") (description ++ (codes "\n" ++ rest))
-    (puts_then description (codes "\n" ++ rest) (puts_then (codes "\n") rest (end_puts e.depfile)))))
+    ap (λ r. build_line e ++ (codes "\n COMMAND = " ++ (command ++ (codes "\n DESC = " ++ (value_text e.description ++ (codes "\n" ++ r)))))) (end_is e.depfile)
 
-pub edge_puts : (e : EdgeData) → puts (edge_text e) ≡ build_run e ++ bindings_run e
-edge_puts e =
-    puts_then (build_line e) (10 ∷ line (binding_text (codes "COMMAND") (words_text e.words e.redirect)) (line (binding_text (codes "DESC") e.description) (depfile_line e.depfile (10 ∷ [])))) (bindings_puts e)
-    ∙ ap (λ r. r ++ bindings_run e) (build_puts e)
+-- ---- edges that share parts
 
-pub tail_puts : (ss : List (String Global))
-    → puts (tail_text (texts ss)) ≡ puts (codes "build all: phony") ++ (flat_map (λ s. spaced_path_run (string_bytes s)) ss ++ puts (codes "\n\ndefault all\n"))
-tail_puts ss =
-    let names = paths_text (texts ss) in
-    ap (λ ps. puts (codes "build all: phony" ++ (ps ++ codes "\n\ndefault all\n"))) (append-nil names)
-    ∙ puts_then (codes "build all: phony") (names ++ codes "\n\ndefault all\n") (puts-append names (codes "\n\ndefault all\n"))
-    ∙ ap (λ r. puts (codes "build all: phony") ++ (r ++ puts (codes "\n\ndefault all\n"))) (paths_puts ss)
+shape : (a o c r i s k f t d : List ℕ)
+    → (a ++ (o ++ (c ++ (r ++ i)))) ++ ((s ++ (k ++ f)) ++ (t ++ d)) ≡ (a ++ ((o ++ []) ++ (c ++ (r ++ ((i ++ []) ++ s))))) ++ (k ++ ((f ++ t) ++ d))
+shape a o c r i s k f t d = simp (append_assoc, append-nil)
+
+pub joined_is : (rule : Rule) (order_only : List (List ℕ)) (w : List ℕ) (ws : List (List ℕ)) (own : OwnData)
+    → own_build_text rule own ++ (shared_text order_only (w ∷ ws) ++ own_bindings_text own) ≡ edge_text (joined (record { rule = rule; order_only = order_only; words = w ∷ ws }) own)
+joined_is rule order_only w ws own =
+    let e = joined (record { rule = rule; order_only = order_only; words = w ∷ ws }) own in
+    let rest = codes "\n DESC = " ++ (value_text own.description ++ (codes "\n DEPFILE = " ++ (value_text own.depfile ++ codes "\n\n"))) in
+    shape (codes "build") (spaced_path_text own.output) (codes ": ") (rule_text rule) (spaced_path_text own.input) (signed_paths_text (codes " ||") order_only)
+    (codes "\n COMMAND = ") (value_text (words_text (w ∷ ws) None)) (value_rest_text (later_words_text own.words)) rest
+    ∙ ap (λ command. build_line e ++ (codes "\n COMMAND = " ++ (command ++ rest))) (sym (words_more w ws own.words))
+
+-- ---- the tail
+
+pub tail_is : (names : List (List ℕ)) → codes "build all: phony" ++ (paths_text names ++ codes "\n\ndefault all\n") ≡ tail_text names
+tail_is names = ap (λ ps. codes "build all: phony" ++ (ps ++ codes "\n\ndefault all\n")) (sym (append-nil (paths_text names)))

@@ -1,5 +1,5 @@
-pub mod Puts
-pub mod Escaping
+pub mod Appending
+pub mod Staying
 pub mod WordTexts
 pub mod EdgeTexts
 pub mod HeldWords

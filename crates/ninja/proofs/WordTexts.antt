@@ -1,18 +1,15 @@
--- The text of words, as a value, in the pieces in which it is put.
-use Rattle.std.proofs.Common.{◌≡◌, ℕ, true, false, eqb, ◌&&◌, not, List, [], ◌∷◌, ◌++◌, length, Option, Some, None, String, Global, string_bytes, codes, ◌<◌, ◌≤◌, ◌-◌, take, drop, get_or, take_all, sub-one, arith, refl, ap, ◌∙◌, inl, inr}
+-- The text of words, as a value, in the pieces in which it is made.
+use Rattle.std.proofs.Common.{◌≡◌, ℕ, true, false, eqb, ◌&&◌, not, List, [], ◌∷◌, ◌++◌, length, Option, Some, None, String, Global, string_bytes, ◌<◌, ◌≤◌, ◌-◌, take, drop, get_or, take_all, sub-one, arith, refl, sym, ap, ◌∙◌, append_assoc, append-nil, inl, inr}
 use Rattle.std.specs.List.{flat_map}
 use Rattle.std.proofs.lemmas.Bool.{and_parts, cases_Bool}
 use Rattle.std.proofs.lemmas.List.Concat.{flat_map-append}
-use Rattle.ports.specs.Outputs.{puts}
 use Rattle.edge.specs.Texts.{texts}
 use Rattle.ninja.specs.Shell.{is_bare_byte, is_no_first_word}
 use Rattle.ninja.specs.Escapes.{value_byte_text, value_rest_text, value_text}
-use Rattle.ninja.specs.Words.{is_all_bare, is_bare, quoted_byte, quoted_bytes, quoted, word_text, first_word_text, later_word_text, later_words_text, redirect_text, words_text}
+use Rattle.ninja.specs.Words.{is_all_bare, is_bare, quoted_byte, quoted_bytes, quoted, first_word_text, later_word_text, later_words_text, redirect_text, lone_redirect_text, words_text}
 use Rattle.ninja.specs.Places.{byte_text}
 use Rattle.ninja.specs.declared.escapes.Place.TheVariants.{InQuotes}
-use Rattle.ninja.specs.Runs.{quoted_run, later_word_run, redirect_run, lone_redirect_run}
 use Rattle.ninja.proofs.ShellWords.{other_than}
-use Rattle.ninja.proofs.Puts.{puts-append, puts_then}
 
 pub is_bare-some : (w : List ℕ) → eqb (length w) 0 ≡ false → is_all_bare w ≡ is_bare w
 is_bare-some [] h = absurd cc
@@ -33,34 +30,20 @@ flat_map-flat_map : {A : Type 0} (f : ℕ → List ℕ) (h : A → List ℕ) (xs
 flat_map-flat_map f h [] = refl
 flat_map-flat_map f h (x ∷ xs) = flat_map-append f (h x) (flat_map h xs) ∙ ap (λ v. flat_map f (h x) ++ v) (flat_map-flat_map f h xs)
 
-quoted_value : (w : List ℕ) → value_rest_text (quoted w) ≡ codes "'" ++ (flat_map (byte_text InQuotes) w ++ codes "'")
+pub quoted_value : (w : List ℕ) → value_rest_text (quoted w) ≡ 39 ∷ (flat_map (byte_text InQuotes) w ++ 39 ∷ [])
 quoted_value w =
     ap (λ v. 39 ∷ v) (flat_map-append value_byte_text (quoted_bytes w) (39 ∷ []) ∙ ap (λ v. v ++ 39 ∷ []) (flat_map-flat_map value_byte_text quoted_byte w))
 
-pub quoted_puts : (w : List ℕ) → puts (value_rest_text (quoted w)) ≡ quoted_run w
-quoted_puts w = ap puts (quoted_value w) ∙ puts_then (codes "'") (flat_map (byte_text InQuotes) w ++ codes "'") (puts-append (flat_map (byte_text InQuotes) w) (codes "'"))
+-- a word more
+pub later_words_next : (ts : List (List ℕ)) (w : List ℕ) → value_rest_text (later_words_text (ts ++ w ∷ [])) ≡ value_rest_text (later_words_text ts) ++ value_rest_text (later_word_text w)
+later_words_next ts w =
+    ap value_rest_text (flat_map-append later_word_text ts (w ∷ []) ∙ ap (λ v. later_words_text ts ++ v) (append-nil (later_word_text w)))
+    ∙ flat_map-append value_byte_text (later_words_text ts) (later_word_text w)
 
-later_word_puts : (w : List ℕ) → puts (value_rest_text (later_word_text w)) ≡ later_word_run w
-later_word_puts w = puts-append (codes " ") (value_rest_text (word_text w))
-
-later_words_puts : (ss : List (String Global)) → puts (value_rest_text (later_words_text (texts ss))) ≡ flat_map (λ s. later_word_run (string_bytes s)) ss
-unfolding puts
-later_words_puts [] = refl
-later_words_puts (s ∷ ss) =
-    ap puts (flat_map-append value_byte_text (later_word_text (string_bytes s)) (later_words_text (texts ss)))
-    ∙ puts-append (value_rest_text (later_word_text (string_bytes s))) (value_rest_text (later_words_text (texts ss)))
-    ∙ ap (λ r. r ++ puts (value_rest_text (later_words_text (texts ss)))) (later_word_puts (string_bytes s))
-    ∙ ap (λ r. later_word_run (string_bytes s) ++ r) (later_words_puts ss)
-
-redirect_puts : (redirect : Option (List ℕ)) → puts (value_rest_text (redirect_text redirect)) ≡ redirect_run redirect
-unfolding puts
-redirect_puts None = refl
-redirect_puts (Some name) = puts-append (codes " > ") (value_rest_text (word_text name))
-
-lone_redirect_puts : (redirect : Option (List ℕ)) → puts (value_text (words_text [] redirect)) ≡ lone_redirect_run redirect
-unfolding puts value_text
-lone_redirect_puts None = refl
-lone_redirect_puts (Some name) = puts-append (codes "> ") (value_rest_text (word_text name))
+pub lone_redirect_value : (redirect : Option (List ℕ)) → value_text (words_text [] redirect) ≡ value_rest_text (lone_redirect_text redirect)
+unfolding value_text
+lone_redirect_value None = refl
+lone_redirect_value (Some name) = refl
 
 no_blank_first : (b : ℕ) (bs : List ℕ) → eqb b 32 ≡ false → value_text (b ∷ bs) ≡ value_rest_text (b ∷ bs)
 unfolding value_text
@@ -86,22 +69,28 @@ words_value w ws redirect =
     ∙ flat_map-append value_byte_text (first_word_text w) (later_words_text ws ++ redirect_text redirect)
     ∙ ap (λ v. value_rest_text (first_word_text w) ++ v) (flat_map-append value_byte_text (later_words_text ws) (redirect_text redirect))
 
-words_puts : (w : List ℕ) (ss : List (String Global)) (redirect : Option (List ℕ))
-    → puts (value_text (words_text (w ∷ texts ss) redirect)) ≡ puts (value_rest_text (first_word_text w)) ++ (flat_map (λ s. later_word_run (string_bytes s)) ss ++ redirect_run redirect)
-words_puts w ss redirect =
-    let later = value_rest_text (later_words_text (texts ss)) in
-    let last = value_rest_text (redirect_text redirect) in
-    ap puts (words_value w (texts ss) redirect)
-    ∙ puts_then (value_rest_text (first_word_text w)) (later ++ last) (puts_then later last (redirect_puts redirect) ∙ ap (λ r. r ++ redirect_run redirect) (later_words_puts ss))
+-- more words behind those of a command
+pub words_more : (w : List ℕ) (ws more : List (List ℕ)) → value_text (words_text ((w ∷ ws) ++ more) None) ≡ value_text (words_text (w ∷ ws) None) ++ value_rest_text (later_words_text more)
+words_more w ws more =
+    let first = value_rest_text (first_word_text w) in
+    let later = value_rest_text (later_words_text ws) in
+    let last = value_rest_text (later_words_text more) in
+    words_value w (ws ++ more) None
+    ∙ ap (λ v. first ++ v) (append-nil (value_rest_text (later_words_text (ws ++ more))) ∙ ap value_rest_text (flat_map-append later_word_text ws more)
+    ∙ flat_map-append value_byte_text (later_words_text ws) (later_words_text more))
+    ∙ sym (append_assoc first later last)
+    ∙ ap (λ v. (first ++ v) ++ last) (sym (append-nil later))
+    ∙ ap (λ v. v ++ last) (sym (words_value w ws None))
 
 -- no word
-pub no_words_puts : (ss : List (String Global)) (redirect : Option (List ℕ)) → length ss < 1 → puts (value_text (words_text (texts ss) redirect)) ≡ lone_redirect_run redirect
-no_words_puts [] redirect h = lone_redirect_puts redirect
-no_words_puts (s ∷ ss) redirect h = absurd (omega arith)
+pub no_words_value : (ss : List (String Global)) (redirect : Option (List ℕ)) → length ss < 1 → value_text (words_text (texts ss) redirect) ≡ value_rest_text (lone_redirect_text redirect)
+no_words_value [] redirect h = lone_redirect_value redirect
+no_words_value (s ∷ ss) redirect h = absurd (omega arith)
 
 -- a first word and others
-pub some_words_puts : (ss : List (String Global)) (d : String Global) (redirect : Option (List ℕ)) → 1 ≤ length ss
-    → puts (value_text (words_text (texts ss) redirect))
-    ≡ puts (value_rest_text (first_word_text (string_bytes (get_or ss 0 d)))) ++ (flat_map (λ s. later_word_run (string_bytes s)) (take (length ss - 1) (drop 1 ss)) ++ redirect_run redirect)
-some_words_puts [] d redirect h = absurd (omega arith)
-some_words_puts (s ∷ ss) d redirect h = rw (sub-one, take_all (length ss) ss (omega arith)) (words_puts (string_bytes s) ss redirect)
+pub some_words_value : (ss : List (String Global)) (d : String Global) (redirect : Option (List ℕ)) → 1 ≤ length ss
+    → value_text (words_text (texts ss) redirect)
+    ≡ value_rest_text (first_word_text (string_bytes (get_or ss 0 d)))
+    ++ (value_rest_text (later_words_text (texts (take (length ss - 1) (drop 1 ss)))) ++ value_rest_text (redirect_text redirect))
+some_words_value [] d redirect h = absurd (omega arith)
+some_words_value (s ∷ ss) d redirect h = rw (sub-one, take_all (length ss) ss (omega arith)) (words_value (string_bytes s) (texts ss) redirect)

@@ -4,7 +4,7 @@ pub mod Escapes
 pub mod Words
 pub mod Writing
 pub mod Places
-pub mod Runs
+pub mod Parts
 pub mod Machine
 pub mod Pieces
 pub mod Lines

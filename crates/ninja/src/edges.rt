@@ -1,21 +1,21 @@
 //! The blocks of edges.
-ghost use Rattle.std.specs.Prelude.{◌≡◌, true, ℕ, List, ◌++◌, option_map, string_bytes};
-ghost use Rattle.ports.specs.Endings.{ended};
-ghost use Rattle.ports.specs.Outputs.{OutputState, IsOpen, Writes, puts};
+ghost use Rattle.std.specs.Prelude.{◌≡◌, true, ℕ, List, ◌∷◌, ◌++◌, None, IfOk, option_map, string_bytes};
 ghost use Rattle.edge.specs.Holding.{is_writable};
+ghost use Rattle.edge.specs.Own.{own_view};
+ghost use Rattle.edge.specs.Parts.{joined};
 ghost use Rattle.edge.specs.Texts.{texts};
 ghost use Rattle.edge.specs.View.{edge_view};
-ghost use Rattle.ninja.specs.Writing.{rule_text, paths_text, signed_paths_text, edge_text};
+ghost use Rattle.ninja.specs.Writing.{rule_text, spaced_path_text, paths_text, signed_paths_text, needs_text, build_line, edge_text};
 ghost use Rattle.ninja.specs.Escapes.{value_text};
 ghost use Rattle.ninja.specs.Words.{words_text};
 ghost use Rattle.ninja.specs.Reading.{Manifest, reads_from};
 ghost use Rattle.ninja.specs.Meaning.{after_reading, with_edge, edge_seen, six_rules, RunsWords};
-ghost use Rattle.ninja.specs.Runs.{needs_run, build_run, end_run, bindings_run};
+ghost use Rattle.ninja.specs.Parts.{end_text, bindings_text, shared_text, own_build_text, own_bindings_text};
 
-use crate::escapes::{write_path, write_value};
-use crate::words::write_words;
-use edge::{Edge, Rule};
-use ports::{DeviceFault, Outputs, put_all};
+use crate::escapes::{push_path, push_value};
+use crate::words::{push_last_words, push_words};
+use edge::{Edge, OwnParts, Rule};
+use std::alloc::AllocError;
 
 fn rule_name(rule: Rule) -> &'static [u8]
     ensures { result.now ≡ rule_text rule }
@@ -39,116 +39,102 @@ fn text_of(text: &Option<String>) -> Option<&str>
     }
 }
 
-#[tactic(auto, using(ports::proofs::Sending::sending))]
-fn put_paths<O: Outputs>(paths: &[String], out: &mut O) -> Result<(), DeviceFault>
-    requires { IsOpen (O.seen out.old) }
-    ensures { Writes (O.seen out.old) (puts (paths_text (texts paths.now))) (ended result) (O.seen out.new) }
+fn push_spaced_path(text: &mut Vec<u8>, path: &str) -> Result<(), AllocError>
+    ensures { IfOk result (λ _. text.new.items ≡ text.old.items ++ spaced_path_text path.now) }
+{
+    text.push(b' ')?;
+    push_path(text, path)
+}
+
+/// Appends paths, each behind a space.
+pub fn push_paths(text: &mut Vec<u8>, paths: &[String]) -> Result<(), AllocError>
+    ensures { IfOk result (λ _. text.new.items ≡ text.old.items ++ paths_text (texts paths.now)) }
 {
     for path in paths {
-        put_all(out, b" ")?;
-        write_path(path.as_str(), out)?;
+        push_spaced_path(text, path)?;
     }
     Ok(())
 }
 
 // The paths behind a sign, if there are any.
-fn put_signed_paths<O: Outputs>(
-    sign: &[u8],
-    paths: &[String],
-    out: &mut O,
-) -> Result<(), DeviceFault>
-    requires { IsOpen (O.seen out.old) }
-    ensures { Writes (O.seen out.old) (puts (signed_paths_text sign.now (texts paths.now))) (ended result) (O.seen out.new) }
+fn push_signed_paths(text: &mut Vec<u8>, sign: &[u8], paths: &[String]) -> Result<(), AllocError>
+    ensures { IfOk result (λ _. text.new.items ≡ text.old.items ++ signed_paths_text sign.now (texts paths.now)) }
 {
     if paths.is_empty() {
         Ok(())
     } else {
-        put_all(out, sign)?;
-        put_paths(paths, out)
+        text.extend_from_slice(sign)?;
+        push_paths(text, paths)
     }
 }
 
-#[tactic(auto, using(ports::proofs::Sending::sending))]
-fn put_needs<O: Outputs>(
+fn push_needs(
+    text: &mut Vec<u8>,
     inputs: &[String],
     implicit: &[String],
     order_only: &[String],
-    out: &mut O,
-) -> Result<(), DeviceFault>
-    requires { IsOpen (O.seen out.old) }
-    ensures { let run = needs_run (texts inputs.now) (texts implicit.now) (texts order_only.now) in
-        Writes (O.seen out.old) run (ended result) (O.seen out.new) }
+) -> Result<(), AllocError>
+    ensures { IfOk result (λ _. text.new.items ≡ text.old.items ++ needs_text (texts inputs.now) (texts implicit.now) (texts order_only.now)) }
 {
-    put_paths(inputs, out)?;
-    put_signed_paths(b" |", implicit, out)?;
-    put_signed_paths(b" ||", order_only, out)
+    push_paths(text, inputs)?;
+    push_signed_paths(text, b" |", implicit)?;
+    push_signed_paths(text, b" ||", order_only)
 }
 
 // The line that names outputs, rule and what is needed, without its end.
-#[tactic(auto, using(ports::proofs::Sending::sending))]
-fn put_build<O: Outputs>(edge: &Edge, out: &mut O) -> Result<(), DeviceFault>
-    requires { IsOpen (O.seen out.old) }
-    ensures { Writes (O.seen out.old) (build_run (edge_view edge.now)) (ended result) (O.seen out.new) }
+fn push_build(text: &mut Vec<u8>, edge: &Edge) -> Result<(), AllocError>
+    ensures { IfOk result (λ _. text.new.items ≡ text.old.items ++ build_line (edge_view edge.now)) }
 {
-    put_all(out, b"build")?;
-    put_paths(&edge.outputs, out)?;
-    put_all(out, b": ")?;
-    put_all(out, rule_name(edge.rule))?;
-    put_needs(&edge.inputs, &edge.implicit, &edge.order_only, out)
+    text.extend_from_slice(b"build")?;
+    push_paths(text, &edge.outputs)?;
+    text.extend_from_slice(b": ")?;
+    text.extend_from_slice(rule_name(edge.rule))?;
+    push_needs(text, &edge.inputs, &edge.implicit, &edge.order_only)
 }
 
-#[tactic(auto, using(ports::proofs::Sending::sending))]
-fn put_end<O: Outputs>(depfile: &Option<String>, out: &mut O) -> Result<(), DeviceFault>
-    requires { IsOpen (O.seen out.old) }
-    ensures { Writes (O.seen out.old) (end_run (option_map string_bytes depfile.now)) (ended result) (O.seen out.new) }
+fn push_end(text: &mut Vec<u8>, depfile: &Option<String>) -> Result<(), AllocError>
+    ensures { IfOk result (λ _. text.new.items ≡ text.old.items ++ end_text (option_map string_bytes depfile.now)) }
 {
     match depfile {
-        None => put_all(out, b"\n"),
+        None => text.extend_from_slice(b"\n"),
         Some(path) => {
-            put_all(out, b" DEPFILE = ")?;
-            write_value(path, out)?;
-            put_all(out, b"\n\n")
+            text.extend_from_slice(b" DEPFILE = ")?;
+            push_value(text, path)?;
+            text.extend_from_slice(b"\n\n")
         }
     }
 }
 
-fn put_command<O: Outputs>(edge: &Edge, out: &mut O) -> Result<(), DeviceFault>
-    requires { IsOpen (O.seen out.old) }
+fn push_command(text: &mut Vec<u8>, edge: &Edge) -> Result<(), AllocError>
     ensures { let e = edge_view edge.now in
-        Writes (O.seen out.old) (puts (value_text (words_text e.words e.redirect))) (ended result) (O.seen out.new) }
+        IfOk result (λ _. text.new.items ≡ text.old.items ++ value_text (words_text e.words e.redirect)) }
 {
-    write_words(&edge.words, text_of(&edge.redirect), out)
+    push_words(text, &edge.words, text_of(&edge.redirect))
 }
 
 // The lines that belong to the edge, behind the end of its own.
-#[tactic(auto, using(ports::proofs::Sending::sending))]
-fn put_bindings<O: Outputs>(edge: &Edge, out: &mut O) -> Result<(), DeviceFault>
-    requires { IsOpen (O.seen out.old) }
-    ensures { Writes (O.seen out.old) (bindings_run (edge_view edge.now)) (ended result) (O.seen out.new) }
+fn push_bindings(text: &mut Vec<u8>, edge: &Edge) -> Result<(), AllocError>
+    ensures { IfOk result (λ _. text.new.items ≡ text.old.items ++ bindings_text (edge_view edge.now)) }
 {
-    put_all(out, b"\n COMMAND = ")?;
-    put_command(edge, out)?;
-    put_all(out, b"\n DESC = ")?;
-    write_value(&edge.description, out)?;
-    put_all(out, b"\n")?;
-    put_end(&edge.depfile, out)
+    text.extend_from_slice(b"\n COMMAND = ")?;
+    push_command(text, edge)?;
+    text.extend_from_slice(b"\n DESC = ")?;
+    push_value(text, &edge.description)?;
+    text.extend_from_slice(b"\n")?;
+    push_end(text, &edge.depfile)
 }
 
-#[tactic(auto, using(ports::proofs::Sending::sending))]
-fn put_edge<O: Outputs>(edge: &Edge, out: &mut O) -> Result<(), DeviceFault>
-    requires { IsOpen (O.seen out.old) }
-    ensures { let e = edge_view edge.now in
-        Writes (O.seen out.old) (build_run e ++ bindings_run e) (ended result) (O.seen out.new) }
+fn push_block(text: &mut Vec<u8>, edge: &Edge) -> Result<(), AllocError>
+    ensures { IfOk result (λ _. text.new.items ≡ text.old.items ++ edge_text (edge_view edge.now)) }
 {
-    put_build(edge, out)?;
-    put_bindings(edge, out)
+    push_build(text, edge)?;
+    push_bindings(text, edge)
 }
 
-/// Writes the block of an edge: the line that names its outputs, its rule and what it needs, its command, its description, its
+/// Appends the block of an edge: the line that names its outputs, its rule and what it needs, its command, its description, its
 /// depfile if it has one, and an empty line.
-pub fn write_edge<O: Outputs>(edge: &Edge, out: &mut O) -> Result<(), DeviceFault>
-    requires { IsOpen (O.seen out.old) }
-    ensures writes { Writes (O.seen out.old) (puts (edge_text (edge_view edge.now))) (ended result) (O.seen out.new) }
+pub fn push_edge(text: &mut Vec<u8>, edge: &Edge) -> Result<(), AllocError>
+    ensures text { IfOk result (λ _. text.new.items ≡ text.old.items ++ edge_text (edge_view edge.now)) }
     // What is written is read as the edge, whatever was read before and follows.
     ensures read { is_writable (edge_view edge.now) ≡ true → (m : Manifest) (rest : List ℕ)
         → reads_from (after_reading m) (edge_text (edge_view edge.now) ++ rest)
@@ -156,5 +142,58 @@ pub fn write_edge<O: Outputs>(edge: &Edge, out: &mut O) -> Result<(), DeviceFaul
     // Under the six rules its command is its words.
     ensures runs { is_writable (edge_view edge.now) ≡ true → (m : Manifest) → m.rules ≡ six_rules → RunsWords m (edge_view edge.now) }
 {
-    put_edge(edge, out)
+    push_block(text, edge)
+}
+
+// ---- edges that share parts
+
+/// Appends what edges share of their blocks: the paths that are only made before, and the first words of the command.
+pub fn push_shared(
+    text: &mut Vec<u8>,
+    order_only: &[String],
+    words: &[String],
+) -> Result<(), AllocError>
+    ensures { IfOk result (λ _. text.new.items ≡ text.old.items ++ shared_text (texts order_only.now) (texts words.now)) }
+{
+    push_signed_paths(text, b" ||", order_only)?;
+    text.extend_from_slice(b"\n COMMAND = ")?;
+    push_words(text, words, None)
+}
+
+fn push_own_build(text: &mut Vec<u8>, rule: Rule, own: &OwnParts) -> Result<(), AllocError>
+    ensures { IfOk result (λ _. text.new.items ≡ text.old.items ++ own_build_text rule (own_view own.now)) }
+{
+    text.extend_from_slice(b"build")?;
+    push_spaced_path(text, own.output)?;
+    text.extend_from_slice(b": ")?;
+    text.extend_from_slice(rule_name(rule))?;
+    push_spaced_path(text, own.input)
+}
+
+fn push_own_bindings(text: &mut Vec<u8>, own: &OwnParts) -> Result<(), AllocError>
+    ensures { IfOk result (λ _. text.new.items ≡ text.old.items ++ own_bindings_text (own_view own.now)) }
+{
+    push_last_words(text, own.words)?;
+    text.extend_from_slice(b"\n DESC = ")?;
+    push_value(text, own.description)?;
+    text.extend_from_slice(b"\n DEPFILE = ")?;
+    push_value(text, own.depfile)?;
+    text.extend_from_slice(b"\n\n")
+}
+
+/// Appends the block of an edge that shares its rule, its order-only paths and the first words of its command, of which there is one,
+/// with others: `shared` is what [`push_shared`] makes of these.
+pub fn push_joined(
+    text: &mut Vec<u8>,
+    rule: Rule,
+    shared: &[u8],
+    own: &OwnParts,
+) -> Result<(), AllocError>
+    ensures { (order_only : List (List ℕ)) (w : List ℕ) (ws : List (List ℕ)) → shared.now ≡ shared_text order_only (w ∷ ws)
+        → IfOk result (λ _. text.new.items
+        ≡ text.old.items ++ edge_text (joined (record { rule = rule; order_only = order_only; words = w ∷ ws }) (own_view own.now))) }
+{
+    push_own_build(text, rule, own)?;
+    text.extend_from_slice(shared)?;
+    push_own_bindings(text, own)
 }

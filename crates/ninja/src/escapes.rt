@@ -1,13 +1,11 @@
 //! Paths and values, with a `$` before what Ninja would read otherwise.
-ghost use Rattle.std.specs.Prelude.{◌≡◌, [], ◌∷◌, MatchOption};
-ghost use Rattle.std.specs.List.{flat_map};
-ghost use Rattle.ports.specs.Endings.{ended};
-ghost use Rattle.ports.specs.Outputs.{OutputState, IsOpen, Writes, puts};
+ghost use Rattle.std.specs.Prelude.{◌≡◌, [], ◌∷◌, ◌++◌, IfOk, MatchOption};
+ghost use Rattle.std.specs.List.{flat_map, list_all};
 ghost use Rattle.ninja.specs.Escapes.{path_byte_text, value_byte_text, value_rest_text, starts_with_space, leading_dollar, path_text, value_text};
 ghost use Rattle.ninja.specs.Words.{quoted_byte};
-ghost use Rattle.ninja.specs.Places.{byte_text};
+ghost use Rattle.ninja.specs.Places.{byte_text, stays};
 
-use ports::{DeviceFault, Outputs, put_all};
+use std::alloc::AllocError;
 
 /// Where bytes stand, which rules how they are written.
 #[derive(Clone, Copy)]
@@ -59,31 +57,62 @@ impl Place {
             Place::InQuotes => quoted_escape(byte),
         }
     }
-}
 
-/// Writes bytes that stand in this place. Those that stand for themselves go out in runs.
-pub fn put_escaped<O: Outputs>(place: Place, bytes: &[u8], out: &mut O) -> Result<(), DeviceFault>
-    requires { IsOpen (O.seen out.old) }
-    ensures { Writes (O.seen out.old) (puts (flat_map (byte_text place) bytes.now)) (ended result) (O.seen out.new) }
-{
-    let mut written = 0;
-    for (at, byte) in bytes.iter().enumerate() {
-        let Some(text) = place.escape(*byte) else {
-            continue;
-        };
-        put_all(out, &bytes[written..at])?;
-        put_all(out, text)?;
-        written = at + 1;
+    // Whether the byte is written as itself.
+    fn keeps(self, byte: u8) -> bool
+        ensures { result ≡ stays self byte }
+    {
+        match self {
+            Place::InPath => !matches!(byte, b'$' | b' ' | b':'),
+            Place::InValue => byte != b'$',
+            Place::InQuotes => !matches!(byte, b'\'' | b'$'),
+        }
     }
-    put_all(out, &bytes[written..])
 }
 
-/// Writes a path: with a `$` before each dollar sign, space and colon.
-pub fn write_path<O: Outputs>(path: &str, out: &mut O) -> Result<(), DeviceFault>
-    requires { IsOpen (O.seen out.old) }
-    ensures { Writes (O.seen out.old) (puts (path_text path.now)) (ended result) (O.seen out.new) }
+fn all_stay(place: Place, bytes: &[u8]) -> bool
+    ensures { result ≡ list_all (stays place) bytes.now }
 {
-    put_escaped(Place::InPath, path.as_bytes(), out)
+    bytes.iter().all(|byte| place.keeps(*byte))
+}
+
+fn push_byte(text: &mut Vec<u8>, place: Place, byte: u8) -> Result<(), AllocError>
+    ensures { IfOk result (λ _. text.new.items ≡ text.old.items ++ byte_text place byte) }
+{
+    match place.escape(byte) {
+        Some(escaped) => text.extend_from_slice(escaped),
+        None => {
+            text.push(byte)?;
+            Ok(())
+        }
+    }
+}
+
+fn push_each(text: &mut Vec<u8>, place: Place, bytes: &[u8]) -> Result<(), AllocError>
+    ensures { IfOk result (λ _. text.new.items ≡ text.old.items ++ flat_map (byte_text place) bytes.now) }
+{
+    for byte in bytes {
+        push_byte(text, place, *byte)?;
+    }
+    Ok(())
+}
+
+/// Appends bytes that stand in this place: at once, where each stands for itself.
+pub fn push_escaped(text: &mut Vec<u8>, place: Place, bytes: &[u8]) -> Result<(), AllocError>
+    ensures { IfOk result (λ _. text.new.items ≡ text.old.items ++ flat_map (byte_text place) bytes.now) }
+{
+    if all_stay(place, bytes) {
+        text.extend_from_slice(bytes)
+    } else {
+        push_each(text, place, bytes)
+    }
+}
+
+/// Appends a path: with a `$` before each dollar sign, space and colon.
+pub fn push_path(text: &mut Vec<u8>, path: &str) -> Result<(), AllocError>
+    ensures { IfOk result (λ _. text.new.items ≡ text.old.items ++ path_text path.now) }
+{
+    push_escaped(text, Place::InPath, path.as_bytes())
 }
 
 fn starts_with_space(bytes: &[u8]) -> bool
@@ -93,22 +122,20 @@ fn starts_with_space(bytes: &[u8]) -> bool
 }
 
 // A space in front would be dropped.
-fn put_leading_dollar<O: Outputs>(text: &[u8], out: &mut O) -> Result<(), DeviceFault>
-    requires { IsOpen (O.seen out.old) }
-    ensures { Writes (O.seen out.old) (puts (leading_dollar text.now)) (ended result) (O.seen out.new) }
+fn push_leading_dollar(text: &mut Vec<u8>, value: &[u8]) -> Result<(), AllocError>
+    ensures { IfOk result (λ _. text.new.items ≡ text.old.items ++ leading_dollar value.now) }
 {
-    if starts_with_space(text) {
-        put_all(out, b"$")
-    } else {
-        Ok(())
+    if starts_with_space(value) {
+        text.push(b'$')?;
     }
+    Ok(())
 }
 
-/// Writes a value: with a `$` before each dollar sign, and before a space in front.
-pub fn write_value<O: Outputs>(text: &str, out: &mut O) -> Result<(), DeviceFault>
-    requires { IsOpen (O.seen out.old) }
-    ensures { Writes (O.seen out.old) (puts (value_text text.now)) (ended result) (O.seen out.new) }
+/// Appends a value: with a `$` before each dollar sign, and before a space in front.
+#[tactic(auto, unfolding(crate::specs::Escapes::value_text))]
+pub fn push_value(text: &mut Vec<u8>, value: &str) -> Result<(), AllocError>
+    ensures { IfOk result (λ _. text.new.items ≡ text.old.items ++ value_text value.now) }
 {
-    put_leading_dollar(text.as_bytes(), out)?;
-    put_escaped(Place::InValue, text.as_bytes(), out)
+    push_leading_dollar(text, value.as_bytes())?;
+    push_escaped(text, Place::InValue, value.as_bytes())
 }

@@ -1,16 +1,13 @@
 //! The words of a command, quoted for a POSIX shell.
-ghost use Rattle.std.specs.Prelude.{◌≡◌, true, string_bytes, ◌++◌, ◌&&◌, not, option_map};
-ghost use Rattle.std.specs.List.{flat_map};
-ghost use Rattle.ports.specs.Endings.{ended};
-ghost use Rattle.ports.specs.Outputs.{OutputState, IsOpen, Writes, puts};
+ghost use Rattle.std.specs.Prelude.{◌≡◌, true, None, ◌++◌, ◌&&◌, not, map, option_map, IfOk};
 ghost use Rattle.edge.specs.Texts.{texts};
 ghost use Rattle.ninja.specs.Shell.{is_bare_byte, is_reserved, has_equals, is_no_first_word};
 ghost use Rattle.ninja.specs.Escapes.{value_rest_text, value_text};
-ghost use Rattle.ninja.specs.Words.{is_all_bare, is_bare, word_text, first_word_text, words_text};
-ghost use Rattle.ninja.specs.Runs.{quoted_run, later_word_run, redirect_run, lone_redirect_run};
+ghost use Rattle.ninja.specs.Words.{is_all_bare, is_bare, quoted, word_text, first_word_text, later_word_text, later_words_text};
+ghost use Rattle.ninja.specs.Words.{redirect_text, lone_redirect_text, words_text};
 
-use crate::escapes::{Place, put_escaped};
-use ports::{DeviceFault, Outputs, put_all};
+use crate::escapes::{Place, push_escaped};
+use std::alloc::AllocError;
 
 fn is_bare_word_byte(byte: u8) -> bool
     ensures { result ≡ is_bare_byte byte }
@@ -63,117 +60,122 @@ fn is_bare_first_word(word: &str) -> bool
     is_bare_word(word) && !has_equals_sign(word) && !is_reserved_word(word)
 }
 
-#[tactic(auto, using(ports::proofs::Sending::sending))]
-fn put_quoted<O: Outputs>(word: &str, out: &mut O) -> Result<(), DeviceFault>
-    requires { IsOpen (O.seen out.old) }
-    ensures { Writes (O.seen out.old) (quoted_run word.now) (ended result) (O.seen out.new) }
+fn push_quoted(text: &mut Vec<u8>, word: &str) -> Result<(), AllocError>
+    ensures { IfOk result (λ _. text.new.items ≡ text.old.items ++ value_rest_text (quoted word.now)) }
 {
-    put_all(out, b"'")?;
-    put_escaped(Place::InQuotes, word.as_bytes(), out)?;
-    put_all(out, b"'")
+    text.push(b'\'')?;
+    push_escaped(text, Place::InQuotes, word.as_bytes())?;
+    text.push(b'\'')?;
+    Ok(())
 }
 
-fn put_bare<O: Outputs>(word: &str, out: &mut O) -> Result<(), DeviceFault>
-    requires bare { is_bare word.now ≡ true }
-    requires out { IsOpen (O.seen out.old) }
-    ensures { Writes (O.seen out.old) (puts (value_rest_text word.now)) (ended result) (O.seen out.new) }
+fn push_bare(text: &mut Vec<u8>, word: &str) -> Result<(), AllocError>
+    requires { is_bare word.now ≡ true }
+    ensures { IfOk result (λ _. text.new.items ≡ text.old.items ++ value_rest_text word.now) }
 {
-    put_all(out, word.as_bytes())
+    text.extend_from_slice(word.as_bytes())
 }
 
-fn put_word<O: Outputs>(word: &str, out: &mut O) -> Result<(), DeviceFault>
-    requires { IsOpen (O.seen out.old) }
-    ensures { Writes (O.seen out.old) (puts (value_rest_text (word_text word.now))) (ended result) (O.seen out.new) }
+fn push_word(text: &mut Vec<u8>, word: &str) -> Result<(), AllocError>
+    ensures { IfOk result (λ _. text.new.items ≡ text.old.items ++ value_rest_text (word_text word.now)) }
 {
     if is_bare_word(word) {
-        put_bare(word, out)
+        push_bare(text, word)
     } else {
-        put_quoted(word, out)
+        push_quoted(text, word)
     }
 }
 
-fn put_first_word<O: Outputs>(word: &str, out: &mut O) -> Result<(), DeviceFault>
-    requires { IsOpen (O.seen out.old) }
-    ensures { Writes (O.seen out.old) (puts (value_rest_text (first_word_text word.now))) (ended result) (O.seen out.new) }
+fn push_first_word(text: &mut Vec<u8>, word: &str) -> Result<(), AllocError>
+    ensures { IfOk result (λ _. text.new.items ≡ text.old.items ++ value_rest_text (first_word_text word.now)) }
 {
     if is_bare_first_word(word) {
-        put_bare(word, out)
+        push_bare(text, word)
     } else {
-        put_quoted(word, out)
+        push_quoted(text, word)
     }
 }
 
-#[tactic(auto, using(ports::proofs::Sending::sending))]
-fn put_later_words<O: Outputs>(words: &[String], out: &mut O) -> Result<(), DeviceFault>
-    requires { IsOpen (O.seen out.old) }
-    ensures { Writes (O.seen out.old) (flat_map (λ s. later_word_run (string_bytes s)) words.now) (ended result) (O.seen out.new) }
+fn push_later_word(text: &mut Vec<u8>, word: &str) -> Result<(), AllocError>
+    ensures { IfOk result (λ _. text.new.items ≡ text.old.items ++ value_rest_text (later_word_text word.now)) }
+{
+    text.push(b' ')?;
+    push_word(text, word)
+}
+
+fn push_later_words(text: &mut Vec<u8>, words: &[String]) -> Result<(), AllocError>
+    ensures { IfOk result (λ _. text.new.items ≡ text.old.items ++ value_rest_text (later_words_text (texts words.now))) }
 {
     for word in words {
-        put_all(out, b" ")?;
-        put_word(word.as_str(), out)?;
+        push_later_word(text, word)?;
     }
     Ok(())
 }
 
-#[tactic(auto, using(ports::proofs::Sending::sending))]
-fn put_redirect<O: Outputs>(redirect: Option<&str>, out: &mut O) -> Result<(), DeviceFault>
-    requires { IsOpen (O.seen out.old) }
-    ensures { Writes (O.seen out.old) (redirect_run (option_map (λ s. s.now) redirect.entry)) (ended result) (O.seen out.new) }
+/// Appends words to those of a command that has a first word.
+pub fn push_last_words(text: &mut Vec<u8>, words: &[&str]) -> Result<(), AllocError>
+    ensures { IfOk result (λ _. text.new.items ≡ text.old.items ++ value_rest_text (later_words_text (map (λ w. w.now) words.now))) }
+{
+    for word in words {
+        push_later_word(text, word)?;
+    }
+    Ok(())
+}
+
+fn push_redirect(text: &mut Vec<u8>, redirect: Option<&str>) -> Result<(), AllocError>
+    ensures { IfOk result (λ _. text.new.items
+        ≡ text.old.items ++ value_rest_text (redirect_text (option_map (λ s. s.now) redirect.entry))) }
 {
     match redirect {
         None => Ok(()),
         Some(name) => {
-            put_all(out, b" > ")?;
-            put_word(name, out)
+            text.extend_from_slice(b" > ")?;
+            push_word(text, name)
         }
     }
 }
 
-#[tactic(auto, using(ports::proofs::Sending::sending))]
-fn put_lone_redirect<O: Outputs>(redirect: Option<&str>, out: &mut O) -> Result<(), DeviceFault>
-    requires { IsOpen (O.seen out.old) }
-    ensures { Writes (O.seen out.old) (lone_redirect_run (option_map (λ s. s.now) redirect.entry)) (ended result) (O.seen out.new) }
+fn push_lone_redirect(text: &mut Vec<u8>, redirect: Option<&str>) -> Result<(), AllocError>
+    ensures { IfOk result (λ _. text.new.items
+        ≡ text.old.items ++ value_rest_text (lone_redirect_text (option_map (λ s. s.now) redirect.entry))) }
 {
     match redirect {
         None => Ok(()),
         Some(name) => {
-            put_all(out, b"> ")?;
-            put_word(name, out)
+            text.extend_from_slice(b"> ")?;
+            push_word(text, name)
         }
     }
 }
 
-#[tactic(auto, using(ports::proofs::Sending::sending))]
-fn put_words_from<O: Outputs>(
+fn push_words_from(
+    text: &mut Vec<u8>,
     first: &str,
     later: &[String],
     redirect: Option<&str>,
-    out: &mut O,
-) -> Result<(), DeviceFault>
-    requires { IsOpen (O.seen out.old) }
+) -> Result<(), AllocError>
     ensures { let file = option_map (λ s. s.now) redirect.entry in
-        let first_run = puts (value_rest_text (first_word_text first.now)) in
-        let later_run = flat_map (λ s. later_word_run (string_bytes s)) later.now in
-        Writes (O.seen out.old) (first_run ++ (later_run ++ redirect_run file)) (ended result) (O.seen out.new) }
+        let later_text = value_rest_text (later_words_text (texts later.now)) in
+        let all = value_rest_text (first_word_text first.now) ++ (later_text ++ value_rest_text (redirect_text file)) in
+        IfOk result (λ _. text.new.items ≡ text.old.items ++ all) }
 {
-    put_first_word(first, out)?;
-    put_later_words(later, out)?;
-    put_redirect(redirect, out)
+    push_first_word(text, first)?;
+    push_later_words(text, later)?;
+    push_redirect(text, redirect)
 }
 
-/// Writes a command's words as a value, each quoted where a shell would read it otherwise, and the file that the command's
-/// output goes to.
-pub fn write_words<O: Outputs>(
+/// Appends a command's words as a value, each quoted where a shell would read it otherwise, and the file that the command's output
+/// goes to.
+pub fn push_words(
+    text: &mut Vec<u8>,
     words: &[String],
     redirect: Option<&str>,
-    out: &mut O,
-) -> Result<(), DeviceFault>
-    requires { IsOpen (O.seen out.old) }
+) -> Result<(), AllocError>
     ensures { let file = option_map (λ s. s.now) redirect.entry in
-        Writes (O.seen out.old) (puts (value_text (words_text (texts words.now) file))) (ended result) (O.seen out.new) }
+        IfOk result (λ _. text.new.items ≡ text.old.items ++ value_text (words_text (texts words.now) file)) }
 {
     match words {
-        [] => put_lone_redirect(redirect, out),
-        [first, later @ ..] => put_words_from(first.as_str(), later, redirect, out),
+        [] => push_lone_redirect(text, redirect),
+        [first, later @ ..] => push_words_from(text, first.as_str(), later, redirect),
     }
 }

@@ -1,7 +1,7 @@
 -- The methods of a machine: the type `build_machine` of the page "Reference manual".
 use Rattle.std.specs.Prelude.{ℕ, List, [], Option, Some, None, codes, bytes_eq, if◌then◌else◌}
 use Rattle.arguments.specs.Arguments.{ArgumentsData}
-use Rattle.arguments.specs.Row.{checked, row}
+use Rattle.arguments.specs.Row.{row}
 use Rattle.basics.specs.declared.faults.refusal.Refusal.TheVariants as refusals
 use Rattle.compiler_methods.specs.Said.{said_or}
 use Rattle.data.specs.Data.{Data, text}
@@ -9,7 +9,8 @@ use Rattle.data.specs.Limits.{within}
 use Rattle.machine_file.specs.Questions.{Topic, Key, plain}
 use Rattle.objects.specs.declared.machines.MachineMethod.{MachineMethod}
 use Rattle.objects.specs.declared.machines.MachineMethod.TheVariants.{Cpu, CpuFamily, Endian, System}
-use Rattle.world.specs.Deed.{Deed, give, refuse, consult, ◌>>=◌, answered, fitting}
+use Rattle.world.specs.Deed.{Deed, give, refuse, consult, ◌>>=◌, answered}
+use Rattle.world.specs.Fit.{fit}
 
 -- the method of a name
 abbrev pub named : List ℕ → Option MachineMethod
@@ -51,5 +52,5 @@ told_by (Some method) = told method
 -- the method with a name, on arguments that its row looks at first
 unfoldable pub machine_method : List ℕ → ArgumentsData → Deed (Option Data)
 machine_method name a = do
-  _ ← fitting (checked (row [] 0 []) a)
+  _ ← fit (row [] 0 []) a
   told_by (named name)

@@ -1,7 +1,6 @@
 -- The methods of objects, by the kind of the receiver.
 use Rattle.std.specs.Prelude.{ℕ, Bool, false, List, Option, Some, is_some, Result, Err}
 use Rattle.arguments.specs.Arguments.{ArgumentsData}
-use Rattle.arguments.specs.Row.{checked}
 use Rattle.compiler_methods.specs.Methods as compilers
 use Rattle.configuration_calls.specs.Methods as configurations
 use Rattle.data.specs.Data.{Data}
@@ -9,7 +8,8 @@ use Rattle.data.specs.declared.object.Object.{Object}
 use Rattle.data.specs.declared.object.Object.TheVariants as objects
 use Rattle.data.specs.declared.refusal.Refusal.{Refusal}
 use Rattle.data.specs.declared.refusal.Refusal.TheVariants as refusal
-use Rattle.world.specs.Deed.{Deed, give, read, ◌>>=◌, answered, fitting}
+use Rattle.world.specs.Deed.{Deed, give, read, ◌>>=◌, answered}
+use Rattle.world.specs.Fit.{fit}
 use Rattle.world.specs.World.{Facts}
 use Rattle.objects.specs.Dependencies as dependencies
 use Rattle.objects.specs.Features as features
@@ -47,7 +47,7 @@ told_of facts _ name a = Err refusal.UnknownMethod
 -- a method that tells of its receiver and the facts of the run alone, on arguments that its row looks at first
 unfoldable pub tell : Object → List ℕ → ArgumentsData → Deed (Option Data)
 tell o name a = do
-  _ ← fitting (checked (row_of o name) a)
+  _ ← fit (row_of o name) a
   facts ← read
   d ← answered (told_of facts o name a)
   give (Some d)

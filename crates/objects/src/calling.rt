@@ -1,13 +1,11 @@
 //! A method of an object on its arguments.
 ghost use Rattle.std.specs.Prelude.{◌≡◌, IfOk, option_map};
 ghost use Rattle.arguments.specs.Arguments.{arguments_data};
-ghost use Rattle.arguments.specs.Row.{checked};
 ghost use Rattle.arguments.specs.RowView.{row_data};
 ghost use Rattle.data.specs.Tables.{Answers};
 ghost use Rattle.data.specs.View.{data_of};
 ghost use Rattle.world.specs.Answering.{Carries, HasRoom};
 ghost use Rattle.world.specs.Caller.{state_of};
-ghost use Rattle.world.specs.Deed.{fitting};
 ghost use Rattle.objects.specs.Machines.{machine_method};
 ghost use Rattle.objects.specs.Methods.{has_method, object_method, tell, told_of};
 ghost use Rattle.objects.specs.Rows.{row_of};
@@ -19,7 +17,7 @@ use crate::machines::{MachineMethod, machine_answer};
 use crate::meson_object::{MesonMethod, meson_answer};
 use crate::programs::{ProgramMethod, program_answer};
 use crate::target_methods::{TargetMethod, build_answer, custom_answer, output_answer};
-use arguments::{Arguments, Kind, Row, check};
+use arguments::{Arguments, Kind, Row};
 use compiler_methods::{compiler_method, has_compiler_method};
 use configuration_calls::{configuration_method, has_configuration_method};
 use data::{Object, Refusal, Value};
@@ -93,19 +91,6 @@ fn row_of(object: &Object, name: &str) -> Row
     }
 }
 
-// Refuses arguments that the method does not take.
-fn fit<T: Tree, O: Outputs>(
-    caller: &Caller<'_, T, O>,
-    row: &Row,
-    arguments: &Arguments,
-) -> Result<(), Stop>
-    ensures { Carries (λ u. u) (fitting (checked (row_data row.now) (arguments_data arguments.now)))
-        (state_of T.seen O.seen caller.now) result (state_of T.seen O.seen caller.now) }
-{
-    let answer = check(caller.alloc, row, arguments)?;
-    caller.fitting(answer)
-}
-
 // A method that tells of its receiver and the facts of the run alone.
 fn tell<T: Tree, O: Outputs>(
     caller: &Caller<'_, T, O>,
@@ -117,7 +102,7 @@ fn tell<T: Tree, O: Outputs>(
         (state_of T.seen O.seen caller.now) result (state_of T.seen O.seen caller.now) }
 {
     let row = row_of(object, name);
-    fit(caller, &row, arguments)?;
+    caller.fit(&row, arguments)?;
     let answer = told_of(caller.alloc, caller.store, object, name, arguments)?;
     let value = caller.answered(answer)?;
     Ok(Some(value))
@@ -132,7 +117,7 @@ fn machine_method<T: Tree, O: Outputs>(
     ensures { Carries (option_map data_of) (machine_method name.now (arguments_data arguments.now))
         (state_of T.seen O.seen caller.old) result (state_of T.seen O.seen caller.new) }
 {
-    fit(caller, &Row::of(&[], 0, &[]), arguments)?;
+    caller.fit(&Row::of(&[], 0, &[]), arguments)?;
     machine_answer(caller, name)
 }
 

@@ -1,6 +1,6 @@
 //! The operators, by the types of their operands.
 
-ghost use Rattle.std.specs.Prelude.{◌≡◌, IfOk, option_map};
+ghost use Rattle.std.specs.Prelude.{◌≡◌, ◌≢◌, IfOk, option_map};
 ghost use Rattle.data.specs.Data.{boolean as boolean_data};
 ghost use Rattle.data.specs.declared.refusal.Refusal.TheVariants as refusal;
 ghost use Rattle.data.specs.View.{data_of};
@@ -53,18 +53,34 @@ pub fn binary(
     }
     match operator {
         Binary::Add => sum(alloc, left, right),
-        Binary::Subtract => Ok(difference(&left, &right)),
-        Binary::Multiply => Ok(product(&left, &right)),
-        Binary::Divide => quotient(alloc, &left, &right),
-        Binary::Remainder => Ok(remainder(&left, &right)),
-        Binary::Equal => Ok(boolean(equality(&left, &right))),
-        Binary::NotEqual => Ok(boolean(inequality(&left, &right))),
-        Binary::Less => Ok(boolean(is_less(&left, &right))),
-        Binary::LessOrEqual => Ok(boolean(is_less_or_equal(&left, &right))),
-        Binary::Greater => Ok(boolean(is_greater(&left, &right))),
-        Binary::GreaterOrEqual => Ok(boolean(is_greater_or_equal(&left, &right))),
-        Binary::In => Ok(boolean(membership(&left, &right))),
-        Binary::NotIn => Ok(boolean(absence(&left, &right))),
+        _ => examined(alloc, operator, &left, &right),
+    }
+}
+
+// What an operator other than `+` gives for two operands that are no disablers.
+fn examined(
+    alloc: Global,
+    operator: Binary,
+    left: &Value,
+    right: &Value,
+) -> Result<Result<Value, Refusal>, AllocError>
+    requires { operator ≢ Add }
+    ensures { IfOk result (λ r. Answers (binary_outcome operator (data_of left.now) (data_of right.now)) r) }
+{
+    match operator {
+        Binary::Add => unreachable!(),
+        Binary::Subtract => Ok(difference(left, right)),
+        Binary::Multiply => Ok(product(left, right)),
+        Binary::Divide => quotient(alloc, left, right),
+        Binary::Remainder => Ok(remainder(left, right)),
+        Binary::Equal => Ok(boolean(equality(left, right))),
+        Binary::NotEqual => Ok(boolean(inequality(left, right))),
+        Binary::Less => Ok(boolean(is_less(left, right))),
+        Binary::LessOrEqual => Ok(boolean(is_less_or_equal(left, right))),
+        Binary::Greater => Ok(boolean(is_greater(left, right))),
+        Binary::GreaterOrEqual => Ok(boolean(is_greater_or_equal(left, right))),
+        Binary::In => Ok(boolean(membership(left, right))),
+        Binary::NotIn => Ok(boolean(absence(left, right))),
     }
 }
 

@@ -25,7 +25,6 @@ pub enum Given {
 }
 
 /// An option as its call declares it.
-#[derive(Drop)]
 pub struct Declaration {
     pub kind: OptionKind,
     /// The default that the call gives.
@@ -34,12 +33,27 @@ pub struct Declaration {
     pub line: usize,
 }
 
+impl Drop for Declaration {
+    fn drop(self) {
+        let Declaration {
+            kind: _,
+            value: _,
+            line: _,
+        } = self;
+    }
+}
+
 /// The options of an option file, in the order of their calls. Their names differ, and none is that of an option that every
 /// project has.
-#[derive(Drop)]
 pub struct Declared {
     pub(crate) options: SipMap<String, Declaration>,
     ghost differ: { are_new (entries_in options.entries) ≡ true },
+}
+
+impl Drop for Declared {
+    fn drop(self) {
+        let Declared { options: _ } = self;
+    }
 }
 
 impl Declared {

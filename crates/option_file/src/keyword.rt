@@ -27,13 +27,24 @@ pub enum Keyword {
 }
 
 /// What the keywords of a call give so far.
-#[derive(Drop)]
 pub struct Keywords {
     pub kind: Option<OptionType>,
     pub value: Option<Given>,
     pub choices: Option<Choices>,
     pub min: Option<i64>,
     pub max: Option<i64>,
+}
+
+impl Drop for Keywords {
+    fn drop(self) {
+        let Keywords {
+            kind: _,
+            value: _,
+            choices: _,
+            min: _,
+            max: _,
+        } = self;
+    }
 }
 
 impl Keyword {

@@ -35,11 +35,19 @@ pub fn scope_of(section: &str) -> Option<Scope>
 }
 
 /// The options that there are, with what each takes.
-#[derive(Drop)]
 pub struct Known<'a> {
     built_ins: IndexMap<String, OptionKind>,
     declared: &'a Declared,
     ghost are: { AreBuiltIns built_ins.entries },
+}
+
+impl Drop for Known<'_> {
+    fn drop(self) {
+        let Known {
+            built_ins: _,
+            declared: _,
+        } = self;
+    }
 }
 
 impl<'a> Known<'a> {

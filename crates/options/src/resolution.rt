@@ -5,12 +5,11 @@ ghost use Rattle.machine_file.specs.Questions.{options_at};
 ghost use Rattle.machine_file.specs.View.{machine_in};
 ghost use Rattle.option_file.specs.View.{options_in as declared_in};
 ghost use Rattle.option_values.specs.View.{strings_in};
-ghost use Rattle.options.specs.Resolves.{at_first, resolution_of, resolved};
+ghost use Rattle.options.specs.Resolves.{at_first, resolved};
 ghost use Rattle.options.specs.View.{defaults_in, state_in, resolved_in};
 
 use crate::built_in::built_in_settings;
 use crate::fault::OptionFault;
-use crate::fill_in::fill_in;
 use crate::known::Known;
 use crate::place::{ProjectDefault, take_declarations, take_defaults, take_machine, take_words};
 use crate::settings::Options;
@@ -40,28 +39,6 @@ fn at_first(alloc: Global) -> Result<State, AllocError>
     })
 }
 
-// What is known in the end.
-fn ended(alloc: Global, state: State) -> Result<Resolved, AllocError>
-    ensures { IfOk result (λ r. resolved_in r ≡ resolution_of (state_in state)) }
-{
-    let State {
-        unknown,
-        mut settings,
-        fault,
-    } = state;
-    match fault {
-        Some(fault) => {
-            let outcome = Err(fault);
-            Ok(Resolved { unknown, outcome })
-        }
-        None => {
-            fill_in(alloc, &mut settings)?;
-            let outcome = Ok(Options { settings });
-            Ok(Resolved { unknown, outcome })
-        }
-    }
-}
-
 /// The options of a project with their values, from what its option file declares, the keyword `default_options` of its call of
 /// `project`, a machine file, and the words `NAME=VALUE` of a command line.
 ///
@@ -86,6 +63,6 @@ pub fn resolve(
     take_defaults(alloc, &mut state, &known, defaults)?;
     take_machine(alloc, &mut state, &known, machine)?;
     take_words(alloc, &mut state, &known, words)?;
-    let resolved = ended(alloc, state)?;
+    let resolved = state.ended(alloc)?;
     Ok(resolved)
 }

@@ -1,23 +1,34 @@
 //! What is known after some values.
 
-ghost use Rattle.std.specs.Prelude.{◌≡◌, is_some, OnOk};
-ghost use Rattle.options.specs.Resolves.{after_verdict, next};
+ghost use Rattle.std.specs.Prelude.{◌≡◌, is_some, IfOk, OnOk};
+ghost use Rattle.options.specs.Resolves.{after_verdict, next, resolution_of};
 ghost use Rattle.options.specs.Verdicts.{Warns};
 ghost use Rattle.options.specs.Settings.{put};
-ghost use Rattle.options.specs.View.{setting_in, settings_in, verdict_in, state_in};
+ghost use Rattle.options.specs.View.{setting_in, settings_in, verdict_in, state_in, resolved_in};
 
 use crate::fault::OptionFault;
-use crate::settings::Setting;
+use crate::fill_in::fill_in;
+use crate::resolution::Resolved;
+use crate::settings::{Options, Setting};
 use crate::verdict::Verdict;
 use basics::tables::SipMap;
 use std::alloc::{AllocError, Global};
 
 /// The names of no option so far, the options with their values, and the first fault.
-#[derive(Drop)]
 pub struct State {
     pub unknown: Vec<String>,
     pub settings: SipMap<String, Setting>,
     pub fault: Option<OptionFault>,
+}
+
+impl Drop for State {
+    fn drop(self) {
+        let State {
+            unknown: _,
+            settings: _,
+            fault: _,
+        } = self;
+    }
 }
 
 /// An option takes a value: it keeps its place, and a new one stands last.
@@ -82,6 +93,28 @@ impl State {
             None => {
                 self.take(alloc, verdict)?;
                 Ok(())
+            }
+        }
+    }
+
+    /// What is known in the end.
+    pub fn ended(self, alloc: Global) -> Result<Resolved, AllocError>
+        ensures { IfOk result (λ r. resolved_in r ≡ resolution_of (state_in self)) }
+    {
+        let State {
+            unknown,
+            mut settings,
+            fault,
+        } = self;
+        match fault {
+            Some(fault) => {
+                let outcome = Err(fault);
+                Ok(Resolved { unknown, outcome })
+            }
+            None => {
+                fill_in(alloc, &mut settings)?;
+                let outcome = Ok(Options { settings });
+                Ok(Resolved { unknown, outcome })
             }
         }
     }

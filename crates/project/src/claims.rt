@@ -1,24 +1,11 @@
 //! The paths that a project makes.
-ghost use Rattle.std.specs.Prelude.{◌≡◌, ◌++◌, map, IfOk, OnErr, IsTrue, ◌&&◌, if◌then◌else◌};
+ghost use Rattle.std.specs.Prelude.{◌≡◌, ◌++◌, IfOk, OnErr, IsTrue, ◌&&◌, if◌then◌else◌};
 ghost use Rattle.edge.specs.Texts.{texts};
-ghost use Rattle.edge.specs.View.{edge_view};
-ghost use Rattle.project.specs.Laws.{outputs_of, all_new};
+ghost use Rattle.project.specs.Laws.{all_new};
 ghost use Rattle.project.specs.Whole.{IsFront};
 
 use basics::tables::SipSet;
-use edge::{Edge, push_copies};
-use std::alloc::{AllocError, Global};
-
-/// What the edges make, in their order.
-pub fn outputs_of(alloc: Global, edges: &[Edge]) -> Result<Vec<String>, AllocError>
-    ensures { IfOk result (λ v. texts v.items ≡ outputs_of (map edge_view edges.now)) }
-{
-    let mut outputs = Vec::new(alloc);
-    for edge in edges {
-        push_copies(&mut outputs, &edge.outputs)?;
-    }
-    Ok(outputs)
-}
+use std::alloc::AllocError;
 
 // Inserts each path, up to the first that is there.
 fn insert_new(paths: &mut SipSet<String>, fresh: &[String]) -> Result<bool, AllocError>

@@ -10,7 +10,7 @@ mod refusal;
 pub use fitting::{has_slash, is_file_name};
 pub use notes::{Answer, Install, Test};
 pub use project::{
-    Project, edges, edges_are_writable, edges_stand_in_order, needs_are_made, no_circle,
-    outputs_differ, targets_refer_back,
+    Project, edges_are_writable, edges_stand_in_order, needs_are_made, no_circle, outputs_differ,
+    parts, targets_refer_back,
 };
 pub use refusal::Refusal;

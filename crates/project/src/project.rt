@@ -1,7 +1,6 @@
 ghost use Rattle.std.specs.Prelude.{◌≡◌, ℕ, ◌<◌, [], ◌++◌, ◌&&◌, not, true, map, length, IfOk, OnOk, OnErr, Result, Ok, string_bytes};
 ghost use Rattle.std.specs.Prelude.{slice_get, if◌then◌else◌};
 ghost use Rattle.edge.specs.Texts.{texts};
-ghost use Rattle.edge.specs.View.{edge_view};
 ghost use Rattle.targets.specs.View.{facts_view, surroundings_view, target_view, linked_view};
 ghost use Rattle.targets.specs.Libraries.{linked_of};
 ghost use Rattle.project.specs.View.{answer_view, install_view, test_view};
@@ -16,11 +15,12 @@ ghost use Rattle.std.specs.List.{list_any};
 ghost use Rattle.edge.specs.Paths.{is_upward};
 ghost use Rattle.edge.specs.Holding.{are_writable};
 ghost use Rattle.targets.specs.Files.{path_in as path_of};
-ghost use Rattle.project.specs.Laws.{AtMostOnce, all_made, Reaches};
+ghost use Rattle.project.specs.Laws.{AtMostOnce, all_made, outputs_of, Reaches};
 ghost use Rattle.project.specs.World.{new_world, edges_in, known_in, taken_in};
 ghost use Rattle.target_edges.specs.Edges.{target_edges as target_edges_of, edges_of};
+ghost use Rattle.target_edges.specs.PartsView.{parts_edges};
 
-use crate::claims::{claim, outputs_of};
+use crate::claims::claim;
 use crate::fitting::{
     build_fits, custom_fits, has_made_sources, has_present_sources, is_build, is_file_name,
     is_folder, is_within,
@@ -28,10 +28,10 @@ use crate::fitting::{
 use crate::notes::{Answer, Install, Test};
 use crate::refusal::Refusal;
 use basics::tables::{SipSet, new_set};
-use edge::{Edge, are_writable, can_hold_path, can_hold_values, copies, strings};
+use edge::{can_hold_path, can_hold_values, copies, strings};
 use std::alloc::{AllocError, Global};
 use std::marker::Model;
-use target_edges::{Context, target_edges};
+use target_edges::{Claims, Context, TargetParts, claims_of, no_parts, target_parts};
 use targets::{Facts, Linked, Surroundings, Target, default_paths, libraries, path_in};
 
 // What was looked at, and what was noted.
@@ -200,12 +200,11 @@ impl Project {
             return Ok(Err(Refusal::Missing));
         }
         let libraries = libraries(self.alloc, &self.linked, &target)?;
-        let edges = self.edges_with(&target, &libraries)?;
-        let writable = are_writable(&edges);
+        let claims = self.claims_with(&target, &libraries)?;
+        let writable = claims.writable;
         if !writable {
             return Ok(Err(Refusal::Unholdable));
         }
-        let paths = outputs_of(self.alloc, &edges)?;
         let within = is_within(&target);
         let named = default_paths(self.alloc, &target)?;
         self.place(
@@ -214,15 +213,17 @@ impl Project {
                 libraries,
                 paths: named,
             },
-            &paths,
+            &claims.paths,
             within,
         )
     }
 
-    // The edges that a target with these libraries would have.
-    fn edges_with(&self, target: &Target, libraries: &[usize]) -> Result<Vec<Edge>, AllocError>
-        ensures { IfOk result (λ v. map edge_view v.items
-            ≡ target_edges_of self.now.surroundings (linked_of self.now.targets) libraries.now (target_view target.now)) }
+    // What is asked of the edges that a target with these libraries would have.
+    fn claims_with(&self, target: &Target, libraries: &[usize]) -> Result<Claims, AllocError>
+        ensures writable { IfOk result (λ c. c.writable
+            ≡ are_writable (target_edges_of self.now.surroundings (linked_of self.now.targets) libraries.now (target_view target.now))) }
+        ensures paths { IfOk result (λ c. texts c.paths.items
+            ≡ outputs_of (target_edges_of self.now.surroundings (linked_of self.now.targets) libraries.now (target_view target.now))) }
     {
         let context = Context {
             alloc: self.alloc,
@@ -230,7 +231,7 @@ impl Project {
             earlier: &self.linked,
             libraries,
         };
-        target_edges(&context, target)
+        claims_of(&context, target)
     }
 
     // Takes the path of an output, unless it is taken.
@@ -451,14 +452,14 @@ fn output_fits(folder: &str, name: &str) -> bool
     is_folder(folder) && is_file_name(name)
 }
 
-// The edges of a target that stands behind these.
-fn edges_behind(
+// The edges of a target that stands behind these, in parts.
+fn parts_behind(
     alloc: Global,
     surroundings: &Surroundings,
     earlier: &[Linked],
     one: &Linked,
-) -> Result<Vec<Edge>, AllocError>
-    ensures { IfOk result (λ v. map edge_view v.items
+) -> Result<TargetParts, AllocError>
+    ensures { IfOk result (λ p. parts_edges p
         ≡ edges_of (surroundings_view surroundings.now) (map linked_view earlier.now) (linked_view one.now)) }
 {
     let context = Context {
@@ -467,16 +468,16 @@ fn edges_behind(
         earlier,
         libraries: &one.libraries,
     };
-    target_edges(&context, &one.target)
+    target_parts(&context, &one.target)
 }
 
-/// The edges of a target, made anew at each call; of a number that no target has, none.
-pub fn edges(project: &Project, target: usize) -> Result<Vec<Edge>, AllocError>
-    ensures { IfOk result (λ v. map edge_view v.items ≡ edges_at project.now target) }
+/// The edges of a target in parts, made anew at each call; of a number that no target has, none.
+pub fn parts(project: &Project, target: usize) -> Result<TargetParts, AllocError>
+    ensures { IfOk result (λ p. parts_edges p ≡ edges_at project.now target) }
 {
     match project.linked.get(target) {
-        None => Ok(Vec::new(project.alloc)),
-        Some(one) => edges_behind(
+        None => Ok(no_parts(project.alloc)),
+        Some(one) => parts_behind(
             project.alloc,
             &project.surroundings,
             &project.linked[..target],

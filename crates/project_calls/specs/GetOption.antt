@@ -1,5 +1,5 @@
 -- `get_option`.
-use Rattle.std.specs.Prelude.{[], Option, Some, None, Result, Ok}
+use Rattle.std.specs.Prelude.{ℕ, List, Option, Some, None, Result, Ok}
 use Rattle.data.specs.Data.{Data, boolean, integer, text, object}
 use Rattle.data.specs.Limits.{within}
 use Rattle.operators.specs.TextLists.{text_list}
@@ -30,10 +30,10 @@ as_data (Integer n) = Ok (integer n)
 as_data (Array items) = text_list items
 as_data (FeatureValue state) = Ok (object (objects.Feature (feature_of state)))
 
--- the value of an option, where there is such an option
-unfoldable pub given : Option Value → Deed (Option Data)
-given None = refuse refusals.OptionValue []
-given (Some value) = do
+-- the value of the option with a name, where there is such an option
+unfoldable pub given : List ℕ → Option Value → Deed (Option Data)
+given name None = refuse refusals.OptionValue name
+given name (Some value) = do
   d ← answered (as_data value)
   give (Some d)
 
@@ -41,4 +41,4 @@ given (Some value) = do
 unfoldable pub get_option : ArgumentsData → Deed (Option Data)
 get_option a = do
   facts ← read
-  given (value_named facts.options (text_at 0 a))
+  given (text_at 0 a) (value_named facts.options (text_at 0 a))

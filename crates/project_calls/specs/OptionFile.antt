@@ -49,9 +49,9 @@ declared_in (bytes bs) = bytes_declare bs
 unfoldable pub declared_at : List ℕ → FoundData → Deed OptionFileData
 declared_at path found = do
   outer ← read
-  _ ← change (with_place path [] 1) (λ facts once. refl)
+  _ ← change (with_place path [] 1) (λ facts. refl)
   options ← declared_in found
-  _ ← change (with_place outer.file outer.folder outer.line) (λ facts once. refl)
+  _ ← change (with_place outer.file outer.folder outer.line) (λ facts. refl)
   give (record { path = path; declared = options })
 
 -- by what was found at the new path

@@ -1,6 +1,6 @@
 -- `project`.
-use Rattle.std.specs.Prelude.{ℕ, Bool, true, false, List, [], ◌∷◌, ◌++◌, Option, None, codes, unwrap_or, option_and_then, if◌then◌else◌, refl}
-use Rattle.std.specs.Prelude.{Result, Ok, Err}
+use Rattle.std.specs.Prelude.{ℕ, not, List, [], ◌∷◌, ◌++◌, Option, None, codes, unwrap_or, option_and_then, if◌then◌else◌}
+use Rattle.std.specs.Prelude.{Result, Ok, Err, refl}
 use Rattle.std.specs.List.{list_all}
 use Rattle.std.specs.Str.{bytes_eq}
 use Rattle.data.specs.Data.{Data, text_in}
@@ -20,8 +20,8 @@ use Rattle.project_calls.specs.Flags.{flags_in}
 use Rattle.project_calls.specs.Programs.{ProgramsData, programs}
 use Rattle.project_calls.specs.Resolution.{resolution}
 use Rattle.targets.specs.Data.{FactsData}
-use Rattle.world.specs.World.{Facts, begun, with_options}
-use Rattle.world.specs.Deed.{Deed, give, refuse, read, change, ◌>>=◌, answered, fitting, say}
+use Rattle.world.specs.World.{Facts, with_options}
+use Rattle.world.specs.Deed.{Deed, give, need, read, change, begin_project, ◌>>=◌, answered, fitting, say}
 
 -- what stands behind the name
 abbrev pub texts_behind : ArgumentsData → List (List ℕ)
@@ -74,8 +74,8 @@ begin a path r = do
   options ← settled path r.outcome call.line
   found ← programs
   facts ← read
-  _ ← change (with_options options) (λ facts once. refl)
-  change (begun (facts_of a options found facts)) (λ facts once. once)
+  _ ← change (with_options options) (λ facts. refl)
+  begin_project (facts_of a options found facts)
 
 -- the first call: its arguments, the option file, the options
 unfoldable pub first_project : ArgumentsData → Deed (Option Data)
@@ -87,13 +87,10 @@ first_project a = do
   _ ← begin a file.path options
   give None
 
-unfoldable pub project_by : Bool → ArgumentsData → Deed (Option Data)
-project_by true a = refuse refusals.ProjectCall []
-project_by false a = first_project a
-
 -- `project(name, language.., version:, license:, default_options:, meson_version:)`: a later call is refused, whatever it is given; which
 -- version of Meson is asked for has no effect
 unfoldable pub project : ArgumentsData → Deed (Option Data)
 project a = do
   facts ← read
-  project_by facts.is_begun a
+  _ ← need (not facts.is_begun) refusals.ProjectCall []
+  first_project a

@@ -21,12 +21,13 @@ pub fn get_option<T: Tree, O: Outputs>(
     ensures { Carries (option_map data_of) (get_option (arguments_data arguments.now)) (state_of T.seen O.seen caller.now) result
         (state_of T.seen O.seen caller.now) }
 {
-    match caller.store.option(arguments.text_at(0)) {
+    let name = arguments.text_at(0);
+    match caller.store.option(name) {
         Some(option) => {
             let answer = as_data(caller.alloc, option)?;
             let value = caller.answered(answer)?;
             Ok(Some(value))
         }
-        None => caller.refuse(Refusal::OptionValue, ""),
+        None => caller.refuse(Refusal::OptionValue, name),
     }
 }

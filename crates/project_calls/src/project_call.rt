@@ -13,7 +13,7 @@ ghost use Rattle.world.specs.Deed.{answered, fitting};
 ghost use Rattle.world.specs.Store.{world_of};
 ghost use Rattle.project_calls.specs.Defaults.{printed_values};
 ghost use Rattle.project_calls.specs.DefaultsView.{strings_of};
-ghost use Rattle.project_calls.specs.Project.{begin, facts_of, first_project, languages_refusal, project, project_by};
+ghost use Rattle.project_calls.specs.Project.{begin, facts_of, first_project, languages_refusal, project};
 ghost use Rattle.project_calls.specs.Project.{settled, texts_behind, version_of, warned};
 ghost use Rattle.project_calls.specs.ProgramsView.{programs_in};
 
@@ -215,9 +215,6 @@ pub fn project<T: Tree, O: Outputs>(
         (state_of T.seen O.seen caller.new) }
 {
     let is_begun = caller.store.is_begun();
-    if is_begun {
-        caller.refuse(Refusal::ProjectCall, "")
-    } else {
-        first_project(caller, arguments)
-    }
+    caller.need(!is_begun, Refusal::ProjectCall, "")?;
+    first_project(caller, arguments)
 }

@@ -9,6 +9,7 @@ use Rattle.operators.specs.Texts.{path_below}
 use Rattle.project.specs.World.{InstallData}
 use Rattle.placeholders.specs.Names.{plain_name}
 use Rattle.resources.specs.Installs.{destination, headers_folder, man_folder}
+use Rattle.named_sources.specs.Each.{each_or_none}
 use Rattle.named_sources.specs.Sources.{NamedData, tree, built, sources_of}
 use Rattle.world.specs.Options.{option_text}
 use Rattle.world.specs.World.{Facts}
@@ -70,15 +71,6 @@ install_of folders sort a (tree path) = install_at folders sort a folders.source
 install_of folders sort a (built path) = install_at folders sort a folders.build_root path
 install_of folders sort a _ = None
 
-abbrev pub with_install : Option InstallData → (InstallData → Option (List InstallData)) → Option (List InstallData)
-with_install None next = None
-with_install (Some i) next = next i
-
-abbrev pub installs_behind : FoldersData → Sort → ArgumentsData → List InstallData → List NamedData → Option (List InstallData)
-installs_behind folders sort a is [] = Some is
-installs_behind folders sort a is (n ∷ ns) =
-    with_install (install_of folders sort a n) (λ i. installs_behind folders sort a (is ++ i ∷ []) ns)
-
 -- ---- the call
 
 -- the files that the call names, and what is installed
@@ -88,7 +80,7 @@ pub record SaidData : Type 0 where
 
 abbrev pub said_from : FoldersData → Sort → ArgumentsData → List NamedData → Option SaidData
 said_from folders sort a named = do
-  installs ← installs_behind folders sort a [] named
+  installs ← each_or_none (install_of folders sort a) named
   Some (record { named = named; installs = installs })
 
 -- what the call says; none where a path leads out of the tree, or a man page has no section

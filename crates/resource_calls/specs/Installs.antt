@@ -9,7 +9,6 @@ use Rattle.world.specs.Deed.{Deed, give, read, ◌>>=◌, fitting}
 use Rattle.resource_calls.specs.Destinations.{SaidData, folders_in, said_of}
 use Rattle.resource_calls.specs.NamedFiles.{files_required}
 use Rattle.resource_calls.specs.declared.destinations.Sort.{Sort}
-use Rattle.resource_calls.specs.declared.destinations.Sort.TheVariants as sorts
 
 -- which files are installed where: E9 where the arguments say none
 unfoldable pub said_installs : Sort → ArgumentsData → Deed SaidData
@@ -24,22 +23,10 @@ all_installed (i ∷ is) = do
   _ ← add_install i
   all_installed is
 
--- files of a sort are installed: E9; E14 of the first missing file
+-- `install_headers(files..)` and its like install files of a sort: E9; E14 of the first missing file
 unfoldable pub install : Sort → ArgumentsData → Deed (Option Data)
 install sort a = do
   said ← said_installs sort a
   _ ← files_required said.named
   _ ← all_installed said.installs
   give None
-
--- `install_headers(files..)`
-abbrev pub install_headers : ArgumentsData → Deed (Option Data)
-install_headers a = install sorts.Header a
-
--- `install_data(files..)`
-abbrev pub install_data : ArgumentsData → Deed (Option Data)
-install_data a = install sorts.Data a
-
--- `install_man(files..)`
-abbrev pub install_man : ArgumentsData → Deed (Option Data)
-install_man a = install sorts.ManPage a

@@ -1,6 +1,7 @@
 -- The rows of the functions: what each takes.
 use Rattle.std.specs.Prelude.{List, [], ◌∷◌, codes}
-use Rattle.arguments.specs.declared.row.Kind.TheVariants.{Any, Boolean, Command, Dependencies, Flat, Integer, Requirement, Text, Texts, TextsOrDictionary}
+use Rattle.arguments.specs.declared.row.Kind.TheVariants.{Any, Boolean, Command, Dependencies, Flat, Integer, Requirement, Text, Texts}
+use Rattle.arguments.specs.declared.row.Kind.TheVariants.{TextsOrDictionary}
 use Rattle.arguments.specs.declared.row.Piece.TheVariants as pieces
 use Rattle.arguments.specs.Row.{KeywordData, RowData, optional, row, with_others}
 

@@ -1,5 +1,5 @@
 -- The command and the environment of a test. Files and targets are absolute paths.
-use Rattle.std.specs.Prelude.{ℕ, Bool, true, false, List, [], ◌∷◌, ◌++◌, map, Option, Some, None, option_map, option_and_then, codes}
+use Rattle.std.specs.Prelude.{ℕ, Bool, true, false, List, [], ◌∷◌, map, Option, Some, None, option_map, option_and_then, codes}
 use Rattle.std.specs.Prelude.{if◌then◌else◌}
 use Rattle.arguments.specs.Arguments.{ArgumentsData}
 use Rattle.arguments.specs.Given.{argument}
@@ -16,6 +16,7 @@ use Rattle.resources.specs.Testing.{environment}
 use Rattle.targets.specs.Data.{BuildData}
 use Rattle.targets.specs.Files.{file_path, is_library}
 use Rattle.targets.specs.Libraries.{build_at}
+use Rattle.named_sources.specs.Each.{all_behind}
 use Rattle.named_sources.specs.Outputs.{output_at, outputs_at}
 use Rattle.resource_calls.specs.Place.{PlaceData}
 
@@ -82,15 +83,6 @@ argument_words place (text t) = Some (one_word t)
 argument_words place (object o) = words_of_object place o
 argument_words place _ = None
 
-abbrev pub with_words : Option (List Text) → (List Text → Option (List Text)) → Option (List Text)
-with_words None next = None
-with_words (Some ws) next = next ws
-
--- words, and behind them those of values
-abbrev pub words_behind : PlaceData → List Text → List Data → Option (List Text)
-words_behind place ws [] = Some ws
-words_behind place ws (d ∷ ds) = with_words (argument_words place d) (λ more. words_behind place (ws ++ more) ds)
-
 -- ---- what runs
 
 pub record RunData : Type 0 where
@@ -103,7 +95,7 @@ abbrev pub command_given : PlaceData → ArgumentsData → Option (List Text)
 command_given place a = do
   program ← argument 1 a
   words ← command_of place program
-  words_behind place words (leaves_named (codes "args") a)
+  all_behind (argument_words place) words (leaves_named (codes "args") a)
 
 -- the command and the variables that a call says; none where it says no command, or no variables
 abbrev pub run_of : PlaceData → ArgumentsData → Option RunData

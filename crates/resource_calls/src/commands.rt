@@ -3,12 +3,13 @@ ghost use Rattle.std.specs.Prelude.{◌≡◌, [], IfOk, map, option_map, string
 ghost use Rattle.arguments.specs.Arguments.{arguments_data};
 ghost use Rattle.data.specs.View.{data_of};
 ghost use Rattle.edge.specs.Texts.{texts};
+ghost use Rattle.named_sources.specs.Each.{all_behind};
 ghost use Rattle.operators.specs.Texts.{path_below};
 ghost use Rattle.targets.specs.View.{build_view};
 ghost use Rattle.resource_calls.specs.PlaceView.{place_view};
 ghost use Rattle.resource_calls.specs.TestCommands.{argument_words, command_given, command_of, command_of_object, file_word, one_word};
 ghost use Rattle.resource_calls.specs.TestCommands.{output_words, outputs_words, run_of, target_word, target_words, executable_words};
-ghost use Rattle.resource_calls.specs.TestCommands.{word_if_executable, words_behind, words_of_object, words_of_program};
+ghost use Rattle.resource_calls.specs.TestCommands.{word_if_executable, words_of_object, words_of_program};
 ghost use Rattle.resource_calls.specs.TestCommandsView.{run_view};
 
 use crate::place::Place;
@@ -200,7 +201,7 @@ fn words_behind(
     values: &[&Value],
 ) -> Result<Option<Vec<String>>, AllocError>
     ensures { IfOk result (λ ws. option_map (λ v. texts v.items) ws
-        ≡ words_behind (place_view place.now) (texts words.items) (map (λ v. data_of v.now) values.now)) }
+        ≡ all_behind (argument_words (place_view place.now)) (texts words.items) (map (λ v. data_of v.now) values.now)) }
 {
     let mut all = words;
     for value in values {

@@ -27,10 +27,7 @@ fn said_lists<T: Tree, O: Outputs>(
 {
     let place = place_of(caller);
     let found = own_lists(&place, arguments)?;
-    match found {
-        Some(own) => Ok(own),
-        None => caller.refuse(Refusal::Arguments, ""),
-    }
+    caller.fitting(found.ok_or(Refusal::Arguments))
 }
 
 // The dependency with these lists, or the refusal of lists that are too long.

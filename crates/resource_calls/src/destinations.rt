@@ -3,9 +3,10 @@ ghost use Rattle.std.specs.Prelude.{◌≡◌, [], IfOk, codes, map, option_map,
 ghost use Rattle.arguments.specs.Arguments.{arguments_data};
 ghost use Rattle.arguments.specs.Given.{text_given};
 ghost use Rattle.project.specs.View.{install_view};
+ghost use Rattle.named_sources.specs.Each.{each_or_none};
 ghost use Rattle.named_sources.specs.SourcesView.{named_view};
 ghost use Rattle.world.specs.Caller.{state_of};
-ghost use Rattle.resource_calls.specs.Destinations.{folders_in, given_or, install_at, install_folder, install_of, installs_behind, said_of};
+ghost use Rattle.resource_calls.specs.Destinations.{folders_in, given_or, install_at, install_folder, install_of, said_of};
 ghost use Rattle.resource_calls.specs.Destinations.{usual_folder};
 ghost use Rattle.resource_calls.specs.DestinationsView.{folders_view, said_view};
 
@@ -174,7 +175,7 @@ fn installs_of(
     named: &[NamedSource],
 ) -> Result<Option<Vec<Install>>, AllocError>
     ensures { IfOk result (λ is. option_map (λ v. map install_view v.items) is
-        ≡ installs_behind (folders_view folders.now) sort (arguments_data arguments.now) [] (map named_view named.now)) }
+        ≡ each_or_none (install_of (folders_view folders.now) sort (arguments_data arguments.now)) (map named_view named.now)) }
 {
     let mut installs = Vec::new(folders.alloc);
     for one in named {

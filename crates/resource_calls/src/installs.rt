@@ -7,7 +7,7 @@ ghost use Rattle.project.specs.View.{install_view};
 ghost use Rattle.world.specs.Answering.{Carries, HasRoom};
 ghost use Rattle.world.specs.Caller.{state_of};
 ghost use Rattle.resource_calls.specs.DestinationsView.{said_view};
-ghost use Rattle.resource_calls.specs.Installs.{all_installed, install, install_data, install_headers, install_man, said_installs};
+ghost use Rattle.resource_calls.specs.Installs.{all_installed, install, said_installs};
 
 use crate::destinations::{Said, Sort, folders_in, said_of};
 use crate::named_files::require_files;
@@ -30,10 +30,7 @@ fn said_installs<T: Tree, O: Outputs>(
 {
     let folders = folders_in(caller);
     let found = said_of(&folders, sort, arguments)?;
-    match found {
-        Some(said) => Ok(said),
-        None => caller.refuse(Refusal::Arguments, ""),
-    }
+    caller.fitting(found.ok_or(Refusal::Arguments))
 }
 
 fn copy_of(alloc: Global, install: &Install) -> Result<Install, AllocError>
@@ -60,8 +57,9 @@ fn install_all<T: Tree, O: Outputs>(
     Ok(())
 }
 
-// Installs files of a sort.
-fn install<T: Tree, O: Outputs>(
+/// `install_headers`, `install_data` or `install_man`, by the sort of the files: E9, also of a page of the manual without a digit; then
+/// E14 of the first missing file.
+pub fn install<T: Tree, O: Outputs>(
     caller: &mut Caller<'_, T, O>,
     sort: Sort,
     arguments: &Arguments,
@@ -74,40 +72,4 @@ fn install<T: Tree, O: Outputs>(
     require_files(caller, &said.named)?;
     install_all(caller, &said.installs)?;
     Ok(None)
-}
-
-/// `install_headers(files..)`: E9, then E14 of the first missing file.
-pub fn install_headers<T: Tree, O: Outputs>(
-    caller: &mut Caller<'_, T, O>,
-    arguments: &Arguments,
-) -> Result<Option<Value>, Stop>
-    requires { HasRoom (state_of T.seen O.seen caller.old) }
-    ensures { Carries (option_map data_of) (install_headers (arguments_data arguments.now))
-        (state_of T.seen O.seen caller.old) result (state_of T.seen O.seen caller.new) }
-{
-    install(caller, Sort::Header, arguments)
-}
-
-/// `install_data(files..)`: E9, then E14 of the first missing file.
-pub fn install_data<T: Tree, O: Outputs>(
-    caller: &mut Caller<'_, T, O>,
-    arguments: &Arguments,
-) -> Result<Option<Value>, Stop>
-    requires { HasRoom (state_of T.seen O.seen caller.old) }
-    ensures { Carries (option_map data_of) (install_data (arguments_data arguments.now))
-        (state_of T.seen O.seen caller.old) result (state_of T.seen O.seen caller.new) }
-{
-    install(caller, Sort::Data, arguments)
-}
-
-/// `install_man(files..)`: E9, also of a page without a digit; then E14 of the first missing file.
-pub fn install_man<T: Tree, O: Outputs>(
-    caller: &mut Caller<'_, T, O>,
-    arguments: &Arguments,
-) -> Result<Option<Value>, Stop>
-    requires { HasRoom (state_of T.seen O.seen caller.old) }
-    ensures { Carries (option_map data_of) (install_man (arguments_data arguments.now))
-        (state_of T.seen O.seen caller.old) result (state_of T.seen O.seen caller.new) }
-{
-    install(caller, Sort::ManPage, arguments)
 }

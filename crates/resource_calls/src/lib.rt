@@ -20,7 +20,8 @@ mod testing;
 
 pub use declaring::declare_dependency;
 pub use dependencies::dependency;
-pub use installs::{install_data, install_headers, install_man};
+pub use destinations::Sort;
+pub use installs::install;
 pub use programs::find_program;
 pub use rows::{
     declare_dependency_row, dependency_row, find_program_row, install_data_row,

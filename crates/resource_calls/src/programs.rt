@@ -68,10 +68,7 @@ fn named_path<T: Tree, O: Outputs>(caller: &Caller<'_, T, O>, name: &str) -> Res
 {
     let source_root = caller.store.settings().source_root.as_str();
     let path = tree_path(caller.alloc, source_root, caller.store.folder(), name)?;
-    match path {
-        Some(path) => Ok(path),
-        None => caller.refuse(Refusal::Arguments, ""),
-    }
+    caller.fitting(path.ok_or(Refusal::Arguments))
 }
 
 // The file of the tree that a name means, if it is there; it is looked at.

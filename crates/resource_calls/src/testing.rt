@@ -29,10 +29,7 @@ fn said_run<T: Tree, O: Outputs>(
 {
     let place = place_of(caller);
     let found = run_of(&place, arguments)?;
-    match found {
-        Some(run) => Ok(run),
-        None => caller.refuse(Refusal::Arguments, ""),
-    }
+    caller.fitting(found.ok_or(Refusal::Arguments))
 }
 
 // The seconds that the keyword `timeout` says, else 30.

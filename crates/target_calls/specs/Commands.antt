@@ -1,5 +1,6 @@
 -- The command of a custom target.
-use Rattle.std.specs.Prelude.{ℕ, Bool, true, false, List, [], ◌∷◌, ◌++◌, codes, Option, Some, None, option_map, if◌then◌else◌, ◌&&◌, not}
+use Rattle.std.specs.Prelude.{ℕ, Bool, true, false, ◌&&◌, not, List, [], ◌∷◌, ◌++◌, codes}
+use Rattle.std.specs.Prelude.{Option, Some, None, option_and_then, option_map, if◌then◌else◌}
 use Rattle.data.specs.Data.{Data, text, object}
 use Rattle.data.specs.declared.object.Object.{Object}
 use Rattle.data.specs.declared.object.Object.TheVariants as objects
@@ -86,14 +87,10 @@ part_of here place _ = None
 abbrev pub joined : PartData → PartData → PartData
 joined p q = record { words = p.words ++ q.words; needs = p.needs ++ q.needs }
 
-abbrev pub with_part : Option PartData → (PartData → Option PartData) → Option PartData
-with_part None next = None
-with_part (Some p) next = next p
-
 abbrev pub parts_behind : HereData → PlaceData → PartData → List Data → Option PartData
 parts_behind here place whole [] = Some whole
 parts_behind here place whole (d ∷ ds) =
-    with_part (part_of here place d) (λ p. parts_behind here place (joined whole p) ds)
+    option_and_then (λ p. parts_behind here place (joined whole p) ds) (part_of here place d)
 
 abbrev pub no_part : PartData
 no_part = record { words = []; needs = [] }

@@ -14,6 +14,7 @@ use Rattle.targets.specs.Data.{Custom, CustomData, SourceData}
 use Rattle.targets.specs.Files.{path_in}
 use Rattle.targets.specs.Sources.{source_paths}
 use Rattle.data.specs.Flat.{opened}
+use Rattle.named_sources.specs.Each.{each_or_none}
 use Rattle.named_sources.specs.Sources.{sources_of}
 use Rattle.target_calls.specs.BuildTargets.{NamedTargetData}
 use Rattle.target_calls.specs.Commands.{PartData, command_of}
@@ -90,17 +91,9 @@ place_with here inputs outputs depfile = record {
   source_root = source_root here.depth;
 }
 
-abbrev pub with_name : Option Text → (Text → Option (List Text)) → Option (List Text)
-with_name None next = None
-with_name (Some n) next = next n
-
-abbrev pub names_behind : PlaceData → List Text → List Text → Option (List Text)
-names_behind place ns [] = Some ns
-names_behind place ns (t ∷ ts) = with_name (filled FileName place t) (λ n. names_behind place (ns ++ n ∷ []) ts)
-
 -- names of files, their placeholders replaced
 abbrev pub names_in : PlaceData → List Text → Option (List Text)
-names_in place ts = names_behind place [] ts
+names_in place ts = each_or_none (filled FileName place) ts
 
 -- names of files of the folder
 pub record NamesData : Type 0 where

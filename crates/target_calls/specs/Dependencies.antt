@@ -1,5 +1,5 @@
 -- What dependencies bring to a target.
-use Rattle.std.specs.Prelude.{true, false, List, [], ◌∷◌, ◌++◌, map, Option, Some, None, option_map, if◌then◌else◌}
+use Rattle.std.specs.Prelude.{true, false, List, [], ◌∷◌, ◌++◌, map, Option, Some, None, option_and_then, option_map, if◌then◌else◌}
 use Rattle.data.specs.Data.{Data, object}
 use Rattle.data.specs.declared.object.Dependency.{Dependency}
 use Rattle.data.specs.declared.object.Object.{Object}
@@ -40,15 +40,11 @@ abbrev pub found_in : Data → Option Dependency
 found_in (object o) = found_in_object o
 found_in _ = None
 
-abbrev pub with_lists : Option ListsData → (ListsData → Option (List ListsData)) → Option (List ListsData)
-with_lists None next = None
-with_lists (Some l) next = next l
-
 -- one that was not found brings nothing
 abbrev pub with_found :
     List LinkedData → List ListsData → Option Dependency → (List ListsData → Option (List ListsData)) → Option (List ListsData)
 with_found earlier ls None next = next ls
-with_found earlier ls (Some d) next = with_lists (lists_of earlier d) (λ l. next (ls ++ l ∷ []))
+with_found earlier ls (Some d) next = option_and_then (λ l. next (ls ++ l ∷ [])) (lists_of earlier d)
 
 -- lists, and behind them what the dependencies that values are bring
 abbrev pub lists_behind : List LinkedData → List ListsData → List Data → Option (List ListsData)

@@ -29,10 +29,7 @@ fn said_custom<T: Tree, O: Outputs>(
 {
     let here = here_of(caller);
     let found = declared_custom(&here, arguments)?;
-    match found {
-        Some(target) => Ok(target),
-        None => caller.refuse(Refusal::Arguments, ""),
-    }
+    caller.fitting(found.ok_or(Refusal::Arguments))
 }
 
 /// `custom_target(name)`: E9, E14, E21, E11, E22 in this order.

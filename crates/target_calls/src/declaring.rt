@@ -4,7 +4,6 @@ ghost use Rattle.arguments.specs.Arguments.{arguments_data};
 ghost use Rattle.data.specs.View.{data_of};
 ghost use Rattle.option_values.specs.View.{value_in};
 ghost use Rattle.targets.specs.View.{target_view};
-ghost use Rattle.targets.specs.declared.target.Kind.TheVariants as kinds;
 ghost use Rattle.world.specs.Answering.{Carries, HasRoom};
 ghost use Rattle.world.specs.Caller.{state_of};
 ghost use Rattle.target_calls.specs.BuildTargetsView.{named_target_view};
@@ -33,10 +32,7 @@ fn said<T: Tree, O: Outputs>(
 {
     let here = here_of(caller);
     let found = declared(&here, kind, arguments)?;
-    match found {
-        Some(target) => Ok(target),
-        None => caller.refuse(Refusal::Arguments, ""),
-    }
+    caller.fitting(found.ok_or(Refusal::Arguments))
 }
 
 /// Refuses a target that the project can't have.
@@ -67,8 +63,8 @@ fn add_installed<T: Tree, O: Outputs>(
     Ok(number)
 }
 
-// Declares a target of a kind.
-fn declare<T: Tree, O: Outputs>(
+/// `executable`, `static_library` or `shared_library`, by the kind that it declares: E9, E14, E21, E11, E22 in this order.
+pub fn declare<T: Tree, O: Outputs>(
     caller: &mut Caller<'_, T, O>,
     kind: Kind,
     arguments: &Arguments,
@@ -83,42 +79,6 @@ fn declare<T: Tree, O: Outputs>(
     let number = add_installed(caller, arguments, named.target)?;
     let value = Value::of_object(caller.alloc, Object::BuildTarget(number))?;
     Ok(Some(value))
-}
-
-/// `executable(name, sources..)`: E9, E14, E21, E11, E22 in this order.
-pub fn executable<T: Tree, O: Outputs>(
-    caller: &mut Caller<'_, T, O>,
-    arguments: &Arguments,
-) -> Result<Option<Value>, Stop>
-    requires { HasRoom (state_of T.seen O.seen caller.old) }
-    ensures { Carries (option_map data_of) (declare kinds.Executable (arguments_data arguments.now))
-        (state_of T.seen O.seen caller.old) result (state_of T.seen O.seen caller.new) }
-{
-    declare(caller, Kind::Executable, arguments)
-}
-
-/// `static_library(name, sources..)`: E9, E14, E21, E11, E22 in this order.
-pub fn static_library<T: Tree, O: Outputs>(
-    caller: &mut Caller<'_, T, O>,
-    arguments: &Arguments,
-) -> Result<Option<Value>, Stop>
-    requires { HasRoom (state_of T.seen O.seen caller.old) }
-    ensures { Carries (option_map data_of) (declare kinds.StaticLibrary (arguments_data arguments.now))
-        (state_of T.seen O.seen caller.old) result (state_of T.seen O.seen caller.new) }
-{
-    declare(caller, Kind::StaticLibrary, arguments)
-}
-
-/// `shared_library(name, sources..)`: E9, E14, E21, E11, E22 in this order.
-pub fn shared_library<T: Tree, O: Outputs>(
-    caller: &mut Caller<'_, T, O>,
-    arguments: &Arguments,
-) -> Result<Option<Value>, Stop>
-    requires { HasRoom (state_of T.seen O.seen caller.old) }
-    ensures { Carries (option_map data_of) (declare kinds.SharedLibrary (arguments_data arguments.now))
-        (state_of T.seen O.seen caller.old) result (state_of T.seen O.seen caller.new) }
-{
-    declare(caller, Kind::SharedLibrary, arguments)
 }
 
 // What `library` makes where the option `default_library` has this value.

@@ -16,7 +16,7 @@ mod sources;
 mod tree;
 
 pub use custom_call::custom_target;
-pub use declaring::{executable, library, shared_library, static_library};
+pub use declaring::{declare, library};
 pub use project_words::{add_project_arguments, add_project_link_arguments};
 pub use rows::{
     custom_target_row, files_row, include_directories_row, project_words_row, shared_library_row,

@@ -25,10 +25,7 @@ pub(crate) fn named_files<T: Tree, O: Outputs>(
 {
     let source_root = caller.store.settings().source_root.as_str();
     let paths = tree_paths(caller.alloc, source_root, caller.store.folder(), texts)?;
-    match paths {
-        Some(paths) => Ok(paths),
-        None => caller.refuse(Refusal::Arguments, ""),
-    }
+    caller.fitting(paths.ok_or(Refusal::Arguments))
 }
 
 // The paths of the folders that texts name.
@@ -41,10 +38,7 @@ fn named_folders<T: Tree, O: Outputs>(
 {
     let source_root = caller.store.settings().source_root.as_str();
     let paths = folder_paths(caller.alloc, source_root, caller.store.folder(), texts)?;
-    match paths {
-        Some(paths) => Ok(paths),
-        None => caller.refuse(Refusal::Arguments, ""),
-    }
+    caller.fitting(paths.ok_or(Refusal::Arguments))
 }
 
 // Refuses the call unless each of the files is there.

@@ -1,3 +1,5 @@
 pub mod WayTexts
 pub mod Joining
+pub mod Sharing
+pub mod Holding
 mod Examples

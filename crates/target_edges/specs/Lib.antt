@@ -1,3 +1,5 @@
 pub mod Ways
 pub mod Words
 pub mod Edges
+pub mod Parts
+pub mod PartsView

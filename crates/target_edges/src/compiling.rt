@@ -1,22 +1,15 @@
-//! The edges that compile sources.
-ghost use Rattle.std.specs.Prelude.{◌≡◌, ◌++◌, ◌∷◌, [], map, flat_map, IfOk, string_bytes, codes};
+//! The words of compile commands.
+ghost use Rattle.std.specs.Prelude.{◌≡◌, ◌++◌, flat_map, IfOk, string_bytes};
 ghost use Rattle.edge.specs.Texts.{texts};
-ghost use Rattle.edge.specs.View.{edge_view};
-ghost use Rattle.targets.specs.Inputs.{input_view};
-ghost use Rattle.targets.specs.Sources.{listed, generated};
-ghost use Rattle.targets.specs.View.{flags_view, surroundings_view, lists_view, build_view};
-ghost use Rattle.targets.specs.Files.{file_path};
+ghost use Rattle.targets.specs.View.{flags_view, surroundings_view, build_view};
 ghost use Rattle.target_edges.specs.Words.{build_folder, source_folder, include_words, includes, warning_words, standard_words};
 ghost use Rattle.target_edges.specs.Words.{optimization_words, option_words, argument_words, compile_words};
-ghost use Rattle.target_edges.specs.Edges.{source_words, compiling, compile_edge};
+ghost use Rattle.target_edges.specs.Parts.{front_words};
 
 use crate::words::{push_brought_compile_args, push_if};
-use edge::{
-    Edge, Rule, copies, first_kept, object_path, push_all, push_copies, source_path, source_root,
-    strings,
-};
+use edge::{first_kept, push_all, push_copies, source_path, source_root};
 use std::alloc::{AllocError, Global};
-use targets::{BuildTarget, Flags, Input, Surroundings, compiled, generated};
+use targets::{BuildTarget, Flags, Surroundings};
 
 // ---- where headers are looked for
 
@@ -167,92 +160,15 @@ fn compile_words(
     Ok(words)
 }
 
-// ---- edges
-
-// What the compile edges of a target share.
-#[derive(Drop)]
-struct Shared {
-    words: Vec<String>,
-    generated: Vec<String>,
-    // The target's file.
-    file: String,
-}
-
-fn words_for(
-    alloc: Global,
-    words: &[String],
-    object: &str,
-    source: &str,
-    depfile: &str,
-) -> Result<Vec<String>, AllocError>
-    ensures { IfOk result (λ v. texts v.items ≡ texts words.now ++ source_words object.now depfile.now source.now) }
-{
-    let mut all = copies(alloc, words)?;
-    push_all(
-        &mut all,
-        alloc,
-        &[
-            "-MD", "-MQ", object, "-MF", depfile, "-o", object, "-c", source,
-        ],
-    )?;
-    Ok(all)
-}
-
-fn edge_for(alloc: Global, shared: &Shared, object: &str, source: &str) -> Result<Edge, AllocError>
-    ensures { IfOk result (λ e. edge_view e
-        ≡ compiling (texts shared.now.words.items) (texts shared.now.generated.items) object.now source.now) }
-{
-    let depfile = format!(in alloc; "{object}.d")?;
-    Ok(Edge {
-        rule: Rule::CCompile,
-        outputs: strings(alloc, &[object])?,
-        inputs: strings(alloc, &[source])?,
-        implicit: Vec::new(alloc),
-        order_only: copies(alloc, &shared.generated)?,
-        words: words_for(alloc, &shared.words, object, source, &depfile)?,
-        redirect: None,
-        description: format!(in alloc; "Compiling C object {object}")?,
-        depfile: Some(depfile),
-    })
-}
-
-fn compile_edge(alloc: Global, shared: &Shared, input: &Input) -> Result<Edge, AllocError>
-    ensures { IfOk result (λ e. edge_view e
-        ≡ compile_edge (texts shared.now.words.items) (texts shared.now.generated.items) (string_bytes shared.now.file)
-        (input_view input.now)) }
-{
-    let object = object_path(alloc, &shared.file, &input.name)?;
-    edge_for(alloc, shared, &object, &input.path)
-}
-
-fn edges_for(alloc: Global, shared: &Shared, inputs: &[Input]) -> Result<Vec<Edge>, AllocError>
-    ensures { IfOk result (λ v. map edge_view v.items
-        ≡ map (compile_edge (texts shared.now.words.items) (texts shared.now.generated.items) (string_bytes shared.now.file))
-        (map input_view inputs.now)) }
-{
-    let mut edges = Vec::new(alloc);
-    for input in inputs {
-        edges.push(compile_edge(alloc, shared, input)?)?;
-    }
-    Ok(edges)
-}
-
-/// The edges that compile these inputs, of the target whose file this is.
-pub fn compile_edges(
+/// The words of the target's compile commands, up to the first that names the object.
+pub fn front_words(
     alloc: Global,
     surroundings: &Surroundings,
     target: &BuildTarget,
-    file: &str,
-    inputs: &[Input],
-) -> Result<Vec<Edge>, AllocError>
-    ensures { IfOk result (λ v. map edge_view v.items
-        ≡ map (compile_edge (compile_words (surroundings_view surroundings.now) (build_view target.now))
-        (generated (build_view target.now)) file.now) (map input_view inputs.now)) }
+) -> Result<Vec<String>, AllocError>
+    ensures { IfOk result (λ v. texts v.items ≡ front_words (compile_words (surroundings_view surroundings.now) (build_view target.now))) }
 {
-    let shared = Shared {
-        words: compile_words(alloc, surroundings, target)?,
-        generated: generated(alloc, target)?,
-        file: String::from_str(alloc, file)?,
-    };
-    edges_for(alloc, &shared, inputs)
+    let mut words = compile_words(alloc, surroundings, target)?;
+    push_all(&mut words, alloc, &["-MD", "-MQ"])?;
+    Ok(words)
 }

@@ -2,12 +2,17 @@
 #![tactic(auto)]
 
 mod building;
+mod claiming;
 mod compiling;
 mod custom;
 mod linking;
+mod own;
+mod parts;
 mod way;
 mod words;
 
-pub use building::target_edges;
-pub use compiling::compile_edges as edges_of_inputs;
+pub use building::{no_parts, target_parts};
+pub use claiming::{Claims, claims_of};
 pub use linking::Context;
+pub use own::{SourceTexts, last_words, own_parts, source_texts};
+pub use parts::TargetParts;

@@ -3,3 +3,4 @@ pub mod InputLists
 pub mod KeptLast
 pub mod FirstNumber
 mod Examples
+pub mod Marking

@@ -4,3 +4,4 @@ pub mod Sources
 pub mod Inputs
 pub mod Files
 pub mod Libraries
+pub mod Marks

@@ -1,8 +1,10 @@
 //! The libraries that a target links.
-ghost use Rattle.std.specs.Prelude.{◌≡◌, ◌∷◌, [], map, flat_map, ◌++◌, IfOk, slice_get, option_map, ◌&&◌};
-ghost use Rattle.std.specs.List.{list_all};
+ghost use Rattle.std.specs.Prelude.{◌≡◌, ◌∷◌, [], map, flat_map, ◌++◌, IfOk, ◌<◌, false, true, length, nat_eq, slice_get, slice_index_or, slice_set, option_map, ◌&&◌};
+ghost use Rattle.std.specs.List.{list_all, list_any};
+ghost use Rattle.indexmap.specs.IndexSet.{insert_key};
 ghost use Rattle.targets.specs.Libraries.{last_kept, with_its_own, libraries_of, libraries_in, build_of, build_at, is_library_at};
 ghost use Rattle.targets.specs.Libraries.{is_static_target, links_libraries};
+ghost use Rattle.targets.specs.Marks.{AreMarks};
 ghost use Rattle.targets.specs.View.{linked_view, target_view, build_view};
 
 use crate::target::{BuildTarget, Target};
@@ -67,8 +69,68 @@ fn is_static_target(target: &Target) -> bool
     }
 }
 
-// Of equal numbers the last is kept.
-fn keep_last(alloc: Global, mut numbers: Vec<usize>) -> Result<Vec<usize>, AllocError>
+// Marks the number, and says whether it was.
+fn mark(marks: &mut Vec<bool>, number: usize) -> bool
+    requires { number < length marks.old.items }
+    ensures tested { result ≡ slice_index_or marks.old.items number false }
+    ensures marked { marks.new.items ≡ slice_set marks.old.items number true }
+{
+    let was = marks[number];
+    marks[number] = true;
+    was
+}
+
+fn is_among(numbers: &[usize], number: usize) -> bool
+    ensures { result ≡ list_any (nat_eq number) numbers.now }
+{
+    numbers.iter().any(|other| number == *other)
+}
+
+// Whether the number was met before. From now on it was.
+fn was_met(marks: &mut Vec<bool>, met: &[usize], number: usize) -> bool
+    requires { AreMarks marks.old.items met.now }
+    ensures tested { result ≡ list_any (nat_eq number) met.now }
+    ensures marks { AreMarks marks.new.items (insert_key nat_eq met.now number) }
+{
+    if number < marks.len() {
+        mark(marks, number)
+    } else {
+        is_among(met, number)
+    }
+}
+
+// Appends the number, unless it was met.
+fn keep_new(kept: &mut Vec<usize>, marks: &mut Vec<bool>, number: usize) -> Result<(), AllocError>
+    requires { AreMarks marks.old.items kept.old.items }
+    ensures kept { IfOk result (λ _. kept.new.items ≡ insert_key nat_eq kept.old.items number) }
+    ensures marks { IfOk result (λ _. AreMarks marks.new.items kept.new.items) }
+{
+    if was_met(marks, kept, number) {
+        return Ok(());
+    }
+    kept.push(number)?;
+    Ok(())
+}
+
+// Of equal numbers the last is kept. Those below a count have marks, so that one of them is found at once.
+fn last_by_marks(
+    alloc: Global,
+    count: usize,
+    mut numbers: Vec<usize>,
+) -> Result<Vec<usize>, AllocError>
+    ensures { IfOk result (λ v. v.items ≡ last_kept numbers.items) }
+{
+    let mut marks = vec![in alloc; false; count]?;
+    let mut kept = Vec::new(alloc);
+    while let Some(number) = numbers.pop() {
+        keep_new(&mut kept, &mut marks, number)?;
+    }
+    kept.reverse();
+    Ok(kept)
+}
+
+// The same by a set.
+fn last_by_set(alloc: Global, mut numbers: Vec<usize>) -> Result<Vec<usize>, AllocError>
     ensures { IfOk result (λ v. v.items ≡ last_kept numbers.items) }
 {
     let mut kept = new_set(alloc);
@@ -76,6 +138,17 @@ fn keep_last(alloc: Global, mut numbers: Vec<usize>) -> Result<Vec<usize>, Alloc
         kept.insert(number)?;
     }
     kept.as_slice().iter().rev().copied().collect(alloc)
+}
+
+// Of equal numbers below a count the last is kept. Marks are many times faster than a set, unless there are far more of them than numbers.
+fn keep_last(alloc: Global, count: usize, numbers: Vec<usize>) -> Result<Vec<usize>, AllocError>
+    ensures { IfOk result (λ v. v.items ≡ last_kept numbers.items) }
+{
+    if count / 16 <= numbers.len() {
+        last_by_marks(alloc, count, numbers)
+    } else {
+        last_by_set(alloc, numbers)
+    }
 }
 
 // A library, and where it is static its own libraries.
@@ -125,7 +198,8 @@ fn libraries_of(
 ) -> Result<Vec<usize>, AllocError>
     ensures { IfOk result (λ v. v.items ≡ libraries_of (map linked_view earlier.now) (build_view target.now)) }
 {
-    keep_last(alloc, all_libraries(alloc, earlier, target)?)
+    let all = all_libraries(alloc, earlier, target)?;
+    keep_last(alloc, earlier.len(), all)
 }
 
 /// The libraries of a target that stands behind these: of a custom target none.

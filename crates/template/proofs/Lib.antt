@@ -3,6 +3,7 @@ pub mod Define
 pub mod Passing
 pub mod Reading
 pub mod Scan
+pub mod Staying
 pub mod Words
 pub mod Undoing
 mod Examples

@@ -8,14 +8,15 @@ use Rattle.data.specs.Tables.{Answers}
 use Rattle.data.specs.View.{data_of}
 use Rattle.data.specs.declared.refusal.Refusal.{Refusal as OperationRefusal}
 use Rattle.data.specs.declared.value.Value.{Value}
+use Rattle.targets.specs.Data.{FactsData}
 use Rattle.basics.specs.Faults.{FaultData}
 use Rattle.world.specs.Trace.{Seen, seen}
 use Rattle.machine_file.specs.Questions.{Answer, Question, answer_to}
-use Rattle.world.specs.World.{World, Facts, LeavesNotes, asking, looking, fault_here}
+use Rattle.world.specs.World.{World, Facts, LeavesPaths, asking, begun as begun_facts, looking, fault_here}
 use Rattle.world.specs.Store.{changing}
 use Rattle.world.specs.Run.{ran, Done}
 use Rattle.world.specs.Gives.{Gives, Ends, failures_after}
-use Rattle.world.specs.Deed.{Files, Deed, give, refuse, tell, say, consult, read, change, then, perform, answered, fitting, need, there}
+use Rattle.world.specs.Deed.{Files, Deed, give, refuse, tell, say, begin_project, consult, read, change, then, perform, answered, fitting, need, there}
 use Rattle.world.specs.Answering.{State, seen_at, HasRoom, Fails, Carries, Refuses, IsAnswered, IsFitting, Views}
 use Rattle.world.proofs.Follow.{stopped_later, failed_later, ended_later, refused_later, gives_later, begun, done, device_stops, failures_after-refusal, wanted_grown}
 use Rattle.world.proofs.Holding.{holds_later, stays_here, stays_on}
@@ -135,19 +136,31 @@ carries_same {view = view} {d = d} {s = s} is p = subst (λ x. Carries view d s 
 pub carries_as : {A B : Type 0} {view : B → A} {d e : Deed A} {s s1 : State} {result : Result B Stop} → d ≡ e → Carries view d s result s1 → Carries view e s result s1
 carries_as {view = view} {s = s} {s1 = s1} {result = result} is p = subst (λ x. Carries view x s result s1) is p
 
--- the facts change
-pub carries_change : {B : Type 0} {view : B → Unit {0}} {f : Facts → Facts} {leaves : LeavesNotes f} {w w1 : World} {names names1 : List (List ℕ)} {tree : TreeState} {out : OutputState} {lent : ℕ × ℕ × ℕ} {x : B} → w1 ≡ changing f w → names1 ≡ names
-    → Carries view (change f leaves) (record { world = w; names = names; tree = tree; out = out; lent = lent }) (Ok x) (record { world = w1; names = names1; tree = tree; out = out; lent = lent })
-carries_change {view = view} {f = f} {leaves = leaves} {w = w} {w1 = w1} {names = names} {names1 = names1} {tree = tree} {out = out} {x = x} is same = record {
-  gives = λ files n h. subst (λ v. Gives view (perform files (change f leaves) w) (Ok x) v (seen out n names) (seen out n names1)) (sym is)
-      (subst (λ ns. Gives view (perform files (change f leaves) w) (Ok x) (changing f w) (seen out n names) (seen out n ns)) (sym same) (record { is = refl; written = none_added (seen out n names) }));
+-- a deed that changes the facts, and does nothing else
+carries_moved : {B : Type 0} {view : B → Unit {0}} {d : Deed (Unit {0})} (f : Facts → Facts) {w w1 : World} {names names1 : List (List ℕ)} {tree : TreeState} {out : OutputState} {lent : ℕ × ℕ × ℕ} {x : B}
+    → ((files : Files) → perform files d w ≡ ran (Done tt) (changing f w) []) → w1 ≡ changing f w → names1 ≡ names
+    → Carries view d (record { world = w; names = names; tree = tree; out = out; lent = lent }) (Ok x) (record { world = w1; names = names1; tree = tree; out = out; lent = lent })
+carries_moved {view = view} {d = d} f {w = w} {names = names} {names1 = names1} {tree = tree} {out = out} {x = x} runs is same = record {
+  gives = λ files n h. subst (λ v. Gives view (perform files d w) (Ok x) v (seen out n names) (seen out n names1)) (sym is)
+      (subst (λ ns. Gives view (perform files d w) (Ok x) (changing f w) (seen out n names) (seen out n ns)) (sym same)
+      (subst (λ r. Gives view r (Ok x) (changing f w) (seen out n names) (seen out n names)) (sym (runs files)) (record { is = refl; written = none_added (seen out n names) })));
   stays = stays_here tree;
   device = record { tree = omega arith; out = omega arith; sum = refl };
   same = refl;
 }
 
+-- the facts change
+pub carries_change : {B : Type 0} {view : B → Unit {0}} {f : Facts → Facts} {leaves : LeavesPaths f} {w w1 : World} {names names1 : List (List ℕ)} {tree : TreeState} {out : OutputState} {lent : ℕ × ℕ × ℕ} {x : B} → w1 ≡ changing f w → names1 ≡ names
+    → Carries view (change f leaves) (record { world = w; names = names; tree = tree; out = out; lent = lent }) (Ok x) (record { world = w1; names = names1; tree = tree; out = out; lent = lent })
+carries_change {f = f} {leaves = leaves} is same = carries_moved {d = change f leaves} f (λ files. refl) is same
+
+-- the project begins
+pub carries_begun : {B : Type 0} {view : B → Unit {0}} {facts : FactsData} {w w1 : World} {names names1 : List (List ℕ)} {tree : TreeState} {out : OutputState} {lent : ℕ × ℕ × ℕ} {x : B} → w1 ≡ changing (begun_facts facts) w → names1 ≡ names
+    → Carries view (begin_project facts) (record { world = w; names = names; tree = tree; out = out; lent = lent }) (Ok x) (record { world = w1; names = names1; tree = tree; out = out; lent = lent })
+carries_begun {facts = facts} is same = carries_moved {d = begin_project facts} (begun_facts facts) (λ files. refl) is same
+
 -- the same, where names may be new
-pub carries_grown : {B : Type 0} {view : B → Unit {0}} {f : Facts → Facts} {leaves : LeavesNotes f} {w w1 : World} {names names1 : List (List ℕ)} {tree : TreeState} {out : OutputState} {lent : ℕ × ℕ × ℕ} {x : B} → w1 ≡ changing f w
+pub carries_grown : {B : Type 0} {view : B → Unit {0}} {f : Facts → Facts} {leaves : LeavesPaths f} {w w1 : World} {names names1 : List (List ℕ)} {tree : TreeState} {out : OutputState} {lent : ℕ × ℕ × ℕ} {x : B} → w1 ≡ changing f w
     → IsFront names names1 → Carries view (change f leaves) (record { world = w; names = names; tree = tree; out = out; lent = lent }) (Ok x) (record { world = w1; names = names1; tree = tree; out = out; lent = lent })
 carries_grown {view = view} {f = f} {leaves = leaves} {w = w} {w1 = w1} {names = names} {names1 = names1} {tree = tree} {out = out} {x = x} is front = record {
   gives = λ files n h. subst (λ v. Gives view (perform files (change f leaves) w) (Ok x) v (seen out n names) (seen out n names1)) (sym is)

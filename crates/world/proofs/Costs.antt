@@ -1,16 +1,23 @@
 -- How many rules deeds and plans end.
-use Rattle.std.proofs.Common.{◌≡◌, ℕ, ◌+◌, ◌≤◌, Bool, true, false, List, [], ◌∷◌, ◌++◌, map, Some, refl, sym, ap, ◌∙◌, arith}
+use Rattle.std.proofs.Common.{◌≡◌, ℕ, ◌+◌, ◌≤◌, Bool, true, false, List, [], ◌∷◌, ◌++◌, map, Option, Some, None, Result, Ok, Err, refl, sym, ap, ◌∙◌, arith}
 use Rattle.std.specs.Prelude.{◌||◌, bytes_eq, if◌then◌else◌}
 use Rattle.std.proofs.lemmas.List.Folds.{list_any-append}
 use Rattle.std.proofs.lemmas.Slice.Eq.{bytes_eq-Decides}
-use Rattle.ports.specs.Outputs.{Step}
+use Rattle.basics.specs.Faults.{FaultData}
+use Rattle.ports.specs.Outputs.{Step, closing, opening}
 use Rattle.ports.specs.Tree.{file_at}
+use Rattle.project.specs.Adding.{output_answer}
+use Rattle.project.specs.declared.refusal.Refusal.{Refusal as ProjectRefusal}
+use Rattle.targets.specs.Files.{path_in}
+use Rattle.world.specs.Making.{Filling, after_output, given_up, taken, taken_by, telling, written}
+use Rattle.world.specs.Store.{changing}
 use Rattle.world.specs.Trace.{Mark, Told, Ended, ends_of}
-use Rattle.world.specs.World.{World}
-use Rattle.world.specs.Run.{Run, ran, Act, Done, Faulted, after, follow, with_end, marks_of, world_after}
-use Rattle.world.specs.Deed.{Files, Deed, give, refuse, tell, ask, consult, read, change, then as andthen, perform}
+use Rattle.world.specs.World.{World, declaring}
+use Rattle.world.specs.Run.{Run, ran, Act, Done, Faulted, after, follow, pure, with_end, marks_of, world_after}
+use Rattle.world.specs.Deed.{Files, Deed, give, refuse, tell, ask, consult, read, change, begin_project, make, then as andthen, perform}
 use Rattle.world.specs.Plan.{Plan, deed, ruled, next as next_plan, carry}
 use Rattle.world.specs.Costs.{definition_file, is_opened, unless, unopened, spent, Costs}
+use Rattle.world.proofs.Look.{world_taken}
 use Rattle.world.proofs.Marks.{ends_of-append}
 
 abbrev pub Price : Type 0
@@ -31,12 +38,33 @@ ends_of-told : (ss : List Step) → ends_of (map Told ss) ≡ 0
 ends_of-told [] = refl
 ends_of-told (s ∷ ss) = ends_of-told ss
 
+taken_by-ends : (answer : Result (Unit {0}) ProjectRefusal) (w : World) → ends_of (marks_of (taken_by answer w)) ≡ 0
+taken_by-ends (Ok _) w = refl
+taken_by-ends (Err refusal) w = refl
+
 module _ (price : Price) (files : Files) where
   still : {A : Type 0} (act : Act A) → ((w : World) → ends_of (marks_of (act w)) ≡ 0) → ((w : World) → (world_after (act w)).entered ≡ w.entered) → Costs price files 0 act
   still act none same = record { within = λ w. omega (arith, none w, ap (unopened price files) (same w)) }
 
   chain_acts : {A B : Type 0} {act : Act A} {next : A → Act B} {c d : ℕ} → Costs price files c act → ((a : A) → Costs price files d (next a)) → Costs price files (c + d) (λ w. follow (act w) next)
   chain_acts {act = act} {next = next} {d = d} p q = record { within = λ w. omega (arith, p.within w, spent-follow price files d (act w) next q) }
+
+  telling-costs : (steps : List Step) → Costs price files 0 (telling steps)
+  telling-costs steps = still (telling steps) (λ w. ends_of-told steps) (λ w. refl)
+
+  given_up-costs : (fault : Option FaultData) → Costs price files 0 (given_up fault)
+  given_up-costs None = still (given_up None) (λ w. refl) (λ w. refl)
+  given_up-costs (Some fault) = still (given_up (Some fault)) (λ w. refl) (λ w. refl)
+
+  written-costs : (path : List ℕ) (filling : Filling) → Costs price files 0 (written path filling)
+  written-costs path filling =
+      chain_acts (telling-costs (opening path)) (λ _. chain_acts (chain_acts (telling-costs filling.steps) (λ _. given_up-costs filling.fault)) (λ _. telling-costs closing))
+
+  taken-costs : (folder name : List ℕ) → Costs price files 0 (taken folder name)
+  taken-costs folder name =
+      let later = λ (w : World). changing (declaring (after_output folder name)) w in
+      still (taken folder name) (λ w. taken_by-ends (output_answer w.facts.project folder name) (later w))
+      (λ w. ap (λ (v : World). v.entered) (world_taken (output_answer w.facts.project folder name) (later w)))
 
   -- a deed ends no rule
   pub deed-costs : {A : Type 0} (d : Deed A) → Costs price files 0 (perform files d)
@@ -47,6 +75,9 @@ module _ (price : Price) (files : Files) where
   deed-costs (consult question) = still (perform files (consult question)) (λ w. refl) (λ w. refl)
   deed-costs read = still (perform files read) (λ w. refl) (λ w. refl)
   deed-costs (change f leaves) = still (perform files (change f leaves)) (λ w. refl) (λ w. refl)
+  deed-costs (begin_project facts) = still (perform files (begin_project facts)) (λ w. refl) (λ w. refl)
+  deed-costs (make folder name ready filling) =
+      chain_acts (taken-costs folder name) (λ _. chain_acts (deed-costs ready) (λ a. chain_acts (written-costs (path_in folder name) filling) (λ _. still (pure a) (λ w. refl) (λ w. refl))))
   deed-costs (andthen first next) = chain_acts (deed-costs first) (λ a. deed-costs (next a))
 
   -- a plan costs what its act does

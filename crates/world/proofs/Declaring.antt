@@ -5,9 +5,9 @@ use Rattle.ports.specs.Tree.{TreeState}
 use Rattle.project.specs.World.{WorldData}
 use Rattle.project.specs.declared.refusal.Refusal.{Refusal as ProjectRefusal}
 use Rattle.world.specs.Answering.{State, Carries, IsAllowed}
-use Rattle.world.specs.Declaring.{allowed, declared, declaring}
+use Rattle.world.specs.Declaring.{allowed, declared}
 use Rattle.world.specs.Store.{changing}
-use Rattle.world.specs.World.{KeepsNotes, World}
+use Rattle.world.specs.World.{KeepsPaths, World, declaring}
 use Rattle.world.specs.declared.stop.Stop.{Stop}
 use Rattle.world.proofs.Answering.{carries_as, carries_change, carries_give, carries_read, carries_refuse, carries_same, carries_then}
 
@@ -18,7 +18,7 @@ carries_allowed (Ok x) is = carries_same is (carries_give refl)
 carries_allowed (Err refusal) is = carries_refuse is
 
 -- the project answered, and became what the call makes of it
-pub carries_declared : {A : Type 0} (answer : WorldData → Result A ProjectRefusal) (after : WorldData → WorldData) (keeps : KeepsNotes after) {w w1 : World} {names names1 : List (List ℕ)} {tree : TreeState} {out : OutputState}
+pub carries_declared : {A : Type 0} (answer : WorldData → Result A ProjectRefusal) (after : WorldData → WorldData) (keeps : KeepsPaths after) {w w1 : World} {names names1 : List (List ℕ)} {tree : TreeState} {out : OutputState}
     {lent : ℕ × ℕ × ℕ} {given : Result A ProjectRefusal} {result : Result A Stop} → given ≡ answer w.facts.project → w1 ≡ changing (declaring after) w → names1 ≡ names → IsAllowed w1 given result
     → Carries (λ a. a) (declared answer after keeps) (record { world = w; names = names; tree = tree; out = out; lent = lent }) result (record { world = w1; names = names1; tree = tree; out = out; lent = lent })
 unfolding declared

@@ -1,4 +1,6 @@
+pub mod Acting
 pub mod Answering
+pub mod Closing
 pub mod Configuring
 pub mod Costs
 mod Counts
@@ -11,6 +13,6 @@ pub mod Marks
 pub mod Noting
 pub mod Numbers
 pub mod Running
-mod Setting
+pub mod Setting
 pub mod Tells
 pub mod Values

@@ -1,12 +1,19 @@
 -- An act depends only on the paths that it looks at and on the questions that it asks, where it is a deed or a plan.
-use Rattle.std.proofs.Common.{◌≡◌, ℕ, List, [], ◌∷◌, ◌++◌, is_some, refl, sym, ap, subst, ◌∙◌, append_assoc, append-nil}
+use Rattle.std.proofs.Common.{◌≡◌, ℕ, List, [], ◌∷◌, ◌++◌, Option, Some, None, Result, Ok, Err, is_some, refl, sym, ap, subst, ◌∙◌, append_assoc, append-nil}
+use Rattle.basics.specs.Faults.{FaultData}
+use Rattle.ports.specs.Outputs.{Step, closing, opening}
 use Rattle.ports.specs.Tree.{file_at}
 use Rattle.machine_file.specs.Files.{Section}
 use Rattle.machine_file.specs.Questions.{Question, answer_to}
+use Rattle.project.specs.Adding.{output_answer}
+use Rattle.project.specs.declared.refusal.Refusal.{Refusal as ProjectRefusal}
+use Rattle.targets.specs.Files.{path_in}
+use Rattle.world.specs.Making.{Filling, after_output, filled, given_up, taken, taken_by, telling, written}
+use Rattle.world.specs.Store.{changing}
 use Rattle.world.specs.Trace.{Mark}
-use Rattle.world.specs.World.{Asked, World, asked_here, asking, looking, fault_here}
-use Rattle.world.specs.Run.{Run, ran, Act, Done, Faulted, after, follow, with_end, world_after}
-use Rattle.world.specs.Deed.{Files, Deed, give, refuse, tell, ask, consult, read, change, then, perform}
+use Rattle.world.specs.World.{Asked, World, asked_here, asking, declaring, looking, fault_here}
+use Rattle.world.specs.Run.{Run, ran, Act, Done, Faulted, after, follow, pure, with_end, world_after}
+use Rattle.world.specs.Deed.{Files, Deed, give, refuse, tell, ask, consult, read, change, begin_project, make, then, perform}
 use Rattle.world.specs.Plan.{Plan, deed, ruled, enter, entered, next as next_plan, carry}
 use Rattle.world.specs.Look.{Agree, AgreeOn, Grows, Depends, over, ran_over}
 
@@ -138,6 +145,39 @@ asks question = record {
   same = λ f g n w h i. ap (λ o. ran (Done o) (asking (over n w) question) []) (sym (answers-last w.machine n w.asked (asked_here w question) i));
 }
 
+-- ---- an output
+
+taken_by-over : (answer : Result (Unit {0}) ProjectRefusal) (n : List Section) (w : World) → taken_by answer (over n w) ≡ ran_over n (taken_by answer w)
+taken_by-over (Ok _) n w = refl
+taken_by-over (Err refusal) n w = refl
+
+-- the world is that in which the project has answered
+pub world_taken : (answer : Result (Unit {0}) ProjectRefusal) (w : World) → world_after (taken_by answer w) ≡ w
+world_taken (Ok _) w = refl
+world_taken (Err refusal) w = refl
+
+takes : (folder name : List ℕ) → Depends (λ f. taken folder name)
+takes folder name =
+    let answer = λ (w : World). output_answer w.facts.project folder name in
+    let later = λ (w : World). changing (declaring (after_output folder name)) w in
+    still (taken folder name) (λ w. ap (λ (v : World). v.looked) (world_taken (answer w) (later w))) (λ w. ap (λ (v : World). v.asked) (world_taken (answer w) (later w)))
+    (λ w. ap (λ (v : World). v.machine) (world_taken (answer w) (later w))) (λ n w. taken_by-over (answer w) n (later w))
+
+given_up-over : (fault : Option FaultData) → Depends (λ f. given_up fault)
+given_up-over None = still (given_up None) (λ w. refl) (λ w. refl) (λ w. refl) (λ n w. refl)
+given_up-over (Some fault) = still (given_up (Some fault)) (λ w. refl) (λ w. refl) (λ w. refl) (λ n w. refl)
+
+tells : (steps : List Step) → Depends (λ f. telling steps)
+tells steps = still (telling steps) (λ w. refl) (λ w. refl) (λ w. refl) (λ n w. refl)
+
+fills : (filling : Filling) → Depends (λ f. filled filling)
+fills filling = chain (λ f. telling filling.steps) (λ f _. given_up filling.fault) (tells filling.steps) (λ _. given_up-over filling.fault)
+
+writes : (path : List ℕ) (filling : Filling) → Depends (λ f. written path filling)
+writes path filling =
+    chain (λ f. telling (opening path)) (λ f _ v. follow (filled filling v) (λ _. telling closing)) (tells (opening path))
+    (λ _. chain (λ f. filled filling) (λ f _. telling closing) (fills filling) (λ _. tells closing))
+
 -- each deed, by its steps
 pub deed-depends : {A : Type 0} (d : Deed A) → Depends (λ f. perform f d)
 deed-depends (give a) = still (λ w. ran (Done a) w []) (λ w. refl) (λ w. refl) (λ w. refl) (λ n w. refl)
@@ -147,6 +187,11 @@ deed-depends (ask path) = looks path
 deed-depends (consult question) = asks question
 deed-depends read = still (perform [] read) (λ w. refl) (λ w. refl) (λ w. refl) (λ n w. refl)
 deed-depends (change g leaves) = still (perform [] (change g leaves)) (λ w. refl) (λ w. refl) (λ w. refl) (λ n w. refl)
+deed-depends (begin_project facts) = still (perform [] (begin_project facts)) (λ w. refl) (λ w. refl) (λ w. refl) (λ n w. refl)
+deed-depends (make folder name ready filling) =
+    chain (λ f. taken folder name) (λ f _ v. follow (perform f ready v) (λ a u. follow (written (path_in folder name) filling u) (λ _. pure a))) (takes folder name)
+    (λ _. chain (λ f. perform f ready) (λ f a u. follow (written (path_in folder name) filling u) (λ _. pure a)) (deed-depends ready)
+    (λ a. chain (λ f. written (path_in folder name) filling) (λ f _. pure a) (writes (path_in folder name) filling) (λ _. still (pure a) (λ w. refl) (λ w. refl) (λ w. refl) (λ n w. refl))))
 deed-depends (then first next) = chain (λ f. perform f first) (λ f a. perform f (next a)) (deed-depends first) (λ a. deed-depends (next a))
 
 -- each plan, by its steps

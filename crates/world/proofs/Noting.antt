@@ -1,14 +1,23 @@
 -- The project notes what a run looks at, and nothing else.
-use Rattle.std.proofs.Common.{◌≡◌, Bool, true, false, not, List, [], ◌∷◌, ◌++◌, refl, sym, ap, subst, ◌∙◌}
+use Rattle.std.proofs.Common.{◌≡◌, ℕ, Bool, true, false, not, List, [], ◌∷◌, ◌++◌, Option, Some, None, Result, Ok, Err, refl, sym, ap, subst, ◌∙◌}
 use Rattle.std.specs.Prelude.{cond, filter, if◌then◌else◌, ◌&&◌}
 use Rattle.std.specs.List.{list_all}
+use Rattle.basics.specs.Faults.{FaultData}
+use Rattle.ports.specs.Outputs.{Step, closing, opening}
+use Rattle.project.specs.Adding.{after_answer, output_answer, with_output}
+use Rattle.project.specs.World.{WorldData}
+use Rattle.project.specs.declared.refusal.Refusal.{Refusal as ProjectRefusal}
+use Rattle.targets.specs.Files.{path_in}
 use Rattle.edge.specs.Texts.{Path, first_kept, holds, put_all_new, put_new}
-use Rattle.world.specs.Deed.{Files, Deed, give, refuse, tell, ask, consult, read, change, then as follows, perform}
+use Rattle.world.specs.Deed.{Files, Deed, give, refuse, tell, ask, consult, read, change, begin_project, make, then as follows, perform}
+use Rattle.world.specs.Making.{after_output, given_up, taken, telling, written}
 use Rattle.world.specs.Noted.{NotesLooks, PresentAreFiles, is_file, is_no_file}
 use Rattle.world.specs.Plan.{Plan, deed, ruled, enter, entered, next as next_plan, carry}
-use Rattle.world.specs.Run.{Run, ran, Act, Done, Faulted, after, follow, with_end, world_after}
+use Rattle.world.specs.Run.{Run, ran, Act, Done, Faulted, after, follow, pure, with_end, world_after}
+use Rattle.world.specs.Store.{changing}
 use Rattle.world.specs.Trace.{Mark}
-use Rattle.world.specs.World.{World, first_noted_in, looking, noted_in}
+use Rattle.world.specs.World.{World, declaring, looking, noted_in}
+use Rattle.world.proofs.Look.{world_taken}
 
 both : {A B : Type 0} {a c : A} {b d : B} → a ≡ c → b ≡ d → ◌≡◌ {A = A × B} (a, b) (c, d)
 both {A = A} {B = B} {a = a} {c = c} {b = b} {d = d} e f =
@@ -68,7 +77,7 @@ look_by files path false w e notes =
     (sym (put_last [] others path) ∙ ap first_kept (sym (passes (is_no_file files) w.looked path (ap not e))))
 
 -- what is noted is noted once
-noted_once : (files : Files) (w : World) → NotesLooks files w → first_noted_in w.facts.project ≡ noted_in w.facts.project
+noted_once : (files : Files) (w : World) → NotesLooks files w → ◌≡◌ {A = List Path × List Path} (first_kept w.facts.project.present, first_kept w.facts.project.absent) (noted_in w.facts.project)
 noted_once files w notes =
     ap (λ (q : List Path × List Path). (first_kept q.0, first_kept q.1)) notes
     ∙ both (once (filter (is_file files) w.looked)) (once (filter (is_no_file files) w.looked)) ∙ sym notes
@@ -86,6 +95,24 @@ follow-notes : {A B : Type 0} (files : Files) (r : Run A) (next : A → Act B) �
 follow-notes files (ran (Done a) w ms) next notes later = subst (λ v. NotesLooks files v) (sym (world_later ms (next a w))) (later a w notes)
 follow-notes files (ran (Faulted f) w ms) next notes later = notes
 
+-- ---- an output
+
+-- it leaves alone what is noted, where it is taken and where it is refused
+noted_kept : (answer : Result (Unit {0}) ProjectRefusal) (p : WorldData) (path : Path) → noted_in (after_answer answer (with_output p path) p) ≡ noted_in p
+noted_kept (Ok _) p path = refl
+noted_kept (Err refusal) p path = refl
+
+taken-notes : (files : Files) (folder name : List ℕ) (w : World) → NotesLooks files w → NotesLooks files (world_after (taken folder name w))
+taken-notes files folder name w notes =
+    let answer = output_answer w.facts.project folder name in
+    subst (λ v. NotesLooks files v) (sym (world_taken answer (changing (declaring (after_output folder name)) w))) (noted_kept answer w.facts.project (path_in folder name) ∙ notes)
+
+-- it is written in the same world
+world_made : {A : Type 0} (a : A) (path : Path) (steps : List Step) (fault : Option FaultData) (w : World)
+    → world_after (follow (follow (telling (opening path) w) (λ _ v. follow (follow (telling steps v) (λ _. given_up fault)) (λ _. telling closing))) (λ _. pure a)) ≡ w
+world_made a path steps None w = refl
+world_made a path steps (Some fault) w = refl
+
 -- each deed, by its steps
 deed-notes : {A : Type 0} (files : Files) (d : Deed A) (w : World) → NotesLooks files w → NotesLooks files (world_after (perform files d w))
 deed-notes files (give a) w notes = notes
@@ -94,7 +121,13 @@ deed-notes files (tell steps) w notes = notes
 deed-notes files (ask path) w notes = look_by files path (is_file files path) w refl notes
 deed-notes files (consult question) w notes = notes
 deed-notes files read w notes = notes
-deed-notes files (change f leaves) w notes = leaves w.facts (noted_once files w notes) ∙ notes
+deed-notes files (change f leaves) w notes = ap (λ (q : (List Path × List Path) × List Path). q.0) (leaves w.facts) ∙ notes
+deed-notes files (begin_project facts) w notes = noted_once files w notes ∙ notes
+deed-notes files (make folder name ready filling) w notes =
+    let path = path_in folder name in
+    follow-notes files (taken folder name w) (λ _ v. follow (perform files ready v) (λ a u. follow (written path filling u) (λ _. pure a))) (taken-notes files folder name w notes)
+    (λ _ v h. follow-notes files (perform files ready v) (λ a u. follow (written path filling u) (λ _. pure a)) (deed-notes files ready v h)
+    (λ a u k. subst (λ x. NotesLooks files x) (sym (world_made a path filling.steps filling.fault u)) k))
 deed-notes files (follows first next) w notes =
     follow-notes files (perform files first w) (λ a. perform files (next a)) (deed-notes files first w notes) (λ a v h. deed-notes files (next a) v h)
 

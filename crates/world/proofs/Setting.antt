@@ -22,7 +22,7 @@ use Rattle.world.proofs.Numbers.{number_at}
 use Rattle.std.specs.Prelude.{codes, Result, Ok, Err, OnOk}
 use Rattle.machine_file.specs.Files.{Section}
 use Rattle.project.specs.World.{WorldData, new_world}
-use Rattle.world.specs.Declaring.{declaring}
+use Rattle.world.specs.World.{declaring}
 use Rattle.world.specs.Settings.{SettingsData}
 use Rattle.world.specs.Start.{first_world, unnamed}
 
@@ -107,6 +107,12 @@ slots_fit names new slots room name n v put number few fits =
     let longer : length names ≤ length new = subst (λ ns. length names ≤ length ns) (sym (put ∙ front.is)) (rw (length-append names front.more) (omega arith)) in
     let within = (name_at name new n number).0 in
     rw (length-set room n v) (room_fits (length slots) (length names) (length new) (length room) n few fits longer within)
+
+-- the same where the name is there
+pub slots_within : (names : List (List ℕ)) (slots room : List (Option Value)) (n : ℕ) (v : Option Value) → n < length names
+    → length room ≤ max (length slots) (n + 1) → length slots ≤ length names → length (set room n v) ≤ length names
+slots_within names slots room n v within few fits =
+    rw (length-set room n v) (room_fits (length slots) (length names) (length names) (length room) n few fits (omega arith) within)
 
 -- ---- a table of names that stays
 

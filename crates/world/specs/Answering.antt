@@ -7,12 +7,12 @@ use Rattle.basics.specs.Faults.{FaultData}
 use Rattle.project.specs.declared.refusal.Refusal.{Refusal as ProjectRefusal}
 use Rattle.template.specs.declared.config.SetStop.{SetStop}
 use Rattle.template.specs.declared.config.SetStop.TheVariants as set_stops
-use Rattle.world.specs.Operation.{of_operation}
+use Rattle.world.specs.Operation.{of_operation, of_project}
+use Rattle.world.specs.Run.{Act}
 use Rattle.world.specs.World.{World, fault_here}
 use Rattle.world.specs.Trace.{Seen, seen}
 use Rattle.world.specs.Gives.{Gives, Holds, Continues, IsRefusal, failures_after}
 use Rattle.world.specs.Deed.{Files, Deed, perform}
-use Rattle.world.specs.Declaring.{of_project}
 use Rattle.basics.specs.declared.faults.refusal.Refusal.{Refusal}
 use Rattle.basics.specs.declared.faults.refusal.Refusal.TheVariants as refusals
 use Rattle.world.specs.declared.stop.Stop.{Stop}
@@ -45,6 +45,14 @@ pub record Fails {B : Type 0} (old : State) (result : Result B Stop) (new : Stat
 pub record Carries {A B : Type 0} (view : B → A) (deed : Deed A) (old : State) (result : Result B Stop) (new : State) : Type 0 where
   pub gives : (files : Files) (n : ℕ) → Holds old.tree files
       → Gives view (perform files deed old.world) result new.world (seen_at old n) (seen_at new n)
+  pub stays : Stays old.tree new.tree
+  pub device : Fails old result new
+  pub same : new.lent ≡ old.lent
+
+-- the call ended as the act does that these files make, or after a beginning of what it tells
+pub record Acts {A B : Type 0} (view : B → A) (act : Files → Act A) (old : State) (result : Result B Stop) (new : State) : Type 0 where
+  pub gives : (files : Files) (n : ℕ) → Holds old.tree files
+      → Gives view (act files old.world) result new.world (seen_at old n) (seen_at new n)
   pub stays : Stays old.tree new.tree
   pub device : Fails old result new
   pub same : new.lent ≡ old.lent

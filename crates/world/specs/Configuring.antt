@@ -46,7 +46,7 @@ with_configured f number facts = with_configurations (configuring f number facts
 unfoldable pub add_configuration : Configuration → Deed ℕ
 add_configuration c = do
   facts ← read
-  _ ← change (with_more c) (λ facts once. refl)
+  _ ← change (with_more c) (λ facts. refl)
   give (length facts.configurations)
 
 -- the data change, unless they are frozen (E20)
@@ -54,7 +54,7 @@ unfoldable pub configure : ℕ → (Configuration → Configuration) → Deed (U
 configure number f = do
   facts ← read
   _ ← need (not (is_frozen_at number facts.configurations)) refusals.Frozen []
-  change (with_configured f number) (λ facts once. refl)
+  change (with_configured f number) (λ facts. refl)
 
 -- a name gets a value
 unfoldable pub set_configured : ℕ → List ℕ → Content → Deed (Unit {0})
@@ -70,4 +70,4 @@ merge_configured number other = configure number (merged_with other)
 
 -- no call changes the data from now on
 unfoldable pub freeze_configured : ℕ → Deed (Unit {0})
-freeze_configured number = change (with_configured frozen number) (λ facts once. refl)
+freeze_configured number = change (with_configured frozen number) (λ facts. refl)

@@ -1,64 +1,38 @@
 -- Deeds that declare what a project has.
 use Rattle.std.specs.Prelude.{◌≡◌, ℕ, List, [], Result, Ok, Err, refl}
-use Rattle.edge.specs.Texts.{Path, Text}
-use Rattle.basics.specs.declared.faults.refusal.Refusal.{Refusal}
-use Rattle.basics.specs.declared.faults.refusal.Refusal.TheVariants as refusals
-use Rattle.project.specs.Adding.{after_answer, after_target, arguments_answer, output_answer, target_answer, with_arguments}
-use Rattle.project.specs.Adding.{with_dependency}
-use Rattle.project.specs.Adding.{with_install, with_link_arguments, with_output, with_target, with_test}
+use Rattle.edge.specs.Texts.{Text}
+use Rattle.project.specs.Adding.{after_answer, after_target, arguments_answer, target_answer, with_arguments, with_dependency}
+use Rattle.project.specs.Adding.{with_install, with_link_arguments, with_target, with_test}
 use Rattle.project.specs.World.{WorldData, AnswerData, InstallData, TestData}
 use Rattle.project.specs.declared.refusal.Refusal.{Refusal as ProjectRefusal}
-use Rattle.project.specs.declared.refusal.Refusal.TheVariants as project
 use Rattle.targets.specs.Data.{TargetData}
-use Rattle.targets.specs.Files.{path_in}
-use Rattle.world.specs.World.{Facts, KeepsNotes, noted_in, with_project}
+use Rattle.world.specs.Operation.{of_project}
+use Rattle.world.specs.World.{KeepsPaths, declaring, paths_in}
 use Rattle.world.specs.Deed.{Deed, give, refuse, read, change, ◌>>=◌}
-
--- the refusal that one of the project is
-abbrev pub of_project : ProjectRefusal → Refusal
-of_project project.Arguments = refusals.Arguments
-of_project project.Missing = refusals.FileMissing
-of_project project.Unholdable = refusals.NinjaName
-of_project project.Duplicate = refusals.Duplicate
-of_project project.Limit = refusals.Limit
-of_project project.Late = refusals.LateArguments
 
 -- what the project answers is given, or its refusal
 unfoldable pub allowed : {A : Type 0} → Result A ProjectRefusal → Deed A
 allowed (Ok a) = give a
 allowed (Err refusal) = refuse (of_project refusal) []
 
--- the project becomes this of what it was
-abbrev pub declaring : (WorldData → WorldData) → Facts → Facts
-declaring f facts = with_project (f facts.project) facts
-
--- an answer leaves the notes alone where it does so that is not refused
+-- an answer leaves the paths alone where it does so that is not refused
 abbrev pub after_answer-keeps : {A : Type 0} (answer : Result A ProjectRefusal) (after before : WorldData)
-    → noted_in after ≡ noted_in before → noted_in (after_answer answer after before) ≡ noted_in before
+    → paths_in after ≡ paths_in before → paths_in (after_answer answer after before) ≡ paths_in before
 after_answer-keeps (Ok a) after before same = same
 after_answer-keeps (Err refusal) after before same = refl
 
 -- the project answers, and is afterwards this of what it was
 unfoldable pub declared : {A : Type 0} → (answer : WorldData → Result A ProjectRefusal) → (after : WorldData → WorldData)
-    → KeepsNotes after → Deed A
+    → KeepsPaths after → Deed A
 declared answer after keeps = do
   facts ← read
-  _ ← change (declaring after) (λ facts once. keeps facts.project once)
+  _ ← change (declaring after) (λ facts. keeps facts.project)
   allowed (answer facts.project)
 
 -- a target is added, and its number given
 unfoldable pub add_target : TargetData → Deed ℕ
 add_target t =
-    declared (λ p. target_answer p t) (λ p. after_target p t) (λ p once. after_answer-keeps (target_answer p t) (with_target p t) p refl)
-
-abbrev pub after_output : Path → Text → WorldData → WorldData
-after_output folder name p = after_answer (output_answer p folder name) (with_output p (path_in folder name)) p
-
--- `configure_file` makes a file of the folder
-unfoldable pub add_output : Path → Text → Deed (Unit {0})
-add_output folder name =
-    declared (λ p. output_answer p folder name) (after_output folder name)
-    (λ p once. after_answer-keeps (output_answer p folder name) (with_output p (path_in folder name)) p refl)
+    declared (λ p. target_answer p t) (λ p. after_target p t) (λ p. after_answer-keeps (target_answer p t) (with_target p t) p refl)
 
 abbrev pub after_arguments : List Text → WorldData → WorldData
 after_arguments words p = after_answer (arguments_answer p words) (with_arguments p words) p
@@ -67,7 +41,7 @@ after_arguments words p = after_answer (arguments_answer p words) (with_argument
 unfoldable pub add_arguments : List Text → Deed (Unit {0})
 add_arguments words =
     declared (λ p. arguments_answer p words) (after_arguments words)
-    (λ p once. after_answer-keeps (arguments_answer p words) (with_arguments p words) p refl)
+    (λ p. after_answer-keeps (arguments_answer p words) (with_arguments p words) p refl)
 
 abbrev pub after_link_arguments : List Text → WorldData → WorldData
 after_link_arguments words p = after_answer (arguments_answer p words) (with_link_arguments p words) p
@@ -76,16 +50,16 @@ after_link_arguments words p = after_answer (arguments_answer p words) (with_lin
 unfoldable pub add_link_arguments : List Text → Deed (Unit {0})
 add_link_arguments words =
     declared (λ p. arguments_answer p words) (after_link_arguments words)
-    (λ p once. after_answer-keeps (arguments_answer p words) (with_link_arguments p words) p refl)
+    (λ p. after_answer-keeps (arguments_answer p words) (with_link_arguments p words) p refl)
 
 -- ---- what is only noted
 
 -- what a call of `dependency` answered
 unfoldable pub add_dependency : AnswerData → Deed (Unit {0})
-add_dependency answer = change (declaring (λ p. with_dependency p answer)) (λ facts once. refl)
+add_dependency answer = change (declaring (λ p. with_dependency p answer)) (λ facts. refl)
 
 unfoldable pub add_install : InstallData → Deed (Unit {0})
-add_install install = change (declaring (λ p. with_install p install)) (λ facts once. refl)
+add_install install = change (declaring (λ p. with_install p install)) (λ facts. refl)
 
 unfoldable pub add_test : TestData → Deed (Unit {0})
-add_test test = change (declaring (λ p. with_test p test)) (λ facts once. refl)
+add_test test = change (declaring (λ p. with_test p test)) (λ facts. refl)

@@ -5,8 +5,11 @@ pub mod Costs
 pub mod Counts
 pub mod Declaring
 pub mod Deed
+pub mod Fit
 pub mod Gives
 pub mod Look
+pub mod Made
+pub mod Making
 pub mod Noted
 pub mod Options
 pub mod Plan

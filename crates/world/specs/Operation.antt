@@ -1,6 +1,8 @@
 -- The numbers and words of refusals.
 use Rattle.data.specs.declared.refusal.Refusal.{Refusal as OperationRefusal}
 use Rattle.data.specs.declared.refusal.Refusal.TheVariants as operation
+use Rattle.project.specs.declared.refusal.Refusal.{Refusal as ProjectRefusal}
+use Rattle.project.specs.declared.refusal.Refusal.TheVariants as project
 use Rattle.basics.specs.declared.faults.refusal.Refusal.{Refusal}
 use Rattle.basics.specs.declared.faults.refusal.Refusal.TheVariants as refusals
 
@@ -13,3 +15,12 @@ of_operation operation.Arguments = refusals.Arguments
 of_operation operation.Absent = refusals.Absent
 of_operation operation.Duplicate = refusals.Duplicate
 of_operation operation.Limit = refusals.Limit
+
+-- the refusal that one of the project is
+abbrev pub of_project : ProjectRefusal → Refusal
+of_project project.Arguments = refusals.Arguments
+of_project project.Missing = refusals.FileMissing
+of_project project.Unholdable = refusals.NinjaName
+of_project project.Duplicate = refusals.Duplicate
+of_project project.Limit = refusals.Limit
+of_project project.Late = refusals.LateArguments

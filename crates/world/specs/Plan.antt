@@ -36,7 +36,7 @@ give a = deed (give_deed a)
 
 -- what is done next is done at this line
 abbrev pub at : ℕ → Plan (Unit {0})
-at line = deed (change (with_line line) (λ facts once. refl))
+at line = deed (change (with_line line) (λ facts. refl))
 
 -- a refusal at a line, of this name, path or text
 abbrev pub refuse : {A : Type 0} → ℕ → Refusal → List ℕ → Plan A

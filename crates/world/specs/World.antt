@@ -106,17 +106,21 @@ noted path false project = with_absent project path
 abbrev pub noted_in : WorldData → List (List ℕ) × List (List ℕ)
 noted_in project = (project.present, project.absent)
 
--- of equal ones the first
-abbrev pub first_noted_in : WorldData → List (List ℕ) × List (List ℕ)
-first_noted_in project = (first_kept project.present, first_kept project.absent)
+-- these, and the paths that `configure_file` makes
+abbrev pub paths_in : WorldData → (List (List ℕ) × List (List ℕ)) × List (List ℕ)
+paths_in project = (noted_in project, project.outputs)
 
--- a change of the project that leaves alone which paths are noted, where each is noted once
-abbrev pub KeepsNotes : (WorldData → WorldData) → Type 0
-KeepsNotes f = (project : WorldData) → first_noted_in project ≡ noted_in project → noted_in (f project) ≡ noted_in project
+-- a change of the project that leaves all of these alone
+abbrev pub KeepsPaths : (WorldData → WorldData) → Type 0
+KeepsPaths f = (project : WorldData) → paths_in (f project) ≡ paths_in project
 
 -- such a change of the facts
-abbrev pub LeavesNotes : (Facts → Facts) → Type 0
-LeavesNotes f = (facts : Facts) → first_noted_in facts.project ≡ noted_in facts.project → noted_in (f facts).project ≡ noted_in facts.project
+abbrev pub LeavesPaths : (Facts → Facts) → Type 0
+LeavesPaths f = (facts : Facts) → paths_in (f facts).project ≡ paths_in facts.project
+
+-- the project becomes this of what it was
+abbrev pub declaring : (WorldData → WorldData) → Facts → Facts
+declaring f facts = with_project (f facts.project) facts
 
 -- a path is looked at
 abbrev pub looking : World → List ℕ → Bool → World

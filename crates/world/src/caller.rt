@@ -10,6 +10,7 @@ ghost use Rattle.world.specs.World.{fault_here};
 
 mod configuring;
 mod declaring;
+mod fitting;
 
 use crate::operation::of_operation;
 use crate::stop::Stop;

@@ -313,11 +313,27 @@ impl Store {
         Ok(())
     }
 
+    /// The variable of a number takes a value.
+    pub fn put(&mut self, number: usize, value: Value) -> Result<(), AllocError>
+        ensures names { self.new.names ≡ self.old.names }
+        ensures world { number < length self.old.names → OnOk result (world_of self.new
+            ≡ changing (with_variable (slice_index_or self.old.names number []) (Some (data_of value))) (world_of self.old)) }
+    {
+        let count = self.names.len();
+        if number >= count {
+            return Ok(());
+        }
+        reach(&mut self.slots, number)?;
+        self.slots[number] = Some(value);
+        Ok(())
+    }
+
     /// Takes the value of the variable of a number out of it, which then has none.
     pub fn take(&mut self, number: usize) -> Option<Value>
-        requires { number < length self.old.names }
-        ensures value { option_map data_of result ≡ (world_of self.old).facts.variables (slice_index_or self.old.names number []) }
-        ensures world { world_of self.new ≡ changing (with_variable (slice_index_or self.old.names number []) None) (world_of self.old) }
+        ensures value { number < length self.old.names
+            → option_map data_of result ≡ (world_of self.old).facts.variables (slice_index_or self.old.names number []) }
+        ensures world { number < length self.old.names
+            → world_of self.new ≡ changing (with_variable (slice_index_or self.old.names number []) None) (world_of self.old) }
         ensures names { self.new.names ≡ self.old.names }
     {
         let _distinct = self.names.len();

@@ -3,12 +3,12 @@ ghost use Rattle.std.specs.Prelude.{◌≡◌, Result, string_bytes};
 ghost use Rattle.edge.specs.Texts.{texts};
 ghost use Rattle.project.specs.View.{answer_view, install_view, test_view};
 ghost use Rattle.targets.specs.View.{facts_view, target_view};
-ghost use Rattle.world.specs.Answering.{Carries, IsAllowed};
-ghost use Rattle.world.specs.Declaring.{add_arguments, add_dependency, add_install, add_link_arguments, add_output, add_target, add_test};
-ghost use Rattle.world.specs.Declaring.{of_project};
-ghost use Rattle.world.specs.Deed.{change};
+ghost use Rattle.world.specs.Answering.{Acts, Carries, IsAllowed};
+ghost use Rattle.world.specs.Declaring.{add_arguments, add_dependency, add_install, add_link_arguments, add_target, add_test};
+ghost use Rattle.world.specs.Deed.{begin_project};
+ghost use Rattle.world.specs.Making.{taken};
+ghost use Rattle.world.specs.Operation.{of_project};
 ghost use Rattle.world.specs.Store.{world_of};
-ghost use Rattle.world.specs.World.{begun};
 
 use crate::caller::Caller;
 use crate::stop::Stop;
@@ -46,7 +46,7 @@ impl<'a, T: Tree, O: Outputs> Caller<'a, T, O> {
 
     /// Begins the project, of which nothing is declared yet.
     pub fn begin(&mut self, facts: Facts) -> Result<(), Stop>
-        ensures { Carries (λ u. u) (change (begun (facts_view facts)) (λ facts once. once))
+        ensures { Carries (λ u. u) (begin_project (facts_view facts))
             (state_of T.seen O.seen self.old) result (state_of T.seen O.seen self.new) }
     {
         self.store.begin(self.alloc, facts)?;
@@ -62,9 +62,10 @@ impl<'a, T: Tree, O: Outputs> Caller<'a, T, O> {
         self.allowed(answer)
     }
 
-    /// Takes the path of a file of a folder that `configure_file` makes, or refuses the call as the project does.
-    pub fn add_output(&mut self, folder: &str, name: &str) -> Result<(), Stop>
-        ensures { Carries (λ u. u) (add_output folder.now name.now)
+    /// Takes the path of a file of a folder that `configure_file` makes, or refuses the call as the project does. So begins the deed
+    /// `make`, and who calls this has to end it.
+    pub fn take_output(&mut self, folder: &str, name: &str) -> Result<(), Stop>
+        ensures { Acts (λ u. u) (λ files. taken folder.now name.now)
             (state_of T.seen O.seen self.old) result (state_of T.seen O.seen self.new) }
     {
         let answer = self.store.add_output(folder, name)?;

@@ -6,9 +6,10 @@ ghost use Rattle.project.specs.Adding.{with_test};
 ghost use Rattle.project.specs.View.{answer_view, install_view, test_view};
 ghost use Rattle.project.specs.World.{WorldData};
 ghost use Rattle.targets.specs.View.{facts_view, target_view};
-ghost use Rattle.world.specs.Declaring.{after_arguments, after_link_arguments, after_output, declaring};
+ghost use Rattle.world.specs.Declaring.{after_arguments, after_link_arguments};
+ghost use Rattle.world.specs.Making.{after_output};
 ghost use Rattle.world.specs.Store.{changing, world_of};
-ghost use Rattle.world.specs.World.{begun, begun_project, looking};
+ghost use Rattle.world.specs.World.{begun, begun_project, declaring, looking};
 
 use crate::store::Store;
 use project::{Answer, Install, Project, Refusal, Test};

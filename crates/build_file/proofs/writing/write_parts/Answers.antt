@@ -18,9 +18,9 @@ returns-in_err-write_targets g c =
 
 pub returns-in_err-put_tail : goal.returns-in_err-put_tail
 returns-in_err-put_tail g c =
-    makes_device _ c.from_residual-in_err-put_tail.ensures.1
-    (makes_then (makes_took c.in_ok-open.ensures.took) (makes_then (makes_writes c.in_ok-put_head.ensures)
-    (makes_then (makes_writes c.in_ok-write_targets.ensures) (makes_stop _ refl (makes_writes c.in_err-put_tail.ensures)))))
+    makes_then (makes_took c.in_ok-open.ensures.took) (makes_then (makes_writes c.in_ok-put_head.ensures)
+    (makes_then (makes_writes c.in_ok-write_targets.ensures)
+    (makes_ends _ c.in_err-put_tail.field-0.0 _ c.from_residual-in_err-put_tail.ensures.1 (makes_writes c.in_err-put_tail.ensures))))
 
 pub returns-in_err-close : goal.returns-in_err-close
 returns-in_err-close g c =

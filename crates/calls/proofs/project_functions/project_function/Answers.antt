@@ -14,7 +14,7 @@ pub returns-in-CustomTarget : goal.returns-in-CustomTarget
 returns-in-CustomTarget g c = carries_as (ap (λ f. project_function f (arguments_data c.args.arguments.now)) (sym c.in-CustomTarget.is)) c.custom_target.ensures
 
 pub returns-in-Executable : goal.returns-in-Executable
-returns-in-Executable g c = carries_as (ap (λ f. project_function f (arguments_data c.args.arguments.now)) (sym c.in-Executable.is)) c.executable.ensures
+returns-in-Executable g c = carries_as (ap (λ f. project_function f (arguments_data c.args.arguments.now)) (sym c.in-Executable.is)) c.declare.ensures
 
 pub returns-in-Files : goal.returns-in-Files
 returns-in-Files g c = carries_as (ap (λ f. project_function f (arguments_data c.args.arguments.now)) (sym c.in-Files.is)) c.files.ensures
@@ -26,10 +26,10 @@ pub returns-in-Library : goal.returns-in-Library
 returns-in-Library g c = carries_as (ap (λ f. project_function f (arguments_data c.args.arguments.now)) (sym c.in-Library.is)) c.library.ensures
 
 pub returns-in-SharedLibrary : goal.returns-in-SharedLibrary
-returns-in-SharedLibrary g c = carries_as (ap (λ f. project_function f (arguments_data c.args.arguments.now)) (sym c.in-SharedLibrary.is)) c.shared_library.ensures
+returns-in-SharedLibrary g c = carries_as (ap (λ f. project_function f (arguments_data c.args.arguments.now)) (sym c.in-SharedLibrary.is)) c.declare-in-SharedLibrary.ensures
 
 pub returns-in-StaticLibrary : goal.returns-in-StaticLibrary
-returns-in-StaticLibrary g c = carries_as (ap (λ f. project_function f (arguments_data c.args.arguments.now)) (sym c.in-StaticLibrary.is)) c.static_library.ensures
+returns-in-StaticLibrary g c = carries_as (ap (λ f. project_function f (arguments_data c.args.arguments.now)) (sym c.in-StaticLibrary.is)) c.declare-in-StaticLibrary.ensures
 
 pub returns-in-ConfigurationData : goal.returns-in-ConfigurationData
 returns-in-ConfigurationData g c = carries_as (ap (λ f. project_function f (arguments_data c.args.arguments.now)) (sym c.in-ConfigurationData.is)) c.configuration_data.ensures
@@ -50,13 +50,13 @@ pub returns-in-GetOption : goal.returns-in-GetOption
 returns-in-GetOption g c = carries_as (ap (λ f. project_function f (arguments_data c.args.arguments.now)) (sym c.in-GetOption.is)) c.get_option.ensures
 
 pub returns-in-InstallData : goal.returns-in-InstallData
-returns-in-InstallData g c = carries_as (ap (λ f. project_function f (arguments_data c.args.arguments.now)) (sym c.in-InstallData.is)) c.install_data.ensures
+returns-in-InstallData g c = carries_as (ap (λ f. project_function f (arguments_data c.args.arguments.now)) (sym c.in-InstallData.is)) c.install.ensures
 
 pub returns-in-InstallHeaders : goal.returns-in-InstallHeaders
-returns-in-InstallHeaders g c = carries_as (ap (λ f. project_function f (arguments_data c.args.arguments.now)) (sym c.in-InstallHeaders.is)) c.install_headers.ensures
+returns-in-InstallHeaders g c = carries_as (ap (λ f. project_function f (arguments_data c.args.arguments.now)) (sym c.in-InstallHeaders.is)) c.install-in-InstallHeaders.ensures
 
 pub returns-in-InstallMan : goal.returns-in-InstallMan
-returns-in-InstallMan g c = carries_as (ap (λ f. project_function f (arguments_data c.args.arguments.now)) (sym c.in-InstallMan.is)) c.install_man.ensures
+returns-in-InstallMan g c = carries_as (ap (λ f. project_function f (arguments_data c.args.arguments.now)) (sym c.in-InstallMan.is)) c.install-in-InstallMan.ensures
 
 pub returns-in-Test : goal.returns-in-Test
 returns-in-Test g c = carries_as (ap (λ f. project_function f (arguments_data c.args.arguments.now)) (sym c.in-Test.is)) c.test.ensures

@@ -12,7 +12,11 @@ returns c =
     (ap (λ (a : App). record a { top = record a.top { disable_help_subcommand = true; subcommand_required = true } }) c.new.ensures.app) in
     let first_is : app_of c.in_ok-first.first ≡ with_subcommand bare_app (task_app (codes "setup")).top =
     c.in_ok-first.ensures.shape c.in_ok-setup.ensures.local ∙ ap₂ with_subcommand named_is (ap (λ (a : App). a.top) c.in_ok-setup.ensures.app) in
-    IfOk-weaker c.subcommand-2.result _ _
-    (λ command adds. adds.shape c.in_ok-questions.ensures.local
-    ∙ ap₂ with_subcommand first_is (ap (λ (a : App). a.top) c.in_ok-questions.ensures.app))
-    c.subcommand-2.ensures
+    let second_is : app_of c.in_ok-second.second
+    ≡ with_subcommand (with_subcommand bare_app (task_app (codes "setup")).top) (task_app (codes "questions")).top =
+    c.in_ok-second.ensures.shape c.in_ok-questions.ensures.local
+    ∙ ap₂ with_subcommand first_is (ap (λ (a : App). a.top) c.in_ok-questions.ensures.app) in
+    IfOk-weaker c.subcommand-3.result _ _
+    (λ command adds. adds.shape c.in_ok-fault.ensures.local
+    ∙ ap₂ with_subcommand second_is (ap (λ (a : App). a.top) c.in_ok-fault.ensures.app))
+    c.subcommand-3.ensures

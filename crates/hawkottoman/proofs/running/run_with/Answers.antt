@@ -21,7 +21,14 @@ pub returns-clause-meaning : goal.returns-clause-meaning
 returns-clause-meaning g c = λ files said holds is.
     means (evaluated files (settings_view c.args.inputs.now.settings.now) said) c.evaluate-answer.result c.settle.result
     (seen (g.O.Outputs.seen c.args.out.now) c.new_steps-steps.result []) (seen (g.O.Outputs.seen c.evaluate-answer.new.out) c.evaluate-answer.new.steps []) (g.O.Outputs.seen c.settle.new.out)
+    (c.evaluate-answer.ensures.gives files said holds is) c.settle.ensures.settles c.settle.ensures.meaning (λ done meant. meant)
+
+pub returns-clause-there : goal.returns-clause-there
+returns-clause-there g c = λ files said holds is.
+    means (evaluated files (settings_view c.args.inputs.now.settings.now) said) c.evaluate-answer.result c.settle.result
+    (seen (g.O.Outputs.seen c.args.out.now) c.new_steps-steps.result []) (seen (g.O.Outputs.seen c.evaluate-answer.new.out) c.evaluate-answer.new.steps []) (g.O.Outputs.seen c.settle.new.out)
     (c.evaluate-answer.ensures.gives files said holds is) c.settle.ensures.settles c.settle.ensures.meaning
+    (λ done meant. c.needs_are_there.ensures files (settings_view c.args.inputs.now.settings.now) said done meant)
 
 pub returns-clause-device : goal.returns-clause-device
 returns-clause-device g c =

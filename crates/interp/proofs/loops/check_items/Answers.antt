@@ -1,8 +1,7 @@
-use Rattle.std.proofs.Common.{false, ap, sym, subst, ◌∙◌}
+use Rattle.std.proofs.Common.{sym}
 use Rattle.data.specs.View.{data_of}
-use Rattle.interp.specs.Rounds.{Loops, limit}
 use Rattle.interp.proofs.Walking.{loops_list}
 use Rattle.interp.proofs.loops.check_items.Goals as goal
 
 pub returns-in-Some : goal.returns-in-Some
-returns-in-Some c = subst (λ r. Loops false (data_of c.args.whole.now) r) (sym (c.limited.ensures ∙ ap limit c.len.ensures.len)) (loops_list (data_of c.args.whole.now) c.in-Some.list.now (sym c.in-Some.ensures))
+returns-in-Some c = loops_list (data_of c.args.whole.now) _ (sym c.in-Some.ensures) c.requires

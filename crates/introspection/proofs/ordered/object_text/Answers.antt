@@ -10,6 +10,6 @@ returns c =
     let end = YieldsList-end (YieldsList-from_vec {s = c.into_iter-key-iterator.result} c.args.members.items (cc) (cc))
     c.loop-key.yielded c.loop-key.key-iterator c.loop-key.yielded_by c.next.result c.next.new.self c.in-None.is
     c.next.ensures.steps in
-    c.in_ok-push_str-5.ensures.bytes ∙ c.loop-key.invariant []
+    c.in_ok-push_str.ensures.bytes ∙ c.loop-key.invariant []
     ∙ ap object_text (append-nil (map member_in c.loop-key.yielded))
     ∙ ap (λ ms. object_text (map member_in ms)) (sym (map-id c.loop-key.yielded) ∙ end.0)

@@ -15,7 +15,7 @@ returns-in_err-set-in-Some g c = carries_wanted c.from_residual-in_err-set-in-So
 
 pub returns-in_ok-set-in-Some : goal.returns-in_ok-set-in-Some
 unfolding set_to
-returns-in_ok-set-in-Some g c = carries_as (ap (λ o. set_to c.args.name.now (option_map (λ (v : Bor Value). data_of v.now) o)) (sym c.in-Some.is)) (carries_as (ap (λ d. change (with_variable c.args.name.now (Some d)) (λ facts once. refl)) c.in_ok-value-in-Some.ensures.cases) (carries_grown c.in_ok-set-in-Some.ensures.world c.in_ok-set-in-Some.ensures.names))
+returns-in_ok-set-in-Some g c = carries_as (ap (λ o. set_to c.args.name.now (option_map (λ (v : Bor Value). data_of v.now) o)) (sym c.in-Some.is)) (carries_as (ap (λ d. change (with_variable c.args.name.now (Some d)) (λ facts. refl)) c.in_ok-value-in-Some.ensures.cases) (carries_grown c.in_ok-set-in-Some.ensures.world c.in_ok-set-in-Some.ensures.names))
 
 pub returns-in-None : goal.returns-in-None
 unfolding set_to

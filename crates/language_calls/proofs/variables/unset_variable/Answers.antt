@@ -21,4 +21,4 @@ returns-in_err-need-2 g c = carries_then (carries_as (ap (λ b. need b refusals.
 
 pub returns : goal.returns
 unfolding unset_variable
-returns g c = carries_then (carries_as (ap (λ b. need b refusals.Arguments []) (c.is_settable.ensures ∙ ap is_settable c.text_at-name.ensures)) c.in_ok-need.ensures) (carries_read (carries_then (carries_as (two (λ b n. need b refusals.UndefinedName n) (c.is_known.ensures ∙ ap is_some (c.in_ok-value.ensures ∙ ap (world_of c.args.caller.now.store.now).facts.variables c.text_at-name.ensures)) c.text_at-name.ensures) c.in_ok-need-2.ensures) (carries_then (carries_as (ap (λ n. change (with_variable n None) (λ facts once. refl)) c.text_at-name.ensures) (carries_change {x = tt {0}} c.unset.ensures.world c.unset.ensures.names)) (carries_give refl))))
+returns g c = carries_then (carries_as (ap (λ b. need b refusals.Arguments []) (c.is_settable.ensures ∙ ap is_settable c.text_at-name.ensures)) c.in_ok-need.ensures) (carries_read (carries_then (carries_as (two (λ b n. need b refusals.UndefinedName n) (c.is_known.ensures ∙ ap is_some (c.in_ok-value.ensures ∙ ap (world_of c.args.caller.now.store.now).facts.variables c.text_at-name.ensures)) c.text_at-name.ensures) c.in_ok-need-2.ensures) (carries_then (carries_as (ap (λ n. change (with_variable n None) (λ facts. refl)) c.text_at-name.ensures) (carries_change {x = tt {0}} c.unset.ensures.world c.unset.ensures.names)) (carries_give refl))))

@@ -7,12 +7,12 @@ use Rattle.lexer.specs.Lexeme.{lexemes}
 use Rattle.lexer.specs.Lexing.{fault_at, gap, lexed, token_at}
 use Rattle.lexer.specs.declared.token.Token.{Token}
 use Rattle.std.specs.Prelude.{List}
-use Rattle.lexer.proofs.Boundaries.{gap_boundary, token_boundary}
+use Rattle.lexer.proofs.Boundaries.{after_gap, gap_boundary, token_boundary}
 use Rattle.lexer.proofs.Cutting.{place, still_first, still_end, still_fault, still_more, only_ok, only_err, refused_is, newlines_le, depth_after_le, lexemes_push, token_size}
 use Rattle.lexer.proofs.Cuts.{StillLexes}
 use Rattle.lexer.proofs.Spans.{lexed_sound, lexed_fault}
 use Rattle.lexer.proofs.cut.tokens.Goals as goal
-use Rattle.lexer.proofs.cut.tokens.Goals.{After-gap_length, Then-is_empty, After-drop-tokens, In-Some, After-depth_after-depth}
+use Rattle.lexer.proofs.cut.tokens.Goals.{Then-is_empty, After-drop-tokens, After-depth_after-depth}
 
 pub loop-here-init : goal.loop-here-init
 loop-here-init c = record {
@@ -41,7 +41,7 @@ returns-then-is_empty-clause-only c = λ ts h. only_ok c.args.source.now (lexeme
 the_fault : (c : After-drop-tokens) → lexed c.args.source.now ≡ Err (fault_at (c.loop-here.line + c.newlines-line.result))
 the_fault c = still_fault c.args.source.now (lexemes c.loop-here.tokens.items) c.loop-here.rest.now c.split_at.result.1.now c.loop-here.line c.loop-here.depth c.gap_length.result c.newlines-line.result c.loop-here.invariant.still
     (c.gap_length.ensures ∙ ap (gap c.loop-here.depth _) c.as_bytes.ensures.value) c.split_at.ensures.back (false-eqb _ 0 c.if-is_empty.ensures)
-    (c.newlines-line.ensures ∙ ap newlines (c.as_bytes-in-loop-here.ensures.value ∙ c.split_at.ensures.front)) (sym (c.in_default.ensures ∙ ap token_at c.as_bytes-in-loop-here-2.ensures.value))
+    (c.newlines-line.ensures ∙ ap newlines (c.as_bytes-in-loop-here.ensures.value ∙ c.split_at.ensures.front)) (sym c.in_default.ensures)
 
 pub returns-in_default-clause-reads : goal.returns-in_default-clause-reads
 returns-in_default-clause-reads c = the_fault c
@@ -55,11 +55,13 @@ returns-in_default-clause-refused c = λ f e.
     (ap (λ x. x.kind) w.0, w.1)
 
 pub split_at-requires-in-loop-here : goal.split_at-requires-in-loop-here
-split_at-requires-in-loop-here c = token_boundary c.split_at.result.1.now c.in-Some.kind c.in-Some.length (subst IsUtf8 c.as_bytes-in-loop-here-2.ensures.value c.as_bytes-in-loop-here-2.ensures.utf8)
-    (sym (c.in-Some.ensures ∙ ap token_at c.as_bytes-in-loop-here-2.ensures.value))
+split_at-requires-in-loop-here c =
+    let utf8 = after_gap c.loop-here.rest.now c.split_at.result.1.now c.loop-here.depth c.gap_length.result c.loop-here.invariant.text
+    (c.gap_length.ensures ∙ ap (gap c.loop-here.depth _) c.as_bytes.ensures.value) c.split_at.ensures.back in
+    token_boundary c.split_at.result.1.now c.in-Some.kind c.in-Some.length utf8 (sym c.in-Some.ensures)
 
 found : (c : After-depth_after-depth) → token_at c.split_at.result.1.now ≡ Some (c.in-Some.kind, c.in-Some.length)
-found c = sym (c.in-Some.ensures ∙ ap token_at c.as_bytes-in-loop-here-2.ensures.value)
+found c = sym c.in-Some.ensures
 
 pub loop-here-smaller : goal.loop-here-smaller
 loop-here-smaller c =
@@ -71,11 +73,12 @@ loop-here-smaller c =
 pub loop-here-preserved : goal.loop-here-preserved
 loop-here-preserved c =
     let size = token_size c.split_at.result.1.now c.in-Some.kind c.in-Some.length (found c) in
-    let utf8 = subst IsUtf8 c.as_bytes-in-loop-here-2.ensures.value c.as_bytes-in-loop-here-2.ensures.utf8 in
+    let utf8 = after_gap c.loop-here.rest.now c.split_at.result.1.now c.loop-here.depth c.gap_length.result c.loop-here.invariant.text
+    (c.gap_length.ensures ∙ ap (gap c.loop-here.depth _) c.as_bytes.ensures.value) c.split_at.ensures.back in
     let here = ap length c.split_at.ensures.back in
     let after = ap length c.split_at-in-loop-here.ensures.back in
     let gap_lines : c.newlines-line.result ≡ newlines (take c.gap_length.result c.loop-here.rest.now) = c.newlines-line.ensures ∙ ap newlines (c.as_bytes-in-loop-here.ensures.value ∙ c.split_at.ensures.front) in
-    let text_lines : c.newlines-line-in-loop-here.result ≡ newlines c.split_at-in-loop-here.result.0.now = c.newlines-line-in-loop-here.ensures ∙ ap newlines c.as_bytes-in-loop-here-3.ensures.value in
+    let text_lines : c.newlines-line-in-loop-here.result ≡ newlines c.split_at-in-loop-here.result.0.now = c.newlines-line-in-loop-here.ensures ∙ ap newlines c.as_bytes-in-loop-here-2.ensures.value in
     record {
       text = subst IsUtf8 (sym c.split_at-in-loop-here.ensures.back) (IsUtf8-drop c.split_at.result.1.now c.in-Some.length utf8 (token_boundary c.split_at.result.1.now c.in-Some.kind c.in-Some.length utf8 (found c)));
       lines = omega (

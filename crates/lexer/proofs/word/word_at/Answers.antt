@@ -1,7 +1,11 @@
-use Rattle.std.proofs.Common.{sym}
-use Rattle.std.proofs.lemmas.List.{length-take-le}
-use Rattle.lexer.proofs.Cuts.{word_fits}
+use Rattle.std.proofs.Common.{ap, subst, ◌∙◌}
+use Rattle.std.specs.Str.{IsUtf8}
+use Rattle.lexer.specs.Bytes.{continues_word}
+use Rattle.lexer.specs.Lexing.{run}
+use Rattle.lexer.proofs.Boundaries.{word_boundary}
 use Rattle.lexer.proofs.word.word_at.Goals as goal
 
-pub slice_bounds-word_kind-end : goal.slice_bounds-word_kind-end
-slice_bounds-word_kind-end c = sym (length-take-le c.word_length-length.result c.args.bytes.now (word_fits c.args.bytes.now c.word_length-length.result c.word_length-length.ensures))
+pub range-requires-clause-end_boundary : goal.range-requires-clause-end_boundary
+range-requires-clause-end_boundary c =
+    let utf8 = subst IsUtf8 c.as_bytes.ensures.value c.as_bytes.ensures.utf8 in
+    word_boundary c.args.text.now c.word_length-length.result utf8 (c.word_length-length.ensures ∙ ap (run continues_word) c.as_bytes.ensures.value)

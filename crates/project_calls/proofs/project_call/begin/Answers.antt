@@ -1,6 +1,5 @@
 use Rattle.std.proofs.Common.{map, string_bytes, ap}
-use Rattle.world.specs.Deed.{change}
-use Rattle.world.specs.World.{begun}
+use Rattle.world.specs.Deed.{begin_project}
 use Rattle.world.proofs.Answering.{carries_as, carries_change, carries_none, carries_read, carries_stop, carries_then}
 use Rattle.project_calls.specs.Project.{begin, warned}
 use Rattle.project_calls.proofs.project_call.begin.Goals as goal
@@ -33,4 +32,4 @@ unfolding begin
 returns g c =
     carries_then (carries_as (ap (λ ns. warned (map string_bytes ns)) c.deref.ensures.value) c.in_ok-warn.ensures)
     (carries_read (carries_then c.in_ok-options.ensures (carries_then c.in_ok-programs.ensures (carries_read
-    (carries_then {x = tt {0}} (carries_change {view = λ u. u} c.set_options.ensures.world c.set_options.ensures.names) (carries_as (ap (λ f. change (begun f) (λ facts once. once)) c.in_ok-facts.ensures) c.begin.ensures))))))
+    (carries_then {x = tt {0}} (carries_change {view = λ u. u} c.set_options.ensures.world c.set_options.ensures.names) (carries_as (ap begin_project c.in_ok-facts.ensures) c.begin.ensures))))))

@@ -1,13 +1,19 @@
-use Rattle.std.proofs.Common.{ap, sym, ◌∙◌}
-use Rattle.project_calls.specs.Project.{project_by, project}
-use Rattle.arguments.specs.Arguments.{arguments_data}
-use Rattle.world.proofs.Answering.{carries_as, carries_read, carries_refuse}
+use Rattle.std.proofs.Common.{[], ap}
+use Rattle.std.specs.Prelude.{not}
+use Rattle.basics.specs.declared.faults.refusal.Refusal.TheVariants as refusals
+use Rattle.project_calls.specs.Project.{project}
+use Rattle.world.specs.Deed.{need}
+use Rattle.world.proofs.Answering.{carries_as, carries_read, carries_stop, carries_then}
 use Rattle.project_calls.proofs.project_call.project.Goals as goal
 
-pub returns-then-is_begun : goal.returns-then-is_begun
-unfolding project project_by
-returns-then-is_begun g c = carries_read (carries_as (ap (λ b. project_by b (arguments_data c.args.arguments.now)) (sym (sym c.is_begun-is_begun.ensures ∙ c.if-is_begun.true))) (carries_refuse c.refuse.ensures))
+pub returns-in_err-need : goal.returns-in_err-need
+unfolding project
+returns-in_err-need g c =
+    carries_read (carries_stop (carries_as (ap (λ b. need (not b) refusals.ProjectCall []) c.is_begun-is_begun.ensures) c.in_err-need.ensures)
+    c.from_residual.ensures.1)
 
-pub returns-else-is_begun : goal.returns-else-is_begun
-unfolding project project_by
-returns-else-is_begun g c = carries_read (carries_as (ap (λ b. project_by b (arguments_data c.args.arguments.now)) (sym (sym c.is_begun-is_begun.ensures ∙ c.if-is_begun.false))) c.first_project.ensures)
+pub returns : goal.returns
+unfolding project
+returns g c =
+    carries_read (carries_then (carries_as (ap (λ b. need (not b) refusals.ProjectCall []) c.is_begun-is_begun.ensures) c.in_ok-need.ensures)
+    c.first_project.ensures)

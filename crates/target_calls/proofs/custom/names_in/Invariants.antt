@@ -1,10 +1,12 @@
 use Rattle.std.proofs.Common.{◌≡◌, [], map, drop, string_bytes}
 use Rattle.placeholders.specs.View.{place_view}
-use Rattle.target_calls.specs.CustomTargets.{names_behind}
+use Rattle.placeholders.specs.Holes.{filled}
+use Rattle.placeholders.specs.declared.holes.Scope.TheVariants.{FileName}
+use Rattle.named_sources.specs.Each.{each_behind}
 use Rattle.target_calls.proofs.custom.names_in.Given as goal
 
 -- the names so far and the texts that are left decide
 abbrev pub invariant-loop-text : goal.invariant-loop-text
 invariant-loop-text l =
-    names_behind (place_view l.place) (map string_bytes l.names.items) (map string_bytes (drop l.text-index l.texts))
-    ≡ names_behind (place_view l.place) [] (map string_bytes l.texts)
+    each_behind (filled FileName (place_view l.place)) (map string_bytes l.names.items) (map string_bytes (drop l.text-index l.texts))
+    ≡ each_behind (filled FileName (place_view l.place)) [] (map string_bytes l.texts)

@@ -1,27 +1,19 @@
-use Rattle.std.proofs.Common.{Ok, Err, option_map, sym, ap, refl, ◌∙◌}
-use Rattle.std.specs.Prelude.{ok_or}
+use Rattle.std.proofs.Common.{sym, ap, ◌∙◌}
 use Rattle.arguments.specs.Arguments.{arguments_data}
-use Rattle.basics.specs.declared.faults.refusal.Refusal.TheVariants as refusals
-use Rattle.world.proofs.Answering.{carries_none, carries_read, carries_fitting}
+use Rattle.world.proofs.Answering.{carries_none, carries_read}
 use Rattle.target_calls.specs.BuildTargets.{declared}
 use Rattle.target_calls.specs.BuildTargetsView.{named_target_view}
 use Rattle.target_calls.specs.Here.{HereData}
 use Rattle.target_calls.specs.Targets.{said}
+use Rattle.target_calls.proofs.Found.{carries_found}
 use Rattle.target_calls.proofs.declaring.said.Goals as goal
 
 pub returns-in_err-found : goal.returns-in_err-found
 returns-in_err-found g c = carries_none c.from_residual.ensures.1
 
-pub returns-in-Some : goal.returns-in-Some
+pub returns : goal.returns
 unfolding said
-returns-in-Some g c =
+returns g c =
     let named = ap (λ (h : HereData). declared h c.args.kind (arguments_data c.args.arguments.now)) (sym c.here_of-here.ensures)
-    ∙ sym c.in_ok-found.ensures ∙ ap (option_map named_target_view) c.in-Some.is in
-    carries_read (carries_fitting {view = named_target_view} _ (Ok c.in-Some.target) (ap (λ o. ok_or o refusals.Arguments) named) refl)
-
-pub returns-in-None : goal.returns-in-None
-unfolding said
-returns-in-None g c =
-    let named = ap (λ (h : HereData). declared h c.args.kind (arguments_data c.args.arguments.now)) (sym c.here_of-here.ensures)
-    ∙ sym c.in_ok-found.ensures ∙ ap (option_map named_target_view) c.in-None.is in
-    carries_read (carries_fitting {view = named_target_view} _ (Err refusals.Arguments) (ap (λ o. ok_or o refusals.Arguments) named) c.refuse.ensures)
+    ∙ sym c.in_ok-found.ensures in
+    carries_read (carries_found {view = named_target_view} c.in_ok-found.found named c.ok_or.ensures.value c.fitting.ensures)

@@ -10,5 +10,5 @@ pub returns : goal.returns
 returns c =
     let t = c.args.target.now in
     let earlier = map linked_view c.args.earlier.now in
-    let is = c.in_ok-all_libraries.ensures ∙ sym (flat_map-both (with_its_own earlier) t.own.link_with.items (λ (l : ListsData). l.link_with) (λ l. lists_view l.value) t.dependencies.items) in
-    IfOk-weaker c.keep_last.result (λ v. v.items ≡ last_kept c.in_ok-all_libraries.field-0.items) (λ v. v.items ≡ libraries_of earlier (build_view t)) (λ v e. e ∙ ap last_kept is) c.keep_last.ensures
+    let is = c.in_ok-all.ensures ∙ sym (flat_map-both (with_its_own earlier) t.own.link_with.items (λ (l : ListsData). l.link_with) (λ l. lists_view l.value) t.dependencies.items) in
+    IfOk-weaker c.keep_last.result (λ v. v.items ≡ last_kept c.in_ok-all.all.items) (λ v. v.items ≡ libraries_of earlier (build_view t)) (λ v e. e ∙ ap last_kept is) c.keep_last.ensures

@@ -1,34 +1,35 @@
-use Rattle.std.proofs.Common.{option_map, ap, refl, sym, ◌∙◌}
+use Rattle.std.proofs.Common.{◌<◌, ℕ, List, [], length, option_map, get_or, ap, refl, subst, sym, ◌∙◌}
 use Rattle.data.specs.View.{data_of}
+use Rattle.language_calls.specs.Names.{is_predefined}
 use Rattle.world.specs.Plan.{next}
 use Rattle.interp.specs.Expressions.{known, variable_by}
 use Rattle.interp.specs.Statements.{added}
-use Rattle.interp.proofs.Assigning.{given_over, given_unknown}
-use Rattle.interp.proofs.Evaluating.{given_as, given_give, given_none, given_read, given_stop, given_then}
+use Rattle.interp.proofs.Assigning.{given_over, given_untaken}
+use Rattle.interp.proofs.Evaluating.{given_as, given_give, given_read, given_then}
 use Rattle.interp.proofs.evaluator.Evaluator.add.Goals as goal
 
-pub returns-in_err-thing-clause-gives : goal.returns-in_err-thing-clause-gives
-returns-in_err-thing-clause-gives g c = λ files h.
-    given_as (ap (λ b. next (variable_by b c.args.line c.args.name.now) (λ d. added c.args.line c.args.name.now d (data_of c.args.right))) (sym c.if-is_predefined.true ∙ c.is_predefined.ensures))
-    (given_stop (c.in_err-thing.ensures.gives files h) c.from_residual.ensures.1)
-
-pub returns-then-is_predefined-clause-gives : goal.returns-then-is_predefined-clause-gives
-returns-then-is_predefined-clause-gives g c = λ files h.
-    given_as (ap (λ b. next (variable_by b c.args.line c.args.name.now) (λ d. added c.args.line c.args.name.now d (data_of c.args.right))) (sym c.if-is_predefined.true ∙ c.is_predefined.ensures))
-    (given_then (c.in_ok-thing.ensures.gives files h) (c.sum.ensures.gives files h))
-
-pub returns-in_err-left-clause-gives : goal.returns-in_err-left-clause-gives
-returns-in_err-left-clause-gives g c = λ files h.
-    given_none h c.from_residual-in_err-left.ensures.1
+pub returns-then-is_thing-clause-gives : goal.returns-then-is_thing-clause-gives
+returns-then-is_thing-clause-gives g c = λ within files h.
+    let name = get_or c.args.self.now.store.now.names c.args.number [] in
+    given_as (ap (λ b. next (variable_by b c.args.line name) (λ d. added c.args.line name d (data_of c.args.right))) (sym c.if-is_thing.true ∙ c.is_predefined-is_thing.ensures ∙ ap is_predefined (c.name.ensures within)))
+    (c.add_to_thing.ensures.gives within files h)
 
 pub returns-in-Some-clause-gives : goal.returns-in-Some-clause-gives
-returns-in-Some-clause-gives g c = λ files h.
-    given_as (ap (λ b. next (variable_by b c.args.line c.args.name.now) (λ d. added c.args.line c.args.name.now d (data_of c.args.right))) (sym c.if-is_predefined.false ∙ c.is_predefined.ensures))
+returns-in-Some-clause-gives g c = λ within files h.
+    let name = get_or c.args.self.now.store.now.names c.args.number [] in
+    let same = c.take-taken.ensures.names in
+    let there = subst (λ (ns : List (List ℕ)). c.args.number < length ns) (sym same) within in
+    given_as (ap (λ b. next (variable_by b c.args.line name) (λ d. added c.args.line name d (data_of c.args.right))) (sym c.if-is_thing.false ∙ c.is_predefined-is_thing.ensures ∙ ap is_predefined (c.name.ensures within)))
     (given_then {view = data_of} {x = c.in-Some.left}
-    (given_read (given_as (ap (known c.args.line c.args.name.now) (sym (ap (option_map data_of) c.in-Some.is) ∙ c.in_ok-left.ensures)) (given_give h refl)))
-    (given_over c.args.line c.args.name.now (data_of c.in-Some.left) (data_of c.args.right) c.unset.ensures.world c.unset.ensures.names (c.sum-in-Some.ensures.gives files h)))
+    (given_read (given_as (ap (known c.args.line name) (sym (ap (option_map data_of) c.in-Some.is) ∙ c.take-taken.ensures.value within)) (given_give h refl)))
+    (given_over c.args.line name (data_of c.in-Some.left) (data_of c.args.right) (c.take-taken.ensures.world within) same
+    (given_as (ap (λ (ns : List (List ℕ)). added c.args.line (get_or ns c.args.number []) (data_of c.in-Some.left) (data_of c.args.right)) same) (c.sum.ensures.gives there files h))))
 
 pub returns-in-None-clause-gives : goal.returns-in-None-clause-gives
-returns-in-None-clause-gives g c = λ files h.
-    given_as (ap (λ b. next (variable_by b c.args.line c.args.name.now) (λ d. added c.args.line c.args.name.now d (data_of c.args.right))) (sym c.if-is_predefined.false ∙ c.is_predefined.ensures))
-    (given_unknown c.refuse.result h (sym (ap (option_map data_of) c.in-None.is) ∙ c.in_ok-left.ensures) c.refuse.ensures)
+returns-in-None-clause-gives g c = λ within files h.
+    let name = get_or c.args.self.now.store.now.names c.args.number [] in
+    let same = c.take-taken.ensures.names in
+    let there = subst (λ (ns : List (List ℕ)). c.args.number < length ns) (sym same) within in
+    given_as (ap (λ b. next (variable_by b c.args.line name) (λ d. added c.args.line name d (data_of c.args.right))) (sym c.if-is_thing.false ∙ c.is_predefined-is_thing.ensures ∙ ap is_predefined (c.name.ensures within)))
+    (given_untaken c.unknown.result h (sym (ap (option_map data_of) c.in-None.is) ∙ c.take-taken.ensures.value within) (c.take-taken.ensures.world within) same
+    (ap (λ (ns : List (List ℕ)). get_or ns c.args.number []) same) (c.unknown.ensures.refuses there))

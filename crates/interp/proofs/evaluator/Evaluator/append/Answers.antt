@@ -1,15 +1,13 @@
-use Rattle.std.proofs.Common.{ap, ◌∙◌}
+use Rattle.std.proofs.Common.{ap}
 use Rattle.data.specs.View.{data_of}
 use Rattle.interp.specs.Statements.{summed}
-use Rattle.interp.proofs.Coming.{comes_given, comes_halt, comes_last, comes_none, comes_stop, comes_then}
+use Rattle.interp.proofs.Assigning.{name_stays}
+use Rattle.interp.proofs.Coming.{comes_given, comes_halt, comes_last, comes_stop, comes_then}
 use Rattle.interp.proofs.Evaluating.{given_as, given_then}
 use Rattle.interp.proofs.evaluator.Evaluator.append.Goals as goal
 
-pub returns-in_err-name-clause-gives : goal.returns-in_err-name-clause-gives
-returns-in_err-name-clause-gives g c = λ within files left ts hold reads. comes_none hold c.from_residual.ensures.1
-
 pub returns-in_err-variable-clause-gives : goal.returns-in_err-variable-clause-gives
-returns-in_err-variable-clause-gives g c = λ within files left ts hold reads. comes_stop (c.in_err-variable.ensures.gives within files hold) c.from_residual-in_err-variable.ensures.1
+returns-in_err-variable-clause-gives g c = λ within files left ts hold reads. comes_stop (c.in_err-variable.ensures.gives within files hold) c.from_residual.ensures.1
 
 pub returns-in_err-right-clause-gives : goal.returns-in_err-right-clause-gives
 returns-in_err-right-clause-gives g c = λ within files left ts hold reads.
@@ -18,13 +16,13 @@ returns-in_err-right-clause-gives g c = λ within files left ts hold reads.
 pub returns-in_err-add-clause-gives : goal.returns-in_err-add-clause-gives
 returns-in_err-add-clause-gives g c = λ within files left ts hold reads.
     let right = (c.in_ok-right.ensures.gives files left ts hold reads).comes in
-    let name = c.deref.ensures ∙ c.in_ok-name.ensures.ok ∙ c.name.ensures within in
+    let stays = name_stays right.gives.written.names c.args.number within in
     comes_then (c.in_ok-variable.ensures.gives within files hold) (comes_then right
-    (comes_last (given_as (ap (λ n. summed c.args.line n (data_of c.in_ok-right.right)) name) (c.in_err-add.ensures.gives files right.holds)) c.from_residual-in_err-add.ensures.1))
+    (comes_last (given_as (ap (λ n. summed c.args.line n (data_of c.in_ok-right.right)) stays.1) (c.in_err-add.ensures.gives stays.0 files right.holds)) c.from_residual-in_err-add.ensures.1))
 
 pub returns-clause-gives : goal.returns-clause-gives
 returns-clause-gives g c = λ within files left ts hold reads.
     let right = (c.in_ok-right.ensures.gives files left ts hold reads).comes in
-    let name = c.deref.ensures ∙ c.in_ok-name.ensures.ok ∙ c.name.ensures within in
+    let stays = name_stays right.gives.written.names c.args.number within in
     comes_given (given_then (c.in_ok-variable.ensures.gives within files hold) (given_then right
-    (given_as (ap (λ n. summed c.args.line n (data_of c.in_ok-right.right)) name) (c.in_ok-add.ensures.gives files right.holds))))
+    (given_as (ap (λ n. summed c.args.line n (data_of c.in_ok-right.right)) stays.1) (c.in_ok-add.ensures.gives stays.0 files right.holds))))

@@ -9,7 +9,7 @@ use Rattle.interp.specs.Rounds.{rounds_in}
 use Rattle.interp.specs.Statements.{rounds_of}
 use Rattle.interp.proofs.Coming.{halted_enters, halted_stops, leads_left}
 use Rattle.interp.proofs.Evaluating.{given_as, given_refuse, given_stop, given_then, leads_as, leads_next}
-use Rattle.interp.proofs.Looping.{loops_few, walks, walks_not}
+use Rattle.interp.proofs.Looping.{walks, walks_not}
 use Rattle.interp.proofs.Spelling.{reads_at}
 use Rattle.interp.proofs.Stack.{leads_under, made_as, made_on, moves_given, moves_loop, moves_none, moves_then, stacked_on}
 use Rattle.interp.proofs.evaluator.Evaluator.begin_loop.Goals as goal
@@ -29,7 +29,7 @@ pub returns-in-Err-clause-gives : goal.returns-in-Err-clause-gives
 returns-in-Err-clause-gives g c = λ files rests table hold stacked made.
     let e = (c.in-Ok.ensures.gives files c.args.left (expressions_by table c.args.code.now.value) hold (reads_at c.deref.ensures made)).comes in
     moves_given c.args.stack.now.items rests c.refuse.result stacked
-    (given_then e (given_as (walks_not c.is_some.result (data_of c.in-Ok.whole) c.args.head.line (round_by table c.args.code.now.value c.args.left c.args.head) (name_at table) c.args.head.second c.in-Err.refusal c.is_some.ensures c.in-Err.ensures)
+    (given_then e (given_as (walks_not c.is_some.result (data_of c.in-Ok.whole) c.args.head.line (round_by table c.args.code.now.value c.args.left c.args.head) (name_at table) c.args.head.second c.in-Err.refusal c.is_some.ensures c.in-Err.ensures.loops)
     (given_refuse e.holds c.refuse.ensures)))
 
 pub returns-in_err-clone-in-Ok-check_loop-clause-gives : goal.returns-in_err-clone-in-Ok-check_loop-clause-gives
@@ -39,7 +39,7 @@ returns-in_err-clone-in-Ok-check_loop-clause-gives g c = λ files rests table ho
 
 pub invariant_of-push : goal.invariant_of-push
 invariant_of-push g c = record {
-  few = loops_few c.is_some.result (data_of c.in-Ok.whole) c.in-Ok-check_loop.ensures;
+  few = c.in-Ok-check_loop.ensures.few;
   first = subst (λ (d : Code). IsTrue (nat_lt c.args.head.first d.names)) (sym c.in_ok-clone-in-Ok-check_loop.ensures.cases) c.requires.first;
   second = subst (λ (d : Code). IsTrue (second_within d.names c.args.head.second)) (sym c.in_ok-clone-in-Ok-check_loop.ensures.cases) c.requires.second;
 }
@@ -55,6 +55,6 @@ returns-in_ok-push-in-Ok-check_loop-clause-gives g c = λ files rests table hold
     let round = λ (d : Code). round_by table d c.args.left c.args.head in
     moves_loop c.args.stack.now.items c.push.new.self.items rests _ table (stacked_on c.args.stack.now.items rests e.gives.written.names stacked) c.in_ok-push-in-Ok-check_loop.ensures.items
     (made_as (sym c.in_ok-clone-in-Ok-check_loop.ensures.cases) (made_on e.gives.written.names made))
-    (leads_as (ap (behind_all rests) (sym (walks c.is_some.result (data_of c.in-Ok.whole) c.args.head.line (round c.args.code.now.value) (name_at table) c.args.head.second c.is_some.ensures c.in-Ok-check_loop.ensures)
+    (leads_as (ap (behind_all rests) (sym (walks c.is_some.result (data_of c.in-Ok.whole) c.args.head.line (round c.args.code.now.value) (name_at table) c.args.head.second c.is_some.ensures c.in-Ok-check_loop.ensures.loops)
     ∙ ap (λ (d : Code). rounds_of (round d) (rounds_in (data_of c.in-Ok.whole))) (sym c.in_ok-clone-in-Ok-check_loop.ensures.cases)))
     (leads_under rests (leads_next e)))

@@ -1,6 +1,6 @@
 use Rattle.std.proofs.Common.{ap, refl, sym, ◌∙◌}
 use Rattle.arguments.specs.Arguments.{arguments_data}
-use Rattle.arguments.specs.Row.{checked}
+use Rattle.arguments.specs.Misfits.{checked}
 use Rattle.interp.specs.Acting.{done_by}
 use Rattle.interp.specs.Entering.{fitted}
 use Rattle.interp.proofs.Evaluating.{given_as, given_give, given_none, given_stop}

@@ -2,10 +2,10 @@ use Rattle.interp.proofs.Evaluating.{given_none, given_stop, given_then}
 use Rattle.interp.proofs.evaluator.Evaluator.sum.Goals as goal
 
 pub returns-in_err-answer-clause-gives : goal.returns-in_err-answer-clause-gives
-returns-in_err-answer-clause-gives g c = λ files h. given_none h c.from_residual.ensures.1
+returns-in_err-answer-clause-gives g c = λ within files h. given_none h c.from_residual.ensures.1
 
 pub returns-in_err-sum-clause-gives : goal.returns-in_err-sum-clause-gives
-returns-in_err-sum-clause-gives g c = λ files h. given_stop (c.in_err-sum.ensures.gives _ c.in_ok-answer.ensures files h) c.from_residual-in_err-sum.ensures.1
+returns-in_err-sum-clause-gives g c = λ within files h. given_stop (c.in_err-sum.ensures.gives _ c.in_ok-answer.ensures files h) c.from_residual-in_err-sum.ensures.1
 
 pub returns-clause-gives : goal.returns-clause-gives
-returns-clause-gives g c = λ files h. given_then (c.in_ok-sum.ensures.gives _ c.in_ok-answer.ensures files h) (c.set.ensures.gives files h)
+returns-clause-gives g c = λ within files h. given_then (c.in_ok-sum.ensures.gives _ c.in_ok-answer.ensures files h) (c.assign.ensures.gives within files h)

@@ -1,6 +1,6 @@
 use Rattle.std.proofs.Common.{List, Some, map, ap, refl, ◌∙◌}
 use Rattle.arguments.specs.Arguments.{arguments_data}
-use Rattle.arguments.specs.Row.{checked}
+use Rattle.arguments.specs.Misfits.{checked}
 use Rattle.data.specs.View.{data_of}
 use Rattle.data.specs.declared.value.Value.{Value}
 use Rattle.methods.specs.Methods.{answer}

@@ -1,9 +1,8 @@
-use Rattle.std.proofs.Common.{◌≡◌, true, false, map, OnOk, sym, ap, ◌∙◌, subst}
+use Rattle.std.proofs.Common.{◌≡◌, true, false, map, OnOk, refl, sym, ap, ◌∙◌, subst}
 use Rattle.std.specs.List.{list_all}
 use Rattle.std.proofs.lemmas.Result.{IfOk-weaker}
 use Rattle.edge.specs.Texts.{Path, texts}
 use Rattle.edge.specs.Data.{EdgeData}
-use Rattle.edge.specs.View.{edge_view}
 use Rattle.edge.specs.Holding.{are_writable}
 use Rattle.targets.specs.Data.{TargetData}
 use Rattle.targets.specs.Libraries.{LinkedData, linked_of, libraries_in}
@@ -46,11 +45,11 @@ returns-then-not-writable-clause-answer c =
     ap (map linked_view) c.deref.ensures.value ∙ c.self.invariant.libraries ∙ ap (λ (x : WorldData). linked_of x.targets) c.self.view_is in
     let ns = c.in_ok-libraries.libraries.items in
     let libs : ns ≡ libraries_in (linked_of w.targets) t = c.in_ok-libraries.ensures ∙ ap (λ x. libraries_in x t) all in
-    let es = map edge_view c.in_ok-edges.edges.items in
-    let made : es ≡ target_edges w.surroundings (linked_of w.targets) ns t =
-    c.in_ok-edges.ensures ∙ ap (λ x. target_edges w.surroundings (linked_of w.targets) x t) c.deref-2.ensures.value in
-    let held : are_writable es ≡ false = ap (λ x. are_writable (map edge_view x)) (sym c.deref-3.ensures.value) ∙ sym c.are_writable-writable.ensures ∙ c.if-not-writable.true in
-    sym (answer_unholdable w t fit there (ap are_writable (sym (edges_are w t ns es libs made)) ∙ held))
+    let es = target_edges w.surroundings (linked_of w.targets) ns t in
+    let made : target_edges w.surroundings (linked_of w.targets) c.deref-2.result.now t ≡ es =
+    ap (λ x. target_edges w.surroundings (linked_of w.targets) x t) c.deref-2.ensures.value in
+    let held : are_writable es ≡ false = ap are_writable (sym made) ∙ sym c.in_ok-claims.ensures.writable ∙ c.if-not-writable.true in
+    sym (answer_unholdable w t fit there (ap are_writable (sym (edges_are w t ns es libs refl)) ∙ held))
 
 pub returns-then-not-writable-clause-ok : goal.returns-then-not-writable-clause-ok
 returns-then-not-writable-clause-ok c =
@@ -63,11 +62,11 @@ returns-then-not-writable-clause-ok c =
     ap (map linked_view) c.deref.ensures.value ∙ c.self.invariant.libraries ∙ ap (λ (x : WorldData). linked_of x.targets) c.self.view_is in
     let ns = c.in_ok-libraries.libraries.items in
     let libs : ns ≡ libraries_in (linked_of w.targets) t = c.in_ok-libraries.ensures ∙ ap (λ x. libraries_in x t) all in
-    let es = map edge_view c.in_ok-edges.edges.items in
-    let made : es ≡ target_edges w.surroundings (linked_of w.targets) ns t =
-    c.in_ok-edges.ensures ∙ ap (λ x. target_edges w.surroundings (linked_of w.targets) x t) c.deref-2.ensures.value in
-    let held : are_writable es ≡ false = ap (λ x. are_writable (map edge_view x)) (sym c.deref-3.ensures.value) ∙ sym c.are_writable-writable.ensures ∙ c.if-not-writable.true in
-    sym (ap (λ r. after_answer r (with_target w t) w) (answer_unholdable w t fit there (ap are_writable (sym (edges_are w t ns es libs made)) ∙ held)))
+    let es = target_edges w.surroundings (linked_of w.targets) ns t in
+    let made : target_edges w.surroundings (linked_of w.targets) c.deref-2.result.now t ≡ es =
+    ap (λ x. target_edges w.surroundings (linked_of w.targets) x t) c.deref-2.ensures.value in
+    let held : are_writable es ≡ false = ap are_writable (sym made) ∙ sym c.in_ok-claims.ensures.writable ∙ c.if-not-writable.true in
+    sym (ap (λ r. after_answer r (with_target w t) w) (answer_unholdable w t fit there (ap are_writable (sym (edges_are w t ns es libs refl)) ∙ held)))
 
 pub place-requires : goal.place-requires
 place-requires c =
@@ -80,13 +79,12 @@ place-requires c =
     ap (map linked_view) c.deref.ensures.value ∙ c.self.invariant.libraries ∙ ap (λ (x : WorldData). linked_of x.targets) c.self.view_is in
     let ns = c.in_ok-libraries.libraries.items in
     let libs : ns ≡ libraries_in (linked_of w.targets) t = c.in_ok-libraries.ensures ∙ ap (λ x. libraries_in x t) all in
-    let es = map edge_view c.in_ok-edges.edges.items in
-    let made : es ≡ target_edges w.surroundings (linked_of w.targets) ns t =
-    c.in_ok-edges.ensures ∙ ap (λ x. target_edges w.surroundings (linked_of w.targets) x t) c.deref-2.ensures.value in
-    let held : are_writable es ≡ true = ap (λ x. are_writable (map edge_view x)) (sym c.deref-3.ensures.value) ∙ sym c.are_writable-writable.ensures ∙ c.if-not-writable.false in
-    let paths : texts c.deref-5.result.now ≡ outputs_of es =
-    ap texts c.deref-5.ensures.value ∙ c.in_ok-paths.ensures ∙ ap (λ x. outputs_of (map edge_view x)) c.deref-4.ensures.value in
-    next_ready w t ns es libs made (texts c.in_ok-named.named.items) (texts c.deref-5.result.now) c.in_ok-named.ensures paths held fit there
+    let es = target_edges w.surroundings (linked_of w.targets) ns t in
+    let made : target_edges w.surroundings (linked_of w.targets) c.deref-2.result.now t ≡ es =
+    ap (λ x. target_edges w.surroundings (linked_of w.targets) x t) c.deref-2.ensures.value in
+    let held : are_writable es ≡ true = ap are_writable (sym made) ∙ sym c.in_ok-claims.ensures.writable ∙ c.if-not-writable.false in
+    let paths : texts c.deref-3.result.now ≡ outputs_of es = ap texts c.deref-3.ensures.value ∙ c.in_ok-claims.ensures.paths ∙ ap outputs_of made in
+    next_ready w t ns es libs refl (texts c.in_ok-named.named.items) (texts c.deref-3.result.now) c.in_ok-named.ensures paths held fit there
 
 pub returns-clause-answer : goal.returns-clause-answer
 returns-clause-answer c =
@@ -99,17 +97,16 @@ returns-clause-answer c =
     ap (map linked_view) c.deref.ensures.value ∙ c.self.invariant.libraries ∙ ap (λ (x : WorldData). linked_of x.targets) c.self.view_is in
     let ns = c.in_ok-libraries.libraries.items in
     let libs : ns ≡ libraries_in (linked_of w.targets) t = c.in_ok-libraries.ensures ∙ ap (λ x. libraries_in x t) all in
-    let es = map edge_view c.in_ok-edges.edges.items in
-    let made : es ≡ target_edges w.surroundings (linked_of w.targets) ns t =
-    c.in_ok-edges.ensures ∙ ap (λ x. target_edges w.surroundings (linked_of w.targets) x t) c.deref-2.ensures.value in
-    let held : are_writable es ≡ true = ap (λ x. are_writable (map edge_view x)) (sym c.deref-3.ensures.value) ∙ sym c.are_writable-writable.ensures ∙ c.if-not-writable.false in
-    let paths : texts c.deref-5.result.now ≡ outputs_of es =
-    ap texts c.deref-5.ensures.value ∙ c.in_ok-paths.ensures ∙ ap (λ x. outputs_of (map edge_view x)) c.deref-4.ensures.value in
-    let is : place_answer w (texts c.deref-5.result.now) c.is_within-within.result ≡ target_answer w t =
-    ap (λ p. place_answer w p c.is_within-within.result) (paths ∙ ap outputs_of (edges_are w t ns es libs made))
+    let es = target_edges w.surroundings (linked_of w.targets) ns t in
+    let made : target_edges w.surroundings (linked_of w.targets) c.deref-2.result.now t ≡ es =
+    ap (λ x. target_edges w.surroundings (linked_of w.targets) x t) c.deref-2.ensures.value in
+    let held : are_writable es ≡ true = ap are_writable (sym made) ∙ sym c.in_ok-claims.ensures.writable ∙ c.if-not-writable.false in
+    let paths : texts c.deref-3.result.now ≡ outputs_of es = ap texts c.deref-3.ensures.value ∙ c.in_ok-claims.ensures.paths ∙ ap outputs_of made in
+    let is : place_answer w (texts c.deref-3.result.now) c.is_within-within.result ≡ target_answer w t =
+    ap (λ p. place_answer w p c.is_within-within.result) (paths ∙ ap outputs_of (edges_are w t ns es libs refl))
     ∙ ap (λ b. place_answer w (outputs_of (edges_with w t)) b) c.is_within-within.ensures
-    ∙ sym (answer_placed w t fit there (ap are_writable (sym (edges_are w t ns es libs made)) ∙ held)) in
-    IfOk-weaker c.place.result (λ r. r ≡ place_answer w (texts c.deref-5.result.now) c.is_within-within.result) (λ r. r ≡ target_answer w t) (λ r e. e ∙ is) c.place.ensures.answer
+    ∙ sym (answer_placed w t fit there (ap are_writable (sym (edges_are w t ns es libs refl)) ∙ held)) in
+    IfOk-weaker c.place.result (λ r. r ≡ place_answer w (texts c.deref-3.result.now) c.is_within-within.result) (λ r. r ≡ target_answer w t) (λ r e. e ∙ is) c.place.ensures.answer
 
 pub returns-clause-ok : goal.returns-clause-ok
 returns-clause-ok c =
@@ -122,14 +119,13 @@ returns-clause-ok c =
     ap (map linked_view) c.deref.ensures.value ∙ c.self.invariant.libraries ∙ ap (λ (x : WorldData). linked_of x.targets) c.self.view_is in
     let ns = c.in_ok-libraries.libraries.items in
     let libs : ns ≡ libraries_in (linked_of w.targets) t = c.in_ok-libraries.ensures ∙ ap (λ x. libraries_in x t) all in
-    let es = map edge_view c.in_ok-edges.edges.items in
-    let made : es ≡ target_edges w.surroundings (linked_of w.targets) ns t =
-    c.in_ok-edges.ensures ∙ ap (λ x. target_edges w.surroundings (linked_of w.targets) x t) c.deref-2.ensures.value in
-    let held : are_writable es ≡ true = ap (λ x. are_writable (map edge_view x)) (sym c.deref-3.ensures.value) ∙ sym c.are_writable-writable.ensures ∙ c.if-not-writable.false in
-    let paths : texts c.deref-5.result.now ≡ outputs_of es =
-    ap texts c.deref-5.ensures.value ∙ c.in_ok-paths.ensures ∙ ap (λ x. outputs_of (map edge_view x)) c.deref-4.ensures.value in
-    let is : place_answer w (texts c.deref-5.result.now) c.is_within-within.result ≡ target_answer w t =
-    ap (λ p. place_answer w p c.is_within-within.result) (paths ∙ ap outputs_of (edges_are w t ns es libs made))
+    let es = target_edges w.surroundings (linked_of w.targets) ns t in
+    let made : target_edges w.surroundings (linked_of w.targets) c.deref-2.result.now t ≡ es =
+    ap (λ x. target_edges w.surroundings (linked_of w.targets) x t) c.deref-2.ensures.value in
+    let held : are_writable es ≡ true = ap are_writable (sym made) ∙ sym c.in_ok-claims.ensures.writable ∙ c.if-not-writable.false in
+    let paths : texts c.deref-3.result.now ≡ outputs_of es = ap texts c.deref-3.ensures.value ∙ c.in_ok-claims.ensures.paths ∙ ap outputs_of made in
+    let is : place_answer w (texts c.deref-3.result.now) c.is_within-within.result ≡ target_answer w t =
+    ap (λ p. place_answer w p c.is_within-within.result) (paths ∙ ap outputs_of (edges_are w t ns es libs refl))
     ∙ ap (λ b. place_answer w (outputs_of (edges_with w t)) b) c.is_within-within.ensures
-    ∙ sym (answer_placed w t fit there (ap are_writable (sym (edges_are w t ns es libs made)) ∙ held)) in
+    ∙ sym (answer_placed w t fit there (ap are_writable (sym (edges_are w t ns es libs refl)) ∙ held)) in
     subst (λ r. OnOk c.place.result (c.place.new.self ≡ after_answer r (with_target w t) w)) is c.place.ensures.ok

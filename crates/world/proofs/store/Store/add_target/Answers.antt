@@ -2,7 +2,7 @@ use Rattle.std.proofs.Common.{◌≡◌, ap, subst, IfOk}
 use Rattle.project.specs.Adding.{after_target, target_answer}
 use Rattle.project.specs.World.{WorldData}
 use Rattle.targets.specs.View.{target_view}
-use Rattle.world.specs.Declaring.{declaring}
+use Rattle.world.specs.World.{declaring}
 use Rattle.world.specs.Store.{Kept, changing, world_of}
 use Rattle.world.specs.contracts.store.Store.{the_view}
 use Rattle.world.proofs.Setting.{project_made, then_same}

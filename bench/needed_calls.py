@@ -1,0 +1,33 @@
+"""The calls of the system that no run of a project can do without, as the list that limit.c carries out: each definition file is read,
+each other file of the sources looked at once, and each output written and renamed, in folders that are made."""
+import os
+
+OPTION_FILES = ("meson.options", "meson_options.txt")
+DEFINITIONS = ("meson.build", *OPTION_FILES)
+
+
+def of_sources(folder: str, build: str) -> list[str]:
+    """The lines for the sources in this folder, all of which its definition files name, but for what stands in its folder `build`."""
+    lines = [f"look {name}" for name in OPTION_FILES if not os.path.exists(os.path.join(folder, name))]
+    for top, folders, names in os.walk(folder):
+        if top == folder:
+            folders.remove(build)
+        for name in names:
+            path = os.path.relpath(os.path.join(top, name), folder)
+            lines.append(f"read {path}" if name in DEFINITIONS else f"look {path}")
+    return lines
+
+
+def of_outputs(build: str, beside: str) -> list[str]:
+    """The lines for as many bytes as stand in the files below `build`, to be written below the folder `beside`."""
+    lines = []
+    for top, _, names in os.walk(build):
+        into = os.path.normpath(os.path.join(beside, os.path.relpath(top, build)))
+        lines.append(f"make {into}")
+        lines += [f"write {os.path.getsize(os.path.join(top, name))} {into}/{name}" for name in names]
+    return lines
+
+
+def needed_calls(folder: str, build: str, beside: str) -> str:
+    """The list for a project in this folder, whose outputs stand in its folder `build`; those of the limit go into `beside`."""
+    return "".join(f"{line}\n" for line in of_sources(folder, build) + of_outputs(os.path.join(folder, build), beside))

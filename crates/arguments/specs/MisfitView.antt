@@ -1,0 +1,15 @@
+-- What a misfit is seen as.
+use Rattle.data.specs.View.{data_of}
+use Rattle.arguments.specs.Misfits.{MisfitData, Twice, LeftOut, TooFew, TooMany, Place, Unknown, Keyword, Missing}
+use Rattle.arguments.specs.declared.misfit.Misfit.{Misfit}
+use Rattle.arguments.specs.declared.misfit.Misfit.TheVariants as misfits
+
+abbrev pub misfit_data : Misfit → MisfitData
+misfit_data (misfits.Twice name) = Twice name.now
+misfit_data (misfits.LeftOut name) = LeftOut name.now
+misfit_data (misfits.TooFew needed given) = TooFew needed given
+misfit_data (misfits.TooMany most) = TooMany most
+misfit_data (misfits.Place place kind value) = Place place kind (data_of value.now)
+misfit_data (misfits.Unknown name) = Unknown name.now
+misfit_data (misfits.Keyword name kind value) = Keyword name.now kind (data_of value.now)
+misfit_data (misfits.Missing name) = Missing name.now

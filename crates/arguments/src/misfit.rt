@@ -1,0 +1,99 @@
+//! What is wrong with the arguments of a call, and the words that say so.
+ghost use Rattle.std.specs.Prelude.{◌≡◌, IfOk, string_bytes};
+ghost use Rattle.arguments.specs.Refused.{refused_data};
+ghost use Rattle.data.specs.View.{data_of};
+ghost use Rattle.arguments.specs.MisfitView.{misfit_data};
+ghost use Rattle.arguments.specs.Misfits.{Place, keyword_is, refusal_of, refused_as, takes, words_of};
+
+use crate::refused::Refused;
+use crate::row::Kind;
+use crate::words::{kind_words, value_words};
+use basics::faults::Refusal;
+use data::Value;
+use std::alloc::{AllocError, Global};
+
+/// What a row does not take of the arguments that it is held against.
+#[derive(Clone, Copy)]
+pub enum Misfit<'a> {
+    /// A keyword that stands twice.
+    Twice(&'a str),
+    /// A keyword that is left out.
+    LeftOut(&'a str),
+    /// How many positional arguments are needed, and how many are given, which are fewer.
+    TooFew(usize, usize),
+    /// How many positional arguments are taken, where more are given.
+    TooMany(usize),
+    /// The positional argument at a place is not of this kind.
+    Place(usize, Kind, &'a Value),
+    /// A keyword that the call does not take.
+    Unknown(&'a str),
+    /// The value of a keyword is not of this kind.
+    Keyword(&'a str, Kind, &'a Value),
+    /// A keyword that is needed and not given.
+    Missing(&'a str),
+}
+
+// Of a keyword this is so.
+fn keyword_is(alloc: Global, name: &str, words: &str) -> Result<String, AllocError>
+    ensures { IfOk result (λ text. string_bytes text ≡ keyword_is name.now words.now) }
+{
+    format!(in alloc; "keyword '{name}': {words}")
+}
+
+// One kind is taken, and this value was given.
+fn takes(alloc: Global, kind: Kind, value: &Value) -> Result<String, AllocError>
+    ensures { IfOk result (λ text. string_bytes text ≡ takes kind (data_of value.now)) }
+{
+    let kind = kind_words(kind);
+    let value = value_words(value);
+    format!(in alloc; "takes {kind}, and got {value}")
+}
+
+fn place_is(alloc: Global, place: usize, kind: Kind, value: &Value) -> Result<String, AllocError>
+    ensures { IfOk result (λ text. string_bytes text ≡ words_of (Place place kind (data_of value.now))) }
+{
+    let takes = takes(alloc, kind, value)?;
+    let number = place as u128 + 1;
+    format!(in alloc; "argument {number}: {takes}")
+}
+
+impl<'a> Misfit<'a> {
+    fn refusal(&self) -> Refusal
+        ensures { result ≡ refusal_of (misfit_data self.now) }
+    {
+        match *self {
+            Misfit::Twice(_) => Refusal::Duplicate,
+            Misfit::LeftOut(_) => Refusal::LeftOut,
+            _ => Refusal::Arguments,
+        }
+    }
+
+    // What it is about.
+    fn words(&self, alloc: Global) -> Result<String, AllocError>
+        ensures { IfOk result (λ text. string_bytes text ≡ words_of (misfit_data self.now)) }
+    {
+        match *self {
+            Misfit::Twice(name) => keyword_is(alloc, name, "stands twice"),
+            Misfit::LeftOut(name) => keyword_is(alloc, name, "is left out"),
+            Misfit::TooFew(needed, given) => {
+                format!(in alloc; "arguments: needs {needed}, and got {given}")
+            }
+            Misfit::TooMany(most) => format!(in alloc; "arguments: takes {most}, and got more"),
+            Misfit::Place(place, kind, value) => place_is(alloc, place, kind, value),
+            Misfit::Unknown(name) => keyword_is(alloc, name, "there is none"),
+            Misfit::Keyword(name, kind, value) => {
+                keyword_is(alloc, name, takes(alloc, kind, value)?.as_str())
+            }
+            Misfit::Missing(name) => keyword_is(alloc, name, "is missing, and is needed"),
+        }
+    }
+
+    /// What a call is refused as that has it.
+    pub fn refused(&self, alloc: Global) -> Result<Refused, AllocError>
+        ensures { IfOk result (λ refused. refused_data refused ≡ refused_as (misfit_data self.now)) }
+    {
+        let refusal = self.refusal();
+        let detail = self.words(alloc)?;
+        Ok(Refused { refusal, detail })
+    }
+}

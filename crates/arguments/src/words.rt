@@ -1,0 +1,79 @@
+//! Kinds and values in words.
+ghost use Rattle.std.specs.Prelude.{◌≡◌};
+ghost use Rattle.arguments.specs.Words.{kind_words, object_words, piece_words, value_words};
+ghost use Rattle.data.specs.View.{data_of};
+
+use crate::row::{Kind, Piece};
+use data::{Object, Value};
+
+fn piece_words(piece: Piece) -> &'static str
+    ensures { result.now ≡ piece_words piece }
+{
+    match piece {
+        Piece::Path => "texts and files",
+        Piece::Source => "texts, files and custom targets",
+        Piece::Folder => "texts and include_directories",
+        Piece::BuildTarget => "executables and libraries",
+        Piece::Target => "targets",
+        Piece::Word => "texts, files and targets",
+        Piece::CommandWord => "texts, files, programs and targets",
+    }
+}
+
+/// What an argument has to be.
+pub fn kind_words(kind: Kind) -> &'static str
+    ensures { result.now ≡ kind_words kind }
+{
+    match kind {
+        Kind::Any => "any value",
+        Kind::Boolean => "a truth value",
+        Kind::Integer => "an integer",
+        Kind::Text => "a text",
+        Kind::IntegerOrText => "a text or an integer",
+        Kind::Setting => "a text, an integer or a truth value",
+        Kind::Requirement => "a truth value or a feature option",
+        Kind::Texts => "texts",
+        Kind::Dictionary => "a dictionary",
+        Kind::TextsOrDictionary => "texts, or a dictionary",
+        Kind::ConfigurationData => "configuration data",
+        Kind::Configuration => "configuration data or a dictionary",
+        Kind::File => "a file",
+        Kind::Command => "a program, a target or a file",
+        Kind::Dependencies => "dependencies",
+        Kind::Flat(piece) => piece_words(piece),
+    }
+}
+
+fn object_words(object: &Object) -> &'static str
+    ensures { result.now ≡ object_words object.now }
+{
+    match object {
+        Object::Feature(_) => "a feature option",
+        Object::Dependency(_) => "a dependency",
+        Object::Program(_) => "a program",
+        Object::BuildTarget(_) => "an executable or a library",
+        Object::CustomTarget { .. } => "a custom target",
+        Object::CustomOutput { .. } => "an output of a custom target",
+        Object::File { .. } => "a file",
+        Object::IncludeDirectories(_) => "include_directories",
+        Object::Machine => "a machine",
+        Object::Meson => "the object 'meson'",
+        Object::Compiler => "a compiler",
+        Object::ConfigurationData(_) => "configuration data",
+        Object::Disabler => "a disabler",
+    }
+}
+
+/// What a value is.
+pub fn value_words(value: &Value) -> &'static str
+    ensures { result.now ≡ value_words (data_of value.now) }
+{
+    match value {
+        Value::Boolean(_) => "a truth value",
+        Value::Integer(_) => "an integer",
+        Value::Text(_) => "a text",
+        Value::List(_) => "a list",
+        Value::Dictionary(_) => "a dictionary",
+        Value::Object(object) => object_words(object),
+    }
+}

@@ -1,0 +1,13 @@
+use Rattle.std.proofs.Common.{subst, sym}
+use Rattle.std.specs.Prelude.{option_map}
+use Rattle.basics.specs.View.{fault_view}
+use Rattle.build_file.specs.declared.concluding.Status.TheVariants as statuses
+use Rattle.hawkottoman.specs.Ending.{ending_told}
+use Rattle.hawkottoman.specs.Setup.{Concludes}
+use Rattle.hawkottoman.proofs.Endings.{nothing_told}
+use Rattle.hawkottoman.proofs.ending.end.Goals as goal
+
+pub returns-in-None : goal.returns-in-None
+returns-in-None g c =
+    let out = g.O.Outputs.seen c.args.out.now in
+    subst (λ f. Concludes (ending_told (option_map fault_view f)) statuses.Done out out) (sym c.in-None.is) (nothing_told out)

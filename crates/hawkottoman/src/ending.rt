@@ -1,0 +1,135 @@
+//! The fault in which a run ends and what it is about, told in place of what the run writes.
+ghost use Rattle.std.specs.Prelude.{◌≡◌, ◌++◌, ◌<◌, codes, option_map};
+ghost use Rattle.ports.specs.Endings.{HasRoom, ended};
+ghost use Rattle.ports.specs.Outputs.{Writes, logs};
+ghost use Rattle.basics.specs.View.{fault_view};
+ghost use Rattle.build_file.specs.Concluding.{Agrees};
+ghost use Rattle.interp.specs.Evaluation.{IsSaid, MachineSaid};
+ghost use Rattle.world.specs.Deed.{Files};
+ghost use Rattle.world.specs.Gives.{Holds};
+ghost use Rattle.world.specs.SettingsView.{settings_view};
+ghost use Rattle.hawkottoman.specs.Ending.{TellsFault, TellsStop, detail_told, ending_told, fault_told, told_whole};
+ghost use Rattle.hawkottoman.specs.Setup.{Concludes, FailsOnce};
+
+use crate::asking::{Asking, ask};
+use basics::faults::Fault;
+use build_file::{Status, refuse};
+use interp::Inputs;
+use ports::{DeviceFault, Outputs, Tree, log_all};
+use std::alloc::Global;
+use std::marker::Brand;
+use std::sync::ledger::{Blank, Ledger};
+use world::{Settings, Stop, new_steps};
+
+#[tactic(auto, using(ports::proofs::Sending::sending))]
+fn log_line<O: Outputs>(text: &str, out: &mut O) -> Result<(), DeviceFault>
+    requires { HasRoom (O.seen out.old).failures }
+    ensures { Writes (O.seen out.old) (logs text.now ++ logs (codes "\n")) (ended result) (O.seen out.new) }
+{
+    log_all(out, text.as_bytes())?;
+    log_all(out, b"\n")
+}
+
+// Tells what a fault is about, in a line of the log.
+fn tell_detail<O: Outputs>(fault: &Fault, out: &mut O) -> Status
+    requires { HasRoom (O.seen out.old).failures }
+    ensures { Concludes (detail_told (fault_view fault.now)) result (O.seen out.old) (O.seen out.new) }
+{
+    match log_line(fault.detail.as_str(), out) {
+        Ok(()) => Status::Fault,
+        Err(_) => Status::Device,
+    }
+}
+
+// Tells the line of a fault, and behind it what it is about.
+fn tell<O: Outputs>(fault: &Fault, out: &mut O) -> Status
+    requires { HasRoom (O.seen out.old).failures }
+    ensures { Concludes (told_whole (fault_view fault.now)) result (O.seen out.old) (O.seen out.new) }
+{
+    match refuse(fault, out) {
+        Status::Fault => tell_detail(fault, out),
+        status => status,
+    }
+}
+
+// How the telling ends: with the fault, where there is one.
+fn end<O: Outputs>(fault: &Option<Fault>, out: &mut O) -> Status
+    requires { HasRoom (O.seen out.old).failures }
+    ensures { Concludes (ending_told (option_map fault_view fault.now)) result (O.seen out.old) (O.seen out.new) }
+{
+    match fault {
+        Some(fault) => tell(fault, out),
+        None => Status::Done,
+    }
+}
+
+// What is done where a run stopped: its fault is told, and else nothing.
+fn tell_stop<O: Outputs>(stop: Stop, out: &mut O) -> Status
+    requires { HasRoom (O.seen out.old).failures }
+    ensures { TellsStop stop result (O.seen out.old) (O.seen out.new) }
+{
+    match stop {
+        Stop::Refused(fault) => tell(&fault, out),
+        Stop::Device => Status::Device,
+        Stop::Memory => Status::Memory,
+    }
+}
+
+// What is done after a run: its fault is told.
+fn settle<O: Outputs>(answer: Result<Asking, Stop>, out: &mut O) -> Status
+    requires { HasRoom (O.seen out.old).failures }
+    ensures { TellsFault answer result (O.seen out.old) (O.seen out.new) }
+{
+    match answer {
+        Ok(asking) => end(&asking.fault, out),
+        Err(stop) => tell_stop(stop, out),
+    }
+}
+
+// A run whose rules are counted on this ledger.
+fn fault_with<T: Tree, O: Outputs, L: Ledger>(
+    alloc: Global,
+    tree: &mut T,
+    inputs: &Inputs<'_>,
+    out: &mut O,
+    blank: Blank,
+) -> Status
+    requires tree { HasRoom (T.seen tree.old).failures }
+    requires out { HasRoom (O.seen out.old).failures }
+    requires name { blank.name ≡ L.name }
+    requires parts { blank.parts ≡ L.parts }
+    requires some { 0 < blank.parts }
+    ensures run { (files : Files) (said : MachineSaid) → Holds (T.seen tree.old) files → IsSaid inputs.now.machine.now said
+        → Agrees (fault_told files (settings_view inputs.now.settings.now) said) result (O.seen out.old) (O.seen out.new) }
+    ensures device { FailsOnce result (T.seen tree.old).failures (O.seen out.old).failures (T.seen tree.new).failures
+        (O.seen out.new).failures }
+{
+    let mut steps = new_steps::<L>(blank);
+    let answer = ask(alloc, tree, inputs, &mut steps);
+    settle(answer, out)
+}
+
+/// Tells the fault in which the run of [`setup`](crate::running::setup) over the same bytes ends: its line, and in the log a line with
+/// what it is about, which is empty where the place says enough. Without a fault nothing is told. Nothing else is written.
+pub fn fault<T: Tree, O: Outputs>(
+    alloc: Global,
+    tree: &mut T,
+    settings: &Settings,
+    machine: &[u8],
+    out: &mut O,
+) -> Status
+    requires tree { HasRoom (T.seen tree.old).failures }
+    requires out { HasRoom (O.seen out.old).failures }
+
+    // Over a steady tree, status `Done` or `Fault` is that of the run, and outputs that tell took the line of its fault and its detail,
+    // and nothing else. With status `Device` or `Memory` they took a beginning. The fault is that of the run that `setup` does.
+    ensures run { (files : Files) (said : MachineSaid) → Holds (T.seen tree.old) files → IsSaid machine.now said
+        → Agrees (fault_told files (settings_view settings.now) said) result (O.seen out.old) (O.seen out.new) }
+
+    // Of any devices: one of them has failed once where the status is `Device`, and else none has.
+    ensures device { FailsOnce result (T.seen tree.old).failures (O.seen out.old).failures (T.seen tree.new).failures
+        (O.seen out.new).failures }
+{
+    let inputs = Inputs { settings, machine };
+    fault_with::<T, O, Brand>(alloc, tree, &inputs, out, Blank::new(1))
+}

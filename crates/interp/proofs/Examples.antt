@@ -1,0 +1,69 @@
+-- Runs that a person worked out, which the definitions have to give.
+use Rattle.std.proofs.Common.{◌≡◌, false, [], Some, None, codes, refl}
+use Rattle.grammar.specs.ExpressionTree.{LiteralTree, ListTree, NameTree, NoExpression, MoreExpressions}
+use Rattle.grammar.specs.Tree.{AssignTree, BreakTree, ForeachTree, Statements, NoStatement, MoreStatements}
+use Rattle.grammar.specs.declared.tree.Literal.TheVariants as literals
+use Rattle.basics.specs.declared.faults.refusal.Refusal.TheVariants as refusals
+use Rattle.data.specs.Data.{boolean}
+use Rattle.world.specs.Deed.{need}
+use Rattle.world.specs.Plan.{carry, give}
+use Rattle.world.specs.Run.{Run, Faulted, marks_of, outcome_of, world_after}
+use Rattle.world.specs.Settings.{SettingsData}
+use Rattle.world.specs.Start.{first_world}
+use Rattle.world.specs.Trace.{ends_of}
+use Rattle.world.specs.World.{World, entering}
+use Rattle.interp.specs.Folders.{folder}
+use Rattle.interp.specs.Statements.{do_all}
+use Rattle.interp.specs.declared.flow.Flow.{Flow}
+use Rattle.interp.specs.declared.flow.Flow.TheVariants.{Next}
+
+abbrev settings : SettingsData
+settings = record { words = []; depth = 1; source_root = codes "/s"; build_root = codes "/s/build" }
+
+abbrev begun : World
+begun = first_world settings []
+
+-- ---- a loop
+
+-- foreach x : [true, false], and this in each round
+abbrev loop : Statements → Statements
+loop body =
+    MoreStatements (ForeachTree 1 (codes "x") None
+    (ListTree (MoreExpressions (LiteralTree literals.True (codes "true") 1) (MoreExpressions (LiteralTree literals.False (codes "false") 1) NoExpression)) 1) 1 body) NoStatement
+
+abbrev run : Statements → Run Flow
+run statements = carry [] (do_all (λ _. give Next) statements) begun
+
+-- y = x
+abbrev assigns : Statements
+assigns = MoreStatements (AssignTree (codes "y") 2 (NameTree (codes "x") 2)) NoStatement
+
+last_item : (world_after (run (loop assigns))).facts.variables (codes "y") ≡ Some (boolean false)
+last_item = refl
+
+-- the statement, the list and its two items, two rounds, and in each the assignment and its name
+rules_ended : ends_of (marks_of (run (loop assigns))) ≡ 10
+rules_ended = refl
+
+-- one round, and in it the statement that ends the loop
+rules_broken : ends_of (marks_of (run (loop (MoreStatements (BreakTree 2) NoStatement)))) ≡ 6
+rules_broken = refl
+
+-- ---- folders
+
+-- there is no file
+absent : outcome_of (carry [] (folder 1 (codes "sub")) begun)
+    ≡ Faulted (record { file = codes "meson.build"; line = 1; refusal = refusals.FileMissing; detail = codes "sub/meson.build" })
+unfolding need
+absent = refl
+
+-- it was entered before
+again : outcome_of (carry [] (folder 1 (codes "sub")) (entering begun (codes "sub")))
+    ≡ Faulted (record { file = codes "meson.build"; line = 1; refusal = refusals.Subdir; detail = [] })
+unfolding need
+again = refl
+
+-- no folder leads out of the tree
+above : outcome_of (carry [] (folder 1 (codes "..")) begun)
+    ≡ Faulted (record { file = codes "meson.build"; line = 1; refusal = refusals.Subdir; detail = [] })
+above = refl

@@ -1,0 +1,16 @@
+-- What is made of each of a list: of all of it, or nothing.
+use Rattle.std.specs.Prelude.{List, [], ◌∷◌, ◌++◌, Option, Some, option_and_then}
+
+-- things, and behind them what a function gives of each
+abbrev pub each_behind : {A B : Type 0} → (A → Option B) → List B → List A → Option (List B)
+each_behind f ys [] = Some ys
+each_behind f ys (x ∷ xs) = option_and_then (λ y. each_behind f (ys ++ y ∷ []) xs) (f x)
+
+-- what a function gives of each, in order; none where it gives none of one
+abbrev pub each_or_none : {A B : Type 0} → (A → Option B) → List A → Option (List B)
+each_or_none f xs = each_behind f [] xs
+
+-- things, and behind them those that a function gives of each, in order; none where it gives none of one
+abbrev pub all_behind : {A B : Type 0} → (A → Option (List B)) → List B → List A → Option (List B)
+all_behind f ys [] = Some ys
+all_behind f ys (x ∷ xs) = option_and_then (λ more. all_behind f (ys ++ more) xs) (f x)

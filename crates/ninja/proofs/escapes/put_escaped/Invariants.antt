@@ -1,6 +1,0 @@
-use Rattle.ninja.specs.Places.{byte_text}
-use Rattle.ninja.proofs.Escaping.{IsWrittenTo}
-use Rattle.ninja.proofs.escapes.put_escaped.Given as goal
-
-abbrev pub invariant-loop-at : goal.invariant-loop-at
-invariant-loop-at g l = IsWrittenTo (byte_text l.place) (g.O.Outputs.seen l.fn.out) (g.O.Outputs.seen l.out) l.bytes l.written l.at

@@ -1,4 +1,0 @@
-use Rattle.resource_calls.proofs.installs.install_man.Goals as goal
-
-pub returns : goal.returns
-returns g c = c.install.ensures

@@ -1,0 +1,28 @@
+-- What becomes of the outputs of `configure_file`.
+use Rattle.std.specs.Prelude.{◌≡◌, ℕ, true, List, [], ◌∷◌, Option}
+use Rattle.edge.specs.Texts.{Path}
+use Rattle.ports.specs.Outputs.{Step, told}
+use Rattle.ports.specs.declared.event.Event.{Event}
+use Rattle.ports.specs.declared.event.Event.TheVariants.{Open, Byte, Close, Log, Fault}
+use Rattle.project.specs.Laws.{all_held}
+use Rattle.world.specs.Run.{Run, ran, Done, Faulted}
+use Rattle.world.specs.Trace.{steps_of}
+
+-- the outputs whose `Close` stands among these events
+abbrev pub closed_in : List (Event (List ℕ)) → List Path
+closed_in [] = []
+closed_in (Close path ∷ events) = path ∷ closed_in events
+closed_in (Open path ∷ events) = closed_in events
+closed_in (Byte path byte ∷ events) = closed_in events
+closed_in (Log byte ∷ events) = closed_in events
+closed_in (Fault byte ∷ events) = closed_in events
+
+-- the outputs that these steps close, where this one is open before them
+abbrev pub closed_by : Option Path → List Step → List Path
+closed_by name steps = closed_in (told name steps)
+
+-- After a run that is done each output of the project has a `Close` among the events of the run's steps, whichever output is open before
+-- them.
+abbrev pub ClosesOutputs : {A : Type 0} → Run A → Type 0
+ClosesOutputs (ran (Done _) w ms) = (name : Option Path) → all_held (closed_by name (steps_of ms)) w.facts.project.outputs ≡ true
+ClosesOutputs (ran (Faulted _) w ms) = Unit {0}

@@ -1,0 +1,26 @@
+//! Holds the arguments of a call against its row.
+ghost use Rattle.arguments.specs.Arguments.{arguments_data};
+ghost use Rattle.arguments.specs.RowView.{row_data};
+ghost use Rattle.world.specs.Answering.{Carries};
+ghost use Rattle.world.specs.Fit.{fit};
+
+use crate::caller::Caller;
+use crate::stop::Stop;
+use arguments::{Arguments, Row, check};
+use ports::{Outputs, Tree};
+
+impl<'a, T: Tree, O: Outputs> Caller<'a, T, O> {
+    ghost use Rattle.world.specs.Caller.{state_of};
+
+    /// Refuses a call whose arguments are not what its row says, and tells what does not fit.
+    pub fn fit(&self, row: &Row, arguments: &Arguments) -> Result<(), Stop>
+        ensures { Carries (λ u. u) (fit (row_data row.now) (arguments_data arguments.now))
+            (state_of T.seen O.seen self.now) result (state_of T.seen O.seen self.now) }
+    {
+        let answer = check(self.alloc, row, arguments)?;
+        match answer {
+            Ok(()) => Ok(()),
+            Err(refused) => self.refuse(refused.refusal, refused.detail.as_str()),
+        }
+    }
+}
