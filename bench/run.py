@@ -252,7 +252,8 @@ GROUPS = {
     "values": Group(
         "operations on values", "one", calls("values"),
         [
-            *(Load(name, (6_000, 60_000)) for name in ("append", "characters", "entries", "replaced", "lookups", "format", "unused", "join")),
+            *(Load(name, (6_000, 60_000))
+              for name in ("append", "characters", "entries", "replaced", "lookups", "format", "unused", "join")),
             Load("double", (1_048_576, 16_777_216)),
         ],
         rounds=7, is_told=True,
