@@ -16,6 +16,16 @@ pub struct SourceTexts {
     pub description: String,
 }
 
+// Two texts as one.
+fn both(alloc: Global, front: &str, end: &str) -> Result<String, AllocError>
+    ensures { IfOk result (λ s. string_bytes s ≡ front.now ++ end.now) }
+{
+    let mut text = String::with_capacity(alloc, front.len().saturating_add(end.len()))?;
+    text.push_str(front)?;
+    text.push_str(end)?;
+    Ok(text)
+}
+
 /// The texts of an input, of the target whose file this is.
 pub fn source_texts(alloc: Global, file: &str, input: &Input) -> Result<SourceTexts, AllocError>
     ensures object { IfOk result (λ t. string_bytes t.object ≡ object_path file.now (string_bytes input.now.name)) }
@@ -24,8 +34,8 @@ pub fn source_texts(alloc: Global, file: &str, input: &Input) -> Result<SourceTe
         ≡ codes "Compiling C object " ++ object_path file.now (string_bytes input.now.name)) }
 {
     let object = object_path(alloc, file, &input.name)?;
-    let depfile = format!(in alloc; "{object}.d")?;
-    let description = format!(in alloc; "Compiling C object {object}")?;
+    let depfile = both(alloc, &object, ".d")?;
+    let description = both(alloc, "Compiling C object ", &object)?;
     Ok(SourceTexts {
         object,
         depfile,
