@@ -7,9 +7,9 @@ use Rattle.data.specs.Data.{Data}
 use Rattle.data.specs.declared.refusal.Refusal.{Refusal as OperationRefusal}
 use Rattle.ports.specs.Outputs.{OutputState}
 use Rattle.ports.specs.Tree.{TreeState}
-use Rattle.world.specs.Deed.{Files, change}
+use Rattle.world.specs.Deed.{Files}
 use Rattle.world.specs.Gives.{Gives, Holds}
-use Rattle.world.specs.Plan.{Plan, deed, next, give, carry, answered}
+use Rattle.world.specs.Plan.{Plan, next, give, carry, answered}
 use Rattle.world.specs.Store.{changing}
 use Rattle.world.specs.Trace.{Seen, seen}
 use Rattle.world.specs.Run.{ran, Done, Faulted, outcome_of}
@@ -19,10 +19,10 @@ use Rattle.basics.specs.declared.faults.refusal.Refusal.TheVariants as refusals
 use Rattle.operators.specs.declared.operator.Binary.TheVariants.{Add}
 use Rattle.operators.specs.Operations.{binary_answer}
 use Rattle.language_calls.specs.Names.{is_predefined}
-use Rattle.world.specs.World.{World, Facts, LeavesPaths, with_facts, with_line, with_variable, with_variables, variables_with}
+use Rattle.world.specs.World.{World, with_facts, with_line, with_variable, with_variables, variables_with}
 use Rattle.world.specs.declared.stop.Stop.{Stop}
 use Rattle.world.specs.declared.stop.Stop.TheVariants as stops
-use Rattle.world.proofs.Follow.{ends_grown, gives_at, wanted_grown}
+use Rattle.world.proofs.Follow.{gives_at, wanted_grown}
 use Rattle.world.proofs.Setting.{world_lost}
 use Rattle.interp.specs.Evaluates.{Stand, Given, seen_of}
 use Rattle.world.specs.Answering.{Refuses}
