@@ -24,8 +24,8 @@ const BAD_LINE: u8 = 4;
 const MACHINE_FILE_BYTES: usize = 33_554_432;
 
 /// Configures the project in the folder `root`, or tells what that asks of the machine file or which fault it ends in, as the words say,
-/// of which the first is the program's name. The log goes to `log`, fault lines and the program's own texts to `faults`, outputs to the folder that the words name,
-/// below `root`.
+/// of which the first is the program's name. The log goes to `log`, fault lines and the program's own texts to `faults`, outputs to the
+/// folder that the words name, below `root`.
 ///
 /// Answers the exit status: 0 done, 1 a fault of the sources, 2 a device failed, 3 memory ran out,
 /// 4 the words are no command line.

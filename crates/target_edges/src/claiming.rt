@@ -40,7 +40,8 @@ fn shared_is_held(parts: &TargetParts) -> bool
 }
 
 fn own_are_held(parts: &TargetParts, objects: &[String]) -> bool
-    ensures { result ≡ (list_all is_path_of (texts objects.now) && list_all (λ i. is_path_of (string_bytes i.path)) parts.now.inputs.items) }
+    ensures { result
+        ≡ (list_all is_path_of (texts objects.now) && list_all (λ i. is_path_of (string_bytes i.path)) parts.now.inputs.items) }
 {
     are_paths(objects) && sources_are_paths(&parts.inputs)
 }

@@ -1,5 +1,6 @@
 //! The libraries that a target links.
-ghost use Rattle.std.specs.Prelude.{◌≡◌, ◌∷◌, [], map, flat_map, ◌++◌, IfOk, ◌<◌, false, true, length, nat_eq, slice_get, slice_index_or, slice_set, option_map, ◌&&◌};
+ghost use Rattle.std.specs.Prelude.{◌≡◌, ◌∷◌, [], map, flat_map, ◌++◌, IfOk, ◌<◌, false};
+ghost use Rattle.std.specs.Prelude.{true, length, nat_eq, slice_get, slice_index_or, slice_set, option_map, ◌&&◌};
 ghost use Rattle.std.specs.List.{list_all, list_any};
 ghost use Rattle.indexmap.specs.IndexSet.{insert_key};
 ghost use Rattle.targets.specs.Libraries.{last_kept, with_its_own, libraries_of, libraries_in, build_of, build_at, is_library_at};

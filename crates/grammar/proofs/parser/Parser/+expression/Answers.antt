@@ -13,7 +13,7 @@ use Rattle.grammar.specs.ReadingExpressions.{disjunction_at, argument_at, ternar
 use Rattle.grammar.proofs.ExpressionTails.{list_stops, list_unclosed, list_reads, dictionary_stops, dictionary_unclosed, dictionary_reads, arguments_stops, arguments_unclosed, arguments_reads, call_reads, chain_more, chain_others_fail, entry_colon_fails, entry_key_fails, entry_reads, entry_value_fails, index_reads, method_reads, postfix_alone, postfix_base_fails, postfix_links_fail, postfix_more, prefixed_reads, prefixed_value_fails, prefixed_word_fails, ternary_asks, ternary_colon_fails, ternary_one_fails, ternary_other_fails, ternary_question_fails, ternary_test_fails, argument_label_fails, argument_reads, argument_value_fails, operand_fails, operand_reads, taken_head, taken_other}
 use Rattle.grammar.proofs.Loops.{pending_done, pending_fails, pending_first, pending_more, still_ends, still_fails, still_first, still_more}
 use Rattle.grammar.proofs.Tails.{length_lexemes}
-use Rattle.grammar.proofs.Views.{dictionary_seen, entries_pushed, list_seen, arguments_pushed, call_seen, chain_seen, index_seen, method_seen, operands_pushed, postfix_seen, prefix_seen, some_kept, choice_seen}
+use Rattle.grammar.proofs.Views.{dictionary_seen, entries_pushed, list_seen, arguments_pushed, call_seen, chain_seen, index_seen, method_seen, operands_pushed, postfix_seen, prefix_seen, some_kept, ternary_seen}
 use Rattle.grammar.proofs.parser.Parser.+expression.Goals as goal
 
 -- what was read, as the tree of what is returned
@@ -305,8 +305,8 @@ ternary-returns-clause-read t c = returned _ _ _ _
     (expression_of c.in_ok-yes.yes) (lexemes c.chain-2.new.self.rest.now) c.in_ok-yes.ensures.read
     _ (lexemes c.closed.new.self.rest.now) c.in_ok-yes-2.ensures.read
     (expression_of c.in_ok-no.no) (lexemes c.chain-3.new.self.rest.now) c.in_ok-no.ensures.read)
-    (choice_seen (expression_of c.in_ok-test.test) (expression_of c.in_ok-no.no) _ _ _ _ _ (ap expression_of (sym c.in_ok-yes-2.ensures.same))
-    (sym c.first_line-line.ensures) c.in_ok-choice.ensures)
+    (ternary_seen c.in_ok-test-2.test c.in_ok-yes-3.yes c.in_ok-no-2.no c.first_line-line.result _ _ _ _ (ap expression_of (sym c.in_ok-test-2.ensures))
+    (ap expression_of (sym (c.in_ok-yes-3.ensures ∙ c.in_ok-yes-2.ensures.same))) (ap expression_of (sym c.in_ok-no-2.ensures)) (sym c.first_line-line.ensures))
 
 pub link-returns-then-begins-clause-read : goal.link-returns-then-begins-clause-read
 link-returns-then-begins-clause-read t c = returned _ _ _ _
