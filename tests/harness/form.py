@@ -18,10 +18,10 @@ MOST_BYTES = 1 << 26
 
 DIRECTIVES = {
     "L2": "content", "file": "content", "files": "line", "folder": "line", "in": "line", "machine": "content", "word": "line",
-    "build": "line", "link": "line", "hardlink": "line", "fifo": "line", "socket": "line", "locked": "line", "closed": "line", "full": "line",
-    "command": "either", "log": "either", "fault": "line", "status": "line", "complaint": "either", "out": "content", "no": "line",
-    "edge": "content", "json": "line", "ok": "none", "cut": "line", "fail": "line", "pieces": "line", "looks": "line", "stays": "line",
-    "questions": "none", "asks": "either", "about": "line", "rows": "rows",
+    "build": "line", "link": "line", "hardlink": "line", "fifo": "line", "socket": "line", "locked": "line", "closed": "line",
+    "full": "line", "command": "either", "log": "either", "fault": "line", "status": "line", "complaint": "either", "out": "content",
+    "no": "line", "edge": "content", "json": "line", "ok": "none", "cut": "line", "fail": "line", "pieces": "line", "looks": "line",
+    "stays": "line", "questions": "none", "asks": "either", "about": "line", "rows": "rows",
 }
 
 EXPECTS = {"log", "fault", "status", "complaint", "out", "no", "edge", "json", "ok", "looks", "stays", "asks", "about"}
