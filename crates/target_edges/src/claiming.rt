@@ -1,4 +1,4 @@
-//! What a project asks of a target's edges before it takes the target. Those that compile, and those of custom targets, are not made for it.
+//! What a project asks of a target's edges before it takes the target. Those that compile and those of custom targets are not made for it.
 ghost use Rattle.std.specs.Prelude.{◌≡◌, ◌∷◌, [], ◌++◌, ◌&&◌, ◌||◌, map, flat_map, IfOk, option_map, string_bytes};
 ghost use Rattle.std.specs.List.{list_all};
 ghost use Rattle.edge.specs.Holding.{is_path as is_path_of, is_writable, are_writable as are_writable_of};

@@ -3,8 +3,8 @@ ghost use Rattle.std.specs.Prelude.{◌≡◌, ◌∷◌, [], map, flat_map, ◌
 ghost use Rattle.std.specs.Prelude.{true, length, nat_eq, slice_get, slice_index_or, slice_set, option_map, ◌&&◌};
 ghost use Rattle.std.specs.List.{list_all, list_any};
 ghost use Rattle.indexmap.specs.IndexSet.{insert_key};
-ghost use Rattle.targets.specs.Libraries.{before_all, last_kept, with_its_own, libraries_of, libraries_in, build_of, build_at, is_library_at};
-ghost use Rattle.targets.specs.Libraries.{is_static_target, links_libraries};
+ghost use Rattle.targets.specs.Libraries.{before_all, last_kept, with_its_own, libraries_of, libraries_in, build_of, build_at};
+ghost use Rattle.targets.specs.Libraries.{is_library_at, is_static_target, links_libraries};
 ghost use Rattle.targets.specs.Marks.{AreMarks};
 ghost use Rattle.targets.specs.View.{linked_view, target_view, build_view};
 
