@@ -7,7 +7,7 @@ use Rattle.edge.specs.View.{edge_view}
 use Rattle.targets.specs.Inputs.{input_view}
 use Rattle.targets.specs.Sources.{InputData}
 use Rattle.target_edges.proofs.Sharing.{outputs_are}
-use Rattle.target_edges.proofs.claiming.claims_of.Goals as goal
+use Rattle.target_edges.proofs.claiming.build_claims.Goals as goal
 
 pub returns-clause-paths : goal.returns-clause-paths
 returns-clause-paths c =

@@ -1,5 +1,5 @@
 use Rattle.edge.proofs.TextLists.{kept_more}
-use Rattle.edge.proofs.texts.first_kept.Goals as goal
+use Rattle.edge.proofs.texts.first_by_set.Goals as goal
 
 pub loop-text-preserved : goal.loop-text-preserved
 loop-text-preserved c =
