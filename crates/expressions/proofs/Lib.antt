@@ -1,0 +1,4 @@
+pub mod Assigning
+pub mod Evaluating
+pub mod Filling
+pub mod Walking
