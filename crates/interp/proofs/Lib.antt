@@ -1,4 +1,3 @@
-pub mod Assigning
 pub mod Blocks
 mod Closing
 pub mod Coming
@@ -6,11 +5,8 @@ mod Costs
 mod Depending
 mod Examples
 pub mod Ending
-pub mod Evaluating
-pub mod Filling
 pub mod Looping
 pub mod Machines
-mod Meanings
 mod Noting
 pub mod Opening
 mod Pairs
@@ -22,4 +18,3 @@ pub mod Stack
 pub mod Starting
 mod Ticking
 mod Values
-mod Walking

@@ -21,19 +21,21 @@ use Rattle.world.specs.Deed.{Files}
 use Rattle.world.specs.Plan.{Plan, give, next, ruled}
 use Rattle.world.specs.declared.stop.Stop.{Stop}
 use Rattle.interp.specs.Blocks.{branch_or, expressions_by, node_at, statements_by}
-use Rattle.interp.specs.Evaluates.{Comes, Given, HaltsTo, Reads, Stand, Leads}
+use Rattle.interp.specs.Evaluates.{Comes, HaltsTo, Reads}
+use Rattle.expressions.specs.Contexts.{Given, Stand, Leads}
 use Rattle.interp.specs.Expressions.{given_by, value_of}
 use Rattle.interp.specs.Frames.{Chooses, Made, above_branch, part_done}
 use Rattle.interp.specs.Parts.{above}
-use Rattle.interp.specs.Rounds.{RoundAt, round_data}
-use Rattle.interp.specs.Statements.{Round, bound, do_all, stated}
-use Rattle.interp.specs.declared.loops.Round.{Round as Declared}
+use Rattle.expressions.specs.Rounds.{RoundAt, round_data, Round}
+use Rattle.expressions.specs.Assignments.{bound}
+use Rattle.interp.specs.Statements.{do_all, stated}
+use Rattle.expressions.specs.declared.loops.Round.{Round as Declared}
 use Rattle.interp.specs.declared.flow.Flow.{Flow}
 use Rattle.interp.specs.declared.flow.Flow.TheVariants.{Next}
 use Rattle.interp.specs.declared.halt.Halt.{Halt}
 use Rattle.interp.specs.declared.halt.Halt.TheVariants as halts
 use Rattle.interp.proofs.Coming.{halts_end, halts_then}
-use Rattle.interp.proofs.Evaluating.{given_stop, leads_end, next_is}
+use Rattle.expressions.proofs.Evaluating.{given_stop, leads_end, next_is}
 use Rattle.interp.proofs.Reading.{name_of, opened}
 
 -- the trees of the expressions

@@ -16,11 +16,13 @@ use Rattle.interp.specs.Expressions.{value_of}
 use Rattle.interp.specs.Folders.{folder}
 use Rattle.interp.specs.Frames.{above_branch, behind_all, one_round, round_by}
 use Rattle.interp.specs.Parts.{above}
-use Rattle.interp.specs.Statements.{appended, assigned, branches_of, do_all, does, looped, own, stated, walked}
+use Rattle.expressions.specs.Assignments.{appended, assigned, own}
+use Rattle.interp.specs.Statements.{branches_of, do_all, does, stated, walked}
+use Rattle.expressions.specs.Rounds.{looped}
 use Rattle.interp.specs.declared.flow.Flow.TheVariants as flows
 use Rattle.interp.specs.declared.frames.LoopHead.{LoopHead}
 use Rattle.interp.proofs.Coming.{halted_enters, halted_stops}
-use Rattle.interp.proofs.Evaluating.{given_as, given_give, leads_other}
+use Rattle.expressions.proofs.Evaluating.{given_as, given_give, leads_other}
 use Rattle.interp.proofs.Spelling.{branches_reach, named, node_is, parts_of, reads_at, spelled}
 use Rattle.interp.proofs.Stack.{leads_under, made_as, moves_as, moves_given, moves_then, stacked_on}
 use Rattle.interp.proofs.evaluator.Evaluator.begin.Goals as goal

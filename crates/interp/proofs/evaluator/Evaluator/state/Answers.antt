@@ -14,7 +14,7 @@ use Rattle.interp.specs.Statements.{stated}
 use Rattle.interp.specs.declared.flow.Flow.TheVariants as flows
 use Rattle.interp.specs.declared.frames.Frame.TheVariants as frames
 use Rattle.interp.proofs.Coming.{halted_enters, halted_stops, leads_left}
-use Rattle.interp.proofs.Evaluating.{given_as, given_give, given_stop, given_then, leads_next, leads_other, leads_start}
+use Rattle.expressions.proofs.Evaluating.{given_as, given_give, given_stop, given_then, leads_next, leads_other, leads_start}
 use Rattle.interp.proofs.Reading.{arguments_reach, parts_at}
 use Rattle.interp.proofs.Spelling.{call_at, reads_at, stated_at}
 use Rattle.interp.proofs.Stack.{behind_top, leads_under, moves_as, moves_given, moves_none, moves_then, stacked_on, stacked_top}
