@@ -7,7 +7,7 @@ import re
 # What a hole of a table looks like: '…', or '…1' and '…2' where a row has two columns.
 HOLE = re.compile(r"…(\d?)")
 
-# Parts of a row of which each makes a row of its own: '‹a¦b¦c›'. In a result the part at the same place, or '‹1›' for the chosen one itself.
+# Parts of a row of which each makes a row of its own: '‹a¦b¦c›'; in a result the part at the same place, or '‹1›' for the chosen one.
 CHOICE = re.compile(r"‹([^›]*)›")
 
 # What stands between a row and its result, and between the columns of a row.
