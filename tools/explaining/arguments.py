@@ -7,13 +7,15 @@ from porting import left, tree
 from tools.explaining.context import Context
 from tools.explaining.detail import Detail, detail, listed, near, quoted
 from tools.explaining.instead import in_its_place
-from tools.explaining.rows import FUNCTIONS, KINDS, METHODS, OF_VALUES, Kind, Row
+from tools.explaining.rows import FUNCTIONS, KINDS, METHODS, OF_VALUES, PRINTED, Kind, Row
 from tools.explaining.rules import broken_rule, hint_of, place_of_text, value_of_key
 from tools.explaining.told import GOT, NONE
 from tools.explaining.values import OBJECT, OWN, Value
 
 # What is taken and is no kind of values, where what was given says more.
 OTHERS = ("'c'", "one file")
+# What is told of more than one argument, and of words of commands.
+UNPRINTED, FOR_NOTHING = "one can't be printed", " stands for nothing"
 
 
 def refused(context: Context) -> Detail:
@@ -57,13 +59,30 @@ def of_told(context: Context, call: tree.Call) -> Detail:
         given = value_of_key(context, call, told.text) if told.kind else None
         text = f"{call.name}: {told.shown}" + (f"{GOT}{given.shown()}" if given else "")
         return detail(text, hint_of(context, call), at=place_of_text(context, call, told.text))
+    if told.so == UNPRINTED:
+        return unprinted(context, call)
     if node is None:
         return detail(f"{call.name}: {told.shown}", at=place_of_count(call, told.so))
-    value = context.value(node)
     if told.kind in KINDS or told.kind in OTHERS:
-        return detail(f"{call.name}: {told.shown.partition(GOT)[0]}{got(context, value)}", at=node.start)
-    is_value = f": it is {value.shown()}" if value is not None and told.number is not None and told.kind is None else ""
-    return detail(f"{call.name}: {told.shown}{is_value}", hint_of(context, call), at=node.start)
+        return detail(f"{call.name}: {told.shown.partition(GOT)[0]}{got(context, context.value(node))}", at=node.start)
+    rule = broken_rule(context, call, values_of(context, call)) if told.so.endswith(FOR_NOTHING) else None
+    return detail(f"{call.name}: {told.shown}", *(rule.lines if rule else ()), at=rule.at if rule else node.start)
+
+
+def unprinted(context: Context, call: tree.Call) -> Detail:
+    """The first argument that has no printed text."""
+    for number, node in enumerate(call.arguments, 1):
+        value = context.value(node)
+        misfit = misfit_of(PRINTED, value) if value is not None else ""
+        if misfit:
+            return detail(f"{call.name}: {context.told.shown}: argument {number} is {misfit}", f"it prints {PRINTED.words}", at=node.start)
+    return detail(f"{call.name}: {context.told.shown}", f"it prints {PRINTED.words}", at=call.start)
+
+
+def values_of(context: Context, call: tree.Call) -> dict[str, Value]:
+    """The values of the arguments that are known, by their names and numbers."""
+    found = {name: context.value(item) for name, _, item in items_of(call)}
+    return {name: it for name, it in found.items() if it is not None}
 
 
 def got(context: Context, value: Value | None) -> str:

@@ -159,13 +159,15 @@ def left_keyword(context: Context, name: str) -> Detail:
 
 
 def of_project(context: Context, call: tree.Call | None) -> Detail:
-    """A language beside C, or a value of an option that is left out."""
+    """A language beside C, of which nothing is told, or a value of an option."""
     told = context.told
+    given = call.keywords.get("default_options") if call else None
     if told.option is not None:
         instead = in_its_place("Functions", "default_library=both")
-        given = call.keywords.get("default_options") if call else None
         return detail(f"project: default_options: {told.shown}", instead, at=given.start if given else None)
-    nodes = [it for argument in (call.arguments[1:] if call else []) for it in tree.inside(argument) if isinstance(it, tree.Text)]
-    at = next((it.start for it in nodes if it.value == told.text), None)
-    why = f"project: the language {quoted(told.text or '')} is left out: C alone is built"
-    return detail(why, in_its_place("Functions", "add_languages"), at=at)
+    for argument in call.arguments[1:] if call else []:
+        for node in tree.inside(argument):
+            if isinstance(node, tree.Text) and node.value != "c":
+                why = f"project: the language {quoted(node.value)} is left out: C alone is built"
+                return detail(why, in_its_place("Functions", "add_languages"), at=node.start)
+    return detail("project: a language beside C is left out", in_its_place("Functions", "add_languages"), at=call.start if call else None)

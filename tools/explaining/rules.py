@@ -19,8 +19,6 @@ WHYS = {
     "is no name of a variable": "it has letters, digits and '_', begins with no digit, and is no word of the language",
     "is no name of a value": "it has letters, digits, '_' and '-'",
     "is no name of a man page": "the last digit of its name says the section, as in 'name.1'",
-    "has no '='": "it is NAME=VALUE",
-    "can't be printed": "texts, integers, truth values, and lists and dictionaries of these are printed",
 }
 
 
@@ -137,6 +135,9 @@ def of_programs(call: tree.Call, values: dict[str, Value]) -> Why:
 
 
 def of_environment(call: tree.Call, values: dict[str, Value]) -> Why:
+    for text in texts(values["env"]) if "env" in values else []:
+        if "=" not in text:
+            return "env", f"{quoted(text)} is no NAME=VALUE"
     for key, value in pairs(values["env"]) if "env" in values else []:
         if value.kind != TEXT:
             return "env", f"the value of {quoted(key)} is {value.shown()}, and no text"

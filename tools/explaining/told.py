@@ -16,7 +16,7 @@ FORMS = (
 )
 # How it begins where a value is of another kind than is taken there, and what it ends with.
 TAKES, GOT = "takes ", ", and got "
-MISSING, TWICE, NONE, LEFT_OUT = "is missing, and is needed", "stands twice", "there is none", "is left out"
+MISSING, TWICE, NONE, LEFT = "is missing, and is needed", "stands twice", "there is none", "is left out"
 
 
 @dataclasses.dataclass(frozen=True)
