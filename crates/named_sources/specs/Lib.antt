@@ -4,6 +4,7 @@ pub mod Libraries
 pub mod Outputs
 pub mod Sources
 pub mod SourcesView
+pub mod Unnamed
 pub mod Values
 pub mod ValuesView
 pub mod Versions

@@ -6,6 +6,7 @@ mod folders;
 mod libraries;
 mod outputs;
 mod sources;
+mod unnamed;
 mod values;
 mod versions;
 
@@ -13,5 +14,6 @@ pub use folders::{folders_of, strings};
 pub use libraries::numbers_of;
 pub use outputs::{output_at, outputs_at};
 pub use sources::{NamedSource, sources_of};
+pub use unnamed::{unnamed_folder, unnamed_source};
 pub use values::{directories_at, files_at};
 pub use versions::is_library_version;
