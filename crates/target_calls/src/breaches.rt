@@ -96,10 +96,7 @@ fn name_breach(
 }
 
 // The same, or an input that stands for nothing.
-fn input_breach(
-    here: &Here<'_>,
-    arguments: &Arguments,
-) -> Result<(Rule, &'static str), AllocError>
+fn input_breach(here: &Here<'_>, arguments: &Arguments) -> Result<(Rule, &'static str), AllocError>
     ensures { IfOk result (λ b. (b.0, b.1.now) ≡ input_breach (here_view here.now) (arguments_data arguments.now)
         (sources_by (here_view here.now) (arguments_data arguments.now) (codes "input"))) }
 {

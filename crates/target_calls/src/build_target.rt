@@ -75,7 +75,10 @@ fn soversion_of(alloc: Global, arguments: &Arguments) -> Result<Option<String>, 
 // ---- lists
 
 /// What the sources are said to be: behind the name of the target, then by keyword.
-pub(crate) fn source_values<'v>(alloc: Global, arguments: &'v Arguments) -> Result<Vec<&'v Value>, AllocError>
+pub(crate) fn source_values<'v>(
+    alloc: Global,
+    arguments: &'v Arguments,
+) -> Result<Vec<&'v Value>, AllocError>
     ensures { IfOk result (λ vs. map (λ v. data_of v.now) vs.items ≡ source_values (arguments_data arguments.now)) }
 {
     let mut values = arguments.leaves_behind(alloc, 1)?;

@@ -125,7 +125,10 @@ pub(crate) fn written(alloc: Global, arguments: &Arguments) -> Result<Vec<&Value
 }
 
 /// The files of the tree among the sources.
-pub(crate) fn written_files(here: &Here<'_>, arguments: &Arguments) -> Result<Option<Vec<String>>, AllocError>
+pub(crate) fn written_files(
+    here: &Here<'_>,
+    arguments: &Arguments,
+) -> Result<Option<Vec<String>>, AllocError>
     ensures { IfOk result (λ fs. option_map (λ v. texts v.items) fs ≡ written_files (here_view here.now) (arguments_data arguments.now)) }
 {
     let values = written(here.alloc, arguments)?;
