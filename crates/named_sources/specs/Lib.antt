@@ -7,6 +7,7 @@ pub mod Names
 pub mod Outputs
 pub mod Sources
 pub mod SourcesView
+pub mod Unnamed
 pub mod Values
 pub mod ValuesView
 pub mod Versions

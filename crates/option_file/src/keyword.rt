@@ -72,8 +72,8 @@ pub fn is_left_out(name: &str) -> bool
     is_among(&["kwargs", "fallback", "deprecated"], name)
 }
 
-// The type that is given by its name.
-fn type_in(given: &Given) -> Option<OptionType>
+/// The type that is given by its name.
+pub(crate) fn type_in(given: &Given) -> Option<OptionType>
     ensures { result ≡ type_in (given_in given.now) }
 {
     match given {
@@ -98,8 +98,8 @@ fn choices_in(alloc: Global, given: Given) -> Result<Option<Choices>, AllocError
     }
 }
 
-// A bound is an integer of 64 bits.
-fn bound_in(given: &Given) -> Option<i64>
+/// A bound is an integer of 64 bits.
+pub(crate) fn bound_in(given: &Given) -> Option<i64>
     ensures { result ≡ bound_in (given_in given.now) }
 {
     match given {

@@ -146,7 +146,8 @@ fn install_at(
     }
 }
 
-fn install_of(
+/// What is installed of a file that is named: a target can't be installed so.
+pub(crate) fn install_of(
     folders: &Folders<'_>,
     sort: Sort,
     arguments: &Arguments,

@@ -1,7 +1,7 @@
 use Rattle.std.proofs.Common.{◌∙◌, ◌++◌, get_or, rules, ap, string_bytes}
 use Rattle.std.specs.Prelude.{codes}
 use Rattle.option_values.proofs.Items.{printed_more}
-use Rattle.option_values.proofs.given.printed.Goals as goal
+use Rattle.option_values.proofs.given.push_quoted.Goals as goal
 
 pub loop-item-preserved : goal.loop-item-preserved
 loop-item-preserved c =
