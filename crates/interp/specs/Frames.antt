@@ -232,5 +232,7 @@ module _ {T O L : Type 0} where
   ChoosesOf tree out parts code old result new =
       (files : Files) (ts : List ExpressionTree) (ss : List StatementTree) (left : Bounds) (otherwise : Statements)
       → Holds (tree old.tree.now) files → Reads ts code old.store.now.names
-      → Chooses files left (branches_of (folder left) left.few (branches (map (branch_at ts ss) parts)) (do_all (folder left) left.few otherwise))
-      (stand_of tree out old) (part_done (folder left) left.few (branches (map (branch_at ts ss) parts)) otherwise) result (stand_of tree out new)
+      → Chooses files left
+      (branches_of (folder left) left.few (branches (map (branch_at ts ss) parts)) (do_all (folder left) left.few otherwise))
+      (stand_of tree out old) (part_done (folder left) left.few (branches (map (branch_at ts ss) parts)) otherwise) result
+      (stand_of tree out new)

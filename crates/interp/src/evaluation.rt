@@ -44,7 +44,8 @@ impl<'a, T: Tree, O: Outputs, L: Ledger> Evaluator<'a, T, O, L> {
         requires room { HasRooms T.seen O.seen self.old.context }
         ensures same { Same self.old.context self.new.context }
         ensures device { Fails T.seen O.seen self.old.context result self.new.context }
-        ensures gives { (few : Bool) → Answers T.seen O.seen (λ f. f) (root few (file_by self.old.context.store.now.names code)) self.old.context result self.new.context }
+        ensures gives { (few : Bool) → Answers T.seen O.seen (λ f. f) (root few (file_by self.old.context.store.now.names code))
+            self.old.context result self.new.context }
     {
         match line_before_project(&code) {
             Some(line) => self.context.refuse(line, Refusal::ProjectCall, ""),
@@ -58,7 +59,8 @@ impl<'a, T: Tree, O: Outputs, L: Ledger> Evaluator<'a, T, O, L> {
         requires room { HasRooms T.seen O.seen self.old.context }
         ensures same { Same self.old.context self.new.context }
         ensures device { Fails T.seen O.seen self.old.context result self.new.context }
-        ensures gives { (few : Bool) → Answers T.seen O.seen (λ f. f) (ruled (root few (file_by self.old.context.store.now.names code))) self.old.context result self.new.context }
+        ensures gives { (few : Bool) → Answers T.seen O.seen (λ f. f) (ruled (root few (file_by self.old.context.store.now.names code)))
+            self.old.context result self.new.context }
     {
         let answer = self.root_statements(code);
         ended(answer, self.context.steps)

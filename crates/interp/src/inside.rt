@@ -95,7 +95,8 @@ impl<'a, T: Tree, O: Outputs, L: Ledger> Evaluator<'a, T, O, L> {
         requires room { HasRoom T.seen O.seen self.old.context }
         ensures same { Same self.old.context self.new.context }
         ensures device { Fails T.seen O.seen self.old.context result self.new.context }
-        ensures gives { (few : Bool) → Acts T.seen O.seen (inside (bounds few left) entry) self.old.context stack.old.items result self.new.context stack.new.items }
+        ensures gives { (few : Bool) → Acts T.seen O.seen (inside (bounds few left) entry)
+            self.old.context stack.old.items result self.new.context stack.new.items }
     {
         for _rule in 0..entry.rules {
             stack.push(Frame::End)?;

@@ -42,8 +42,8 @@ impl<'a, T: Tree, O: Outputs, L: Ledger> Evaluator<'a, T, O, L> {
         requires room { HasRoom T.seen O.seen self.old.context }
         ensures same { Same self.old.context self.new.context }
         ensures device { Fails T.seen O.seen self.old.context result self.new.context }
-        ensures gives { (few : Bool) → Answers T.seen O.seen (λ f. f) (do_all (folder (bounds few 63)) few (file_by self.old.context.store.now.names code))
-            self.old.context result self.new.context }
+        ensures gives { (few : Bool) → Answers T.seen O.seen (λ f. f)
+            (do_all (folder (bounds few 63)) few (file_by self.old.context.store.now.names code)) self.old.context result self.new.context }
     {
         let shared = Rc::new(self.context.alloc, code)?;
         let mut stack = Vec::new(self.context.alloc);
@@ -103,7 +103,8 @@ impl<'a, T: Tree, O: Outputs, L: Ledger> Evaluator<'a, T, O, L> {
         requires room { HasRoom T.seen O.seen self.old.context }
         ensures same { Same self.old.context self.new.context }
         ensures device { Fails T.seen O.seen self.old.context result self.new.context }
-        ensures gives { (few : Bool) → Does T.seen O.seen (λ table. on_next flow (do_all (folder (bounds few rest.left)) few (others_by table rest))) rest.code.value
+        ensures gives { (few : Bool) → Does T.seen O.seen (λ table. on_next flow
+            (do_all (folder (bounds few rest.left)) few (others_by table rest))) rest.code.value
             self.old.context stack.old.items result self.new.context stack.new.items }
     {
         match flow {
@@ -119,8 +120,8 @@ impl<'a, T: Tree, O: Outputs, L: Ledger> Evaluator<'a, T, O, L> {
         requires room { HasRoom T.seen O.seen self.old.context }
         ensures same { Same self.old.context self.new.context }
         ensures device { Fails T.seen O.seen self.old.context result self.new.context }
-        ensures gives { (few : Bool) → Does T.seen O.seen (λ table. do_all (folder (bounds few rest.left)) few (others_by table rest)) rest.code.value
-            self.old.context stack.old.items result self.new.context stack.new.items }
+        ensures gives { (few : Bool) → Does T.seen O.seen (λ table. do_all (folder (bounds few rest.left)) few (others_by table rest))
+            rest.code.value self.old.context stack.old.items result self.new.context stack.new.items }
     {
         let BlockRest {
             code,
@@ -146,8 +147,8 @@ impl<'a, T: Tree, O: Outputs, L: Ledger> Evaluator<'a, T, O, L> {
         requires room { HasRoom T.seen O.seen self.old.context }
         ensures same { Same self.old.context self.new.context }
         ensures device { Fails T.seen O.seen self.old.context result self.new.context }
-        ensures gives { (few : Bool) → Does T.seen O.seen (λ table. after_round flow (rounds_of (round_by table rest.code.value (bounds few rest.left) rest.head)
-            (rounds_left rest))) rest.code.value
+        ensures gives { (few : Bool) → Does T.seen O.seen (λ table. after_round flow
+            (rounds_of (round_by table rest.code.value (bounds few rest.left) rest.head) (rounds_left rest))) rest.code.value
             self.old.context stack.old.items result self.new.context stack.new.items }
     {
         match flow {
@@ -163,8 +164,9 @@ impl<'a, T: Tree, O: Outputs, L: Ledger> Evaluator<'a, T, O, L> {
         requires room { HasRoom T.seen O.seen self.old.context }
         ensures same { Same self.old.context self.new.context }
         ensures device { Fails T.seen O.seen self.old.context result self.new.context }
-        ensures gives { (few : Bool) → Does T.seen O.seen (λ table. rounds_of (round_by table rest.code.value (bounds few rest.left) rest.head) (rounds_left rest))
-            rest.code.value self.old.context stack.old.items result self.new.context stack.new.items }
+        ensures gives { (few : Bool) → Does T.seen O.seen (λ table.
+            rounds_of (round_by table rest.code.value (bounds few rest.left) rest.head) (rounds_left rest)) rest.code.value
+            self.old.context stack.old.items result self.new.context stack.new.items }
     {
         let Some(round) = round_at(&rest.whole, rest.at)? else {
             return Ok(Flow::Next);

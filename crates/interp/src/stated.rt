@@ -65,7 +65,8 @@ impl<'a, T: Tree, O: Outputs, L: Ledger> Evaluator<'a, T, O, L> {
         requires room { HasRoom T.seen O.seen self.old.context }
         ensures same { Same self.old.context self.new.context }
         ensures device { Fails T.seen O.seen self.old.context result self.new.context }
-        ensures gives { (few : Bool) → Does T.seen O.seen (λ table. does (folder (bounds few left)) few (statement_at (statements_by table code.now.value) number))
+        ensures gives { (few : Bool) → Does T.seen O.seen (λ table.
+            does (folder (bounds few left)) few (statement_at (statements_by table code.now.value) number))
             code.now.value self.old.context stack.old.items result self.new.context stack.new.items }
     {
         match &code.statements[number] {
@@ -170,8 +171,9 @@ impl<'a, T: Tree, O: Outputs, L: Ledger> Evaluator<'a, T, O, L> {
         requires room { HasRoom T.seen O.seen self.old.context }
         ensures same { Same self.old.context self.new.context }
         ensures device { Fails T.seen O.seen self.old.context result self.new.context }
-        ensures gives { (few : Bool) → Does T.seen O.seen (λ table. stated (folder (bounds few left)) (tree_at (expressions_by table code.now) value))
-            code.now self.old.context stack.old.items result self.new.context stack.new.items }
+        ensures gives { (few : Bool) → Does T.seen O.seen (λ table.
+            stated (folder (bounds few left)) (tree_at (expressions_by table code.now) value)) code.now
+            self.old.context stack.old.items result self.new.context stack.new.items }
     {
         if let Node::Call {
             name,
@@ -228,7 +230,8 @@ impl<'a, T: Tree, O: Outputs, L: Ledger> Evaluator<'a, T, O, L> {
         requires room { HasRoom T.seen O.seen self.old.context }
         ensures same { Same self.old.context self.new.context }
         ensures device { Fails T.seen O.seen self.old.context result self.new.context }
-        ensures gives { (few : Bool) → Acts T.seen O.seen (by_way (folder (bounds few left)) (way_view way)) self.old.context stack.old.items result self.new.context stack.new.items }
+        ensures gives { (few : Bool) → Acts T.seen O.seen (by_way (folder (bounds few left)) (way_view way))
+            self.old.context stack.old.items result self.new.context stack.new.items }
     {
         match way {
             Way::Ends(flow) => Ok(flow),
@@ -253,7 +256,8 @@ impl<'a, T: Tree, O: Outputs, L: Ledger> Evaluator<'a, T, O, L> {
         ensures device { Fails T.seen O.seen self.old.context result self.new.context }
         ensures gives { (few : Bool) → Does T.seen O.seen (λ table. next
             (ruled (value_of (folder (bounds few left)) (tree_at (expressions_by table code.now.value) list)))
-            (λ d. walked few head.line (round_by table code.now.value (bounds few left) head) (looped (option_map (name_at table) head.second) d)))
+            (λ d. walked few head.line (round_by table code.now.value (bounds few left) head)
+            (looped (option_map (name_at table) head.second) d)))
             code.now.value self.old.context stack.old.items result self.new.context stack.new.items }
     {
         let whole = match self.eval(code, list) {
@@ -291,8 +295,9 @@ impl<'a, T: Tree, O: Outputs, L: Ledger> Evaluator<'a, T, O, L> {
         ensures device { Fails T.seen O.seen self.old.context result self.new.context }
         ensures gives { (few : Bool) (otherwise : List ℕ)
             → ((part : ℕ) → statements_of code.now.value (Part number part) ≡ branch_or otherwise parts.now part)
-            → Does T.seen O.seen (λ table. branches_of (folder (bounds few left)) few (branches (map (branch_at (expressions_by table code.now.value)
-            (statements_by table code.now.value)) parts.now)) (do_all (folder (bounds few left)) few (block_by table code.now.value otherwise)))
+            → Does T.seen O.seen (λ table. branches_of (folder (bounds few left)) few (branches (map (branch_at
+            (expressions_by table code.now.value) (statements_by table code.now.value)) parts.now))
+            (do_all (folder (bounds few left)) few (block_by table code.now.value otherwise)))
             code.now.value self.old.context stack.old.items result self.new.context stack.new.items }
     {
         match self.choose_part(code, parts) {
