@@ -8,6 +8,7 @@ ghost use Rattle.operators.specs.Operations.{binary_answer};
 ghost use Rattle.world.specs.Plan.{answered, ruled};
 ghost use Rattle.expressions.specs.Forms.{combined, meaning_of};
 ghost use Rattle.interp.specs.Expressions.{value_of};
+ghost use Rattle.interp.specs.Bounds.{Bounds};
 ghost use Rattle.interp.specs.Folders.{folder};
 ghost use Rattle.interp.specs.Operations.{Goes, completed};
 ghost use Rattle.expressions.specs.Contexts.{stand_of};
@@ -44,7 +45,7 @@ impl<'a, T: Tree, O: Outputs, L: Ledger> Evaluator<'a, T, O, L> {
 
     /// An operator on the value of its left side.
     pub fn begun(&self, line: usize, operator: Operator, left: Value) -> Result<Begun, Stop>
-        ensures gives { (files : Files) (more : ℕ) (right : ExpressionTree) → Holds (T.seen self.now.context.tree.now) files
+        ensures gives { (files : Files) (more : Bounds) (right : ExpressionTree) → Holds (T.seen self.now.context.tree.now) files
             → Goes files line (combined line (meaning_of operator) (data_of left) (ruled (value_of (folder more) right)))
             (ruled (value_of (folder more) right)) (stand_of T.seen O.seen self.now.context) result }
         ensures quiet { (n : ℕ) → failures_after n result ≡ n }
@@ -57,7 +58,7 @@ impl<'a, T: Tree, O: Outputs, L: Ledger> Evaluator<'a, T, O, L> {
 
     // The left side may decide alone.
     fn connected(&self, line: usize, connective: Connective, left: Value) -> Result<Begun, Stop>
-        ensures gives { (files : Files) (more : ℕ) (right : ExpressionTree) → Holds (T.seen self.now.context.tree.now) files
+        ensures gives { (files : Files) (more : Bounds) (right : ExpressionTree) → Holds (T.seen self.now.context.tree.now) files
             → Goes files line (combined line (Meaning.Connects connective) (data_of left) (ruled (value_of (folder more) right)))
             (ruled (value_of (folder more) right)) (stand_of T.seen O.seen self.now.context) result }
         ensures quiet { (n : ℕ) → failures_after n result ≡ n }
