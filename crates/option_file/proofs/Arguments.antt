@@ -96,13 +96,13 @@ keywords_end xs k i h le = sym (h ∙ ap (keywords_from k) (trees_end xs i le))
 
 listed_trees : (xs : List Argument) → listed (argument_trees xs) ≡ map argument_of xs
 listed_trees [] = refl
-listed_trees (x ∷ xs) = ap (λ (as : List ArgumentTree). argument_of x ∷ as) (listed_trees xs)
+listed_trees (x ∷ xs) = ap (λ (ts : List ArgumentTree). argument_of x ∷ ts) (listed_trees xs)
 
 abbrev told_twice : List ArgumentTree → Result Declaration RefusedData
-told_twice as = Err (refused_as (Twice (first_twice [] as)))
+told_twice ts = Err (refused_as (Twice (first_twice [] ts)))
 
 abbrev told_left_out : List ArgumentTree → Result Declaration RefusedData
-told_left_out as = Err (refused_as (LeftOut (first_left_out as)))
+told_left_out ts = Err (refused_as (LeftOut (first_left_out ts)))
 
 abbrev other : ℕ → List Argument → Result Declaration RefusedData
 other line xs = or_fault (unfit (listed (argument_trees xs))) (option_of line (argument_trees xs))
@@ -132,7 +132,7 @@ pub call_else : (line : ℕ) (xs : List Argument) (b l : Bool) (o : Option Decla
     → l ≡ list_any (λ a. is_left_out_key (argument_of a).0) xs → l ≡ false → o ≡ option_of line (argument_trees xs)
     → or_fault (unfit (map argument_of xs)) o ≡ call_declares line (argument_trees xs)
 call_else line xs b l o e f g n is =
-    ap (λ (as : List ArgumentTree). or_fault (unfit as) o) (sym (listed_trees xs))
+    ap (λ (ts : List ArgumentTree). or_fault (unfit ts) o) (sym (listed_trees xs))
     ∙ ap (or_fault (unfit (listed (argument_trees xs)))) is
     ∙ ap (unless_left_out line xs) (sym n ∙ g ∙ left_out_any xs)
     ∙ once line xs b e f
