@@ -3,8 +3,8 @@ ghost use Rattle.std.specs.Prelude.{◌≡◌, ◌++◌, IfOk, flat_map, map, op
 ghost use Rattle.arguments.specs.Arguments.{arguments_data, named_data};
 ghost use Rattle.data.specs.View.{data_of};
 ghost use Rattle.edge.specs.Texts.{texts};
-ghost use Rattle.placeholders.specs.Holes.{first_of};
-ghost use Rattle.placeholders.specs.View.{place_view};
+ghost use Rattle.named_sources.specs.Holes.{first_of};
+ghost use Rattle.named_sources.specs.HolesView.{place_view};
 ghost use Rattle.targets.specs.Files.{path_in as path_of_file};
 ghost use Rattle.targets.specs.View.{custom_view, source_view};
 ghost use Rattle.named_sources.specs.SourcesView.{named_view};
@@ -24,8 +24,7 @@ use crate::sources::{files_among, sources_in};
 use arguments::{Arguments, Named};
 use data::{Value, opened};
 use edge::{copies, source_path, source_root};
-use named_sources::sources_of;
-use placeholders::{Place, Scope, filled};
+use named_sources::{Place, Scope, filled, sources_of};
 use std::alloc::{AllocError, Global};
 use targets::{CustomTarget, Source, Target, path_in, source_paths};
 

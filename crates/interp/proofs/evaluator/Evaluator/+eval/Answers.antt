@@ -1,8 +1,7 @@
-use Rattle.std.proofs.Common.{ℕ, suc, ◌≤◌, max, Bool, true, false, List, [], ◌∷◌, map, get_or, Option, Some, option_map, refl, string_bytes, sym, ap, ◌∙◌, arith, rules}
+use Rattle.std.proofs.Common.{ℕ, suc, ◌≤◌, max, Bool, true, false, List, [], ◌∷◌, map, get_or, Option, Some, option_map, refl, sym, ap, ◌∙◌, arith, rules}
 use Rattle.grammar.specs.ExpressionTree.{ListTree, DictionaryTree, FunctionTree, PostfixTree, ChainTree, expressions, entries, arguments, links, operands}
 use Rattle.grammar.specs.declared.tree.Operator.TheVariants as flatop
 use Rattle.code.specs.declared.node.Node.TheVariants as flat
-use Rattle.code.specs.declared.literal.LiteralNode.{LiteralNode}
 use Rattle.code.specs.declared.node.EntryNode.{EntryNode}
 use Rattle.code.specs.declared.node.ArgumentNode.{ArgumentNode}
 use Rattle.code.specs.declared.node.OperandNode.{OperandNode}
@@ -14,11 +13,12 @@ use Rattle.data.proofs.ItemsLemmas.{items_of-append}
 use Rattle.operators.specs.Literal.{pairs_of}
 use Rattle.arguments.specs.Arguments.{arguments_data, no_arguments}
 use Rattle.world.specs.Plan.{ruled, next}
-use Rattle.interp.specs.Expressions.{arguments_of, chain_of, chosen, entries_of, link_of, links_of, listed, literal_value, method_called, method_of, paired, value_of, values_of, variable}
+use Rattle.interp.specs.Expressions.{arguments_of, chain_of, entries_of, link_of, links_of, method_called, method_of, value_of, values_of}
+use Rattle.expressions.specs.Forms.{chosen, listed, paired, variable}
 use Rattle.interp.specs.Parts.{above, above_number, above_entry, above_argument, above_operand, above_link}
 use Rattle.interp.specs.Folders.{folder}
 use Rattle.interp.proofs.Coming.{comes_as, comes_end, comes_given, comes_halt, comes_halt_inside, comes_last, comes_none, comes_rule, comes_stop, comes_then}
-use Rattle.interp.proofs.Evaluating.{given_as, given_give, given_then, goes_on, leads_as, leads_end, leads_inside, leads_on, leads_start, leads_within, next_is, next_item, no_item}
+use Rattle.expressions.proofs.Evaluating.{given_as, given_give, given_then, goes_on, leads_as, leads_end, leads_inside, leads_on, leads_start, leads_within, next_is, next_item, no_item}
 use Rattle.interp.proofs.Pairs.{pairs_of-push}
 use Rattle.interp.proofs.Reading.{reads_on, opened, parts_at, name_of, number_reach, first_reach, three_reach, numbers_reach, entries_reach, arguments_reach, operands_reach, links_reach}
 use Rattle.interp.proofs.evaluator.Evaluator.+eval.Goals as goal
@@ -120,10 +120,10 @@ pub form-returns-in_ok-variable-in-Name-clause-gives : goal.form-returns-in_ok-v
 form-returns-in_ok-variable-in-Name-clause-gives g t c = λ files left ts hold reads. comes_given (let number = (name_of reads c.in-Name.number (parts_at c.args.code.now c.args.node c.index.result.now (flat.Name c.in-Name.number c.in-Name.line) c.requires.here c.index.ensures c.in-Name.is)) in given_as (ap (value_of (folder left)) (sym (opened reads c.args.node c.index.result.now (flat.Name c.in-Name.number c.in-Name.line) c.requires.here c.index.ensures c.in-Name.is))) (given_as (ap (variable c.in-Name.line) number.1) (c.in_ok-variable-in-Name.ensures.gives number.0 files hold)))
 
 pub form-returns-in_err-literal-in-Literal-clause-gives : goal.form-returns-in_err-literal-in-Literal-clause-gives
-form-returns-in_err-literal-in-Literal-clause-gives g t c = λ files left ts hold reads. comes_as (ap (value_of (folder left)) (sym (opened reads c.args.node c.index.result.now (flat.Literal c.in-Literal.literal c.in-Literal.line) c.requires.here c.index.ensures c.in-Literal.is))) (comes_as (ap (λ (l : LiteralNode). literal_value c.in-Literal.line l.literal (string_bytes l.text)) c.deref.ensures) (comes_last (c.in_err-literal-in-Literal.ensures.gives files hold) c.from_residual-in_err-literal-in-Literal.ensures.1))
+form-returns-in_err-literal-in-Literal-clause-gives g t c = λ files left ts hold reads. comes_as (ap (value_of (folder left)) (sym (opened reads c.args.node c.index.result.now (flat.Literal c.in-Literal.literal c.in-Literal.line) c.requires.here c.index.ensures c.in-Literal.is))) (comes_last (c.in_err-literal-in-Literal.ensures.gives files hold) c.from_residual-in_err-literal-in-Literal.ensures.1)
 
 pub form-returns-in_ok-literal-in-Literal-clause-gives : goal.form-returns-in_ok-literal-in-Literal-clause-gives
-form-returns-in_ok-literal-in-Literal-clause-gives g t c = λ files left ts hold reads. comes_given (given_as (ap (value_of (folder left)) (sym (opened reads c.args.node c.index.result.now (flat.Literal c.in-Literal.literal c.in-Literal.line) c.requires.here c.index.ensures c.in-Literal.is))) (given_as (ap (λ (l : LiteralNode). literal_value c.in-Literal.line l.literal (string_bytes l.text)) c.deref.ensures) (c.in_ok-literal-in-Literal.ensures.gives files hold)))
+form-returns-in_ok-literal-in-Literal-clause-gives g t c = λ files left ts hold reads. comes_given (given_as (ap (value_of (folder left)) (sym (opened reads c.args.node c.index.result.now (flat.Literal c.in-Literal.literal c.in-Literal.line) c.requires.here c.index.ensures c.in-Literal.is))) (c.in_ok-literal-in-Literal.ensures.gives files hold))
 
 pub ternary-returns-in_err-value-clause-gives : goal.ternary-returns-in_err-value-clause-gives
 ternary-returns-in_err-value-clause-gives g t c = λ files left ts hold reads. comes_halt (c.in_err-value.ensures.gives files left ts hold reads) c.from_residual.ensures.1
@@ -277,18 +277,18 @@ chain-loop-operand-init g t c = record { same = search rules; tree = search rule
 pub chain-returns-in_err-begun-clause-gives : goal.chain-returns-in_err-begun-clause-gives
 chain-returns-in_err-begun-clause-gives g t c = λ files left ts hold reads.
     let led = leads_as (ap (λ ys. chain_of (folder left) c.args.line (data_of c.loop-operand.value) (operands ys)) (next_item (operand_at ts) c.args.others.now c.loop-operand.operand-index (record { operator = flatop.Or; value = 0 }) c.loop-operand-test.true)) (c.loop-operand.invariant.done files left ts hold reads) in
-    comes_end led (comes_stop {view = data_of} (c.in_err-begun.ensures.gives files left (tree_at ts (get_or c.args.others.now c.loop-operand.operand-index (record { operator = flatop.Or; value = 0 })).value) led.holds) c.from_residual-in_err-begun.ensures.1)
+    comes_end led (comes_stop {view = data_of} (c.in_err-begun.ensures.gives files (ruled (value_of (folder left) (tree_at ts (get_or c.args.others.now c.loop-operand.operand-index (record { operator = flatop.Or; value = 0 })).value))) led.holds) c.from_residual-in_err-begun.ensures.1)
 
 pub chain-returns-in_err-right-clause-gives : goal.chain-returns-in_err-right-clause-gives
 chain-returns-in_err-right-clause-gives g t c = λ files left ts hold reads.
     let led = leads_as (ap (λ ys. chain_of (folder left) c.args.line (data_of c.loop-operand.value) (operands ys)) (next_item (operand_at ts) c.args.others.now c.loop-operand.operand-index (record { operator = flatop.Or; value = 0 }) c.loop-operand-test.true)) (c.loop-operand.invariant.done files left ts hold reads) in
-    let half = leads_within led (goes_on files c.args.line _ _ _ c.in-Waits.is (c.in_ok-begun.ensures.gives files left (tree_at ts (get_or c.args.others.now c.loop-operand.operand-index (record { operator = flatop.Or; value = 0 })).value) led.holds)) in
+    let half = leads_within led (goes_on files c.args.line _ _ _ c.in-Waits.is (c.in_ok-begun.ensures.gives files (ruled (value_of (folder left) (tree_at ts (get_or c.args.others.now c.loop-operand.operand-index (record { operator = flatop.Or; value = 0 })).value))) led.holds)) in
     comes_end half (comes_halt_inside (c.in_err-right.ensures.gives files left ts half.holds (reads_on reads half.continues.written.names)) c.from_residual-in_err-right.ensures.1)
 
 pub chain-returns-in_err-value-2-clause-gives : goal.chain-returns-in_err-value-2-clause-gives
 chain-returns-in_err-value-2-clause-gives g t c = λ files left ts hold reads.
     let led = leads_as (ap (λ ys. chain_of (folder left) c.args.line (data_of c.loop-operand.value) (operands ys)) (next_item (operand_at ts) c.args.others.now c.loop-operand.operand-index (record { operator = flatop.Or; value = 0 }) c.loop-operand-test.true)) (c.loop-operand.invariant.done files left ts hold reads) in
-    let half = leads_within led (goes_on files c.args.line _ _ _ c.in-Waits.is (c.in_ok-begun.ensures.gives files left (tree_at ts (get_or c.args.others.now c.loop-operand.operand-index (record { operator = flatop.Or; value = 0 })).value) led.holds)) in
+    let half = leads_within led (goes_on files c.args.line _ _ _ c.in-Waits.is (c.in_ok-begun.ensures.gives files (ruled (value_of (folder left) (tree_at ts (get_or c.args.others.now c.loop-operand.operand-index (record { operator = flatop.Or; value = 0 })).value))) led.holds)) in
     let whole = leads_inside half (c.in_ok-right.ensures.gives files left ts half.holds (reads_on reads half.continues.written.names)).comes in
     comes_end whole (comes_stop (c.in_err-value-2.ensures.gives files whole.holds) c.from_residual-in_err-value-2.ensures.1)
 
@@ -299,7 +299,7 @@ chain-loop-operand-preserved-in-Decided g t c = record {
   out = search rules;
   done = λ files left ts hold reads.
       let led = leads_as (ap (λ ys. chain_of (folder left) c.args.line (data_of c.loop-operand.value) (operands ys)) (next_item (operand_at ts) c.args.others.now c.loop-operand.operand-index (record { operator = flatop.Or; value = 0 }) c.loop-operand-test.true)) (c.loop-operand.invariant.done files left ts hold reads) in
-      leads_on led (goes_on files c.args.line _ _ _ c.in-Decided.is (c.in_ok-begun.ensures.gives files left (tree_at ts (get_or c.args.others.now c.loop-operand.operand-index (record { operator = flatop.Or; value = 0 })).value) led.holds));
+      leads_on led (goes_on files c.args.line _ _ _ c.in-Decided.is (c.in_ok-begun.ensures.gives files (ruled (value_of (folder left) (tree_at ts (get_or c.args.others.now c.loop-operand.operand-index (record { operator = flatop.Or; value = 0 })).value))) led.holds));
 }
 
 pub chain-loop-operand-preserved : goal.chain-loop-operand-preserved
@@ -309,7 +309,7 @@ chain-loop-operand-preserved g t c = record {
   out = search rules;
   done = λ files left ts hold reads.
       let led = leads_as (ap (λ ys. chain_of (folder left) c.args.line (data_of c.loop-operand.value) (operands ys)) (next_item (operand_at ts) c.args.others.now c.loop-operand.operand-index (record { operator = flatop.Or; value = 0 }) c.loop-operand-test.true)) (c.loop-operand.invariant.done files left ts hold reads) in
-      let half = leads_within led (goes_on files c.args.line _ _ _ c.in-Waits.is (c.in_ok-begun.ensures.gives files left (tree_at ts (get_or c.args.others.now c.loop-operand.operand-index (record { operator = flatop.Or; value = 0 })).value) led.holds)) in
+      let half = leads_within led (goes_on files c.args.line _ _ _ c.in-Waits.is (c.in_ok-begun.ensures.gives files (ruled (value_of (folder left) (tree_at ts (get_or c.args.others.now c.loop-operand.operand-index (record { operator = flatop.Or; value = 0 })).value))) led.holds)) in
       let whole = leads_inside half (c.in_ok-right.ensures.gives files left ts half.holds (reads_on reads half.continues.written.names)).comes in
       leads_on whole (c.in_ok-value-2.ensures.gives files whole.holds);
 }
