@@ -87,7 +87,8 @@ impl<'a, T: Tree, O: Outputs, L: Ledger> Evaluator<'a, T, O, L> {
 
     // Refuses a name that no method of an object has, and what may not be asked yet.
     fn object_method_at(&self, line: usize, object: &Object, name: &str) -> Result<(), Stop>
-        ensures gives { Answers T.seen O.seen (λ u. u) (object_method_at line object.now name.now) self.now.context result self.now.context }
+        ensures gives { Answers T.seen O.seen (λ u. u) (object_method_at line object.now name.now)
+            self.now.context result self.now.context }
         ensures quiet { (n : ℕ) → failures_after n result ≡ n }
     {
         if has_object_method(object, name) {
@@ -102,7 +103,8 @@ impl<'a, T: Tree, O: Outputs, L: Ledger> Evaluator<'a, T, O, L> {
 
     // Refuses a name that no method of a receiver has.
     pub fn method_at(&self, line: usize, whole: &Value, name: &str) -> Result<(), Stop>
-        ensures gives { Answers T.seen O.seen (λ u. u) (method_at line (data_of whole.now) name.now) self.now.context result self.now.context }
+        ensures gives { Answers T.seen O.seen (λ u. u) (method_at line (data_of whole.now) name.now)
+            self.now.context result self.now.context }
         ensures quiet { (n : ℕ) → failures_after n result ≡ n }
     {
         if whole.is_disabler() {
