@@ -59,7 +59,7 @@ impl<'a, T: Tree, O: Outputs, L: Ledger> Context<'a, T, O, L> {
     {
         match folder_below(self.alloc, self.store.folder(), text)? {
             Some(folder) => self.not_entered(folder),
-            None => self.context.refuse(self.store.line(), Refusal::Subdir, ""),
+            None => self.refuse(self.store.line(), Refusal::Subdir, ""),
         }
     }
 
@@ -182,9 +182,7 @@ impl<'a, T: Tree, O: Outputs, L: Ledger> Context<'a, T, O, L> {
         match parse(self.alloc, text) {
             Ok(file) => self.flatten(&file),
             Err(SyntaxError::Memory) => Err(Stop::Memory),
-            Err(SyntaxError::Fault(fault)) => self
-                .context
-                .refuse(fault.line, refusal_of(fault.kind), ""),
+            Err(SyntaxError::Fault(fault)) => self.refuse(fault.line, refusal_of(fault.kind), ""),
         }
     }
 }
