@@ -268,15 +268,15 @@ module _ (files : Files) where
   rounds-cost round c p [] = free _
   rounds-cost round c p (r ∷ rs) = more (omega (arith, suc-mul (length rs) (c + 1))) (chain (rules (p r)) (λ flow. after_round-cost flow (rounds-cost round c p rs)))
 
-  allowed-cost : (line : ℕ) (round : Round → Plan Flow) (c : ℕ) → ((r : Round) → Takes file_cost files c (round r)) → (rs : List Round) (b : Bool) → nat_le (length rs) 65536 ≡ b
+  rounds_few-cost : (line : ℕ) (round : Round → Plan Flow) (c : ℕ) → ((r : Round) → Takes file_cost files c (round r)) → (rs : List Round) (b : Bool) → nat_le (length rs) 65536 ≡ b
       → Takes file_cost files (65536 * (c + 1)) (walked_by b line (rounds_of round rs))
-  allowed-cost line round c p rs true few = let fit : length rs ≤ 65536 = grind (arith, nat_tests, few) in more (mul-le-mul_right (c + 1) fit) (rounds-cost round c p rs)
-  allowed-cost line round c p rs false few = refuse-cost line refusals.Limit []
+  rounds_few-cost line round c p rs true few = let fit : length rs ≤ 65536 = grind (arith, nat_tests, few) in more (mul-le-mul_right (c + 1) fit) (rounds-cost round c p rs)
+  rounds_few-cost line round c p rs false few = refuse-cost line refusals.Limit []
 
   walked-cost : (line : ℕ) (round : Round → Plan Flow) (c : ℕ) → ((r : Round) → Takes file_cost files c (round r)) → (second : Option (List ℕ)) (d : Data)
       → Takes file_cost files (65536 * (c + 1)) (walked true line round (looped second d))
-  walked-cost line round c p None (list ds) = allowed-cost line round c p (item_rounds ds) (nat_le (length (item_rounds ds)) 65536) refl
-  walked-cost line round c p (Some second) (dictionary es) = allowed-cost line round c p (entry_rounds es) (nat_le (length (entry_rounds es)) 65536) refl
+  walked-cost line round c p None (list ds) = rounds_few-cost line round c p (item_rounds ds) (nat_le (length (item_rounds ds)) 65536) refl
+  walked-cost line round c p (Some second) (dictionary es) = rounds_few-cost line round c p (entry_rounds es) (nat_le (length (entry_rounds es)) 65536) refl
   walked-cost line round c p None (boolean b) = refuse-cost line refusals.Type []
   walked-cost line round c p None (integer z) = refuse-cost line refusals.Type []
   walked-cost line round c p None (text t) = refuse-cost line refusals.Type []
