@@ -17,4 +17,3 @@ pub mod Spelling
 pub mod Stack
 pub mod Starting
 mod Ticking
-mod Values
