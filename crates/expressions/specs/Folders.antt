@@ -1,5 +1,5 @@
 -- Folders that are entered, and their definition files.
-use Rattle.std.specs.Prelude.{List, [], length, nat_lt, not, bytes_eq, Option, Some, None, refl}
+use Rattle.std.specs.Prelude.{ℕ, List, [], length, nat_lt, not, bytes_eq, Option, Some, None, refl}
 use Rattle.std.specs.List.{list_any}
 use Rattle.grammar.specs.Tree.{Statements}
 use Rattle.basics.specs.declared.faults.refusal.Refusal.TheVariants as refusals
