@@ -38,7 +38,7 @@ sources_held depth (s ∷ ss) =
 
 -- ---- outputs
 
-both_true : (a b : Bool) → (a && b) ≡ true → (a ≡ true) × (b ≡ true)
+pub both_true : (a b : Bool) → (a && b) ≡ true → (a ≡ true) × (b ≡ true)
 both_true true true h = (refl, refl)
 both_true true false h = absurd cc
 both_true false b h = absurd cc
