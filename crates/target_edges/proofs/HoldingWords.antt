@@ -6,7 +6,7 @@ use Rattle.std.proofs.lemmas.Bool.{cases_Bool}
 use Rattle.std.proofs.lemmas.List.Folds.{list_all-append, list_all-map}
 use Rattle.std.proofs.lemmas.Slice.Eq.{bytes_eq-Decides}
 use Rattle.edge.specs.Texts.{Path, Text, holds, put_new, put_all_new, first_kept}
-use Rattle.edge.specs.Paths.{way_up, source_root, source_path}
+use Rattle.edge.specs.Paths.{way_up, source_root}
 use Rattle.edge.specs.Holding.{is_path, value_held}
 use Rattle.targets.specs.Data.{FlagsData, ListsData, SurroundingsData, BuildData}
 use Rattle.targets.specs.Files.{is_library}
