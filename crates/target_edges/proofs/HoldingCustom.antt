@@ -1,5 +1,5 @@
 -- What is asked of a custom target is what Ninja can hold of its edge.
-use Rattle.std.proofs.Common.{◌≡◌, ℕ, zero, suc, ◌-◌, Bool, true, false, List, [], ◌∷◌, ◌++◌, map, codes, Option, Some, None, option_map, refl, sym, ap, ◌∙◌}
+use Rattle.std.proofs.Common.{◌≡◌, ℕ, zero, suc, ◌-◌, Bool, true, false, List, [], ◌∷◌, ◌++◌, codes, Option, Some, None, option_map, refl, ap, ◌∙◌}
 use Rattle.std.specs.Prelude.{◌&&◌, flat_map, if◌then◌else◌}
 use Rattle.std.specs.List.{list_all}
 use Rattle.std.proofs.lemmas.List.Folds.{list_all-append}
@@ -8,10 +8,10 @@ use Rattle.edge.specs.Paths.{way_up, source_path}
 use Rattle.edge.specs.Holding.{is_path, path_held, value_byte_held, value_held, value_held_if, is_some_list, is_writable, are_writable}
 use Rattle.edge.proofs.Held.{path_as_value}
 use Rattle.targets.specs.Data.{SourceData, Tree, Built, Made, CustomData}
-use Rattle.targets.specs.Files.{path_in, output_paths, depfile_path}
+use Rattle.targets.specs.Files.{path_in, output_paths}
 use Rattle.targets.specs.Sources.{source_paths}
 use Rattle.target_edges.specs.Edges.{first_of, and_path, custom_edge}
-use Rattle.target_edges.specs.Parts.{source_held, depfile_held, command_held, custom_held}
+use Rattle.target_edges.specs.Parts.{source_held, depfile_held, custom_held}
 use Rattle.target_edges.proofs.Holding.{and_true}
 
 -- ---- sources
@@ -38,7 +38,7 @@ sources_held depth (s ∷ ss) =
 
 -- ---- outputs
 
-both_true : (a b : Bool) → (a && b) ≡ true → (a ≡ true) × (b ≡ true)
+pub both_true : (a b : Bool) → (a && b) ≡ true → (a ≡ true) × (b ≡ true)
 both_true true true h = (refl, refl)
 both_true true false h = absurd cc
 both_true false b h = absurd cc

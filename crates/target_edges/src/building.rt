@@ -19,8 +19,8 @@ use targets::{
     link_paths, objects,
 };
 
-// The edges that make the links to the target's file.
-fn names(context: &Context, target: &BuildTarget, file: &str) -> Result<Vec<Edge>, AllocError>
+/// The edges that make the links to the target's file.
+pub fn names(context: &Context, target: &BuildTarget, file: &str) -> Result<Vec<Edge>, AllocError>
     requires { file.now ≡ path_of (build_view target.now) }
     ensures { IfOk result (λ v. map edge_view v.items ≡ link_edges (build_view target.now)) }
 {
@@ -50,8 +50,7 @@ fn file_edges(
     Ok(edges)
 }
 
-/// The edges of a build target: those that compile its sources, the one that makes its file and those that make symbolic links to it.
-pub fn build_parts(context: &Context, target: &BuildTarget) -> Result<TargetParts, AllocError>
+fn build_parts(context: &Context, target: &BuildTarget) -> Result<TargetParts, AllocError>
     ensures { IfOk result (λ p. parts_edges p
         ≡ build_edges (surroundings_view context.now.surroundings.now)
         (map linked_view context.now.earlier.now) context.now.libraries.now (build_view target.now)) }

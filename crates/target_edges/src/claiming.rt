@@ -1,25 +1,25 @@
-//! What a project asks of a target's edges before it takes the target. Those that compile and those of custom targets are not made for it.
+//! What a project asks of a target's edges before it takes the target. They are not made for it, but for those that make symbolic links.
 ghost use Rattle.std.specs.Prelude.{◌≡◌, ◌∷◌, [], ◌++◌, ◌&&◌, ◌||◌, map, flat_map, IfOk, option_map, string_bytes};
 ghost use Rattle.std.specs.List.{list_all};
 ghost use Rattle.edge.specs.Holding.{is_path as is_path_of, is_writable, are_writable as are_writable_of};
-ghost use Rattle.edge.specs.Paths.{object_path};
 ghost use Rattle.edge.specs.Texts.{texts};
 ghost use Rattle.edge.specs.View.{edge_view};
-ghost use Rattle.targets.specs.Inputs.{input_view};
 ghost use Rattle.targets.specs.View.{build_view, custom_view, linked_view, source_view, surroundings_view, target_view};
 ghost use Rattle.target_edges.specs.Edges.{build_edges, custom_edge, target_edges};
-ghost use Rattle.target_edges.specs.Parts.{command_held, custom_held, depfile_held, is_none, joined_edge, shared_held, source_held};
-ghost use Rattle.target_edges.specs.PartsView.{parts_edges};
+ghost use Rattle.target_edges.specs.Parts.{command_held, compiles_held, custom_held, depfile_held, is_none, source_held};
 
-use crate::building::build_parts;
-use crate::linking::Context;
-use crate::parts::TargetParts;
+use crate::asking::words_are_held;
+use crate::building::names;
+use crate::linking::{Context, file_is_held};
 use edge::{
     Edge, are_paths, are_writable, can_hold_path, can_hold_value, can_hold_values, is_path,
     is_some_list, push_copies,
 };
 use std::alloc::AllocError;
-use targets::{BuildTarget, CustomTarget, Input, Source, Target, objects, output_paths};
+use targets::{
+    BuildTarget, CustomTarget, Input, Source, Target, compiled, file_path, generated, objects,
+    output_paths,
+};
 
 /// What a project has to know of a target's edges.
 #[derive(Drop)]
@@ -36,54 +36,35 @@ fn sources_are_paths(inputs: &[Input]) -> bool
     inputs.iter().all(|input| is_path(&input.path))
 }
 
-fn shared_is_held(parts: &TargetParts) -> bool
-    ensures { result ≡ shared_held (texts parts.now.words.items) (texts parts.now.generated.items) }
+fn own_are_held(inputs: &[Input], objects: &[String]) -> bool
+    ensures { result ≡ (list_all is_path_of (texts objects.now) && list_all (λ i. is_path_of (string_bytes i.path)) inputs.now) }
 {
-    are_paths(&parts.generated) && can_hold_values(&parts.words)
+    are_paths(objects) && sources_are_paths(inputs)
 }
 
-fn own_are_held(parts: &TargetParts, objects: &[String]) -> bool
-    ensures { result
-        ≡ (list_all is_path_of (texts objects.now) && list_all (λ i. is_path_of (string_bytes i.path)) parts.now.inputs.items) }
+// What the edges that compile share.
+fn shared_is_held(context: &Context, target: &BuildTarget) -> Result<bool, AllocError>
+    ensures { IfOk result (λ held. held
+        ≡ compiles_held (surroundings_view context.now.surroundings.now) (build_view target.now)) }
 {
-    are_paths(objects) && sources_are_paths(&parts.inputs)
+    let made = generated(context.alloc, target)?;
+    Ok(are_paths(&made) && words_are_held(context.surroundings, target))
 }
 
-// What the edges share is asked once, and of each its own paths.
-fn asked(parts: &TargetParts, objects: &[String]) -> bool
-    ensures { let inputs = parts.now.inputs.items in
-        let shared = shared_held (texts parts.now.words.items) (texts parts.now.generated.items) in
-        let own = list_all is_path_of (texts objects.now) && list_all (λ i. is_path_of (string_bytes i.path)) inputs in
-        result ≡ (is_none inputs || (shared && own)) }
+// Whether `build.ninja` can hold each of the edges that compile these inputs to these objects. What the edges share is asked once, and of
+// each its own paths.
+fn compiles_are_held(
+    context: &Context,
+    target: &BuildTarget,
+    inputs: &[Input],
+    objects: &[String],
+) -> Result<bool, AllocError>
+    ensures { let shared = compiles_held (surroundings_view context.now.surroundings.now) (build_view target.now) in
+        let own = list_all is_path_of (texts objects.now) && list_all (λ i. is_path_of (string_bytes i.path)) inputs.now in
+        IfOk result (λ held. held ≡ (is_none inputs.now || (shared && own))) }
 {
-    parts.inputs.is_empty() || (shared_is_held(parts) && own_are_held(parts, objects))
-}
-
-// Whether `build.ninja` can hold each of the edges that compile, whose objects these are.
-fn compiles_are_held(parts: &TargetParts, objects: &[String]) -> bool
-    requires { texts objects.now ≡ map (λ i. object_path (string_bytes parts.now.file) i.name) (map input_view parts.now.inputs.items) }
-    ensures { result ≡ list_all is_writable
-        (map (joined_edge (texts parts.now.words.items) (texts parts.now.generated.items) (string_bytes parts.now.file))
-        (map input_view parts.now.inputs.items)) }
-{
-    asked(parts, objects)
-}
-
-fn both_are_held(parts: &TargetParts, objects: &[String]) -> bool
-    requires { texts objects.now ≡ map (λ i. object_path (string_bytes parts.now.file) i.name) (map input_view parts.now.inputs.items) }
-    ensures { let edge = joined_edge (texts parts.now.words.items) (texts parts.now.generated.items) (string_bytes parts.now.file) in
-        let compiles = map edge (map input_view parts.now.inputs.items) in
-        result ≡ (list_all is_writable compiles && are_writable_of (map edge_view parts.now.rest.items)) }
-{
-    compiles_are_held(parts, objects) && are_writable(&parts.rest)
-}
-
-// Whether `build.ninja` can hold each of the edges, where these are the objects of those that compile.
-fn are_held(parts: &TargetParts, objects: &[String]) -> bool
-    requires { texts objects.now ≡ map (λ i. object_path (string_bytes parts.now.file) i.name) (map input_view parts.now.inputs.items) }
-    ensures { result ≡ are_writable_of (parts_edges parts.now) }
-{
-    both_are_held(parts, objects)
+    let shared = shared_is_held(context, target)?;
+    Ok(inputs.is_empty() || (shared && own_are_held(inputs, objects)))
 }
 
 // Appends what the edges make.
@@ -96,6 +77,12 @@ fn push_outputs(paths: &mut Vec<String>, edges: &[Edge]) -> Result<(), AllocErro
     Ok(())
 }
 
+fn all_are_held(compiles: bool, made: bool, names: &[Edge]) -> bool
+    ensures { result ≡ (compiles && (made && are_writable_of (map edge_view names.now))) }
+{
+    compiles && made && are_writable(names)
+}
+
 fn build_claims(context: &Context, target: &BuildTarget) -> Result<Claims, AllocError>
     ensures writable { IfOk result (λ c. c.writable
         ≡ are_writable_of (build_edges (surroundings_view context.now.surroundings.now)
@@ -104,14 +91,19 @@ fn build_claims(context: &Context, target: &BuildTarget) -> Result<Claims, Alloc
         ≡ flat_map (λ e. e.outputs) (build_edges (surroundings_view context.now.surroundings.now)
         (map linked_view context.now.earlier.now) context.now.libraries.now (build_view target.now))) }
 {
-    let parts = build_parts(context, target)?;
-    let mut paths = objects(context.alloc, &parts.file, &parts.inputs)?;
-    let writable = are_held(&parts, &paths);
-    push_outputs(&mut paths, &parts.rest)?;
+    let inputs = compiled(context.alloc, context.surroundings.facts.depth, target)?;
+    let file = file_path(context.alloc, target)?;
+    let names = names(context, target, &file)?;
+    let mut paths = objects(context.alloc, &file, &inputs)?;
+    let compiles = compiles_are_held(context, target, &inputs, &paths)?;
+    let made = file_is_held(context, target, &file, &paths)?;
+    let writable = all_are_held(compiles, made, &names);
+    paths.push(file)?;
+    push_outputs(&mut paths, &names)?;
     Ok(Claims { writable, paths })
 }
 
-// ---- custom targets, whose edge is not made
+// ---- custom targets
 
 fn source_is_held(source: &Source) -> bool
     ensures { result ≡ source_held (source_view source.now) }
