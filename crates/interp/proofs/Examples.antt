@@ -76,7 +76,7 @@ above : outcome_of (carry [] (folder (bounds false 1) (codes "..")) begun)
 above = refl
 
 -- its file is cut into tokens up to the sign that is none, in the second line; what is refused there is refused in that file
-file_inside : Files
+abbrev file_inside : Files
 file_inside = (codes "sub/meson.build", codes "\n$\n") ∷ []
 
 inside : outcome_of (carry file_inside (folder (bounds false 1) (codes "sub")) begun)
