@@ -16,11 +16,13 @@ abbrev pub told_at : List ℕ → ℕ → Refusal → List ℕ → FaultData
 told_at file line refusal detail = record { file = file; line = line; refusal = refusal; detail = detail }
 
 -- a fault of another place, and what it is about
-pub carries_refused_about : {A B : Type 0} {view : B → A} (file : List ℕ) (line : ℕ) (refusal : Refusal) (detail : List ℕ) {s : State} (fault : Fault)
-    → fault_view fault ≡ told_at file line refusal detail → Carries view (refuse_about file line refusal detail) s (Err (stops.Refused fault)) s
+pub carries_refused_about : {A B : Type 0} {view : B → A} (file : List ℕ) (line : ℕ) (refusal : Refusal) (detail : List ℕ)
+    {s : State} (fault : Fault) → fault_view fault ≡ told_at file line refusal detail
+    → Carries view (refuse_about file line refusal detail) s (Err (stops.Refused fault)) s
 unfolding refuse_about
 carries_refused_about {view = view} file line refusal detail {s = s} fault is = record {
-  gives = λ files n h. refused_later view (told_at file line refusal detail) (stops.Refused fault) (with_facts s.world (with_place file [] line s.world.facts)) s.world (seen_at s n) (begun _ (seen_at s n)) is refl;
+  gives = λ files n h. refused_later view (told_at file line refusal detail) (stops.Refused fault)
+      (with_facts s.world (with_place file [] line s.world.facts)) s.world (seen_at s n) (begun _ (seen_at s n)) is refl;
   stays = stays_here s.tree;
   device = no_failure (λ n. refl);
   same = refl;

@@ -6,8 +6,8 @@ use Rattle.option_values.specs.declared.kind.OptionType.{OptionType}
 use Rattle.option_values.specs.declared.kind.OptionType.TheVariants as types
 use Rattle.option_file.specs.Given.{Given, Text, given}
 use Rattle.option_file.specs.Keywords.{Keywords, bound_in, choices_in, is_left_out, keyword_named, type_in}
-use Rattle.option_file.specs.Misfits.{MisfitData, RefusedData, Nameless, NoName, BuiltIn, TooMany, Unknown, NoPlain, NoType, NoChoices, NoBound}
-use Rattle.option_file.specs.Misfits.{Missing, refused_as}
+use Rattle.option_file.specs.Misfits.{MisfitData, RefusedData, Nameless, NoName, BuiltIn, TooMany, Unknown}
+use Rattle.option_file.specs.Misfits.{NoPlain, NoType, NoChoices, NoBound, Missing, refused_as}
 use Rattle.option_file.specs.Names.{is_name}
 use Rattle.option_file.specs.declared.keyword.Keyword.{Keyword}
 use Rattle.option_file.specs.declared.keyword.Keyword.TheVariants as words

@@ -17,13 +17,14 @@ pub refuses_none : {B : Type 0} (f : FaultData) (result : Result B Stop) → IsE
 refuses_none f (Ok x) is = absurd is
 refuses_none f (Err s) is = subst (λ (x : Stop). IsRefusal x f) (sym is) tt
 
-pub ruled_found : {A B : Type 0} {view : B → A} (found : Option A) (rule : Rule) (text : List ℕ) {s : State} {x : B} → Some (view x) ≡ found
-    → Carries view (ruled found rule text) s (Ok x) s
+pub ruled_found : {A B : Type 0} {view : B → A} (found : Option A) (rule : Rule) (text : List ℕ) {s : State} {x : B}
+    → Some (view x) ≡ found → Carries view (ruled found rule text) s (Ok x) s
 unfolding ruled
 ruled_found {view = view} found rule text {s = s} {x = x} is = subst (λ o. Carries view (ruled o rule text) s (Ok x) s) is (carries_give refl)
 
 pub ruled_broken : {A B : Type 0} {view : B → A} (found : Option A) (rule : Rule) (text : List ℕ) {s : State} {result : Result B Stop}
-    → None ≡ found → Refuses (fault_here s.world refusals.Arguments (broken rule text)) result → Carries view (ruled found rule text) s result s
+    → None ≡ found → Refuses (fault_here s.world refusals.Arguments (broken rule text)) result
+    → Carries view (ruled found rule text) s result s
 unfolding ruled
 ruled_broken {view = view} found rule text {s = s} {result = result} is r =
     subst (λ o. Carries view (ruled o rule text) s result s) is (carries_refuse r)
