@@ -1,6 +1,8 @@
 //! A run of the program, over a folder of a disk.
-ghost use Rattle.std.specs.Prelude.{◌≡◌, ◌<◌, ◌≤◌, map, string_bytes};
+ghost use Rattle.std.specs.Prelude.{◌≡◌, ◌<◌, ◌≤◌, IfOk, length, map, string_bytes};
+ghost use Rattle.command.specs.BuildFolder.{pieces_of};
 ghost use Rattle.command.specs.CommandLine.{IsRefused, IsTaken};
+ghost use Rattle.operators.specs.Texts.{path_below};
 ghost use Rattle.build_file.specs.Concluding.{exit_status};
 
 use crate::asking::questions;
@@ -112,7 +114,12 @@ fn tell_of_sources<F: Write>(folder: &str, faults: &mut F) -> io::Result<()> {
 }
 
 // What the line says of a run over the sources in this folder.
-fn settings_of(alloc: Global, line: Line, root: &str) -> Result<Settings, AllocError> {
+fn settings_of(alloc: Global, line: Line, root: &str) -> Result<Settings, AllocError>
+    ensures words { IfOk result (λ s. map string_bytes s.words.items ≡ map string_bytes line.words.items) }
+    ensures root { IfOk result (λ s. string_bytes s.source_root ≡ root.now) }
+    ensures build { IfOk result (λ s. string_bytes s.build_root ≡ path_below root.now (string_bytes line.folder)) }
+    ensures depth { IfOk result (λ s. s.depth ≡ length (pieces_of (string_bytes line.folder))) }
+{
     let depth = line.depth();
     let build_root = path_below(alloc, root, line.folder.as_str())?;
     Ok(Settings {

@@ -155,7 +155,10 @@ fn with_argument(
 }
 
 /// What these arguments give, where keywords give them all.
-pub(crate) fn keywords_from(alloc: Global, arguments: &[Argument<'_>]) -> Result<Option<Keywords>, AllocError>
+pub(crate) fn keywords_from(
+    alloc: Global,
+    arguments: &[Argument<'_>],
+) -> Result<Option<Keywords>, AllocError>
     ensures { IfOk result (λ k. option_map keywords_in k ≡ keywords_from nothing_given (argument_trees arguments.now)) }
 {
     let mut keywords = Keywords::new();

@@ -89,10 +89,7 @@ fn plain_refused(
     }
 }
 
-fn argument_refused(
-    alloc: Global,
-    argument: &Argument<'_>,
-) -> Result<Option<Refused>, AllocError>
+fn argument_refused(alloc: Global, argument: &Argument<'_>) -> Result<Option<Refused>, AllocError>
     ensures { IfOk result (λ r. option_map refused_in r ≡ argument_refused (argument_of argument.now)) }
 {
     match argument.name {
@@ -107,10 +104,7 @@ fn argument_refused(
     }
 }
 
-fn first_refused(
-    alloc: Global,
-    arguments: &[Argument<'_>],
-) -> Result<Option<Refused>, AllocError>
+fn first_refused(alloc: Global, arguments: &[Argument<'_>]) -> Result<Option<Refused>, AllocError>
     ensures { IfOk result (λ r. option_map refused_in r ≡ first_refused (map argument_of arguments.now)) }
 {
     for argument in arguments {

@@ -17,4 +17,4 @@ pub returns-in-Err : goal.returns-in-Err
 unfolding declared_or_fault
 returns-in-Err g c =
     carries_as (ap declared_or_fault (ap declared_in (sym c.in-Err.is) ∙ c.in_ok-declared.ensures)) (carries_as (ap (refuse_line_about c.in-Err.fault.line c.in-Err.fault.refusal) c.as_str.ensures.value)
-      (carries_line_about c.in-Err.fault.line c.in-Err.fault.refusal _ c.refuse.result c.at.ensures.world c.at.ensures.names c.refuse.ensures))
+    (carries_line_about c.in-Err.fault.line c.in-Err.fault.refusal _ c.refuse.result c.at.ensures.world c.at.ensures.names c.refuse.ensures))
