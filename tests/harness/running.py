@@ -267,7 +267,7 @@ def parts_of(case, jobs):
 
 
 def failing_parts(text, jobs):
-    """The parts of a directive 'fail': its kinds of calls, and behind them what is looked for in these runs, or that they are over old outputs."""
+    """The parts of a directive 'fail': its kinds of calls, and what is looked for in these runs, or that they are over old outputs."""
     text, begun, output = text.partition(" begun ")
     kinds = (" " + text).removesuffix(OVER_OLD)
     over = (" " + text)[len(kinds) :]
@@ -316,6 +316,8 @@ def as_it_is(room):
 def told_otherwise(room, whole):
     """Where 'fault' doesn't tell the fault of the whole run and what it is about, or writes something."""
     room.task = b"fault"
+    if room.command and room.command[0] == b"setup":
+        room.command[0] = room.task
     came = room.run()
     found = [] if came.status == whole.status else [f"status of 'fault': {whole.status} must come, and {came.status} came"]
     found += differing("about", room.expected.about, came.log) + differing("complaint of 'fault'", whole.complaint, came.complaint)
@@ -339,7 +341,8 @@ def over_present(room, whole):
     came = room.run({it: room.files.get(it, b"") for it in files["present"]}, traced=True)
     found = []
     if (came.status, came.log, came.complaint, came.outputs) != (whole.status, whole.log, whole.complaint, whole.outputs):
-        found.append(f"over the files that are listed as present, {files['present']}, another run came: status {came.status}, and it said\n{shown(came.complaint)}")
+        over = f"over the files that are listed as present, {files['present']}"
+        found.append(f"{over}, another run came: status {came.status}, and it said\n{shown(came.complaint)}")
     more = sorted(came.looks - {*files["present"], *files["absent"]})
     return found + ([f"looked at, and not listed: {more}"] if more else [])
 
@@ -352,7 +355,7 @@ def in_pieces(room, whole, piece):
 
 
 def each_fails(room, whole, kind, share, shares):
-    """Whichever call of a kind fails, a beginning of the whole run comes, with the status of that kind; one of them where 'begun' says so."""
+    """Whichever call of a kind fails, a beginning of the whole run comes, with that kind's status; one of them where 'begun' says so."""
     kind, _, begun = kind.partition(" begun ")
     is_seen = not begun
     calls = whole.counts[kind]

@@ -25,10 +25,6 @@ abbrev pub texts_in : Option Data → List (List ℕ)
 texts_in None = []
 texts_in (Some d) = flat d
 
-abbrev pub path_in : Data → Option (List ℕ)
-path_in (object (objects.File path is_built)) = Some path
-path_in _ = None
-
 -- the text at a place
 abbrev pub text_at : ℕ → ArgumentsData → List ℕ
 text_at i a = text_or_none (argument i a)
@@ -40,10 +36,6 @@ text_or i default a = unwrap_or (option_and_then text_in (argument i a)) default
 -- the boolean at a place, or this one
 abbrev pub flag_at : ℕ → Bool → ArgumentsData → Bool
 flag_at i default a = unwrap_or (option_and_then boolean_in (argument i a)) default
-
--- the path of the file at a place
-abbrev pub path_at : ℕ → ArgumentsData → List ℕ
-path_at i a = unwrap_or (option_and_then path_in (argument i a)) []
 
 -- the text of a keyword, empty where it is not given
 abbrev pub text_of : List ℕ → ArgumentsData → List ℕ

@@ -1,15 +1,10 @@
 -- What a call takes, and whether arguments are that.
-use Rattle.std.specs.Prelude.{ℕ, ◌+◌, nat_le, Bool, true, false, ◌&&◌, ◌||◌, not, List, [], ◌∷◌, ◌++◌, length, slice_get}
-use Rattle.std.specs.Prelude.{Option, Some, None, is_some, Result, Ok, Err, bytes_eq, codes, if◌then◌else◌}
-use Rattle.std.specs.List.{list_any}
-use Rattle.basics.specs.Among.{is_among}
+use Rattle.std.specs.Prelude.{ℕ, Bool, true, false, ◌||◌, List, [], ◌∷◌, slice_get}
+use Rattle.std.specs.Prelude.{Option, Some, None, is_some, bytes_eq, codes, if◌then◌else◌}
 use Rattle.data.specs.Data.{Data, boolean_in, integer_in, text_in, entries_in, object}
 use Rattle.data.specs.declared.object.Object.{Object}
-use Rattle.basics.specs.declared.faults.refusal.Refusal.{Refusal}
-use Rattle.basics.specs.declared.faults.refusal.Refusal.TheVariants as refusals
 use Rattle.arguments.specs.declared.row.Kind.{Kind}
 use Rattle.arguments.specs.declared.row.Kind.TheVariants as kinds
-use Rattle.arguments.specs.Arguments.{ArgumentsData}
 use Rattle.data.specs.Flat.{is_texts}
 use Rattle.arguments.specs.Dependencies.{are_dependencies}
 use Rattle.arguments.specs.Pieces.{are_pieces, is_command, is_configuration, is_feature, is_file}
@@ -54,7 +49,7 @@ leaving_out names r =
 abbrev pub common_left_out : List (List ℕ)
 common_left_out = codes "kwargs" ∷ codes "fallback" ∷ codes "deprecated" ∷ []
 
--- ---- whether arguments are what a row says
+-- ---- what a row takes at a place, and by a name
 
 -- an object that is such
 abbrev pub is_object : (Object → Bool) → Data → Bool
@@ -87,55 +82,12 @@ kind_or None others = others
 abbrev pub kind_at : RowData → ℕ → Option Kind
 kind_at row i = kind_or (slice_get row.positional i) row.others
 
-abbrev pub is_of_some : Option Kind → Data → Bool
-is_of_some (Some kind) d = is_of kind d
-is_of_some None d = false
-
--- positional arguments from this place on
-abbrev pub each_fits : RowData → ℕ → List Data → Bool
-each_fits row i [] = true
-each_fits row i (d ∷ ds) = is_of_some (kind_at row i) d && each_fits row (i + 1) ds
-
 -- what a keyword has to be, if there is such
 abbrev pub keyword_kind : List ℕ → List KeywordData → Option Kind
 keyword_kind name [] = None
 keyword_kind name (k ∷ ks) = if bytes_eq k.name name then Some k.kind else keyword_kind name ks
 
-abbrev pub each_named_fits : List KeywordData → List (List ℕ × Data) → Bool
-each_named_fits ks [] = true
-each_named_fits ks (n ∷ ns) = is_of_some (keyword_kind n.0 ks) n.1 && each_named_fits ks ns
-
 -- the value that is given by a name
 abbrev pub value_named : List ℕ → List (List ℕ × Data) → Option Data
 value_named name [] = None
 value_named name (n ∷ ns) = if bytes_eq n.0 name then Some n.1 else value_named name ns
-
--- whether each keyword is given that is needed
-abbrev pub each_is_given : List KeywordData → List (List ℕ × Data) → Bool
-each_is_given [] ns = true
-each_is_given (k ∷ ks) ns = (not k.is_needed || is_some (value_named k.name ns)) && each_is_given ks ns
-
--- whether one of the keywords is among these names, or comes again
-abbrev pub comes_again : List (List ℕ) → List (List ℕ × Data) → Bool
-comes_again names [] = false
-comes_again names (n ∷ ns) = list_any (bytes_eq n.0) names || comes_again (names ++ n.0 ∷ []) ns
-
-abbrev pub has_twice : List (List ℕ × Data) → Bool
-has_twice ns = comes_again [] ns
-
--- whether one of the keywords is among those that no call takes, or among these
-abbrev pub has_left_out : List (List ℕ) → List (List ℕ × Data) → Bool
-has_left_out names [] = false
-has_left_out names (n ∷ ns) = (is_among common_left_out n.0 || is_among names n.0) || has_left_out names ns
-
-abbrev pub fits : RowData → ArgumentsData → Bool
-fits row a = nat_le row.needed (length a.positional) && (each_fits row 0 a.positional
-    && (each_named_fits row.keywords a.named && each_is_given row.keywords a.named))
-
--- A keyword twice, a keyword that is left out, and arguments that are not what the row says: the first of these, in this order.
-abbrev pub checked : RowData → ArgumentsData → Result (Unit {0}) Refusal
-checked row a =
-    if has_twice a.named then Err refusals.Duplicate
-    else if has_left_out row.left_out a.named then Err refusals.LeftOut
-    else if fits row a then Ok tt
-    else Err refusals.Arguments

@@ -5,7 +5,7 @@ ghost use Rattle.data.specs.Data.{text_in};
 ghost use Rattle.data.specs.View.{data_of};
 ghost use Rattle.arguments.specs.Arguments.{arguments_data, named_data};
 ghost use Rattle.arguments.specs.Given.{argument, flag, flag_at, integer_of, keyword, of_boolean};
-ghost use Rattle.arguments.specs.Given.{of_feature, path_at, requirement, requirement_in, text_at, text_given, text_of, text_or, texts};
+ghost use Rattle.arguments.specs.Given.{of_feature, requirement, requirement_in, text_at, text_given, text_of, text_or, texts};
 ghost use Rattle.arguments.specs.Given.{texts_from};
 ghost use Rattle.data.specs.Flat.{flat_all};
 ghost use Rattle.arguments.specs.Row.{value_named};
@@ -81,18 +81,6 @@ fn bytes_of(value: &Value) -> Option<&str>
     }
 }
 
-fn path_of(value: &Value) -> Option<&str>
-    ensures { option_map (λ t. t.now) result ≡ Rattle.arguments.specs.Given.path_in (data_of value.now) }
-{
-    match value {
-        Value::Object(object) => match &**object {
-            Object::File { path, .. } => Some(path.as_str()),
-            _ => None,
-        },
-        _ => None,
-    }
-}
-
 /// The values from a place on.
 pub fn behind(values: &[Value], place: usize) -> &[Value]
     ensures { result.now ≡ drop place values.now }
@@ -146,16 +134,6 @@ impl Arguments {
         match self.argument(place) {
             Some(value) => value.as_boolean().unwrap_or(default),
             None => default,
-        }
-    }
-
-    /// The path of the file at a place.
-    pub fn path_at(&self, place: usize) -> &str
-        ensures { result.now ≡ path_at place (arguments_data self.now) }
-    {
-        match self.argument(place) {
-            Some(value) => path_of(value).unwrap_or(""),
-            None => "",
         }
     }
 

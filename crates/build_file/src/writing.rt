@@ -84,7 +84,8 @@ fn write_compiles<O: Outputs>(
     requires out { IsOpen (O.seen out.old) }
     ensures { let p = from.now.parts.now in
         let edge = joined_edge (texts p.words.items) (texts p.generated.items) (string_bytes p.file) in
-        Writes (O.seen out.old) (flat_map (λ i. puts (edge_text (edge (input_view i)))) p.inputs.items) (ending_of result) (O.seen out.new) }
+        let run = flat_map (λ i. puts (edge_text (edge (input_view i)))) p.inputs.items in
+        Writes (O.seen out.old) run (ending_of result) (O.seen out.new) }
 {
     for input in &from.parts.inputs {
         write_compile(text, from, input, out)?;

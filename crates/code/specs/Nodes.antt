@@ -31,7 +31,7 @@ link_at ts (Index i) = IndexTree (tree_at ts i)
 -- the tree of a node, by the table of names and the trees of the nodes before it
 abbrev pub tree_of : List (List ℕ) → List ExpressionTree → Node → ExpressionTree
 tree_of names ts (flat.Name number line) = NameTree (slice_index_or names number []) line
-tree_of names ts (flat.Literal node line) = LiteralTree node.value.literal (string_bytes node.value.text) line
+tree_of names ts (flat.Literal node line) = LiteralTree node.literal (string_bytes node.source.value) line
 tree_of names ts (flat.List items line) = ListTree (expressions (map (tree_at ts) items.items)) line
 tree_of names ts (flat.Dictionary es line) = DictionaryTree (entries (map (entry_at ts) es.items)) line
 tree_of names ts (flat.Call name items line) = FunctionTree (string_bytes name) (arguments (map (argument_at ts) items.items)) line

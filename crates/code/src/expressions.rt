@@ -77,7 +77,6 @@ impl Draft {
         ensures stands { IfOk result (λ number. Stands (trees_in self.new) number (LiteralTree literal text.now line)) }
     {
         let literal = LiteralNode::new(self.alloc, literal, text)?;
-        let literal = Box::new(self.alloc, literal)?;
         self.push(Node::Literal { literal, line })
     }
 

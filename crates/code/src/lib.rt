@@ -1,7 +1,7 @@
 //! Definition files as code: the tree of a file kept flat, each part named by a number, and the names that it uses in one table.
 //!
-//! [`flatten`] makes the [`Code`] of a [`grammar::tree::File`]. The code owns its literals, with what they stand for, so the source can
-//! go. It is what evaluation walks: a frame there holds the code and numbers, and no reference into a tree.
+//! [`flatten`] makes the [`Code`] of a [`grammar::tree::File`]. The code owns what its literals stand for, so the source can go. It is what
+//! evaluation walks: a frame there holds the code and numbers, and no reference into a tree.
 //!
 //! # Decisions
 //!
@@ -30,6 +30,6 @@ pub mod node;
 mod statements;
 
 pub use code::Code;
-pub use literal::LiteralNode;
+pub use literal::{LiteralNode, Meaning};
 pub use making::{flatten, names_may_grow};
 pub use names::Names;

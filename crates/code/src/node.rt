@@ -12,7 +12,7 @@ pub enum Node {
     },
     /// A literal.
     Literal {
-        literal: Box<LiteralNode>,
+        literal: LiteralNode,
         line: usize,
     },
     /// `[first, second]`

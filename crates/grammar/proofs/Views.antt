@@ -65,10 +65,6 @@ pub ternary_seen : (test one other : Box Expression Global) (line : ℕ) (e f g 
 ternary_seen test one other line e f g l same same_one same_other same_line = rw (same, same_one, same_other, same_line) (sym (ap expression_of (sym (Variants.rolls-Ternary test one other line))
     ∙ fold-roll-Expression ExpressionTree LinkTree ArgumentTree EntryTree OperandTree expression_step link_step argument_step entry_step operand_step (Open.Ternary test one other line)))
 
-pub choice_seen : (e g f one : ExpressionTree) (l line : ℕ) (made : ExpressionTree) → f ≡ one → l ≡ line → made ≡ TernaryTree e one g line
-    → TernaryTree e f g l ≡ made
-choice_seen e g f one l line made same same_line is = rw (same, same_line) (sym is)
-
 pub call_seen : (name : Bor (List ℕ)) (xs : Vec Argument Global) (line : ℕ) → FunctionTree name.now (arguments (map argument_of xs.items)) line ≡ expression_of (Variants.Call name xs line)
 call_seen name xs line = sym (ap expression_of (sym (Variants.rolls-Call name xs line))
     ∙ fold-roll-Expression ExpressionTree LinkTree ArgumentTree EntryTree OperandTree expression_step link_step argument_step entry_step operand_step (Open.Call name xs line))

@@ -1,6 +1,8 @@
 //! A run of the program, over a folder of a disk.
-ghost use Rattle.std.specs.Prelude.{◌≡◌, ◌<◌, ◌≤◌, map, string_bytes};
+ghost use Rattle.std.specs.Prelude.{◌≡◌, ◌<◌, ◌≤◌, IfOk, length, map, string_bytes};
+ghost use Rattle.command.specs.BuildFolder.{pieces_of};
 ghost use Rattle.command.specs.CommandLine.{IsRefused, IsTaken};
+ghost use Rattle.operators.specs.Texts.{path_below};
 ghost use Rattle.build_file.specs.Concluding.{exit_status};
 
 use crate::asking::questions;
@@ -24,8 +26,8 @@ const BAD_LINE: u8 = 4;
 const MACHINE_FILE_BYTES: usize = 33_554_432;
 
 /// Configures the project in the folder `root`, or tells what that asks of the machine file or which fault it ends in, as the words say,
-/// of which the first is the program's name. The log goes to `log`, fault lines and the program's own texts to `faults`, outputs to the folder that the words name,
-/// below `root`.
+/// of which the first is the program's name. The log goes to `log`, fault lines and the program's own texts to `faults`, outputs to the
+/// folder that the words name, below `root`.
 ///
 /// Answers the exit status: 0 done, 1 a fault of the sources, 2 a device failed, 3 memory ran out,
 /// 4 the words are no command line.
@@ -112,7 +114,12 @@ fn tell_of_sources<F: Write>(folder: &str, faults: &mut F) -> io::Result<()> {
 }
 
 // What the line says of a run over the sources in this folder.
-fn settings_of(alloc: Global, line: Line, root: &str) -> Result<Settings, AllocError> {
+fn settings_of(alloc: Global, line: Line, root: &str) -> Result<Settings, AllocError>
+    ensures words { IfOk result (λ s. map string_bytes s.words.items ≡ map string_bytes line.words.items) }
+    ensures root { IfOk result (λ s. string_bytes s.source_root ≡ root.now) }
+    ensures build { IfOk result (λ s. string_bytes s.build_root ≡ path_below root.now (string_bytes line.folder)) }
+    ensures depth { IfOk result (λ s. s.depth ≡ length (pieces_of (string_bytes line.folder))) }
+{
     let depth = line.depth();
     let build_root = path_below(alloc, root, line.folder.as_str())?;
     Ok(Settings {

@@ -1,4 +1,3 @@
-pub mod Assigning
 pub mod Blocks
 mod Closing
 pub mod Coming
@@ -6,12 +5,10 @@ mod Costs
 mod Depending
 mod Examples
 pub mod Ending
-pub mod Evaluating
-pub mod Filling
 pub mod Looping
 pub mod Machines
 mod Noting
-pub mod Opening
+pub mod Operating
 mod Pairs
 mod Paths
 pub mod Places
@@ -20,5 +17,3 @@ pub mod Spelling
 pub mod Stack
 pub mod Starting
 mod Ticking
-mod Values
-mod Walking

@@ -1,5 +1,5 @@
 -- What is left to do of statements that have begun, frame by frame.
-use Rattle.std.specs.Prelude.{◌≡◌, ℕ, zero, suc, ◌+◌, ◌≤◌, List, [], ◌∷◌, drop, length, map, option_map, Option, Some, None, Result, Ok, Err, string_bytes, refl}
+use Rattle.std.specs.Prelude.{◌≡◌, Bool, ℕ, zero, suc, ◌+◌, ◌≤◌, List, [], ◌∷◌, drop, length, map, option_map, Option, Some, None, Result, Ok, Err, string_bytes, refl}
 use Rattle.code.specs.Draft.{IsFront}
 use Rattle.code.specs.Statements.{branch_at, name_at}
 use Rattle.code.specs.declared.code.Code.{Code}
@@ -16,7 +16,7 @@ use Rattle.world.specs.Plan.{Plan, deed, ruled, ◌>>=◌, give, refuse}
 use Rattle.world.specs.World.{with_place}
 use Rattle.world.specs.declared.stop.Stop.{Stop}
 use Rattle.world.specs.declared.stop.Stop.TheVariants as stops
-use Rattle.interp.specs.declared.evaluator.Evaluator.{Evaluator}
+use Rattle.expressions.specs.declared.context.Context.{Context}
 use Rattle.interp.specs.declared.flow.Flow.{Flow}
 use Rattle.interp.specs.declared.flow.Flow.TheVariants.{Next}
 use Rattle.interp.specs.declared.halt.Halt.{Halt}
@@ -25,19 +25,23 @@ use Rattle.interp.specs.declared.frames.LoopHead.{LoopHead}
 use Rattle.interp.specs.declared.frames.LoopRest.{LoopRest}
 use Rattle.interp.specs.declared.frames.Frame.{Frame}
 use Rattle.interp.specs.declared.frames.Frame.TheVariants as frames
-use Rattle.interp.specs.Blocks.{block_by, statements_of}
-use Rattle.interp.specs.Evaluates.{Stand, Given, HaltsTo, Leads, Reads, stand_of}
+use Rattle.expressions.specs.Codes.{block_by}
+use Rattle.interp.specs.Blocks.{statements_of}
+use Rattle.expressions.specs.Contexts.{Stand, Given, Leads, stand_of}
+use Rattle.interp.specs.Evaluates.{HaltsTo, Reads}
+use Rattle.interp.specs.Bounds.{Bounds, bounds}
 use Rattle.interp.specs.Folders.{folder}
-use Rattle.interp.specs.Rounds.{rounds_in}
-use Rattle.interp.specs.Statements.{Round, after_round, bound, branches_of, do_all, on_next, rounds_of}
+use Rattle.expressions.specs.Rounds.{rounds_in, Round}
+use Rattle.interp.specs.Statements.{after_round, branches_of, do_all, on_next, rounds_of}
+use Rattle.expressions.specs.Assignments.{bound}
 
 -- ---- what is left
 
 pub data Rest : Type 0 where
   -- the other statements of a block, where so many more folders may stand inside one another
-  Others : ℕ → Statements → Rest
+  Others : Bounds → Statements → Rest
   -- so of a loop: its line, its names, the statements of a round, and the other rounds
-  Rounds : ℕ → ℕ → List ℕ → Option (List ℕ) → Statements → List Round → Rest
+  Rounds : Bounds → ℕ → List ℕ → Option (List ℕ) → Statements → List Round → Rest
   -- the end of a rule
   End : Rest
   -- a file is left, for this file, its folder and this line
@@ -46,10 +50,10 @@ pub data Rest : Type 0 where
   Refuses : ℕ → Rest
 
 -- one round of a loop
-abbrev pub one_round : ℕ → ℕ → List ℕ → Option (List ℕ) → Statements → Round → Plan Flow
+abbrev pub one_round : Bounds → ℕ → List ℕ → Option (List ℕ) → Statements → Round → Plan Flow
 one_round left line first second body r = do
   _ ← bound line first second r
-  do_all (folder left) body
+  do_all (folder left) left.few body
 
 -- a file hands nothing on
 abbrev pub gone_back : List ℕ → List ℕ → ℕ → Flow → Plan Flow
@@ -59,7 +63,7 @@ gone_back file folder line flow = do
 
 -- what is done, and what is left behind it
 abbrev pub behind : Rest → Plan Flow → Plan Flow
-behind (Others left ss) p = p >>= λ flow. on_next flow (do_all (folder left) ss)
+behind (Others left ss) p = p >>= λ flow. on_next flow (do_all (folder left) left.few ss)
 behind (Rounds left line first second body rounds) p =
     p >>= λ flow. after_round flow (rounds_of (one_round left line first second body) rounds)
 behind End p = ruled p
@@ -85,10 +89,11 @@ others_by table b = block_by table b.code.value (drop b.at (statements_of b.code
 pub record MeansBlock (names : List (List ℕ)) (b : BlockRest) (rest : Rest) : Type 0 where
   pub table : List (List ℕ)
   pub made : Made b.code.value names table
-  pub is : rest ≡ Others b.left (others_by table b)
+  pub few : Bool
+  pub is : rest ≡ Others (bounds few b.left) (others_by table b)
 
 -- one round of the loop with this head
-abbrev pub round_by : List (List ℕ) → Code → ℕ → LoopHead → Round → Plan Flow
+abbrev pub round_by : List (List ℕ) → Code → Bounds → LoopHead → Round → Plan Flow
 round_by table c left h =
     one_round left h.line (name_at table h.first) (option_map (name_at table) h.second) (block_by table c (statements_of c h.body))
 
@@ -99,7 +104,8 @@ rounds_left l = drop l.at (rounds_in (data_of l.whole))
 pub record MeansLoop (names : List (List ℕ)) (l : LoopRest) (rest : Rest) : Type 0 where
   pub table : List (List ℕ)
   pub made : Made l.code.value names table
-  pub is : rest ≡ Rounds l.left l.head.line (name_at table l.head.first) (option_map (name_at table) l.head.second)
+  pub few : Bool
+  pub is : rest ≡ Rounds (bounds few l.left) l.head.line (name_at table l.head.first) (option_map (name_at table) l.head.second)
       (block_by table l.code.value (statements_of l.code.value l.head.body)) (rounds_left l)
 
 abbrev pub Means : List (List ℕ) → Frame → Rest → Type 0
@@ -178,21 +184,21 @@ abbrev pub above_branch : BranchNode → ℕ
 above_branch b = suc b.condition
 
 -- a choice was made of the parts of an `if`, from which on the whole plan is this one; or none was
-abbrev pub Chooses : Files → ℕ → Plan Flow → Stand → (Option ℕ → Plan Flow) → Result (Option ℕ) Halt → Stand → Type 0
+abbrev pub Chooses : Files → Bounds → Plan Flow → Stand → (Option ℕ → Plan Flow) → Result (Option ℕ) Halt → Stand → Type 0
 Chooses files left whole old part (Ok chosen) now = Leads files whole old (part chosen) now
 Chooses files left whole old part (Err halt) now = HaltsTo files left whole old halt now
 
 -- what is done of a part of an `if`, by its place; nothing, where the whole is skipped
-abbrev pub part_done : (List ℕ → Plan Flow) → Branches → Statements → Option ℕ → Plan Flow
-part_done into bs otherwise None = give Next
-part_done into NoBranch otherwise (Some part) = do_all into otherwise
-part_done into (MoreBranches test line body bs) otherwise (Some zero) = do_all into body
-part_done into (MoreBranches test line body bs) otherwise (Some (suc part)) = part_done into bs otherwise (Some part)
+abbrev pub part_done : (List ℕ → Plan Flow) → Bool → Branches → Statements → Option ℕ → Plan Flow
+part_done into few bs otherwise None = give Next
+part_done into few NoBranch otherwise (Some part) = do_all into few otherwise
+part_done into few (MoreBranches test line body bs) otherwise (Some zero) = do_all into few body
+part_done into few (MoreBranches test line body bs) otherwise (Some (suc part)) = part_done into few bs otherwise (Some part)
 
 module _ {T O L : Type 0} where
   -- over what is left of a stack the call does what this plan does, by the table of names as it was when the code was made
   abbrev pub Does : (T → TreeState) → (O → OutputState) → (List (List ℕ) → Plan Flow) → Code
-      → Evaluator T O L → List Frame → Result Flow Stop → Evaluator T O L → List Frame → Type 0
+      → Context T O L → List Frame → Result Flow Stop → Context T O L → List Frame → Type 0
   Does tree out plan code old before result new after =
       (files : Files) (rests : List Rest) (table : List (List ℕ)) → Holds (tree old.tree.now) files
       → Stacked old.store.now.names before rests → Made code old.store.now.names table
@@ -200,14 +206,14 @@ module _ {T O L : Type 0} where
 
   -- the same of a plan that no code has to be read for
   abbrev pub Acts : (T → TreeState) → (O → OutputState) → Plan Flow
-      → Evaluator T O L → List Frame → Result Flow Stop → Evaluator T O L → List Frame → Type 0
+      → Context T O L → List Frame → Result Flow Stop → Context T O L → List Frame → Type 0
   Acts tree out plan old before result new after =
       (files : Files) (rests : List Rest) → Holds (tree old.tree.now) files → Stacked old.store.now.names before rests
       → Moves files (behind_all rests plan) (stand_of tree out old) result after (stand_of tree out new)
 
   -- the same of what is left of a frame
   abbrev pub Turns : (T → TreeState) → (O → OutputState) → Frame → Flow
-      → Evaluator T O L → List Frame → Result Flow Stop → Evaluator T O L → List Frame → Type 0
+      → Context T O L → List Frame → Result Flow Stop → Context T O L → List Frame → Type 0
   Turns tree out frame flow old before result new after =
       (files : Files) (rests : List Rest) (rest : Rest) → Holds (tree old.tree.now) files
       → Stacked old.store.now.names before rests → Means old.store.now.names frame rest
@@ -215,7 +221,7 @@ module _ {T O L : Type 0} where
 
   -- the same of a whole step
   abbrev pub Steps : (T → TreeState) → (O → OutputState) → Frame → Flow
-      → Evaluator T O L → List Frame → Result Flow Stop → Evaluator T O L → List Frame → Type 0
+      → Context T O L → List Frame → Result Flow Stop → Context T O L → List Frame → Type 0
   Steps tree out frame flow old before result new after =
       (files : Files) (rests : List Rest) (rest : Rest) → Holds (tree old.tree.now) files
       → Stacked old.store.now.names before rests → Means old.store.now.names frame rest
@@ -223,9 +229,11 @@ module _ {T O L : Type 0} where
 
   -- the call chooses of the parts of an `if` with these branches
   abbrev pub ChoosesOf : (T → TreeState) → (O → OutputState) → List BranchNode → Code
-      → Evaluator T O L → Result (Option ℕ) Halt → Evaluator T O L → Type 0
+      → Context T O L → Result (Option ℕ) Halt → Context T O L → Type 0
   ChoosesOf tree out parts code old result new =
-      (files : Files) (ts : List ExpressionTree) (ss : List StatementTree) (left : ℕ) (otherwise : Statements)
+      (files : Files) (ts : List ExpressionTree) (ss : List StatementTree) (left : Bounds) (otherwise : Statements)
       → Holds (tree old.tree.now) files → Reads ts code old.store.now.names
-      → Chooses files left (branches_of (folder left) (branches (map (branch_at ts ss) parts)) (do_all (folder left) otherwise))
-      (stand_of tree out old) (part_done (folder left) (branches (map (branch_at ts ss) parts)) otherwise) result (stand_of tree out new)
+      → Chooses files left
+      (branches_of (folder left) left.few (branches (map (branch_at ts ss) parts)) (do_all (folder left) left.few otherwise))
+      (stand_of tree out old) (part_done (folder left) left.few (branches (map (branch_at ts ss) parts)) otherwise) result
+      (stand_of tree out new)

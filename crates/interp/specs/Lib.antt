@@ -1,7 +1,7 @@
 pub mod Acting
 pub mod Beginnings
 pub mod Blocks
-pub mod Conditions
+pub mod Bounds
 pub mod Cost
 pub mod Entering
 pub mod Evaluated
@@ -14,5 +14,4 @@ pub mod Inside
 pub mod Laws
 pub mod Operations
 pub mod Parts
-pub mod Rounds
 pub mod Statements

@@ -12,7 +12,7 @@ use Rattle.interp.specs.declared.operation.Begun.{Begun}
 use Rattle.interp.specs.declared.operation.Begun.TheVariants.{Decided, Waits}
 use Rattle.interp.specs.declared.operation.Half.{Half}
 use Rattle.interp.specs.declared.operation.Half.TheVariants as halves
-use Rattle.interp.specs.Evaluates.{Stand, Given, Leads}
+use Rattle.expressions.specs.Contexts.{Stand, Given, Leads}
 
 -- what waited for its right side, which has this value
 abbrev pub completed : ℕ → Half → Data → Plan Data

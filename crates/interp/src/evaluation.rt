@@ -1,5 +1,5 @@
 //! A whole evaluation.
-ghost use Rattle.std.specs.Prelude.{◌≡◌, ℕ, [], IfOk, length};
+ghost use Rattle.std.specs.Prelude.{Bool, ◌≡◌, ℕ, [], IfOk, length};
 ghost use Rattle.std.specs.Rc.{rc_value};
 ghost use Rattle.machine_file.specs.View.{machine_in};
 ghost use Rattle.ports.specs.Endings.{HasRoom};
@@ -9,16 +9,17 @@ ghost use Rattle.world.specs.Plan.{ruled};
 ghost use Rattle.world.specs.SettingsView.{settings_view};
 ghost use Rattle.world.specs.Trace.{seen};
 ghost use Rattle.interp.specs.Beginnings.{Reads, RootGives, Starts};
-ghost use Rattle.interp.specs.Blocks.{file_by};
+ghost use Rattle.expressions.specs.Codes.{file_by};
 ghost use Rattle.interp.specs.Cost.{tree_cost};
 ghost use Rattle.interp.specs.Evaluated.{Evaluated, FailsOnce, Ticked};
-ghost use Rattle.interp.specs.Evaluation.{IsSaid, MachineSaid, definitions, evaluated, root};
+ghost use Rattle.interp.specs.Evaluation.{IsSaid, MachineSaid, defined, evaluated, root};
 
 use crate::beginning::line_before_project;
 use crate::evaluator::Evaluator;
 use crate::flow::Flow;
 use basics::faults::Refusal;
 use code::Code;
+use expressions::Context;
 use machine_file::Machine;
 use ports::{Outputs, Tree};
 use std::alloc::Global;
@@ -35,69 +36,45 @@ pub struct Inputs<'a> {
 }
 
 impl<'a, T: Tree, O: Outputs, L: Ledger> Evaluator<'a, T, O, L> {
-    ghost use Rattle.interp.specs.Evaluates.{Answers, Fails, HasRoom as HasRooms, Same};
-
-    // An evaluator over what is lent.
-    fn new(
-        alloc: Global,
-        store: &'a mut Store,
-        tree: &'a mut T,
-        out: &'a mut O,
-        steps: &'a mut Steps<L>,
-    ) -> Self
-        ensures store_name { result.store.ghost_name ≡ store.entry.ghost_name }
-        ensures tree_name { result.tree.ghost_name ≡ tree.entry.ghost_name }
-        ensures out_name { result.out.ghost_name ≡ out.entry.ghost_name }
-        ensures steps_name { result.steps.ghost_name ≡ steps.entry.ghost_name }
-        ensures store { result.store.now ≡ store.old }
-        ensures tree { result.tree.now ≡ tree.old }
-        ensures out { result.out.now ≡ out.old }
-        ensures steps { result.steps.now ≡ steps.old }
-    {
-        Evaluator {
-            alloc,
-            store,
-            tree,
-            out,
-            steps,
-        }
-    }
+    ghost use Rattle.expressions.specs.Contexts.{Answers, Fails, HasRoom as HasRooms, Same};
 
     // The statements of the root file, of which the first has to be a call of `project`.
     fn root_statements(&mut self, code: Code) -> Result<Flow, Stop>
-        requires known { code.names ≡ length self.old.store.now.names }
-        requires room { HasRooms T.seen O.seen self.old }
-        ensures same { Same self.old self.new }
-        ensures device { Fails T.seen O.seen self.old result self.new }
-        ensures gives { Answers T.seen O.seen (λ f. f) (root (file_by self.old.store.now.names code)) self.old result self.new }
+        requires known { code.names ≡ length self.old.context.store.now.names }
+        requires room { HasRooms T.seen O.seen self.old.context }
+        ensures same { Same self.old.context self.new.context }
+        ensures device { Fails T.seen O.seen self.old.context result self.new.context }
+        ensures gives { (few : Bool) → Answers T.seen O.seen (λ f. f) (root few (file_by self.old.context.store.now.names code))
+            self.old.context result self.new.context }
     {
         match line_before_project(&code) {
-            Some(line) => self.refuse(line, Refusal::ProjectCall, ""),
+            Some(line) => self.context.refuse(line, Refusal::ProjectCall, ""),
             None => self.run(code),
         }
     }
 
     // The rule of the root file.
     fn root(&mut self, code: Code) -> Result<Flow, Stop>
-        requires known { code.names ≡ length self.old.store.now.names }
-        requires room { HasRooms T.seen O.seen self.old }
-        ensures same { Same self.old self.new }
-        ensures device { Fails T.seen O.seen self.old result self.new }
-        ensures gives { Answers T.seen O.seen (λ f. f) (ruled (root (file_by self.old.store.now.names code))) self.old result self.new }
+        requires known { code.names ≡ length self.old.context.store.now.names }
+        requires room { HasRooms T.seen O.seen self.old.context }
+        ensures same { Same self.old.context self.new.context }
+        ensures device { Fails T.seen O.seen self.old.context result self.new.context }
+        ensures gives { (few : Bool) → Answers T.seen O.seen (λ f. f) (ruled (root few (file_by self.old.context.store.now.names code)))
+            self.old.context result self.new.context }
     {
         let answer = self.root_statements(code);
-        ended(answer, self.steps)
+        ended(answer, self.context.steps)
     }
 
     // The root file, where no folder was entered.
     fn definitions(&mut self) -> Result<(), Stop>
-        requires new { self.old.store.now.entered ≡ [] }
-        requires room { HasRooms T.seen O.seen self.old }
-        ensures same { Same self.old self.new }
-        ensures device { Fails T.seen O.seen self.old result self.new }
-        ensures gives { Answers T.seen O.seen (λ u. u) definitions self.old result self.new }
+        requires new { self.old.context.store.now.entered ≡ [] }
+        requires room { HasRooms T.seen O.seen self.old.context }
+        ensures same { Same self.old.context self.new.context }
+        ensures device { Fails T.seen O.seen self.old.context result self.new.context }
+        ensures gives { (few : Bool) → Answers T.seen O.seen (λ u. u) (defined few) self.old.context result self.new.context }
     {
-        let code = self.open("")?;
+        let code = self.context.open("")?;
         self.root(code)?;
         Ok(())
     }
@@ -119,7 +96,8 @@ pub fn definitions<T: Tree, O: Outputs, L: Ledger>(
     ensures gives { (files : Files) → Holds (T.seen tree.old) files
         → RootGives files store.old (O.seen out.old) steps.old result store.new (O.seen out.new) steps.new }
 {
-    let mut evaluator = Evaluator::new(alloc, store, tree, out, steps);
+    let context = Context::new(alloc, store, tree, out, steps);
+    let mut evaluator = Evaluator { context };
     evaluator.definitions()
 }
 

@@ -13,26 +13,18 @@
 #![tactic(auto)]
 
 mod acting;
-mod assign;
 mod beginning;
 mod block;
-mod conditions;
+mod calling;
 mod entering;
 mod evaluation;
 mod evaluator;
-mod expressions;
 mod flow;
-mod format_strings;
-mod forms;
 mod frames;
 mod halt;
 mod inside;
 mod law;
-mod literals;
-mod loops;
-mod meaning;
-mod names;
-mod open;
+mod nodes;
 mod operation;
 mod running;
 mod stated;
@@ -41,6 +33,6 @@ mod unwinding;
 pub use evaluation::{Inputs, definitions, evaluate, read_machine};
 pub use evaluator::Evaluator;
 pub use law::{
-    closes_what_it_makes, depends_on_looked, loops_walk_all, machine_files_say,
+    closes_what_it_makes, depends_on_looked, loops_are_few, machine_files_say,
     notes_what_it_looks_at, steps_within_cost,
 };

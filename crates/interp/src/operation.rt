@@ -6,14 +6,16 @@ ghost use Rattle.world.specs.Deed.{Files};
 ghost use Rattle.world.specs.Gives.{Holds, failures_after};
 ghost use Rattle.operators.specs.Operations.{binary_answer};
 ghost use Rattle.world.specs.Plan.{answered, ruled};
-ghost use Rattle.interp.specs.Expressions.{combined, meaning_of, value_of};
+ghost use Rattle.expressions.specs.Forms.{combined, meaning_of};
+ghost use Rattle.interp.specs.Expressions.{value_of};
+ghost use Rattle.interp.specs.Bounds.{Bounds};
 ghost use Rattle.interp.specs.Folders.{folder};
 ghost use Rattle.interp.specs.Operations.{Goes, completed};
-ghost use Rattle.interp.specs.Evaluates.{stand_of};
+ghost use Rattle.expressions.specs.Contexts.{stand_of};
 
 use crate::evaluator::Evaluator;
-use crate::meaning::{Meaning, meaning_of};
 use data::Value;
+use expressions::{Meaning, meaning_of};
 use grammar::tree::Operator;
 use operators::{Binary, Connective, Left, binary, left_side, right_side};
 use ports::{Outputs, Tree};
@@ -39,13 +41,13 @@ pub enum Begun {
 }
 
 impl<'a, T: Tree, O: Outputs, L: Ledger> Evaluator<'a, T, O, L> {
-    ghost use Rattle.interp.specs.Evaluates.{Answers};
+    ghost use Rattle.expressions.specs.Contexts.{Answers};
 
     /// An operator on the value of its left side.
     pub fn begun(&self, line: usize, operator: Operator, left: Value) -> Result<Begun, Stop>
-        ensures gives { (files : Files) (more : ℕ) (right : ExpressionTree) → Holds (T.seen self.now.tree.now) files
+        ensures gives { (files : Files) (more : Bounds) (right : ExpressionTree) → Holds (T.seen self.now.context.tree.now) files
             → Goes files line (combined line (meaning_of operator) (data_of left) (ruled (value_of (folder more) right)))
-            (ruled (value_of (folder more) right)) (stand_of T.seen O.seen self.now) result }
+            (ruled (value_of (folder more) right)) (stand_of T.seen O.seen self.now.context) result }
         ensures quiet { (n : ℕ) → failures_after n result ≡ n }
     {
         match meaning_of(operator) {
@@ -56,26 +58,26 @@ impl<'a, T: Tree, O: Outputs, L: Ledger> Evaluator<'a, T, O, L> {
 
     // The left side may decide alone.
     fn connected(&self, line: usize, connective: Connective, left: Value) -> Result<Begun, Stop>
-        ensures gives { (files : Files) (more : ℕ) (right : ExpressionTree) → Holds (T.seen self.now.tree.now) files
+        ensures gives { (files : Files) (more : Bounds) (right : ExpressionTree) → Holds (T.seen self.now.context.tree.now) files
             → Goes files line (combined line (Meaning.Connects connective) (data_of left) (ruled (value_of (folder more) right)))
-            (ruled (value_of (folder more) right)) (stand_of T.seen O.seen self.now) result }
+            (ruled (value_of (folder more) right)) (stand_of T.seen O.seen self.now.context) result }
         ensures quiet { (n : ℕ) → failures_after n result ≡ n }
     {
         match left_side(connective, left) {
             Ok(Left::Decides(whole)) => Ok(Begun::Decided(whole)),
             Ok(Left::Open) => Ok(Begun::Waits(Half::Connects)),
-            Err(refusal) => self.refuse(line, of_operation(refusal), ""),
+            Err(refusal) => self.context.refuse(line, of_operation(refusal), ""),
         }
     }
 
     /// The same with the value of its right side.
     pub fn completed(&self, line: usize, half: Half, right: Value) -> Result<Value, Stop>
-        ensures gives { Answers T.seen O.seen data_of (completed line half (data_of right)) self.now result self.now }
+        ensures gives { Answers T.seen O.seen data_of (completed line half (data_of right)) self.now.context result self.now.context }
         ensures quiet { (n : ℕ) → failures_after n result ≡ n }
     {
         match half {
             Half::Combines(operator, left) => self.combined(line, operator, left, right),
-            Half::Connects => self.answered(line, right_side(right)),
+            Half::Connects => self.context.answered(line, right_side(right)),
         }
     }
 
@@ -88,10 +90,10 @@ impl<'a, T: Tree, O: Outputs, L: Ledger> Evaluator<'a, T, O, L> {
         right: Value,
     ) -> Result<Value, Stop>
         ensures gives { Answers T.seen O.seen data_of (answered line (binary_answer operator (data_of left) (data_of right)))
-            self.now result self.now }
+            self.now.context result self.now.context }
         ensures quiet { (n : ℕ) → failures_after n result ≡ n }
     {
-        let answer = binary(self.alloc, operator, left, right)?;
-        self.answered(line, answer)
+        let answer = binary(self.context.alloc, operator, left, right)?;
+        self.context.answered(line, answer)
     }
 }

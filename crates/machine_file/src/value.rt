@@ -22,8 +22,7 @@ pub enum MachineValue {
 }
 
 impl MachineValue {
-    ghost use Rattle.std.specs.Prelude.{length, slice_get};
-    ghost use Rattle.machine_file.specs.Readers.{text_said, integer_said, boolean_said, texts_said, words_said};
+    ghost use Rattle.machine_file.specs.Readers.{text_said, integer_said, boolean_said, texts_said};
 
     /// The text that the value is, if it is one.
     pub fn text(&self) -> Option<&str>
@@ -61,20 +60,6 @@ impl MachineValue {
     {
         match self {
             MachineValue::Texts(items) => Some(items),
-            _ => None,
-        }
-    }
-
-    /// The i-th word.
-    pub fn word(&self, i: usize) -> Option<&str>
-        ensures { option_map (λ word. word.now) result ≡ slice_get (words_said (value_in self.now)) i }
-    {
-        match self {
-            MachineValue::Text(text) if i == 0 => Some(text.as_str()),
-            MachineValue::Texts(items) => {
-                let item = items.get(i)?;
-                Some(item.as_str())
-            }
             _ => None,
         }
     }

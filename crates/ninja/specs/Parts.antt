@@ -16,13 +16,15 @@ end_text (Some path) = codes " DEPFILE = " ++ (value_text path ++ codes "\n\n")
 abbrev pub bindings_text : EdgeData → List ℕ
 bindings_text e =
     codes "\n COMMAND = "
-    ++ (value_text (words_text e.words e.redirect) ++ (codes "\n DESC = " ++ (value_text e.description ++ (codes "\n" ++ end_text e.depfile))))
+    ++ (value_text (words_text e.words e.redirect)
+    ++ (codes "\n DESC = " ++ (value_text e.description ++ (codes "\n" ++ end_text e.depfile))))
 
 -- ---- edges that share parts
 
 -- what they share: the paths that are only made before, and the first words of the command
 abbrev pub shared_text : (order_only words : List (List ℕ)) → List ℕ
-shared_text order_only words = signed_paths_text (codes " ||") order_only ++ (codes "\n COMMAND = " ++ value_text (words_text words None))
+shared_text order_only words =
+    signed_paths_text (codes " ||") order_only ++ (codes "\n COMMAND = " ++ value_text (words_text words None))
 
 -- what stands before that
 abbrev pub own_build_text : Rule → OwnData → List ℕ

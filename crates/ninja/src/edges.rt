@@ -74,7 +74,8 @@ fn push_needs(
     implicit: &[String],
     order_only: &[String],
 ) -> Result<(), AllocError>
-    ensures { IfOk result (λ _. text.new.items ≡ text.old.items ++ needs_text (texts inputs.now) (texts implicit.now) (texts order_only.now)) }
+    ensures { IfOk result (λ _. text.new.items
+        ≡ text.old.items ++ needs_text (texts inputs.now) (texts implicit.now) (texts order_only.now)) }
 {
     push_paths(text, inputs)?;
     push_signed_paths(text, b" |", implicit)?;

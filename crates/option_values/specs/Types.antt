@@ -3,7 +3,6 @@ use Rattle.std.specs.Prelude.{ℕ, List, Option, Some, None, codes, bytes_eq, if
 use Rattle.option_values.specs.declared.kind.OptionType.{OptionType}
 use Rattle.option_values.specs.declared.kind.OptionType.TheVariants as types
 use Rattle.option_values.specs.Kinds as kind
-use Rattle.option_values.specs.Values as value
 
 -- the types that there are
 unfoldable pub type_named : List ℕ → Option OptionType
@@ -33,12 +32,3 @@ type_of (kind.Integer least greatest) = types.Integer
 type_of (kind.Array choices) = types.Array
 type_of kind.Words = types.Array
 type_of kind.Feature = types.Feature
-
--- the type of an option that has this value
-abbrev pub type_of_value : value.Value → OptionType
-type_of_value (value.Text text) = types.Text
-type_of_value (value.Boolean boolean) = types.Boolean
-type_of_value (value.Combo choice) = types.Combo
-type_of_value (value.Integer number) = types.Integer
-type_of_value (value.Array items) = types.Array
-type_of_value (value.Feature state) = types.Feature

@@ -12,11 +12,11 @@ use Rattle.targets.specs.Inputs.{input_view}
 use Rattle.targets.specs.declared.sources.Input.{Input}
 use Rattle.target_edges.specs.Parts.{last_words, compile_shared, compile_own, joined_edge, is_none, shared_held}
 
-some_behind : (ws : List Text) (v : Text) (vs : List Text) → is_some_list (ws ++ v ∷ vs) ≡ true
+pub some_behind : (ws : List Text) (v : Text) (vs : List Text) → is_some_list (ws ++ v ∷ vs) ≡ true
 some_behind [] v vs = refl
 some_behind (w ∷ ws) v vs = refl
 
-and_true : (b : Bool) → (b && true) ≡ b
+pub and_true : (b : Bool) → (b && true) ≡ b
 and_true true = refl
 and_true false = refl
 

@@ -13,7 +13,7 @@ joined_one words generated file i =
     let object = object_path file i.name in
     ap (λ ws. record (compile_edge words generated file i) { words = ws }) (append_assoc words (codes "-MD" ∷ codes "-MQ" ∷ []) (last_words object (object ++ codes ".d") i.path))
 
-joined_all : (words : List Text) (generated : List Path) (file : Path) (is : List InputData) → map (joined_edge (front_words words) generated file) is ≡ map (compile_edge words generated file) is
+pub joined_all : (words : List Text) (generated : List Path) (file : Path) (is : List InputData) → map (joined_edge (front_words words) generated file) is ≡ map (compile_edge words generated file) is
 joined_all words generated file [] = refl
 joined_all words generated file (i ∷ is) =
     ap (λ e. e ∷ map (joined_edge (front_words words) generated file) is) (joined_one words generated file i)

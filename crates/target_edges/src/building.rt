@@ -19,8 +19,8 @@ use targets::{
     link_paths, objects,
 };
 
-// The edges that make the links to the target's file.
-fn names(context: &Context, target: &BuildTarget, file: &str) -> Result<Vec<Edge>, AllocError>
+/// The edges that make the links to the target's file.
+pub fn names(context: &Context, target: &BuildTarget, file: &str) -> Result<Vec<Edge>, AllocError>
     requires { file.now ≡ path_of (build_view target.now) }
     ensures { IfOk result (λ v. map edge_view v.items ≡ link_edges (build_view target.now)) }
 {

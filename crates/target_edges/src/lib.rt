@@ -1,6 +1,7 @@
 //! The edges that make a target.
 #![tactic(auto)]
 
+mod asking;
 mod building;
 mod claiming;
 mod compiling;

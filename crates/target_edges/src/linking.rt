@@ -1,5 +1,6 @@
 //! The edges that link and archive objects.
 ghost use Rattle.std.specs.Prelude.{◌≡◌, ◌++◌, ◌∷◌, [], Some, map, flat_map, IfOk, string_bytes, codes};
+ghost use Rattle.edge.specs.Holding.{is_writable};
 ghost use Rattle.edge.specs.Texts.{texts, first_kept as first_of_texts};
 ghost use Rattle.edge.specs.View.{edge_view};
 ghost use Rattle.targets.specs.View.{linked_view, surroundings_view, build_view};
@@ -8,10 +9,14 @@ ghost use Rattle.target_edges.specs.Words.{file_in, library_file, library_files,
 ghost use Rattle.target_edges.specs.Words.{static_arguments, search_word, search_words, shared_words};
 ghost use Rattle.target_edges.specs.Words.{shared_library_words, link_arguments, library_words, link_words};
 ghost use Rattle.target_edges.specs.Edges.{archiving, linking, file_edge, naming};
+ghost use Rattle.target_edges.specs.Parts.{archive_held, link_held};
 
 use crate::way::push_way;
-use crate::words::push_brought_link_args;
-use edge::{Edge, Rule, copies, first_kept, push_all, push_copies, strings};
+use crate::words::{joined, push_brought_link_args};
+use edge::{
+    Edge, Rule, are_paths, can_hold_values, copies, first_kept, is_path, push_all, push_copies,
+    strings,
+};
 use std::alloc::{AllocError, Global};
 use targets::{BuildTarget, Kind, Linked, Surroundings, build_target_at, file_path, so_name};
 
@@ -176,7 +181,7 @@ fn name_word(alloc: Global, target: &BuildTarget) -> Result<String, AllocError>
     ensures { IfOk result (λ s. string_bytes s ≡ codes "-Wl,-soname," ++ so_name_of (build_view target.now)) }
 {
     let name = so_name(alloc, target)?;
-    format!(in alloc; "-Wl,-soname,{name}")
+    joined(alloc, "-Wl,-soname,", &name)
 }
 
 fn push_if_linked_shared(
@@ -230,8 +235,8 @@ fn push_libraries(
         ≡ texts words.old.items ++ library_words (surroundings_view context.now.surroundings.now)
         (map linked_view context.now.earlier.now) context.now.libraries.now (build_view target.now)) }
 {
-    let files = library_files(context.alloc, context.earlier, context.libraries)?;
-    push_copies(words, &files)?;
+    let mut files = library_files(context.alloc, context.earlier, context.libraries)?;
+    words.append(&mut files)?;
     push_search_words(
         words,
         context.alloc,
@@ -282,7 +287,7 @@ fn archive_edge(
         order_only: Vec::new(alloc),
         words,
         redirect: None,
-        description: format!(in alloc; "Archiving {file}")?,
+        description: joined(alloc, "Archiving ", file)?,
         depfile: None,
     })
 }
@@ -309,7 +314,7 @@ fn link_edge(
         order_only: Vec::new(alloc),
         words,
         redirect: None,
-        description: format!(in alloc; "Linking target {file}")?,
+        description: joined(alloc, "Linking target ", file)?,
         depfile: None,
     })
 }
@@ -337,6 +342,60 @@ pub fn file_edge(
     }
 }
 
+// ---- what is asked before they are made
+
+fn archive_is_held(archiver: &[String], file: &str, objects: &[String]) -> bool
+    ensures { result ≡ archive_held (texts archiver.now) file.now (texts objects.now) }
+{
+    is_path(file) && are_paths(objects) && can_hold_values(archiver)
+}
+
+fn link_is_held(
+    context: &Context,
+    target: &BuildTarget,
+    file: &str,
+    objects: &[String],
+) -> Result<bool, AllocError>
+    ensures { let earlier = map linked_view context.now.earlier.now in
+        let t = build_view target.now in
+        let words = shared_words target.now.kind t
+        ++ library_words (surroundings_view context.now.surroundings.now) earlier context.now.libraries.now t in
+        IfOk result (λ held. held ≡ link_held (texts context.now.surroundings.now.facts.compiler.items) words file.now (texts objects.now)
+        (library_files earlier context.now.libraries.now)) }
+{
+    let libraries = library_files(context.alloc, context.earlier, context.libraries)?;
+    let mut words = Vec::new(context.alloc);
+    push_shared(&mut words, context.alloc, target)?;
+    push_libraries(&mut words, context, target)?;
+    let compiler = &context.surroundings.facts.compiler;
+    Ok(
+        is_path(file)
+            && are_paths(objects)
+            && are_paths(&libraries)
+            && can_hold_values(compiler)
+            && can_hold_values(&words),
+    )
+}
+
+/// Whether `build.ninja` can hold the edge that makes the target's file of its objects.
+pub fn file_is_held(
+    context: &Context,
+    target: &BuildTarget,
+    file: &str,
+    objects: &[String],
+) -> Result<bool, AllocError>
+    ensures { IfOk result (λ held. held
+        ≡ is_writable (file_edge (surroundings_view context.now.surroundings.now)
+        (map linked_view context.now.earlier.now) context.now.libraries.now (build_view target.now) file.now (texts objects.now))) }
+{
+    if target.kind.is_static() {
+        let archiver = &context.surroundings.facts.archiver;
+        Ok(archive_is_held(archiver, file, objects))
+    } else {
+        link_is_held(context, target, file, objects)
+    }
+}
+
 // ---- symbolic links
 
 fn naming_edge(alloc: Global, file: &str, name: &str, link: &str) -> Result<Edge, AllocError>
@@ -350,7 +409,7 @@ fn naming_edge(alloc: Global, file: &str, name: &str, link: &str) -> Result<Edge
         order_only: Vec::new(alloc),
         words: strings(alloc, &["ln", "-f", "-s", name, link])?,
         redirect: None,
-        description: format!(in alloc; "Linking name {link}")?,
+        description: joined(alloc, "Linking name ", link)?,
         depfile: None,
     })
 }

@@ -6,12 +6,14 @@ pub mod Costs
 mod Counts
 pub mod Declaring
 pub mod Follow
+pub mod Found
 pub mod Holding
 pub mod Leading
 pub mod Look
 pub mod Marks
 pub mod Noting
 pub mod Numbers
+pub mod Ruling
 pub mod Running
 pub mod Setting
 pub mod Tells

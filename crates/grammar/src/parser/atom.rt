@@ -160,7 +160,7 @@ impl<'a> Parser<'_, 'a> {
         } else if self.begins(Kind::OpenParenthesis) {
             let (_, levels) = self.enter(Kind::OpenParenthesis, levels)?;
             let inner = self.ternary(alloc, levels, ternaries)?;
-            self.closed(Kind::CloseParenthesis, inner)
+            Ok(self.closed(Kind::CloseParenthesis, inner)?)
         } else if self.begins(Kind::OpenBracket) {
             self.list(alloc, levels, ternaries)
         } else if self.begins(Kind::OpenBrace) {

@@ -1,9 +1,9 @@
 //! Reads expressions: ternaries, and chains of operators.
 
-ghost use Rattle.std.specs.Prelude.{true, false, Some, IfOk, [], ◌∷◌, ◌≡◌, ◌&&◌, ◌-◌, ◌<◌, ◌≤◌, length, OnOk};
+ghost use Rattle.std.specs.Prelude.{true, false, Some, IfOk, ◌≡◌, ◌&&◌, ◌-◌, ◌<◌, ◌≤◌, length, OnOk};
 ghost use Rattle.std.specs.Option.{OnSome};
 ghost use Rattle.lexer.specs.Lexeme.{lexeme_of, lexemes};
-ghost use Rattle.grammar.specs.ExpressionTree.{ChainTree, TernaryTree, expression_of, operands};
+ghost use Rattle.grammar.specs.ExpressionTree.{expression_of};
 ghost use Rattle.grammar.specs.Expressions.{comparative};
 ghost use Rattle.grammar.specs.Parts.{first_line, stands_for, taken};
 ghost use Rattle.grammar.specs.Reading.{Gives, begins, head_is, two_begin};
@@ -74,49 +74,6 @@ pub(super) fn boxed<T: Drop>(alloc: Global, value: T) -> Result<Box<T>, AllocErr
     ensures { IfOk result (λ b. b.value ≡ value) }
 {
     Ok(Box::new(alloc, value)?)
-}
-
-// Two values with a comparison between them.
-fn compared<'a>(
-    alloc: Global,
-    first: Expression<'a>,
-    operator: Operator,
-    value: Expression<'a>,
-    line: usize,
-) -> Result<Expression<'a>, AllocError>
-    ensures { IfOk result (λ e. expression_of e
-        ≡ ChainTree (expression_of first.entry) (operands ((operator, expression_of value.entry) ∷ [])) line) }
-{
-    let first = boxed(alloc, first)?;
-    let mut others = Vec::with_capacity(alloc, 1)?;
-    put(&mut others, Operand { operator, value })?;
-    Ok(Expression::Chain {
-        first,
-        others,
-        line,
-    })
-}
-
-// A test, and the values where it holds and where it doesn't.
-fn choice<'a>(
-    alloc: Global,
-    test: Expression<'a>,
-    yes: Expression<'a>,
-    no: Expression<'a>,
-    line: usize,
-) -> Result<Expression<'a>, AllocError>
-    ensures { IfOk result (λ e. expression_of e
-        ≡ TernaryTree (expression_of test.entry) (expression_of yes.entry) (expression_of no.entry) line) }
-{
-    let test = boxed(alloc, test)?;
-    let yes = boxed(alloc, yes)?;
-    let no = boxed(alloc, no)?;
-    Ok(Expression::Ternary {
-        test,
-        yes,
-        no,
-        line,
-    })
 }
 
 impl<'a> Parser<'_, 'a> {
@@ -313,9 +270,16 @@ impl<'a> Parser<'_, 'a> {
         if !self.compares() {
             return Ok(first);
         }
+        let first = boxed(alloc, first)?;
         let operator = self.comparison_operator()?;
         let value = self.chain(alloc, levels, ternaries, Rank::Sum)?;
-        Ok(compared(alloc, first, operator, value, line)?)
+        let mut others = Vec::with_capacity(alloc, 1)?;
+        put(&mut others, Operand { operator, value })?;
+        Ok(Expression::Chain {
+            first,
+            others,
+            line,
+        })
     }
 
     // An expression, in which a ternary may stand or not.
@@ -336,11 +300,19 @@ impl<'a> Parser<'_, 'a> {
         if !self.asks(ternaries) {
             return Ok(test);
         }
+        let test = boxed(alloc, test)?;
         self.take(Kind::Question)?;
         let yes = self.chain(alloc, levels, false, Rank::Or)?;
         let yes = self.closed(Kind::Colon, yes)?;
+        let yes = boxed(alloc, yes)?;
         let no = self.chain(alloc, levels, false, Rank::Or)?;
-        Ok(choice(alloc, test, yes, no, line)?)
+        let no = boxed(alloc, no)?;
+        Ok(Expression::Ternary {
+            test,
+            yes,
+            no,
+            line,
+        })
     }
 
     // An expression, where so many levels may still be opened.

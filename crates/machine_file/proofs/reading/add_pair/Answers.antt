@@ -22,7 +22,8 @@ returns-then-not-takes c = pair_not_taken c.args.kind (entries_in c.args.entries
 pub put-requires : goal.put-requires
 put-requires c = has_key_lookup (string_bytes c.in_ok-key.key) c.args.entries.now.entries
     ∙ ap (λ (k : List ℕ). has_key k (entries_in c.args.entries.now.entries)) c.in_ok-key.ensures.ok
-    ∙ taken_new c.args.kind (entries_in c.args.entries.now.entries) c.in-Some.key.now (value_in c.in-Some-2.value) (sym c.if-not-takes.ensures)
+    ∙ taken_new c.args.kind (entries_in c.args.entries.now.entries) c.in-Some.key.now
+    (value_in c.in-Some-2.value) (sym c.if-not-takes.ensures)
 
 pub returns : goal.returns
 returns c = ap (λ (es : List file.Entry). Some es) (ap entries_in c.in_ok-put.ensures

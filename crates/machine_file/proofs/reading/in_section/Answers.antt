@@ -8,8 +8,10 @@ returns-in_default c = in_none c.args.reading c.args.line c.args.text.now c.in_d
 
 pub returns-then-not-added : goal.returns-then-not-added
 returns-then-not-added c = in_refused c.args.reading c.args.line c.args.text.now c.in-Some.current c.in-Some.is
-    (sym (ap (λ (b : Bool). if b then Some (entries_in c.add_pair.new.entries.entries) else None) c.if-not-added.true) ∙ c.in_ok-added.ensures)
+    (sym (ap (λ (b : Bool). if b then Some (entries_in c.add_pair.new.entries.entries) else None)
+    c.if-not-added.true) ∙ c.in_ok-added.ensures)
 
 pub returns : goal.returns
 returns c = in_taken c.args.reading c.args.line c.args.text.now c.in-Some.current (entries_in c.add_pair.new.entries.entries) c.in-Some.is
-    (sym (ap (λ (b : Bool). if b then Some (entries_in c.add_pair.new.entries.entries) else None) c.if-not-added.false) ∙ c.in_ok-added.ensures)
+    (sym (ap (λ (b : Bool). if b then Some (entries_in c.add_pair.new.entries.entries) else None)
+    c.if-not-added.false) ∙ c.in_ok-added.ensures)

@@ -4,7 +4,7 @@ use Rattle.grammar.specs.ExpressionTree.{ExpressionTree, ListTree, DictionaryTre
 use Rattle.code.specs.Nodes.{tree_at, entry_at, argument_at, operand_at, link_at, entry_within, argument_within, operand_within, link_within}
 use Rattle.code.specs.Draft.{trees_in}
 use Rattle.code.proofs.Trees.{and_both}
-use Rattle.code.proofs.Parts.{grows_trans, stands_more, parts_step, parts_end, keeps_number, keeps_entry, keeps_argument, keeps_operand, keeps_link}
+use Rattle.code.proofs.Parts.{grows_same, grows_trans, stands_more, parts_step, parts_end, keeps_number, keeps_entry, keeps_argument, keeps_operand, keeps_link}
 use Rattle.code.proofs.Made.{entry_is, argument_is, operand_is, stands_as, name_made, literal_made, list_made, dictionary_made, call_made, postfix_made, prefix_made, chain_made, ternary_made}
 use Rattle.code.proofs.draft.Draft.+flatten.Goals as goal
 
@@ -302,3 +302,55 @@ ternary-returns-clause-stands t c =
     (ap (λ e. TernaryTree e (tree_at ts c.in_ok-yes.yes) (tree_at ts c.in_ok-no.no) c.args.line) test.is
     ∙ ap (λ e. TernaryTree (expression_of c.args.test.now) e (tree_at ts c.in_ok-no.no) c.args.line) yes.is
     ∙ ap (λ e. TernaryTree (expression_of c.args.test.now) (expression_of c.args.yes.now) e c.args.line) c.in_ok-no.ensures.stands.is)
+
+-- ---- where memory is refused, and behind the loop of arguments
+
+pub list-returns-in_err-number-clause-grows : goal.list-returns-in_err-number-clause-grows
+list-returns-in_err-number-clause-grows t c = grows_trans c.args.self.now c.loop-item.self c.expression.new.self c.loop-item.invariant.grows c.expression.ensures.grows
+
+pub list-returns-in_err-push-clause-grows : goal.list-returns-in_err-push-clause-grows
+list-returns-in_err-push-clause-grows t c = grows_trans c.args.self.now c.loop-item.self c.expression.new.self c.loop-item.invariant.grows c.expression.ensures.grows
+
+pub dictionary-returns-in_err-key-clause-grows : goal.dictionary-returns-in_err-key-clause-grows
+dictionary-returns-in_err-key-clause-grows t c = grows_trans c.args.self.now c.loop-entry.self c.expression.new.self c.loop-entry.invariant.grows c.expression.ensures.grows
+
+pub dictionary-returns-in_err-value-clause-grows : goal.dictionary-returns-in_err-value-clause-grows
+dictionary-returns-in_err-value-clause-grows t c = grows_trans c.args.self.now c.expression.new.self c.expression-in-loop-entry.new.self (grows_trans c.args.self.now c.loop-entry.self c.expression.new.self c.loop-entry.invariant.grows c.expression.ensures.grows) c.expression-in-loop-entry.ensures.grows
+
+pub arguments-returns-in_err-name-clause-grows : goal.arguments-returns-in_err-name-clause-grows
+arguments-returns-in_err-name-clause-grows t c = c.loop-argument.invariant.grows
+
+pub arguments-returns-in_err-value-clause-grows : goal.arguments-returns-in_err-value-clause-grows
+arguments-returns-in_err-value-clause-grows t c = grows_trans c.args.self.now c.loop-argument.self c.expression.new.self c.loop-argument.invariant.grows c.expression.ensures.grows
+
+pub arguments-returns-in_err-push-clause-grows : goal.arguments-returns-in_err-push-clause-grows
+arguments-returns-in_err-push-clause-grows t c = grows_trans c.args.self.now c.loop-argument.self c.expression.new.self c.loop-argument.invariant.grows c.expression.ensures.grows
+
+pub arguments-returns-clause-grows : goal.arguments-returns-clause-grows
+arguments-returns-clause-grows t c = c.loop-argument.invariant.grows
+
+pub arguments-returns-clause-parts : goal.arguments-returns-clause-parts
+arguments-returns-clause-parts t c =
+    parts_end argument_within argument_at keeps_argument argument_of c.args.arguments.now c.loop-argument.argument-index (trees_in c.loop-argument.self)
+    c.loop-argument.nodes.items c.loop-argument-test.false c.loop-argument.invariant.parts
+
+pub postfix-returns-in_err-node-clause-grows : goal.postfix-returns-in_err-node-clause-grows
+postfix-returns-in_err-node-clause-grows t c = grows_trans c.args.self.now c.loop-link.self c.link.new.self c.loop-link.invariant.grows c.link.ensures.grows
+
+pub postfix-returns-in_err-push-clause-grows : goal.postfix-returns-in_err-push-clause-grows
+postfix-returns-in_err-push-clause-grows t c = grows_trans c.args.self.now c.loop-link.self c.link.new.self c.loop-link.invariant.grows c.link.ensures.grows
+
+pub chain-returns-in_err-value-clause-grows : goal.chain-returns-in_err-value-clause-grows
+chain-returns-in_err-value-clause-grows t c = grows_trans c.args.self.now c.loop-operand.self c.expression-in-loop-operand.new.self c.loop-operand.invariant.grows c.expression-in-loop-operand.ensures.grows
+
+pub call-returns-in_err-name-clause-grows : goal.call-returns-in_err-name-clause-grows
+call-returns-in_err-name-clause-grows t c = grows_same c.args.self.now
+
+pub ternary-returns-in_err-test-clause-grows : goal.ternary-returns-in_err-test-clause-grows
+ternary-returns-in_err-test-clause-grows t c = c.expression.ensures.grows
+
+pub ternary-returns-in_err-yes-clause-grows : goal.ternary-returns-in_err-yes-clause-grows
+ternary-returns-in_err-yes-clause-grows t c = grows_trans c.args.self.now c.expression.new.self c.expression-2.new.self c.expression.ensures.grows c.expression-2.ensures.grows
+
+pub ternary-returns-in_err-no-clause-grows : goal.ternary-returns-in_err-no-clause-grows
+ternary-returns-in_err-no-clause-grows t c = grows_trans c.args.self.now c.expression-2.new.self c.expression-3.new.self (grows_trans c.args.self.now c.expression.new.self c.expression-2.new.self c.expression.ensures.grows c.expression-2.ensures.grows) c.expression-3.ensures.grows

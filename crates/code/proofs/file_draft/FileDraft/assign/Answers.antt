@@ -1,11 +1,10 @@
 use Rattle.std.proofs.Common.{ap, sym, subst, length, ◌∙◌}
 use Rattle.std.specs.Prelude.{IsTrue}
-use Rattle.grammar.specs.ExpressionTree.{ExpressionTree, expression_of}
+use Rattle.grammar.specs.ExpressionTree.{expression_of}
 use Rattle.grammar.specs.ReadingStatements.{set_tree}
 use Rattle.code.specs.declared.node.StatementNode.{StatementNode}
-use Rattle.code.specs.Nodes.{tree_at}
 use Rattle.code.specs.Draft.{trees_in}
-use Rattle.code.specs.Statements.{name_at, set_node, statement_tree, statement_within}
+use Rattle.code.specs.Statements.{statement_tree, statement_within}
 use Rattle.code.specs.FileDraft.{statements_in}
 use Rattle.code.proofs.Parts.{stands_more}
 use Rattle.code.proofs.Placed.{extends_trans, set_is, set_within, statement_as}

@@ -1,10 +1,12 @@
 use Rattle.std.proofs.Common.{ap}
 use Rattle.data.specs.View.{data_of}
 use Rattle.world.specs.Plan.{ruled}
-use Rattle.interp.specs.Expressions.{combined, value_of}
-use Rattle.interp.specs.declared.meaning.Meaning.{Meaning}
+use Rattle.expressions.specs.Forms.{combined}
+use Rattle.interp.specs.Expressions.{value_of}
+use Rattle.expressions.specs.declared.meaning.Meaning.{Meaning}
 use Rattle.interp.specs.Folders.{folder}
-use Rattle.interp.proofs.Evaluating.{goes_as, leads_other, leads_start}
+use Rattle.expressions.proofs.Evaluating.{leads_other, leads_start}
+use Rattle.interp.proofs.Operating.{goes_as}
 use Rattle.interp.proofs.evaluator.Evaluator.begun.Goals as goal
 
 pub returns-in-Combines-clause-gives : goal.returns-in-Combines-clause-gives

@@ -1,4 +1,4 @@
-use Rattle.interp.proofs.Evaluating.{given_none}
+use Rattle.expressions.proofs.Evaluating.{given_none}
 use Rattle.interp.proofs.evaluator.Evaluator.combined.Goals as goal
 
 pub returns-in_err-answer-clause-gives : goal.returns-in_err-answer-clause-gives

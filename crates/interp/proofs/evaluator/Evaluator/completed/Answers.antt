@@ -2,7 +2,7 @@ use Rattle.std.proofs.Common.{ap, sym}
 use Rattle.data.specs.View.{data_of}
 use Rattle.interp.specs.Operations.{completed}
 use Rattle.interp.specs.declared.operation.Half.{Half}
-use Rattle.interp.proofs.Evaluating.{given_as}
+use Rattle.expressions.proofs.Evaluating.{given_as}
 use Rattle.interp.proofs.evaluator.Evaluator.completed.Goals as goal
 
 pub returns-in-Combines-clause-gives : goal.returns-in-Combines-clause-gives

@@ -5,13 +5,16 @@ use Rattle.data.specs.declared.refusal.Refusal.{Refusal as OperationRefusal}
 use Rattle.basics.specs.declared.faults.refusal.Refusal.{Refusal}
 use Rattle.grammar.specs.ExpressionTree.{ExpressionTree}
 use Rattle.world.specs.Plan.{Plan, answered, next, refuse, ruled}
-use Rattle.interp.specs.Expressions.{unless_decided, value_of}
+use Rattle.expressions.specs.Forms.{unless_decided}
+use Rattle.interp.specs.Expressions.{value_of}
+use Rattle.interp.specs.Bounds.{Bounds}
 use Rattle.interp.specs.Folders.{folder}
-use Rattle.interp.proofs.Evaluating.{given_as, given_give, given_then, goes_refused, leads_next, leads_other}
+use Rattle.expressions.proofs.Evaluating.{given_as, given_give, given_then, leads_next, leads_other}
+use Rattle.interp.proofs.Operating.{goes_refused}
 use Rattle.interp.proofs.evaluator.Evaluator.connected.Goals as goal
 
 -- what `and` and `or` do by the answer on their left side
-abbrev decided_by : ℕ → ℕ → ExpressionTree → Result (Option Data) OperationRefusal → Plan Data
+abbrev decided_by : ℕ → Bounds → ExpressionTree → Result (Option Data) OperationRefusal → Plan Data
 decided_by line more right r = next (answered line r) (λ o. unless_decided line o (ruled (value_of (folder more) right)))
 
 pub returns-in-Ok-Decides-clause-gives : goal.returns-in-Ok-Decides-clause-gives

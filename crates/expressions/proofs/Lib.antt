@@ -1,0 +1,6 @@
+pub mod Assigning
+pub mod Evaluating
+pub mod Filling
+mod Meanings
+pub mod Opening
+pub mod Walking

@@ -1,0 +1,20 @@
+//! What an evaluation does that calls nothing: what expressions give for the values of their parts, variables, and the definition files
+//! that are opened.
+#![tactic(auto)]
+
+mod assign;
+mod conditions;
+mod context;
+mod format_strings;
+mod forms;
+mod literals;
+mod loops;
+mod meaning;
+mod names;
+mod open;
+
+pub use conditions::Choice;
+pub use context::Context;
+pub use loops::{Round, check_loop, round_at};
+pub use meaning::{Meaning, meaning_of};
+pub use names::disabler_method;

@@ -1,0 +1,56 @@
+use Rattle.std.proofs.Common.{◌≡◌, List, [], ◌∷◌, ◌++◌, map, string_bytes, ap, ◌∙◌}
+use Rattle.std.specs.Prelude.{◌&&◌, flat_map}
+use Rattle.std.proofs.lemmas.List.{map-append}
+use Rattle.edge.specs.Data.{EdgeData}
+use Rattle.edge.specs.Holding.{is_writable, are_writable}
+use Rattle.edge.specs.Paths.{object_path}
+use Rattle.edge.specs.Texts.{Path, texts}
+use Rattle.edge.specs.View.{edge_view}
+use Rattle.targets.specs.Inputs.{input_view}
+use Rattle.targets.specs.Sources.{InputData}
+use Rattle.targets.specs.View.{build_view, linked_view, surroundings_view}
+use Rattle.target_edges.specs.Edges.{file_edge}
+use Rattle.target_edges.proofs.HoldingFile.{compiles_asked, build_held, build_outputs}
+use Rattle.target_edges.proofs.claiming.build_claims.Goals as goal
+
+pub returns-clause-writable : goal.returns-clause-writable
+returns-clause-writable c =
+    let s = surroundings_view c.args.context.now.surroundings.now in
+    let earlier = map linked_view c.args.context.now.earlier.now in
+    let ns = c.args.context.now.libraries.now in
+    let t = build_view c.args.target.now in
+    let file = string_bytes c.in_ok-file.file in
+    let xs = c.in_ok-inputs.inputs.items in
+    let objects = c.in_ok-paths.paths.items in
+    let names = c.in_ok-names.names.items in
+    let made = λ (p : Path) (os : List Path). is_writable (file_edge s earlier ns t p os) in
+    let objects_of = λ (p : Path) (is : List InputData). map (λ (i : InputData). object_path p i.name) is in
+    let is : texts objects ≡ objects_of file (map input_view xs) = c.in_ok-paths.ensures ∙ ap (λ p. objects_of p (map input_view c.deref-3.result.now)) c.deref-2.ensures
+    ∙ ap (λ is. objects_of file (map input_view is)) c.deref-3.ensures.value in
+    let first = c.in_ok-compiles.ensures ∙ ap (compiles_asked s t (texts c.deref-5.result.now)) c.deref-4.ensures.value ∙ ap (λ os. compiles_asked s t (texts os) xs) c.deref-5.ensures.value in
+    let second = c.in_ok-made.ensures ∙ ap (λ p. made p (texts c.deref-7.result.now)) c.deref-6.ensures ∙ ap (λ os. made file (texts os)) c.deref-7.ensures.value in
+    c.all_are_held-writable.ensures
+    ∙ ap (λ b. b && (c.in_ok-made.made && are_writable (map edge_view c.deref-8.result.now))) first
+    ∙ ap (λ b. compiles_asked s t (texts objects) xs && (b && are_writable (map edge_view c.deref-8.result.now))) second
+    ∙ ap (λ es. compiles_asked s t (texts objects) xs && (made file (texts objects) && are_writable (map edge_view es))) c.deref-8.ensures.value
+    ∙ build_held s earlier ns t xs file (texts objects) (map edge_view names) c.in_ok-inputs.ensures c.in_ok-file.ensures is c.in_ok-names.ensures
+
+pub returns-clause-paths : goal.returns-clause-paths
+returns-clause-paths c =
+    let s = surroundings_view c.args.context.now.surroundings.now in
+    let earlier = map linked_view c.args.context.now.earlier.now in
+    let ns = c.args.context.now.libraries.now in
+    let t = build_view c.args.target.now in
+    let file = string_bytes c.in_ok-file.file in
+    let xs = c.in_ok-inputs.inputs.items in
+    let objects = c.in_ok-paths.paths.items in
+    let names = c.in_ok-names.names.items in
+    let made = λ (es : List EdgeData). flat_map (λ (e : EdgeData). e.outputs) es in
+    let objects_of = λ (p : Path) (is : List InputData). map (λ (i : InputData). object_path p i.name) is in
+    let is : texts objects ≡ objects_of file (map input_view xs) = c.in_ok-paths.ensures ∙ ap (λ p. objects_of p (map input_view c.deref-3.result.now)) c.deref-2.ensures
+    ∙ ap (λ is. objects_of file (map input_view is)) c.deref-3.ensures.value in
+    c.in_ok-push_outputs.ensures
+    ∙ ap (λ os. texts os ++ made (map edge_view c.deref-9.result.now)) c.in_ok-push.ensures.items
+    ∙ ap (λ os. os ++ made (map edge_view c.deref-9.result.now)) (map-append string_bytes objects (c.in_ok-file.file ∷ []))
+    ∙ ap (λ es. (texts objects ++ file ∷ []) ++ made (map edge_view es)) c.deref-9.ensures.value
+    ∙ build_outputs s earlier ns t xs file (texts objects) (map edge_view names) c.in_ok-inputs.ensures c.in_ok-file.ensures is c.in_ok-names.ensures
