@@ -1,8 +1,13 @@
--- Literals, and the tokens that they are.
+-- Literals, the tokens that they are, and what they stand for.
+use Rattle.std.specs.Prelude.{ℕ, Bool, true, false, ◌&&◌, ◌==◌, List, string_bytes, bytes_eq}
 use Rattle.grammar.specs.declared.tree.Literal.{Literal}
 use Rattle.grammar.specs.declared.tree.Literal.TheVariants as literals
+use Rattle.lexer.specs.Numerals.{magnitude}
+use Rattle.lexer.specs.Texts.{text_of}
 use Rattle.lexer.specs.declared.token.Kind.{Kind}
 use Rattle.lexer.specs.declared.token.Kind.TheVariants as kinds
+use Rattle.code.specs.declared.literal.Meaning.{Meaning}
+use Rattle.code.specs.declared.literal.Meaning.TheVariants as meanings
 
 -- the kind of token that a literal is
 abbrev pub kind_of : Literal → Kind
@@ -13,3 +18,33 @@ kind_of literals.String = kinds.String
 kind_of literals.RawString = kinds.RawString
 kind_of literals.FormatString = kinds.FormatString
 kind_of literals.RawFormatString = kinds.RawFormatString
+
+-- the literal of this truth value
+abbrev pub is_boolean : Bool → Literal → Bool
+is_boolean true literals.True = true
+is_boolean false literals.False = true
+is_boolean _ _ = false
+
+abbrev pub is_number : Literal → Bool
+is_number literals.Number = true
+is_number _ = false
+
+-- a string that is no f-string
+abbrev pub is_plain : Literal → Bool
+is_plain literals.String = true
+is_plain literals.RawString = true
+is_plain _ = false
+
+-- an f-string
+abbrev pub is_format : Literal → Bool
+is_format literals.FormatString = true
+is_format literals.RawFormatString = true
+is_format _ = false
+
+-- whether this is the meaning of a literal that stands so in the source
+abbrev pub means : Literal → List ℕ → Meaning → Bool
+means literal source (meanings.Boolean b) = is_boolean b literal
+means literal source (meanings.Integer n) = is_number literal && (n == magnitude source)
+means literal source (meanings.Text t) = is_plain literal && bytes_eq t (text_of (kind_of literal) source)
+means literal source (meanings.Format t) = is_format literal && bytes_eq t (text_of (kind_of literal) source)
+means literal source (meanings.Source t) = bytes_eq (string_bytes t.value) source

@@ -31,10 +31,10 @@ link_at ts (Index i) = IndexTree (tree_at ts i)
 -- the tree of a node, by the table of names and the trees of the nodes before it
 abbrev pub tree_of : List (List ℕ) → List ExpressionTree → Node → ExpressionTree
 tree_of names ts (flat.Name number line) = NameTree (slice_index_or names number []) line
-tree_of names ts (flat.Literal node line) = LiteralTree node.value.literal (string_bytes node.value.text) line
+tree_of names ts (flat.Literal node line) = LiteralTree node.literal (string_bytes node.source.value) line
 tree_of names ts (flat.List items line) = ListTree (expressions (map (tree_at ts) items.items)) line
 tree_of names ts (flat.Dictionary es line) = DictionaryTree (entries (map (entry_at ts) es.items)) line
-tree_of names ts (flat.Call name items line) = FunctionTree (string_bytes name) (arguments (map (argument_at ts) items.items)) line
+tree_of names ts (flat.Call call line) = FunctionTree (string_bytes call.value.name) (arguments (map (argument_at ts) call.value.arguments.items)) line
 tree_of names ts (flat.Postfix first ls line) = PostfixTree (tree_at ts first) (links (map (link_at ts) ls.items)) line
 tree_of names ts (flat.Prefix prefix value line) = PrefixTree prefix (tree_at ts value) line
 tree_of names ts (flat.Chain first others line) = ChainTree (tree_at ts first) (operands (map (operand_at ts) others.items)) line
@@ -68,7 +68,7 @@ within k n (flat.Name number line) = nat_lt number k
 within k n (flat.Literal node line) = true
 within k n (flat.List items line) = list_all (λ i. nat_lt i n) items.items
 within k n (flat.Dictionary es line) = list_all (entry_within n) es.items
-within k n (flat.Call name items line) = list_all (argument_within n) items.items
+within k n (flat.Call call line) = list_all (argument_within n) call.value.arguments.items
 within k n (flat.Postfix first ls line) = nat_lt first n && list_all (link_within n) ls.items
 within k n (flat.Prefix prefix value line) = nat_lt value n
 within k n (flat.Chain first others line) = nat_lt first n && list_all (operand_within n) others.items

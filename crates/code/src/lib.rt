@@ -1,13 +1,17 @@
 //! Definition files as code: the tree of a file kept flat, each part named by a number, and the names that it uses in one table.
 //!
-//! [`flatten`] makes the [`Code`] of a [`grammar::tree::File`]. The code owns its literals, with what they stand for, so the source can
-//! go. It is what evaluation walks: a frame there holds the code and numbers, and no reference into a tree.
+//! [`flatten`] makes the [`Code`] of a [`grammar::tree::File`]. The code owns what its literals stand for, so the source can go. It is what
+//! evaluation walks: a frame there holds the code and numbers, and no reference into a tree.
 //!
 //! # Decisions
 //!
 //! **Two lists of nodes.** Expressions and statements are numbered apart, each in a list of its own, since an expression never has a
 //! statement as a part. Each node stands after its parts, and that is a fact of [`Code`] itself, so whoever walks it by number knows that
 //! the walk ends. Only names of variables stand in the table of names; those of functions, methods and keywords are texts of the node.
+//!
+//! **Nodes are small.** A source may have a statement for each two bytes. So a statement takes 16 bytes and an expression 40: what is
+//! greater stands in a box, and numbers have 32 bits where that makes a node smaller. A number that they don't hold, which no file of 16
+//! MiB has, is refused as memory is. A literal keeps what it stands for and not its text, which only proofs read.
 //!
 //! **What code stands for, not how many nodes it has.** The contract of [`flatten`] gives the tree that code stands for, and that nodes
 //! come after their parts. It doesn't say that no node is left over, which no part names: a draft that makes each node twice would pass
@@ -30,6 +34,6 @@ pub mod node;
 mod statements;
 
 pub use code::Code;
-pub use literal::LiteralNode;
+pub use literal::{LiteralNode, Meaning};
 pub use making::{flatten, names_may_grow};
 pub use names::Names;

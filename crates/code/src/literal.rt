@@ -1,28 +1,40 @@
 //! Literals, and what they stand for.
-ghost use Rattle.std.specs.Prelude.{◌≡◌, IfOk, string_bytes};
+ghost use Rattle.std.specs.Prelude.{◌≡◌, IfOk, IsTrue, string_bytes};
 ghost use Rattle.std.specs.Option.{ForSome};
 ghost use Rattle.lexer.specs.Numerals.{magnitude};
 ghost use Rattle.lexer.specs.Texts.{text_of};
-ghost use Rattle.code.specs.Literals.{kind_of};
+ghost use Rattle.code.specs.Literals.{is_format, is_number, is_plain, kind_of, means};
 
 use data::Text;
 use grammar::tree::Literal;
 use lexer::token::Kind;
 use lexer::{magnitude, text_of_slice};
 use std::alloc::{AllocError, Global};
+use std::snapshot::Snapshot;
 
-/// A literal, with what it stands for where that is kept, so that evaluation need not read its text again.
+/// What a literal stands for, or its text where that is not kept.
+#[derive(Drop)]
+pub enum Meaning {
+    /// `true` or `false`.
+    Boolean(bool),
+    /// The number that it spells.
+    Integer(u64),
+    /// The text that a string stands for.
+    Text(Text),
+    /// The text that an f-string stands for, before its places are filled.
+    Format(Text),
+    /// The literal as it stands in the source: a number that 64 bits don't hold, or a string whose text is too long.
+    Source(Box<String>),
+}
+
+/// A literal, by what it stands for, so that evaluation need not read its text again.
 #[derive(Drop)]
 pub struct LiteralNode {
     pub literal: Literal,
-    /// As it stands in the source: a string has its quotes.
-    pub text: String,
-    /// The number that it spells, where 64 bits hold it.
-    pub number: Option<u64>,
-    /// The text that a string stands for, of an f-string before its places are filled.
-    pub string: Option<Text>,
-    pub ghost spells: { ForSome number (λ n. n ≡ magnitude (string_bytes text)) },
-    pub ghost stands: { ForSome string (λ t. t ≡ text_of (kind_of literal) (string_bytes text)) },
+    pub meaning: Meaning,
+    /// As it stands in the source: a string has its quotes. Only proofs read it, and it takes no memory.
+    pub source: Snapshot<String>,
+    pub ghost stands: { IsTrue (means literal (string_bytes source.value) meaning) },
 }
 
 // The kind of token that a literal is.
@@ -54,34 +66,70 @@ fn small_number(text: &str) -> Option<u64>
     }
 }
 
-// The number that a literal spells, where it is one.
-fn number_of(literal: Literal, text: &str) -> Option<u64>
-    ensures { ForSome result (λ n. n ≡ magnitude text.now) }
+// The text of a string, where it is not too long.
+fn decoded(alloc: Global, literal: Literal, text: &str) -> Result<Option<Text>, AllocError>
+    ensures { IfOk result (λ o. ForSome o (λ t. t ≡ text_of (kind_of literal) text.now)) }
 {
-    match literal {
-        Literal::Number => small_number(text),
-        _ => None,
-    }
-}
-
-// The text of a string of this kind, where it is not too long.
-fn string_of_kind(alloc: Global, kind: Kind, text: &str) -> Result<Option<Text>, AllocError>
-    ensures { IfOk result (λ o. ForSome o (λ t. t ≡ text_of kind text.now)) }
-{
-    let string = text_of_slice(alloc, kind, text)?;
+    let string = text_of_slice(alloc, kind_of(literal), text)?;
     match Text::new(alloc, string)? {
         Ok(text) => Ok(Some(text)),
         Err(_) => Ok(None),
     }
 }
 
-// The text of a literal that is a string.
-fn string_of(alloc: Global, literal: Literal, text: &str) -> Result<Option<Text>, AllocError>
-    ensures { IfOk result (λ o. ForSome o (λ t. t ≡ text_of (kind_of literal) text.now)) }
+// A literal as it stands in the source.
+fn unread(alloc: Global, literal: Literal, text: String) -> Result<Meaning, AllocError>
+    ensures { IfOk result (λ m. IsTrue (means literal (string_bytes text) m)) }
+{
+    let text = Box::new(alloc, text)?;
+    Ok(Meaning::Source(text))
+}
+
+// What a number stands for.
+fn number(alloc: Global, literal: Literal, text: String) -> Result<Meaning, AllocError>
+    requires { IsTrue (is_number literal) }
+    ensures { IfOk result (λ m. IsTrue (means literal (string_bytes text) m)) }
+{
+    match small_number(text.as_str()) {
+        Some(n) => Ok(Meaning::Integer(n)),
+        None => unread(alloc, literal, text),
+    }
+}
+
+// What a string stands for that is no f-string.
+fn plain(alloc: Global, literal: Literal, text: String) -> Result<Meaning, AllocError>
+    requires { IsTrue (is_plain literal) }
+    ensures { IfOk result (λ m. IsTrue (means literal (string_bytes text) m)) }
+{
+    match decoded(alloc, literal, text.as_str())? {
+        Some(decoded) => Ok(Meaning::Text(decoded)),
+        None => unread(alloc, literal, text),
+    }
+}
+
+// What an f-string stands for.
+fn format(alloc: Global, literal: Literal, text: String) -> Result<Meaning, AllocError>
+    requires { IsTrue (is_format literal) }
+    ensures { IfOk result (λ m. IsTrue (means literal (string_bytes text) m)) }
+{
+    match decoded(alloc, literal, text.as_str())? {
+        Some(decoded) => Ok(Meaning::Format(decoded)),
+        None => unread(alloc, literal, text),
+    }
+}
+
+// What a literal stands for.
+fn read(alloc: Global, literal: Literal, text: String) -> Result<Meaning, AllocError>
+    ensures { IfOk result (λ m. IsTrue (means literal (string_bytes text) m)) }
 {
     match literal {
-        Literal::True | Literal::False | Literal::Number => Ok(None),
-        _ => string_of_kind(alloc, kind_of(literal), text),
+        Literal::True => Ok(Meaning::Boolean(true)),
+        Literal::False => Ok(Meaning::Boolean(false)),
+        Literal::Number => number(alloc, literal, text),
+        Literal::String => plain(alloc, literal, text),
+        Literal::RawString => plain(alloc, literal, text),
+        Literal::FormatString => format(alloc, literal, text),
+        Literal::RawFormatString => format(alloc, literal, text),
     }
 }
 
@@ -89,23 +137,15 @@ impl LiteralNode {
     /// The literal of a source.
     pub fn new(alloc: Global, literal: Literal, text: &str) -> Result<LiteralNode, AllocError>
         ensures literal { IfOk result (λ node. node.literal ≡ literal) }
-        ensures text { IfOk result (λ node. string_bytes node.text ≡ text.now) }
+        ensures source { IfOk result (λ node. string_bytes node.source.value ≡ text.now) }
     {
-        let number = number_of(literal, text);
-        let string = string_of(alloc, literal, text)?;
         let text = String::from_str(alloc, text)?;
+        let source = Snapshot::of(&text);
+        let meaning = read(alloc, literal, text)?;
         Ok(LiteralNode {
             literal,
-            text,
-            number,
-            string,
+            meaning,
+            source,
         })
-    }
-
-    /// The kind of token that it is.
-    pub fn kind(&self) -> Kind
-        ensures { result ≡ kind_of self.now.literal }
-    {
-        kind_of(self.literal)
     }
 }

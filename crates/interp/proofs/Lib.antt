@@ -10,6 +10,7 @@ pub mod Evaluating
 pub mod Filling
 pub mod Looping
 pub mod Machines
+mod Meanings
 mod Noting
 pub mod Opening
 mod Pairs

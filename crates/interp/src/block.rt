@@ -30,12 +30,8 @@ fn part_of(node: &StatementNode, part: usize) -> &[usize]
     ensures { result.now ≡ part_of node.now part }
 {
     match node {
-        StatementNode::If {
-            branches,
-            otherwise,
-            ..
-        } => branch_or(branches, otherwise, part),
-        StatementNode::Foreach { body, .. } => body,
+        StatementNode::If { node } => branch_or(&node.branches, &node.otherwise, part),
+        StatementNode::Foreach { node } => &node.body,
         StatementNode::Assign { .. } => &[],
         StatementNode::Append { .. } => &[],
         StatementNode::Expression { .. } => &[],

@@ -49,13 +49,9 @@ impl<'a, T: Tree, O: Outputs, L: Ledger> Evaluator<'a, T, O, L> {
             Node::Literal { literal, line } => Ok(self.literal(*line, literal)?),
             Node::List { items, line } => self.list(code, items, *line),
             Node::Dictionary { entries, line } => self.dictionary(code, entries, *line),
-            Node::Call {
-                name,
-                arguments,
-                line,
-            } => self.call(code, name, arguments, *line),
+            Node::Call { call, line } => self.call(code, &call.name, &call.arguments, *line),
             Node::Postfix { first, links, line } => {
-                let given = self.asked(code, *first, links, *line)?;
+                let given = self.asked(code, *first as usize, links, *line)?;
                 Ok(self.needed(*line, given)?)
             }
             Node::Prefix {
@@ -70,7 +66,7 @@ impl<'a, T: Tree, O: Outputs, L: Ledger> Evaluator<'a, T, O, L> {
                 first,
                 others,
                 line,
-            } => self.chain(code, *first, others, *line),
+            } => self.chain(code, *first as usize, others, *line),
             Node::Ternary {
                 test,
                 yes,

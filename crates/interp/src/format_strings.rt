@@ -1,6 +1,5 @@
 //! The values of f-strings.
 ghost use Rattle.std.specs.Prelude.{◌≡◌, ◌++◌, ℕ, List, IfOk, [], map, string_bytes};
-ghost use Rattle.code.specs.Literals.{kind_of};
 ghost use Rattle.data.specs.Data.{text as text_data};
 ghost use Rattle.data.specs.Limits.{within, within_bytes};
 ghost use Rattle.data.specs.Tables.{Answers as AnswersSo, string_in};
@@ -12,7 +11,6 @@ ghost use Rattle.interp.specs.Expressions.{at_place, filled, format_string, is_p
 
 use crate::evaluator::Evaluator;
 use basics::faults::Refusal;
-use code::LiteralNode;
 use data::{Value, append};
 use lexer::text_of_slice;
 use lexer::token::Kind;
@@ -122,8 +120,8 @@ impl<'a, T: Tree, O: Outputs, L: Ledger> Evaluator<'a, T, O, L> {
         self.answered(line, answer)
     }
 
-    // The value of an f-string with this text after its escapes.
-    fn with_places(&self, line: usize, text: &str) -> Result<Value, Stop>
+    /// The value of an f-string with this text after its escapes.
+    pub fn with_places(&self, line: usize, text: &str) -> Result<Value, Stop>
         ensures gives { Answers T.seen O.seen data_of (format_string line text.now) self.now result self.now }
         ensures quiet { (n : ℕ) → failures_after n result ≡ n }
     {
@@ -131,24 +129,12 @@ impl<'a, T: Tree, O: Outputs, L: Ledger> Evaluator<'a, T, O, L> {
         self.filled(line, &parts)
     }
 
-    // The value of an f-string of this kind.
-    fn decoded_format(&self, line: usize, kind: Kind, slice: &str) -> Result<Value, Stop>
+    /// The value of an f-string of this kind.
+    pub fn decoded_format(&self, line: usize, kind: Kind, slice: &str) -> Result<Value, Stop>
         ensures gives { Answers T.seen O.seen data_of (format_string line (text_of kind slice.now)) self.now result self.now }
         ensures quiet { (n : ℕ) → failures_after n result ≡ n }
     {
         let string = text_of_slice(self.alloc, kind, slice)?;
         self.with_places(line, string.as_str())
-    }
-
-    // The value of an f-string.
-    pub fn format_string(&self, line: usize, literal: &LiteralNode) -> Result<Value, Stop>
-        ensures gives { Answers T.seen O.seen data_of
-            (format_string line (text_of (kind_of literal.now.literal) (string_bytes literal.now.text))) self.now result self.now }
-        ensures quiet { (n : ℕ) → failures_after n result ≡ n }
-    {
-        match &literal.string {
-            Some(string) => self.with_places(line, string.as_str()),
-            None => self.decoded_format(line, literal.kind(), literal.text.as_str()),
-        }
     }
 }

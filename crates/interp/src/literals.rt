@@ -1,6 +1,5 @@
 //! The values of literals.
 ghost use Rattle.std.specs.Prelude.{◌≡◌, ℕ, IfOk, Ok, string_bytes};
-ghost use Rattle.code.specs.Literals.{kind_of};
 ghost use Rattle.data.specs.Data.{text};
 ghost use Rattle.data.specs.Limits.{within};
 ghost use Rattle.data.specs.Tables.{Answers as AnswersSo};
@@ -12,7 +11,7 @@ ghost use Rattle.world.specs.Plan.{answered};
 ghost use Rattle.interp.specs.Expressions.{literal_value, number};
 
 use crate::evaluator::Evaluator;
-use code::LiteralNode;
+use code::{LiteralNode, Meaning};
 use data::{Text, Value};
 use grammar::tree::Literal;
 use lexer::token::Kind;
@@ -54,18 +53,6 @@ fn shared(string: &Text) -> Result<Value, AllocError>
 impl<'a, T: Tree, O: Outputs, L: Ledger> Evaluator<'a, T, O, L> {
     ghost use Rattle.interp.specs.Evaluates.{Answers};
 
-    // The integer of a number.
-    fn integer(&self, line: usize, literal: &LiteralNode) -> Result<Value, Stop>
-        ensures gives { Answers T.seen O.seen data_of (answered line (number (magnitude (string_bytes literal.now.text))))
-            self.now result self.now }
-        ensures quiet { (n : ℕ) → failures_after n result ≡ n }
-    {
-        match literal.number {
-            Some(n) => Ok(small_integer(n)),
-            None => self.answered(line, number(literal.text.as_str())),
-        }
-    }
-
     // The text of a string of this kind.
     fn decoded(&self, line: usize, kind: Kind, slice: &str) -> Result<Value, Stop>
         ensures gives { Answers T.seen O.seen data_of (answered line (within (text (text_of kind slice.now)))) self.now result self.now }
@@ -76,32 +63,34 @@ impl<'a, T: Tree, O: Outputs, L: Ledger> Evaluator<'a, T, O, L> {
         self.answered(line, answer)
     }
 
-    // The text of a string.
-    fn string(&self, line: usize, literal: &LiteralNode) -> Result<Value, Stop>
-        ensures gives { Answers T.seen O.seen data_of
-            (answered line (within (text (text_of (kind_of literal.now.literal) (string_bytes literal.now.text))))) self.now result self.now }
+    // The value of a literal that stands so in the source.
+    fn unread(&self, line: usize, literal: Literal, text: &str) -> Result<Value, Stop>
+        ensures gives { Answers T.seen O.seen data_of (literal_value line literal text.now) self.now result self.now }
         ensures quiet { (n : ℕ) → failures_after n result ≡ n }
     {
-        match &literal.string {
-            Some(string) => Ok(shared(string)?),
-            None => self.decoded(line, literal.kind(), literal.text.as_str()),
+        match literal {
+            Literal::True => Ok(Value::Boolean(true)),
+            Literal::False => Ok(Value::Boolean(false)),
+            Literal::Number => self.answered(line, number(text)),
+            Literal::String => self.decoded(line, Kind::String, text),
+            Literal::RawString => self.decoded(line, Kind::RawString, text),
+            Literal::FormatString => self.decoded_format(line, Kind::FormatString, text),
+            Literal::RawFormatString => self.decoded_format(line, Kind::RawFormatString, text),
         }
     }
 
     // The value of a literal.
-    pub fn literal(&self, line: usize, literal: &LiteralNode) -> Result<Value, Stop>
-        ensures gives { Answers T.seen O.seen data_of (literal_value line literal.now.literal (string_bytes literal.now.text))
+    pub fn literal(&self, line: usize, node: &LiteralNode) -> Result<Value, Stop>
+        ensures gives { Answers T.seen O.seen data_of (literal_value line node.now.literal (string_bytes node.now.source.value))
             self.now result self.now }
         ensures quiet { (n : ℕ) → failures_after n result ≡ n }
     {
-        match literal.literal {
-            Literal::True => Ok(Value::Boolean(true)),
-            Literal::False => Ok(Value::Boolean(false)),
-            Literal::Number => self.integer(line, literal),
-            Literal::String => self.string(line, literal),
-            Literal::RawString => self.string(line, literal),
-            Literal::FormatString => self.format_string(line, literal),
-            Literal::RawFormatString => self.format_string(line, literal),
+        match &node.meaning {
+            Meaning::Boolean(value) => Ok(Value::Boolean(*value)),
+            Meaning::Integer(n) => Ok(small_integer(*n)),
+            Meaning::Text(text) => Ok(shared(text)?),
+            Meaning::Format(text) => self.with_places(line, text.as_str()),
+            Meaning::Source(text) => self.unread(line, node.literal, text.as_str()),
         }
     }
 }

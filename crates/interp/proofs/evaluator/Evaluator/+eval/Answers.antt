@@ -1,8 +1,7 @@
-use Rattle.std.proofs.Common.{ℕ, suc, ◌≤◌, max, Bool, true, false, List, [], ◌∷◌, map, get_or, Option, Some, option_map, refl, string_bytes, sym, ap, ◌∙◌, arith, rules}
+use Rattle.std.proofs.Common.{ℕ, suc, ◌≤◌, max, Bool, true, false, List, [], ◌∷◌, map, get_or, Option, Some, option_map, refl, sym, ap, ◌∙◌, arith, rules}
 use Rattle.grammar.specs.ExpressionTree.{ListTree, DictionaryTree, FunctionTree, PostfixTree, ChainTree, expressions, entries, arguments, links, operands}
 use Rattle.grammar.specs.declared.tree.Operator.TheVariants as flatop
 use Rattle.code.specs.declared.node.Node.TheVariants as flat
-use Rattle.code.specs.declared.literal.LiteralNode.{LiteralNode}
 use Rattle.code.specs.declared.node.EntryNode.{EntryNode}
 use Rattle.code.specs.declared.node.ArgumentNode.{ArgumentNode}
 use Rattle.code.specs.declared.node.OperandNode.{OperandNode}
@@ -14,7 +13,7 @@ use Rattle.data.proofs.ItemsLemmas.{items_of-append}
 use Rattle.operators.specs.Literal.{pairs_of}
 use Rattle.arguments.specs.Arguments.{arguments_data, no_arguments}
 use Rattle.world.specs.Plan.{ruled, next}
-use Rattle.interp.specs.Expressions.{arguments_of, chain_of, chosen, entries_of, link_of, links_of, listed, literal_value, method_called, method_of, paired, value_of, values_of, variable}
+use Rattle.interp.specs.Expressions.{arguments_of, chain_of, chosen, entries_of, link_of, links_of, listed, method_called, method_of, paired, value_of, values_of, variable}
 use Rattle.interp.specs.Parts.{above, above_number, above_entry, above_argument, above_operand, above_link}
 use Rattle.interp.specs.Folders.{folder}
 use Rattle.interp.proofs.Coming.{comes_as, comes_end, comes_given, comes_halt, comes_halt_inside, comes_last, comes_none, comes_rule, comes_stop, comes_then}
@@ -120,10 +119,10 @@ pub form-returns-in_ok-variable-in-Name-clause-gives : goal.form-returns-in_ok-v
 form-returns-in_ok-variable-in-Name-clause-gives g t c = λ files left ts hold reads. comes_given (let number = (name_of reads c.in-Name.number (parts_at c.args.code.now c.args.node c.index.result.now (flat.Name c.in-Name.number c.in-Name.line) c.requires.here c.index.ensures c.in-Name.is)) in given_as (ap (value_of (folder left)) (sym (opened reads c.args.node c.index.result.now (flat.Name c.in-Name.number c.in-Name.line) c.requires.here c.index.ensures c.in-Name.is))) (given_as (ap (variable c.in-Name.line) number.1) (c.in_ok-variable-in-Name.ensures.gives number.0 files hold)))
 
 pub form-returns-in_err-literal-in-Literal-clause-gives : goal.form-returns-in_err-literal-in-Literal-clause-gives
-form-returns-in_err-literal-in-Literal-clause-gives g t c = λ files left ts hold reads. comes_as (ap (value_of (folder left)) (sym (opened reads c.args.node c.index.result.now (flat.Literal c.in-Literal.literal c.in-Literal.line) c.requires.here c.index.ensures c.in-Literal.is))) (comes_as (ap (λ (l : LiteralNode). literal_value c.in-Literal.line l.literal (string_bytes l.text)) c.deref.ensures) (comes_last (c.in_err-literal-in-Literal.ensures.gives files hold) c.from_residual-in_err-literal-in-Literal.ensures.1))
+form-returns-in_err-literal-in-Literal-clause-gives g t c = λ files left ts hold reads. comes_as (ap (value_of (folder left)) (sym (opened reads c.args.node c.index.result.now (flat.Literal c.in-Literal.literal c.in-Literal.line) c.requires.here c.index.ensures c.in-Literal.is))) (comes_last (c.in_err-literal-in-Literal.ensures.gives files hold) c.from_residual-in_err-literal-in-Literal.ensures.1)
 
 pub form-returns-in_ok-literal-in-Literal-clause-gives : goal.form-returns-in_ok-literal-in-Literal-clause-gives
-form-returns-in_ok-literal-in-Literal-clause-gives g t c = λ files left ts hold reads. comes_given (given_as (ap (value_of (folder left)) (sym (opened reads c.args.node c.index.result.now (flat.Literal c.in-Literal.literal c.in-Literal.line) c.requires.here c.index.ensures c.in-Literal.is))) (given_as (ap (λ (l : LiteralNode). literal_value c.in-Literal.line l.literal (string_bytes l.text)) c.deref.ensures) (c.in_ok-literal-in-Literal.ensures.gives files hold)))
+form-returns-in_ok-literal-in-Literal-clause-gives g t c = λ files left ts hold reads. comes_given (given_as (ap (value_of (folder left)) (sym (opened reads c.args.node c.index.result.now (flat.Literal c.in-Literal.literal c.in-Literal.line) c.requires.here c.index.ensures c.in-Literal.is))) (c.in_ok-literal-in-Literal.ensures.gives files hold))
 
 pub ternary-returns-in_err-value-clause-gives : goal.ternary-returns-in_err-value-clause-gives
 ternary-returns-in_err-value-clause-gives g t c = λ files left ts hold reads. comes_halt (c.in_err-value.ensures.gives files left ts hold reads) c.from_residual.ensures.1
