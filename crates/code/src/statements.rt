@@ -123,6 +123,7 @@ impl FileDraft {
                 second,
                 round,
             } => {
+                let round: &Branch<'_> = round;
                 let body = self.body(&round.body)?;
                 self.foreach(*line, first, *second, &round.condition, round.line, body)
             }

@@ -1,8 +1,9 @@
-use Rattle.std.proofs.Common.{refl, map, nat_lt, length, sym, ap, ◌∙◌}
+use Rattle.std.proofs.Common.{refl, map, nat_lt, length, option_map, sym, ap, ◌∙◌}
 use Rattle.std.specs.List.{list_all}
 use Rattle.grammar.specs.ExpressionTree.{ExpressionTree, expression_of}
 use Rattle.grammar.specs.declared.tree.Expression.{Expression}
-use Rattle.grammar.specs.Tree.{AssignTree, AppendTree, IfTree, branches, statement_of, branch_of, statements}
+use Rattle.grammar.specs.declared.tree.Branch.{Branch}
+use Rattle.grammar.specs.Tree.{AssignTree, AppendTree, ForeachTree, IfTree, branches, statement_of, branch_of, statements}
 use Rattle.code.specs.declared.node.StatementNode.TheVariants as flat
 use Rattle.code.specs.Draft.{trees_in}
 use Rattle.code.specs.Statements.{statement_at, statement_tree, branch_within}
@@ -147,8 +148,11 @@ statement-returns-in_ok-body-in-Foreach-clause-extends t c =
 
 pub statement-returns-in_ok-body-in-Foreach-clause-is : goal.statement-returns-in_ok-body-in-Foreach-clause-is
 statement-returns-in_ok-body-in-Foreach-clause-is t c = statement_as c.foreach.result c.foreach.new.self _ (statement_of c.args.statement.now) c.foreach.ensures.is
-    (each_made c.args.statement.now c.in-Foreach.line c.in-Foreach.first c.in-Foreach.second c.in-Foreach.list c.in-Foreach.list_line c.in-Foreach.body
-    c.deref-in-Foreach.result.now (map (statement_at (statements_in c.body.new.self)) c.in_ok-body-in-Foreach.body.items) c.in-Foreach.is c.deref-in-Foreach.ensures.value c.in_ok-body-in-Foreach.ensures.are.are)
+    (ap (λ (b : Branch). ForeachTree c.in-Foreach.line c.in-Foreach.first.now (option_map (λ n. n.now) c.in-Foreach.second) (expression_of b.condition) b.line
+    (statements (map (statement_at (statements_in c.body.new.self)) c.in_ok-body-in-Foreach.body.items))) c.deref-in-Foreach.ensures
+    ∙ each_made c.args.statement.now c.in-Foreach.line c.in-Foreach.first c.in-Foreach.second c.in-Foreach.round
+    c.deref-in-Foreach-2.result.now (map (statement_at (statements_in c.body.new.self)) c.in_ok-body-in-Foreach.body.items) c.in-Foreach.is
+    (c.deref-in-Foreach-2.ensures.value ∙ ap (λ (b : Branch). b.body.items) c.deref-in-Foreach.ensures) c.in_ok-body-in-Foreach.ensures.are.are)
 
 pub body-returns-in_err-number-clause-extends : goal.body-returns-in_err-number-clause-extends
 body-returns-in_err-number-clause-extends t c =
