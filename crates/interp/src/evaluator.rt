@@ -33,6 +33,7 @@ pub struct Evaluator<'a, T, O, L: Ledger> {
 impl<'a, T: Tree, O: Outputs, L: Ledger> Evaluator<'a, T, O, L> {
     ghost use Rattle.interp.specs.Evaluates.{Answers, fault_on};
 
+    #[inline(never)]
     fn fault(&self, line: usize, refusal: Refusal, detail: &str) -> Result<Fault, AllocError>
         ensures { IfOk result (λ f. fault_view f ≡ fault_on self.now line refusal detail.now) }
     {
@@ -41,6 +42,7 @@ impl<'a, T: Tree, O: Outputs, L: Ledger> Evaluator<'a, T, O, L> {
     }
 
     /// Refuses what stands in a line of the present file, for this name, path or text.
+    #[inline(never)]
     pub fn refuse<A>(&self, line: usize, refusal: Refusal, detail: &str) -> Result<A, Stop>
         ensures { Refuses (fault_on self.now line refusal detail.now) result }
     {
@@ -58,6 +60,7 @@ impl<'a, T: Tree, O: Outputs, L: Ledger> Evaluator<'a, T, O, L> {
     }
 
     /// What an operation answered, or the stop of its refusal.
+    #[inline(always)]
     pub fn answered(&self, line: usize, answer: Result<Value, data::Refusal>) -> Result<Value, Stop>
         ensures gives { (given : Result Data OperationRefusal) → AnswersSo given answer
             → Answers T.seen O.seen data_of (answered line given) self.now result self.now }
@@ -70,6 +73,7 @@ impl<'a, T: Tree, O: Outputs, L: Ledger> Evaluator<'a, T, O, L> {
     }
 
     /// What a call gave, where it gave a value.
+    #[inline(always)]
     pub fn needed(&self, line: usize, answer: Option<Value>) -> Result<Value, Stop>
         ensures gives { Answers T.seen O.seen data_of (needed line (option_map data_of answer)) self.now result self.now }
         ensures quiet { (n : ℕ) → failures_after n result ≡ n }

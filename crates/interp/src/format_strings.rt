@@ -121,6 +121,7 @@ impl<'a, T: Tree, O: Outputs, L: Ledger> Evaluator<'a, T, O, L> {
     }
 
     /// The value of an f-string with this text after its escapes.
+    #[inline(never)]
     pub fn with_places(&self, line: usize, text: &str) -> Result<Value, Stop>
         ensures gives { Answers T.seen O.seen data_of (format_string line text.now) self.now result self.now }
         ensures quiet { (n : ℕ) → failures_after n result ≡ n }

@@ -36,6 +36,7 @@ fn number(text: &str) -> Result<Value, data::Refusal>
 }
 
 // The integer of a number that 64 bits hold.
+#[inline(always)]
 fn small_integer(n: u64) -> Value
     ensures { number n ≡ Ok (data_of result) }
 {
@@ -43,6 +44,7 @@ fn small_integer(n: u64) -> Value
 }
 
 // The value of a text, shared.
+#[inline(always)]
 fn shared(string: &Text) -> Result<Value, AllocError>
     ensures { IfOk result (λ v. within (text string.now) ≡ Ok (data_of v)) }
 {
@@ -64,6 +66,7 @@ impl<'a, T: Tree, O: Outputs, L: Ledger> Evaluator<'a, T, O, L> {
     }
 
     // The value of a literal that stands so in the source.
+    #[inline(never)]
     fn unread(&self, line: usize, literal: Literal, text: &str) -> Result<Value, Stop>
         ensures gives { Answers T.seen O.seen data_of (literal_value line literal text.now) self.now result self.now }
         ensures quiet { (n : ℕ) → failures_after n result ≡ n }
@@ -80,6 +83,7 @@ impl<'a, T: Tree, O: Outputs, L: Ledger> Evaluator<'a, T, O, L> {
     }
 
     // The value of a literal.
+    #[inline(always)]
     pub fn literal(&self, line: usize, node: &LiteralNode) -> Result<Value, Stop>
         ensures gives { Answers T.seen O.seen data_of (literal_value line node.now.literal (string_bytes node.now.source.value))
             self.now result self.now }

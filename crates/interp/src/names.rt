@@ -61,6 +61,7 @@ impl<'a, T: Tree, O: Outputs, L: Ledger> Evaluator<'a, T, O, L> {
     ghost use Rattle.interp.specs.Evaluates.{Answers, Fails, HasRoom, Same};
 
     // The thing of the run that a name stands for.
+    #[inline(never)]
     pub fn thing(&self, name: &str) -> Result<Value, Stop>
         ensures gives { Answers T.seen O.seen data_of (thing name.now) self.now result self.now }
         ensures quiet { (n : ℕ) → failures_after n result ≡ n }
@@ -70,6 +71,7 @@ impl<'a, T: Tree, O: Outputs, L: Ledger> Evaluator<'a, T, O, L> {
     }
 
     // The value of the variable of a number.
+    #[inline(always)]
     pub fn variable(&self, number: usize, line: usize) -> Result<Value, Stop>
         ensures gives { number < length self.now.store.now.names
             → Answers T.seen O.seen data_of (variable line (slice_index_or self.now.store.now.names number [])) self.now result self.now }
@@ -96,6 +98,7 @@ impl<'a, T: Tree, O: Outputs, L: Ledger> Evaluator<'a, T, O, L> {
     }
 
     // The value of a variable that has one.
+    #[inline(always)]
     fn known(&self, line: usize, name: &str, value: Option<Value>) -> Result<Value, Stop>
         ensures gives { Answers T.seen O.seen data_of (known line name.now (option_map data_of value)) self.now result self.now }
         ensures quiet { (n : ℕ) → failures_after n result ≡ n }
@@ -124,6 +127,7 @@ impl<'a, T: Tree, O: Outputs, L: Ledger> Evaluator<'a, T, O, L> {
     }
 
     // Whether a function may be called inside of an expression yet.
+    #[inline(always)]
     fn is_allowed(&self, function: Function) -> bool
         ensures { result ≡ (self.now.store.now.is_begun || may_come_first function) }
     {
