@@ -17,11 +17,11 @@ ARROW, COLUMN = " -> ", re.compile(r"(?:^| )\|(?: |$)")
 MOST_BYTES = 1 << 26
 
 DIRECTIVES = {
-    "L2": "content", "file": "content", "files": "line", "folder": "line", "in": "line", "machine": "content", "word": "line", "build": "line",
-    "link": "line", "hardlink": "line", "fifo": "line", "socket": "line", "locked": "line", "closed": "line", "full": "line",
-    "command": "either", "log": "either", "fault": "line", "status": "line", "complaint": "either", "out": "content", "no": "line",
-    "edge": "content", "json": "line", "ok": "none", "cut": "line", "fail": "line", "pieces": "line", "looks": "line", "stays": "line",
-    "questions": "none", "asks": "either", "about": "line", "rows": "rows",
+    "L2": "content", "file": "content", "files": "line", "folder": "line", "in": "line", "machine": "content", "word": "line",
+    "build": "line", "link": "line", "hardlink": "line", "fifo": "line", "socket": "line", "locked": "line", "closed": "line",
+    "full": "line", "command": "either", "log": "either", "fault": "line", "status": "line", "complaint": "either", "out": "content",
+    "no": "line", "edge": "content", "json": "line", "ok": "none", "cut": "line", "fail": "line", "pieces": "line", "looks": "line",
+    "stays": "line", "questions": "none", "asks": "either", "about": "line", "rows": "rows",
 }
 
 EXPECTS = {"log", "fault", "status", "complaint", "out", "no", "edge", "json", "ok", "looks", "stays", "asks", "about"}
@@ -223,7 +223,7 @@ def with_hole(items, prints, place):
 
 
 def fault_of(text):
-    """A fault that is written short, 'E6', 'E6 at 3', 'E5 at a/meson.build:3: name': its number, its place and what stands behind; or none."""
+    """A fault that is written short, 'E6', 'E6 at 3', 'E5 at a/meson.build:3: name': number, place and what stands behind; or none."""
     return re.fullmatch(r"E(\d+)(?: at ((?:[^:]+:)?\d+))?(?:: (.*))?", text.strip(), re.S)
 
 

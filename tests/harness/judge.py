@@ -206,7 +206,8 @@ class Expected:
             for line in lines if fits else ():
                 if line not in fits[0]:
                     found.append(f"the edge '{shown(first)}' has no line\n{shown(line)}\nit is\n{shown(chr(10).encode().join(fits[0]))}")
-        found += [f"there is an edge that begins with {shown(it)}" for it in self.no_edges if any(p and p[0].startswith(it) for p in paragraphs)]
+        begun = [it for it in self.no_edges if any(p and p[0].startswith(it) for p in paragraphs)]
+        found += [f"there is an edge that begins with {shown(it)}" for it in begun]
         return found
 
     def values_differ(self, text):

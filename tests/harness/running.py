@@ -267,7 +267,7 @@ def parts_of(case, jobs):
 
 
 def failing_parts(text, jobs):
-    """The parts of a directive 'fail': its kinds of calls, and behind them what is looked for in these runs, or that they are over old outputs."""
+    """The parts of a directive 'fail': its kinds of calls, and what is looked for in these runs, or that they are over old outputs."""
     text, begun, output = text.partition(" begun ")
     kinds = (" " + text).removesuffix(OVER_OLD)
     over = (" " + text)[len(kinds) :]
@@ -339,7 +339,8 @@ def over_present(room, whole):
     came = room.run({it: room.files.get(it, b"") for it in files["present"]}, traced=True)
     found = []
     if (came.status, came.log, came.complaint, came.outputs) != (whole.status, whole.log, whole.complaint, whole.outputs):
-        found.append(f"over the files that are listed as present, {files['present']}, another run came: status {came.status}, and it said\n{shown(came.complaint)}")
+        over = f"over the files that are listed as present, {files['present']}"
+        found.append(f"{over}, another run came: status {came.status}, and it said\n{shown(came.complaint)}")
     more = sorted(came.looks - {*files["present"], *files["absent"]})
     return found + ([f"looked at, and not listed: {more}"] if more else [])
 
@@ -352,7 +353,7 @@ def in_pieces(room, whole, piece):
 
 
 def each_fails(room, whole, kind, share, shares):
-    """Whichever call of a kind fails, a beginning of the whole run comes, with the status of that kind; one of them where 'begun' says so."""
+    """Whichever call of a kind fails, a beginning of the whole run comes, with that kind's status; one of them where 'begun' says so."""
     kind, _, begun = kind.partition(" begun ")
     is_seen = not begun
     calls = whole.counts[kind]

@@ -134,7 +134,7 @@ fn ask_over<T: Tree, L: Ledger>(
 }
 
 // Evaluates the definitions, where the machine file has no fault.
-pub fn ask<T: Tree, L: Ledger>(
+fn ask<T: Tree, L: Ledger>(
     alloc: Global,
     tree: &mut T,
     inputs: &Inputs<'_>,
@@ -150,6 +150,43 @@ pub fn ask<T: Tree, L: Ledger>(
     ask_over(alloc, tree, inputs.settings, &machine, steps)
 }
 
+// What a run asks, where its rules are counted on this ledger.
+fn ask_with<T: Tree, L: Ledger>(
+    alloc: Global,
+    tree: &mut T,
+    inputs: &Inputs<'_>,
+    blank: Blank,
+) -> Result<Asking, Stop>
+    requires tree { HasRoom (T.seen tree.old).failures }
+    requires name { blank.name ≡ L.name }
+    requires parts { blank.parts ≡ L.parts }
+    requires some { 0 < blank.parts }
+    ensures asks { (files : Files) (said : MachineSaid) → Holds (T.seen tree.old) files → IsSaid inputs.now.machine.now said
+        → Asks (evaluated files (settings_view inputs.now.settings.now) said)
+        (questions_text (sections_of said) (asked_by files (settings_view inputs.now.settings.now) said)) result }
+    ensures device { (T.seen tree.new).failures ≡ failures_after (T.seen tree.old).failures result }
+{
+    let mut steps = new_steps::<L>(blank);
+    ask(alloc, tree, inputs, &mut steps)
+}
+
+// What the run over these bytes asks of the machine file, and its fault.
+pub(crate) fn ask_run<T: Tree>(
+    alloc: Global,
+    tree: &mut T,
+    settings: &Settings,
+    machine: &[u8],
+) -> Result<Asking, Stop>
+    requires { HasRoom (T.seen tree.old).failures }
+    ensures asks { (files : Files) (said : MachineSaid) → Holds (T.seen tree.old) files → IsSaid machine.now said
+        → Asks (evaluated files (settings_view settings.now) said)
+        (questions_text (sections_of said) (asked_by files (settings_view settings.now) said)) result }
+    ensures device { (T.seen tree.new).failures ≡ failures_after (T.seen tree.old).failures result }
+{
+    let inputs = Inputs { settings, machine };
+    ask_with::<T, Brand>(alloc, tree, &inputs, Blank::new(1))
+}
+
 // What is done with what a run asked: its lines are told, and its fault.
 fn settle<O: Outputs>(answer: Result<Asking, Stop>, out: &mut O) -> Status
     requires { HasRoom (O.seen out.old).failures }
@@ -159,29 +196,6 @@ fn settle<O: Outputs>(answer: Result<Asking, Stop>, out: &mut O) -> Status
         Ok(asking) => asking.tell(out),
         Err(stop) => stopped(stop, out),
     }
-}
-
-// A run whose rules are counted on this ledger.
-fn questions_with<T: Tree, O: Outputs, L: Ledger>(
-    alloc: Global,
-    tree: &mut T,
-    inputs: &Inputs<'_>,
-    out: &mut O,
-    blank: Blank,
-) -> Status
-    requires tree { HasRoom (T.seen tree.old).failures }
-    requires out { HasRoom (O.seen out.old).failures }
-    requires name { blank.name ≡ L.name }
-    requires parts { blank.parts ≡ L.parts }
-    requires some { 0 < blank.parts }
-    ensures run { (files : Files) (said : MachineSaid) → Holds (T.seen tree.old) files → IsSaid inputs.now.machine.now said
-        → Agrees (questions_of files (settings_view inputs.now.settings.now) said) result (O.seen out.old) (O.seen out.new) }
-    ensures device { FailsOnce result (T.seen tree.old).failures (O.seen out.old).failures (T.seen tree.new).failures
-        (O.seen out.new).failures }
-{
-    let mut steps = new_steps::<L>(blank);
-    let answer = ask(alloc, tree, inputs, &mut steps);
-    settle(answer, out)
 }
 
 /// Tells what the run of [`setup`](crate::running::setup) over the same bytes asks of the machine file: in the log one line of JSON for
@@ -205,6 +219,6 @@ pub fn questions<T: Tree, O: Outputs>(
     ensures device { FailsOnce result (T.seen tree.old).failures (O.seen out.old).failures (T.seen tree.new).failures
         (O.seen out.new).failures }
 {
-    let inputs = Inputs { settings, machine };
-    questions_with::<T, O, Brand>(alloc, tree, &inputs, out, Blank::new(1))
+    let answer = ask_run(alloc, tree, settings, machine);
+    settle(answer, out)
 }

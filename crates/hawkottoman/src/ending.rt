@@ -11,15 +11,12 @@ ghost use Rattle.world.specs.SettingsView.{settings_view};
 ghost use Rattle.hawkottoman.specs.Ending.{TellsFault, TellsStop, detail_told, ending_told, fault_told, told_whole};
 ghost use Rattle.hawkottoman.specs.Setup.{Concludes, FailsOnce};
 
-use crate::asking::{Asking, ask};
+use crate::asking::{Asking, ask_run};
 use basics::faults::Fault;
 use build_file::{Status, refuse};
-use interp::Inputs;
 use ports::{DeviceFault, Outputs, Tree, log_all};
 use std::alloc::Global;
-use std::marker::Brand;
-use std::sync::ledger::{Blank, Ledger};
-use world::{Settings, Stop, new_steps};
+use world::{Settings, Stop};
 
 #[tactic(auto, using(ports::proofs::Sending::sending))]
 fn log_line<O: Outputs>(text: &str, out: &mut O) -> Result<(), DeviceFault>
@@ -86,29 +83,6 @@ fn settle<O: Outputs>(answer: Result<Asking, Stop>, out: &mut O) -> Status
     }
 }
 
-// A run whose rules are counted on this ledger.
-fn fault_with<T: Tree, O: Outputs, L: Ledger>(
-    alloc: Global,
-    tree: &mut T,
-    inputs: &Inputs<'_>,
-    out: &mut O,
-    blank: Blank,
-) -> Status
-    requires tree { HasRoom (T.seen tree.old).failures }
-    requires out { HasRoom (O.seen out.old).failures }
-    requires name { blank.name ≡ L.name }
-    requires parts { blank.parts ≡ L.parts }
-    requires some { 0 < blank.parts }
-    ensures run { (files : Files) (said : MachineSaid) → Holds (T.seen tree.old) files → IsSaid inputs.now.machine.now said
-        → Agrees (fault_told files (settings_view inputs.now.settings.now) said) result (O.seen out.old) (O.seen out.new) }
-    ensures device { FailsOnce result (T.seen tree.old).failures (O.seen out.old).failures (T.seen tree.new).failures
-        (O.seen out.new).failures }
-{
-    let mut steps = new_steps::<L>(blank);
-    let answer = ask(alloc, tree, inputs, &mut steps);
-    settle(answer, out)
-}
-
 /// Tells the fault in which the run of [`setup`](crate::running::setup) over the same bytes ends: its line, and in the log a line with
 /// what it is about, which is empty where the place says enough. Without a fault nothing is told. Nothing else is written.
 pub fn fault<T: Tree, O: Outputs>(
@@ -130,6 +104,6 @@ pub fn fault<T: Tree, O: Outputs>(
     ensures device { FailsOnce result (T.seen tree.old).failures (O.seen out.old).failures (T.seen tree.new).failures
         (O.seen out.new).failures }
 {
-    let inputs = Inputs { settings, machine };
-    fault_with::<T, O, Brand>(alloc, tree, &inputs, out, Blank::new(1))
+    let answer = ask_run(alloc, tree, settings, machine);
+    settle(answer, out)
 }

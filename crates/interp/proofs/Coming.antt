@@ -13,14 +13,15 @@ use Rattle.world.specs.Trace.{Mark, Ended}
 use Rattle.world.specs.World.{World, with_facts, with_line}
 use Rattle.world.specs.declared.stop.Stop.{Stop}
 use Rattle.world.specs.declared.stop.Stop.TheVariants as stops
-use Rattle.interp.specs.Evaluates.{Stand, Given, Leads, HaltsTo, Comes}
+use Rattle.expressions.specs.Contexts.{Stand, Given, Leads}
+use Rattle.interp.specs.Evaluates.{HaltsTo, Comes}
 use Rattle.interp.specs.Folders.{folder}
 use Rattle.interp.specs.Inside.{Deepens, RuleEnds, ended_all, enters, inside}
 use Rattle.interp.specs.declared.flow.Flow.{Flow}
 use Rattle.interp.specs.declared.halt.Halt.{Halt}
 use Rattle.interp.specs.declared.halt.Halt.TheVariants as halts
 use Rattle.interp.specs.declared.halt.Inside.{Inside}
-use Rattle.interp.proofs.Evaluating.{follow-after, given_none, given_rule, given_stop, given_then, leads_as, leads_end, leads_further, leads_next, with_end-after}
+use Rattle.expressions.proofs.Evaluating.{follow-after, given_none, given_rule, given_stop, given_then, leads_as, leads_end, leads_further, leads_next, with_end-after}
 
 -- ---- what comes behind a fault never comes
 

@@ -43,20 +43,23 @@ use Rattle.world.specs.Costs.{definition_file, is_opened, unopened, spent}
 use Rattle.world.specs.Start.{first_world}
 use Rattle.world.specs.Trace.{ends_of}
 use Rattle.world.proofs.Costs.{Takes, more as more_in, free as free_in, none as none_in, chain as chain_in, rules as rules_in, opens, paid, paid-after, spent-after, spent-paid, deed-costs}
-use Rattle.interp.specs.declared.meaning.Meaning.{Meaning}
-use Rattle.interp.specs.declared.meaning.Meaning.TheVariants.{Combines, Connects}
+use Rattle.expressions.specs.declared.meaning.Meaning.{Meaning}
+use Rattle.expressions.specs.declared.meaning.Meaning.TheVariants.{Combines, Connects}
 use Rattle.interp.specs.Cost.{value_cost, values_cost, entries_cost, arguments_cost, links_cost, link_cost, chain_cost, statement_cost, branches_cost, statements_cost, parsed_cost, file_cost, tree_cost}
-use Rattle.interp.specs.Expressions.{known, variable, variable_by, is_plain, printed_plain, part_text, filled, number, literal_value, meaning_of, unless_decided, combined, unchosen, chosen, needed, known_function, refused_name, function_at, may_come_first, allowed, function_inside, called_by, called, entered_inside, inside_by, known_method, may_be_asked_first, known_object_method, method_at_by, method_at, value_method, object_method_called, method_by, method_called_by, method_of, value_of, values_of, entries_of, arguments_of, links_of, link_of, chain_of}
+use Rattle.expressions.specs.Forms.{known, variable, variable_by, is_plain, printed_plain, part_text, filled, number, literal_value, meaning_of, unless_decided, combined, unchosen, chosen, needed, known_function, refused_name, function_at, may_come_first, allowed, function_inside, known_method, may_be_asked_first, value_method, fitted}
+use Rattle.interp.specs.Expressions.{called_by, called, entered_inside, inside_by, known_object_method, method_at_by, method_at, object_method_called, method_by, method_called_by, method_of, value_of, values_of, entries_of, arguments_of, links_of, link_of, chain_of}
 use Rattle.interp.specs.declared.flow.Flow.{Flow}
 use Rattle.interp.specs.declared.flow.Flow.TheVariants.{Next, Continued, Broken, Finished}
-use Rattle.interp.specs.declared.conditions.Choice.{Choice}
-use Rattle.interp.specs.declared.conditions.Choice.TheVariants.{Body, Others, Skip}
-use Rattle.interp.specs.Conditions.{choice_of, choice_without, by_choice}
+use Rattle.expressions.specs.declared.conditions.Choice.{Choice}
+use Rattle.expressions.specs.declared.conditions.Choice.TheVariants.{Body, Others, Skip}
+use Rattle.expressions.specs.Conditions.{choice_of, choice_without}
+use Rattle.interp.specs.Statements.{by_choice, on_next, after_round, rounds_of, walked, stated, does, branches_of, do_all}
 use Rattle.interp.specs.declared.acting.Action.{Action}
 use Rattle.interp.specs.declared.acting.Action.TheVariants.{Call, Enter, Leave}
 use Rattle.interp.specs.Acting.{acted_by, done_by, performed}
-use Rattle.interp.specs.Entering.{WayData, Ends, Enters, action_of, by_way, fitted, subdir_by}
-use Rattle.interp.specs.Statements.{configuration_in, own_by, own, added, appended, summed, assigned_by, assigned, Round, looped, item_rounds, entry_rounds, bound, on_next, after_round, rounds_of, walked, stated, does, branches_of, do_all}
+use Rattle.interp.specs.Entering.{WayData, Ends, Enters, action_of, by_way, subdir_by}
+use Rattle.expressions.specs.Assignments.{configuration_in, own_by, own, added, appended, summed, assigned_by, assigned, bound}
+use Rattle.expressions.specs.Rounds.{Round, looped, item_rounds, entry_rounds}
 use Rattle.interp.specs.Folders.{opened_by, opened, fresh_by, fresh, go_back, folder}
 use Rattle.definition_files.specs.Files.{most_bytes, refuse_line, tree_or_fault, spelled_by, spelled}
 use Rattle.interp.specs.Evaluation.{begun_by, is_project, begins, begins_all, root, MachineSaid, sections_of, definitions, evaluated, evaluation}

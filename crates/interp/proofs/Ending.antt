@@ -4,7 +4,7 @@ use Rattle.world.specs.Deed.{Files}
 use Rattle.world.specs.Gives.{Holds}
 use Rattle.world.specs.Plan.{Plan}
 use Rattle.world.specs.declared.stop.Stop.{Stop}
-use Rattle.interp.specs.Evaluates.{Stand, Given}
+use Rattle.expressions.specs.Contexts.{Stand, Given}
 use Rattle.interp.specs.Folders.{folder}
 use Rattle.interp.specs.Statements.{do_all}
 use Rattle.interp.specs.declared.flow.Flow.{Flow}
@@ -13,7 +13,7 @@ use Rattle.interp.specs.declared.frames.BlockRest.{BlockRest}
 use Rattle.interp.specs.declared.frames.Frame.TheVariants as frames
 use Rattle.interp.specs.declared.frames.Frame.{Frame}
 use Rattle.interp.specs.Frames.{EachMeans, Made, Moved, Moves, Stacked, Stepped, others_by, unwound}
-use Rattle.interp.proofs.Evaluating.{leads_start}
+use Rattle.expressions.proofs.Evaluating.{leads_start}
 use Rattle.interp.proofs.Stack.{given_counting, moves_block}
 
 abbrev pub ticking : ℕ → Stand → Stand

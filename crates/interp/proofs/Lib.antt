@@ -1,4 +1,3 @@
-pub mod Assigning
 pub mod Blocks
 mod Closing
 pub mod Coming
@@ -6,8 +5,6 @@ mod Costs
 mod Depending
 mod Examples
 pub mod Ending
-pub mod Evaluating
-pub mod Filling
 pub mod Looping
 pub mod Machines
 mod Meanings
@@ -22,4 +19,3 @@ pub mod Stack
 pub mod Starting
 mod Ticking
 mod Values
-mod Walking

@@ -3,8 +3,8 @@ use Rattle.std.proofs.Common.{◌≡◌, ℕ, Bool, List, [], Option, Some, None
 use Rattle.data.specs.Data.{Data}
 use Rattle.basics.specs.declared.faults.refusal.Refusal.{Refusal}
 use Rattle.world.specs.Plan.{Plan, refuse}
-use Rattle.interp.specs.Rounds.{Loops, rounds_in}
-use Rattle.interp.specs.Statements.{Round, looped, rounds_of, walked}
+use Rattle.expressions.specs.Rounds.{Loops, rounds_in, Round, looped}
+use Rattle.interp.specs.Statements.{rounds_of, walked}
 use Rattle.interp.specs.declared.flow.Flow.{Flow}
 
 is_some-map : {A B : Type 0} (f : A → B) (o : Option A) → is_some (option_map f o) ≡ is_some o

@@ -23,10 +23,10 @@ use Rattle.world.specs.declared.stop.Stop.{Stop}
 use Rattle.world.specs.declared.stop.Stop.TheVariants as stops
 use Rattle.world.proofs.Follow.{after-nil, begun, done, ends_grown, gives_later, refused_later}
 use Rattle.world.proofs.Marks.{front_as, grown_added, none_added}
-use Rattle.interp.specs.Evaluates.{Stand, Given, seen_of}
+use Rattle.expressions.specs.Contexts.{Stand, Given, seen_of}
 use Rattle.definition_files.specs.Files.{line_at, most_bytes, refusal_of, refuse_line, spelled, spelled_by, tree_or_fault}
 use Rattle.definition_files.specs.Reading.{IsNoFault}
-use Rattle.interp.proofs.Evaluating.{given_refuse}
+use Rattle.expressions.proofs.Evaluating.{given_refuse}
 
 -- ---- what was entered, and where it is refused
 

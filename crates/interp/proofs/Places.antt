@@ -1,5 +1,5 @@
 -- Folders that are entered.
-use Rattle.interp.proofs.Evaluating.{leads_further, leads_next}
+use Rattle.expressions.proofs.Evaluating.{leads_further, leads_next}
 use Rattle.std.proofs.Common.{◌≡◌, ℕ, zero, suc, List, [], Result, Ok, Err, refl, subst}
 use Rattle.basics.specs.declared.faults.refusal.Refusal.{Refusal}
 use Rattle.basics.specs.declared.faults.refusal.Refusal.TheVariants as refusals
@@ -11,7 +11,7 @@ use Rattle.world.specs.World.{Facts, fault_here}
 use Rattle.world.specs.declared.stop.Stop.{Stop}
 use Rattle.world.proofs.Follow.{begun, refused_later}
 use Rattle.world.proofs.Marks.{none_added}
-use Rattle.interp.specs.Evaluates.{Stand, Given, seen_of, Leads}
+use Rattle.expressions.specs.Contexts.{Stand, Given, seen_of, Leads}
 use Rattle.interp.specs.Folders.{folder, fresh, go_back, opened}
 use Rattle.interp.specs.Statements.{do_all}
 use Rattle.interp.specs.declared.flow.Flow.{Flow}

@@ -15,9 +15,10 @@ use Rattle.world.specs.declared.stop.Stop.TheVariants as stops
 use Rattle.world.proofs.Follow.{after-nil, done}
 use Rattle.world.proofs.Marks.{front_of_front, none_added, same_front}
 use Rattle.interp.specs.Blocks.{block_by, statements_by, statements_of}
-use Rattle.interp.specs.Evaluates.{Stand, Given, seen_of, Leads}
+use Rattle.expressions.specs.Contexts.{Stand, Given, seen_of, Leads}
 use Rattle.interp.specs.Folders.{folder}
-use Rattle.interp.specs.Statements.{Round, after_round, do_all, does, on_next, rounds_of}
+use Rattle.expressions.specs.Rounds.{Round}
+use Rattle.interp.specs.Statements.{after_round, do_all, does, on_next, rounds_of}
 use Rattle.interp.specs.declared.flow.Flow.{Flow}
 use Rattle.interp.specs.declared.flow.Flow.TheVariants.{Next}
 use Rattle.interp.specs.declared.frames.BlockRest.{BlockRest}
@@ -26,7 +27,7 @@ use Rattle.interp.specs.declared.frames.Frame.{Frame}
 use Rattle.interp.specs.declared.frames.Frame.TheVariants as frames
 use Rattle.interp.specs.Frames.{Rest, Others, Rounds, End, Left, Refuses, one_round, gone_back, behind, behind_all, Made, Means, EachMeans, Stacked, ends_in, pending, unwound, Moved, Moves, Stepped, others_by, round_by, rounds_left}
 use Rattle.interp.specs.Inside.{ended_all}
-use Rattle.interp.proofs.Evaluating.{follow-after, with_end-after, given_give, given_none, given_rule, given_stop, leads_as, leads_end, leads_further, leads_given, leads_next}
+use Rattle.expressions.proofs.Evaluating.{follow-after, with_end-after, given_give, given_none, given_rule, given_stop, leads_as, leads_end, leads_further, leads_given, leads_next}
 
 -- ---- marks that come first
 

@@ -14,8 +14,9 @@ use Rattle.interp.specs.declared.acting.Way.{Way}
 use Rattle.interp.specs.declared.acting.Way.TheVariants as ways
 use Rattle.interp.specs.declared.flow.Flow.{Flow}
 use Rattle.interp.specs.declared.flow.Flow.TheVariants.{Next, Finished}
-use Rattle.interp.specs.Entering.{WayData, Ends, Enters, action_of, entering, fitted}
-use Rattle.interp.specs.Expressions.{arguments_of, function_at, called}
+use Rattle.interp.specs.Entering.{WayData, Ends, Enters, action_of, entering}
+use Rattle.expressions.specs.Forms.{fitted, function_at}
+use Rattle.interp.specs.Expressions.{arguments_of, called}
 
 abbrev pub way_view : Way → WayData
 way_view (ways.Ends flow) = Ends flow

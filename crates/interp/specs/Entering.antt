@@ -1,7 +1,6 @@
 -- What a call of `subdir` does, up to the folder that it enters.
-use Rattle.std.specs.Prelude.{ℕ, Bool, true, false, List, [], Option, Some, None, Result, Ok, Err, codes}
+use Rattle.std.specs.Prelude.{ℕ, Bool, true, false, List, Option, Some, None, codes}
 use Rattle.data.specs.Data.{Data}
-use Rattle.arguments.specs.Refused.{RefusedData}
 use Rattle.arguments.specs.Arguments.{ArgumentsData}
 use Rattle.arguments.specs.Dependencies.{are_found}
 use Rattle.arguments.specs.Disablers.{gives_disabler}
@@ -10,16 +9,12 @@ use Rattle.arguments.specs.Misfits.{checked}
 use Rattle.calls.specs.Rows.{row_of}
 use Rattle.language_calls.specs.declared.function.Function.{Function}
 use Rattle.language_calls.specs.declared.function.Function.TheVariants as functions
-use Rattle.world.specs.Plan.{Plan, ◌>>=◌, give, at, refuse}
+use Rattle.world.specs.Plan.{Plan, ◌>>=◌, give, at}
 use Rattle.interp.specs.declared.acting.Action.{Action}
 use Rattle.interp.specs.declared.acting.Action.TheVariants.{Call, Enter, Leave}
 use Rattle.interp.specs.declared.flow.Flow.{Flow}
 use Rattle.interp.specs.declared.flow.Flow.TheVariants.{Next}
-
--- what a test of arguments answers, or its refusal at a line, with what that is about
-abbrev pub fitted : ℕ → Result (Unit {0}) RefusedData → Plan (Unit {0})
-fitted line (Ok u) = give tt
-fitted line (Err refused) = refuse line refused.refusal refused.detail
+use Rattle.expressions.specs.Forms.{fitted}
 
 -- the statement has ended, or the folder that a text names is entered
 pub data WayData : Type 0 where

@@ -16,7 +16,7 @@ use Rattle.world.specs.Plan.{Plan, deed, ruled, ◌>>=◌, give, refuse}
 use Rattle.world.specs.World.{with_place}
 use Rattle.world.specs.declared.stop.Stop.{Stop}
 use Rattle.world.specs.declared.stop.Stop.TheVariants as stops
-use Rattle.interp.specs.declared.evaluator.Evaluator.{Evaluator}
+use Rattle.expressions.specs.declared.context.Context.{Context}
 use Rattle.interp.specs.declared.flow.Flow.{Flow}
 use Rattle.interp.specs.declared.flow.Flow.TheVariants.{Next}
 use Rattle.interp.specs.declared.halt.Halt.{Halt}
@@ -26,10 +26,12 @@ use Rattle.interp.specs.declared.frames.LoopRest.{LoopRest}
 use Rattle.interp.specs.declared.frames.Frame.{Frame}
 use Rattle.interp.specs.declared.frames.Frame.TheVariants as frames
 use Rattle.interp.specs.Blocks.{block_by, statements_of}
-use Rattle.interp.specs.Evaluates.{Stand, Given, HaltsTo, Leads, Reads, stand_of}
+use Rattle.expressions.specs.Contexts.{Stand, Given, Leads, stand_of}
+use Rattle.interp.specs.Evaluates.{HaltsTo, Reads}
 use Rattle.interp.specs.Folders.{folder}
-use Rattle.interp.specs.Rounds.{rounds_in}
-use Rattle.interp.specs.Statements.{Round, after_round, bound, branches_of, do_all, on_next, rounds_of}
+use Rattle.expressions.specs.Rounds.{rounds_in, Round}
+use Rattle.interp.specs.Statements.{after_round, branches_of, do_all, on_next, rounds_of}
+use Rattle.expressions.specs.Assignments.{bound}
 
 -- ---- what is left
 

@@ -1,7 +1,6 @@
 pub mod Acting
 pub mod Beginnings
 pub mod Blocks
-pub mod Conditions
 pub mod Cost
 pub mod Entering
 pub mod Evaluated
@@ -12,7 +11,5 @@ pub mod Folders
 pub mod Frames
 pub mod Inside
 pub mod Laws
-pub mod Operations
 pub mod Parts
-pub mod Rounds
 pub mod Statements

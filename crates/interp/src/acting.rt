@@ -74,33 +74,34 @@ fn entered(alloc: Global, arguments: &Arguments) -> Result<Way, AllocError>
 }
 
 impl<'a, T: Tree, O: Outputs, L: Ledger> Evaluator<'a, T, O, L> {
-    ghost use Rattle.interp.specs.Evaluates.{Answers, Evaluates, Fails, FailsInside, HasRoom, Same};
+    ghost use Rattle.expressions.specs.Contexts.{Answers, Fails, HasRoom, Same};
+    ghost use Rattle.interp.specs.Evaluates.{Evaluates, FailsInside};
 
     /// `subdir`, up to its folder.
     pub fn subdir(&mut self, line: usize, arguments: &Arguments) -> Result<Way, Stop>
-        ensures same { Same self.old self.new }
-        ensures device { Fails T.seen O.seen self.old result self.new }
-        ensures gives { Answers T.seen O.seen way_view (entering line (arguments_data arguments.now)) self.old result self.new }
+        ensures same { Same self.old.context self.new.context }
+        ensures device { Fails T.seen O.seen self.old.context result self.new.context }
+        ensures gives { Answers T.seen O.seen way_view (entering line (arguments_data arguments.now)) self.old.context result self.new.context }
     {
         if gives_disabler(arguments) {
             return Ok(Way::Ends(Flow::Next));
         }
-        let fits = check(self.alloc, &row(Function::Subdir), arguments)?;
-        self.fitted(line, fits)?;
-        self.store.at(line);
-        Ok(entered(self.alloc, arguments)?)
+        let fits = check(self.context.alloc, &row(Function::Subdir), arguments)?;
+        self.context.fitted(line, fits)?;
+        self.context.store.at(line);
+        Ok(entered(self.context.alloc, arguments)?)
     }
 
     // `subdir_done`
     fn subdir_done(&self, line: usize, arguments: &Arguments) -> Result<Way, Stop>
-        ensures gives { Answers T.seen O.seen way_view (leaving line (arguments_data arguments.now)) self.now result self.now }
+        ensures gives { Answers T.seen O.seen way_view (leaving line (arguments_data arguments.now)) self.now.context result self.now.context }
         ensures quiet { (n : ℕ) → failures_after n result ≡ n }
     {
         if gives_disabler(arguments) {
             return Ok(Way::Ends(Flow::Next));
         }
-        let fits = check(self.alloc, &row(Function::SubdirDone), arguments)?;
-        self.fitted(line, fits)?;
+        let fits = check(self.context.alloc, &row(Function::SubdirDone), arguments)?;
+        self.context.fitted(line, fits)?;
         Ok(Way::Ends(Flow::Finished))
     }
 
@@ -111,11 +112,11 @@ impl<'a, T: Tree, O: Outputs, L: Ledger> Evaluator<'a, T, O, L> {
         function: Function,
         arguments: &Arguments,
     ) -> Result<Way, Stop>
-        requires room { HasRoom T.seen O.seen self.old }
-        ensures same { Same self.old self.new }
-        ensures device { Fails T.seen O.seen self.old result self.new }
+        requires room { HasRoom T.seen O.seen self.old.context }
+        ensures same { Same self.old.context self.new.context }
+        ensures device { Fails T.seen O.seen self.old.context result self.new.context }
         ensures gives { Answers T.seen O.seen way_view (acted_by Call line function (arguments_data arguments.now))
-            self.old result self.new }
+            self.old.context result self.new.context }
     {
         self.called(line, function, arguments)?;
         Ok(Way::Ends(Flow::Next))
@@ -123,10 +124,10 @@ impl<'a, T: Tree, O: Outputs, L: Ledger> Evaluator<'a, T, O, L> {
 
     // A function as a statement, on its evaluated arguments.
     fn acted(&mut self, line: usize, function: Function, arguments: &Arguments) -> Result<Way, Stop>
-        requires room { HasRoom T.seen O.seen self.old }
-        ensures same { Same self.old self.new }
-        ensures device { Fails T.seen O.seen self.old result self.new }
-        ensures gives { Answers T.seen O.seen way_view (acted line function (arguments_data arguments.now)) self.old result self.new }
+        requires room { HasRoom T.seen O.seen self.old.context }
+        ensures same { Same self.old.context self.new.context }
+        ensures device { Fails T.seen O.seen self.old.context result self.new.context }
+        ensures gives { Answers T.seen O.seen way_view (acted line function (arguments_data arguments.now)) self.old.context result self.new.context }
     {
         match action_of(function) {
             Action::Enter => self.subdir(line, arguments),
@@ -144,13 +145,13 @@ impl<'a, T: Tree, O: Outputs, L: Ledger> Evaluator<'a, T, O, L> {
         arguments: &[ArgumentNode],
     ) -> Result<Way, Halt>
         requires here { above above_argument arguments.now ≤ length code.now.nodes.items }
-        requires room { HasRoom T.seen O.seen self.old }
-        ensures same { Same self.old self.new }
-        ensures device { FailsInside T.seen O.seen self.old result self.new }
+        requires room { HasRoom T.seen O.seen self.old.context }
+        ensures same { Same self.old.context self.new.context }
+        ensures device { FailsInside T.seen O.seen self.old.context result self.new.context }
         ensures gives { Evaluates T.seen O.seen way_view (λ into ts. performed into line name.now (argument_trees
-            (map (argument_at ts) arguments.now))) code.now self.old result self.new }
+            (map (argument_at ts) arguments.now))) code.now self.old.context result self.new.context }
     {
-        let function = self.function_at(line, name)?;
+        let function = self.context.function_at(line, name)?;
         let arguments = self.arguments(code, arguments)?;
         Ok(self.acted(line, function, &arguments)?)
     }

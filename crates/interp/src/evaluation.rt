@@ -19,6 +19,7 @@ use crate::evaluator::Evaluator;
 use crate::flow::Flow;
 use basics::faults::Refusal;
 use code::Code;
+use expressions::Context;
 use machine_file::Machine;
 use ports::{Outputs, Tree};
 use std::alloc::Global;
@@ -35,67 +36,41 @@ pub struct Inputs<'a> {
 }
 
 impl<'a, T: Tree, O: Outputs, L: Ledger> Evaluator<'a, T, O, L> {
-    ghost use Rattle.interp.specs.Evaluates.{Answers, Fails, HasRoom as HasRooms, Same};
-
-    // An evaluator over what is lent.
-    fn new(
-        alloc: Global,
-        store: &'a mut Store,
-        tree: &'a mut T,
-        out: &'a mut O,
-        steps: &'a mut Steps<L>,
-    ) -> Self
-        ensures store_name { result.store.ghost_name ≡ store.entry.ghost_name }
-        ensures tree_name { result.tree.ghost_name ≡ tree.entry.ghost_name }
-        ensures out_name { result.out.ghost_name ≡ out.entry.ghost_name }
-        ensures steps_name { result.steps.ghost_name ≡ steps.entry.ghost_name }
-        ensures store { result.store.now ≡ store.old }
-        ensures tree { result.tree.now ≡ tree.old }
-        ensures out { result.out.now ≡ out.old }
-        ensures steps { result.steps.now ≡ steps.old }
-    {
-        Evaluator {
-            alloc,
-            store,
-            tree,
-            out,
-            steps,
-        }
-    }
+    ghost use Rattle.expressions.specs.Contexts.{Answers, Fails, HasRoom as HasRooms, Same};
 
     // The statements of the root file, of which the first has to be a call of `project`.
     fn root_statements(&mut self, code: Code) -> Result<Flow, Stop>
-        requires known { code.names ≡ length self.old.store.now.names }
-        requires room { HasRooms T.seen O.seen self.old }
-        ensures same { Same self.old self.new }
-        ensures device { Fails T.seen O.seen self.old result self.new }
-        ensures gives { Answers T.seen O.seen (λ f. f) (root (file_by self.old.store.now.names code)) self.old result self.new }
+        requires known { code.names ≡ length self.old.context.store.now.names }
+        requires room { HasRooms T.seen O.seen self.old.context }
+        ensures same { Same self.old.context self.new.context }
+        ensures device { Fails T.seen O.seen self.old.context result self.new.context }
+        ensures gives { Answers T.seen O.seen (λ f. f) (root (file_by self.old.context.store.now.names code)) self.old.context result self.new.context }
     {
         match line_before_project(&code) {
-            Some(line) => self.refuse(line, Refusal::ProjectCall, ""),
+            Some(line) => self.context.refuse(line, Refusal::ProjectCall, ""),
             None => self.run(code),
         }
     }
 
     // The rule of the root file.
     fn root(&mut self, code: Code) -> Result<Flow, Stop>
-        requires known { code.names ≡ length self.old.store.now.names }
-        requires room { HasRooms T.seen O.seen self.old }
-        ensures same { Same self.old self.new }
-        ensures device { Fails T.seen O.seen self.old result self.new }
-        ensures gives { Answers T.seen O.seen (λ f. f) (ruled (root (file_by self.old.store.now.names code))) self.old result self.new }
+        requires known { code.names ≡ length self.old.context.store.now.names }
+        requires room { HasRooms T.seen O.seen self.old.context }
+        ensures same { Same self.old.context self.new.context }
+        ensures device { Fails T.seen O.seen self.old.context result self.new.context }
+        ensures gives { Answers T.seen O.seen (λ f. f) (ruled (root (file_by self.old.context.store.now.names code))) self.old.context result self.new.context }
     {
         let answer = self.root_statements(code);
-        ended(answer, self.steps)
+        ended(answer, self.context.steps)
     }
 
     // The root file, where no folder was entered.
     fn definitions(&mut self) -> Result<(), Stop>
-        requires new { self.old.store.now.entered ≡ [] }
-        requires room { HasRooms T.seen O.seen self.old }
-        ensures same { Same self.old self.new }
-        ensures device { Fails T.seen O.seen self.old result self.new }
-        ensures gives { Answers T.seen O.seen (λ u. u) definitions self.old result self.new }
+        requires new { self.old.context.store.now.entered ≡ [] }
+        requires room { HasRooms T.seen O.seen self.old.context }
+        ensures same { Same self.old.context self.new.context }
+        ensures device { Fails T.seen O.seen self.old.context result self.new.context }
+        ensures gives { Answers T.seen O.seen (λ u. u) definitions self.old.context result self.new.context }
     {
         let code = self.open("")?;
         self.root(code)?;
@@ -119,7 +94,8 @@ pub fn definitions<T: Tree, O: Outputs, L: Ledger>(
     ensures gives { (files : Files) → Holds (T.seen tree.old) files
         → RootGives files store.old (O.seen out.old) steps.old result store.new (O.seen out.new) steps.new }
 {
-    let mut evaluator = Evaluator::new(alloc, store, tree, out, steps);
+    let context = Context::new(alloc, store, tree, out, steps);
+    let mut evaluator = Evaluator { context };
     evaluator.definitions()
 }
 

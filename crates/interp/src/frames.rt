@@ -2,7 +2,7 @@
 ghost use Rattle.std.specs.Prelude.{◌≤◌, IsTrue, length, nat_lt};
 ghost use Rattle.code.specs.Statements.{second_within};
 ghost use Rattle.data.specs.View.{data_of};
-ghost use Rattle.interp.specs.Rounds.{rounds_in};
+ghost use Rattle.expressions.specs.Rounds.{rounds_in};
 
 use crate::block::Block;
 use code::Code;

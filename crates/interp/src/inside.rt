@@ -3,7 +3,8 @@ ghost use Rattle.arguments.specs.Arguments.{arguments_data};
 ghost use Rattle.arguments.specs.Disablers.{gives_disabler};
 ghost use Rattle.data.specs.View.{data_of};
 ghost use Rattle.world.specs.Plan.{next};
-ghost use Rattle.interp.specs.Expressions.{called, called_inside, entered_inside, needed};
+ghost use Rattle.interp.specs.Expressions.{called, called_inside, entered_inside};
+ghost use Rattle.expressions.specs.Forms.{needed};
 ghost use Rattle.interp.specs.Frames.{Acts};
 ghost use Rattle.interp.specs.Inside.{inside};
 
@@ -21,7 +22,8 @@ use std::sync::ledger::Ledger;
 use world::Stop;
 
 impl<'a, T: Tree, O: Outputs, L: Ledger> Evaluator<'a, T, O, L> {
-    ghost use Rattle.interp.specs.Evaluates.{Fails, FailsInside, HasRoom, Same, Tries};
+    ghost use Rattle.expressions.specs.Contexts.{Fails, HasRoom, Same};
+    ghost use Rattle.interp.specs.Evaluates.{FailsInside, Tries};
 
     /// A function inside of an expression, on its evaluated arguments.
     pub fn called_inside(
@@ -30,11 +32,11 @@ impl<'a, T: Tree, O: Outputs, L: Ledger> Evaluator<'a, T, O, L> {
         function: Function,
         arguments: &Arguments,
     ) -> Result<Value, Halt>
-        requires room { HasRoom T.seen O.seen self.old }
-        ensures same { Same self.old self.new }
-        ensures device { FailsInside T.seen O.seen self.old result self.new }
+        requires room { HasRoom T.seen O.seen self.old.context }
+        ensures same { Same self.old.context self.new.context }
+        ensures device { FailsInside T.seen O.seen self.old.context result self.new.context }
         ensures gives { Tries T.seen O.seen data_of (λ into. called_inside into line function (arguments_data arguments.now))
-            self.old result self.new }
+            self.old.context result self.new.context }
     {
         match action_of(function) {
             Action::Enter => self.entered_inside(line, arguments),
@@ -50,28 +52,28 @@ impl<'a, T: Tree, O: Outputs, L: Ledger> Evaluator<'a, T, O, L> {
         function: Function,
         arguments: &Arguments,
     ) -> Result<Value, Halt>
-        requires room { HasRoom T.seen O.seen self.old }
-        ensures same { Same self.old self.new }
-        ensures device { FailsInside T.seen O.seen self.old result self.new }
+        requires room { HasRoom T.seen O.seen self.old.context }
+        ensures same { Same self.old.context self.new.context }
+        ensures device { FailsInside T.seen O.seen self.old.context result self.new.context }
         ensures gives { Tries T.seen O.seen data_of (λ _. next (called line function (arguments_data arguments.now)) (needed line))
-            self.old result self.new }
+            self.old.context result self.new.context }
     {
         let answer = self.called(line, function, arguments)?;
-        Ok(self.needed(line, answer)?)
+        Ok(self.context.needed(line, answer)?)
     }
 
     // `subdir`: its folder is entered, and then it is refused, since it gives nothing.
     fn entered_inside(&mut self, line: usize, arguments: &Arguments) -> Result<Value, Halt>
-        ensures same { Same self.old self.new }
-        ensures device { FailsInside T.seen O.seen self.old result self.new }
+        ensures same { Same self.old.context self.new.context }
+        ensures device { FailsInside T.seen O.seen self.old.context result self.new.context }
         ensures gives { Tries T.seen O.seen data_of (λ into. entered_inside into (gives_disabler (arguments_data arguments.now)) line
-            (arguments_data arguments.now)) self.old result self.new }
+            (arguments_data arguments.now)) self.old.context result self.new.context }
     {
         if gives_disabler(arguments) {
-            return Ok(Value::of_object(self.alloc, Object::Disabler)?);
+            return Ok(Value::of_object(self.context.alloc, Object::Disabler)?);
         }
         match self.subdir(line, arguments)? {
-            Way::Ends(_) => Ok(self.refuse(line, Refusal::Type, "")?),
+            Way::Ends(_) => Ok(self.context.refuse(line, Refusal::Type, "")?),
             Way::Enters(text) => Err(Halt::Enters(Inside {
                 text,
                 line,
@@ -88,10 +90,10 @@ impl<'a, T: Tree, O: Outputs, L: Ledger> Evaluator<'a, T, O, L> {
         left: usize,
         stack: &mut Vec<Frame>,
     ) -> Result<Flow, Stop>
-        requires room { HasRoom T.seen O.seen self.old }
-        ensures same { Same self.old self.new }
-        ensures device { Fails T.seen O.seen self.old result self.new }
-        ensures gives { Acts T.seen O.seen (inside left entry) self.old stack.old.items result self.new stack.new.items }
+        requires room { HasRoom T.seen O.seen self.old.context }
+        ensures same { Same self.old.context self.new.context }
+        ensures device { Fails T.seen O.seen self.old.context result self.new.context }
+        ensures gives { Acts T.seen O.seen (inside left entry) self.old.context stack.old.items result self.new.context stack.new.items }
     {
         for _rule in 0..entry.rules {
             stack.push(Frame::End)?;

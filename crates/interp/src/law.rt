@@ -1,7 +1,7 @@
 //! What holds of every evaluation.
 ghost use Rattle.data.specs.View.{data_of};
 ghost use Rattle.interp.specs.Laws.{ClosesWhatItMakes, DependsOnLooked, MachineFilesSay, NotesWhatItLooksAt, StepsWithinCost};
-ghost use Rattle.interp.specs.Rounds.{WalksAll};
+ghost use Rattle.expressions.specs.Rounds.{WalksAll};
 
 use data::{Value, values_have_few_items};
 

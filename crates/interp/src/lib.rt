@@ -13,27 +13,19 @@
 #![tactic(auto)]
 
 mod acting;
-mod assign;
 mod beginning;
 mod block;
-mod conditions;
+mod calling;
 mod entering;
 mod evaluation;
 mod evaluator;
-mod expressions;
 mod flow;
-mod format_strings;
-mod forms;
 mod frames;
 mod halt;
 mod inside;
 mod law;
-mod literals;
-mod loops;
-mod meaning;
-mod names;
+mod nodes;
 mod open;
-mod operation;
 mod running;
 mod stated;
 mod unwinding;

@@ -28,73 +28,77 @@ use std::sync::ledger::Ledger;
 use world::{Place, Stop};
 
 impl<'a, T: Tree, O: Outputs, L: Ledger> Evaluator<'a, T, O, L> {
-    ghost use Rattle.interp.specs.Evaluates.{Answers, Fails, Given, HasRoom, Same, stand_of};
+    ghost use Rattle.expressions.specs.Contexts.{Answers, Fails, Given, HasRoom, Same, stand_of};
 
     /// The folder that a text names in the present one: error 12 where it names none or one that was entered, error 22 past 4,096 folders.
     pub fn fresh(&self, text: &str) -> Result<String, Stop>
-        ensures gives { Answers T.seen O.seen string_bytes (fresh text.now) self.now result self.now }
-        ensures new { IfOk result (λ path. list_any (bytes_eq (string_bytes path)) self.now.store.now.entered ≡ false) }
+        ensures gives { Answers T.seen O.seen string_bytes (fresh text.now) self.now.context result self.now.context }
+        ensures new { IfOk result (λ path. list_any (bytes_eq (string_bytes path)) self.now.context.store.now.entered ≡ false) }
         ensures quiet { (n : ℕ) → failures_after n result ≡ n }
     {
-        match folder_below(self.alloc, self.store.folder(), text)? {
+        match folder_below(self.context.alloc, self.context.store.folder(), text)? {
             Some(folder) => self.not_entered(folder),
-            None => self.refuse(self.store.line(), Refusal::Subdir, ""),
+            None => self
+                .context
+                .refuse(self.context.store.line(), Refusal::Subdir, ""),
         }
     }
 
     // A folder, unless it was entered or too many were.
     fn not_entered(&self, folder: String) -> Result<String, Stop>
-        ensures gives { Answers T.seen O.seen string_bytes (fresh_by (Some (string_bytes folder)) self.now.store.now.entered)
-            self.now result self.now }
-        ensures new { IfOk result (λ path. list_any (bytes_eq (string_bytes path)) self.now.store.now.entered ≡ false) }
+        ensures gives { Answers T.seen O.seen string_bytes (fresh_by (Some (string_bytes folder)) self.now.context.store.now.entered)
+            self.now.context result self.now.context }
+        ensures new { IfOk result (λ path. list_any (bytes_eq (string_bytes path)) self.now.context.store.now.entered ≡ false) }
         ensures quiet { (n : ℕ) → failures_after n result ≡ n }
     {
-        let line = self.store.line();
-        if self.store.is_entered(&folder) {
-            return self.refuse(line, Refusal::Subdir, "");
+        let line = self.context.store.line();
+        if self.context.store.is_entered(&folder) {
+            return self.context.refuse(line, Refusal::Subdir, "");
         }
-        if self.store.entered() < FOLDERS {
+        if self.context.store.entered() < FOLDERS {
             Ok(folder)
         } else {
-            self.refuse(line, Refusal::Limit, "")
+            self.context.refuse(line, Refusal::Limit, "")
         }
     }
 
     /// Enters a folder and gives the code of its definition file: error 14 where that is absent, and those of its bytes.
     pub fn open(&mut self, folder: &str) -> Result<Code, Stop>
-        requires new { list_any (bytes_eq folder.now) self.old.store.now.entered ≡ false }
-        requires room { HasRoom T.seen O.seen self.old }
-        ensures same { Same self.old self.new }
-        ensures device { Fails T.seen O.seen self.old result self.new }
-        ensures known { IfOk result (λ code. code.names ≡ length self.new.store.now.names) }
-        ensures gives { Answers T.seen O.seen (file_by self.new.store.now.names) (opened folder.now) self.old result self.new }
+        requires new { list_any (bytes_eq folder.now) self.old.context.store.now.entered ≡ false }
+        requires room { HasRoom T.seen O.seen self.old.context }
+        ensures same { Same self.old.context self.new.context }
+        ensures device { Fails T.seen O.seen self.old.context result self.new.context }
+        ensures known { IfOk result (λ code. code.names ≡ length self.new.context.store.now.names) }
+        ensures gives { Answers T.seen O.seen (file_by self.new.context.store.now.names) (opened folder.now) self.old.context result self.new.context }
     {
-        let file = path_in(self.alloc, folder, "meson.build")?;
-        let size = self.tree.size(&file)?;
-        self.store.note_look(self.alloc, &file, size.is_some())?;
-        let line = self.store.line();
+        let file = path_in(self.context.alloc, folder, "meson.build")?;
+        let size = self.context.tree.size(&file)?;
+        self.context
+            .store
+            .note_look(self.context.alloc, &file, size.is_some())?;
+        let line = self.context.store.line();
         match size {
             Some(size) => self.enter_folder(folder, file, size),
-            None => self.refuse(line, Refusal::FileMissing, &file),
+            None => self.context.refuse(line, Refusal::FileMissing, &file),
         }
     }
 
     // Enters a folder whose definition file has so many bytes, and gives the code of these.
     fn enter_folder(&mut self, folder: &str, file: String, size: u64) -> Result<Code, Stop>
-        requires new { list_any (bytes_eq folder.now) self.old.store.now.entered ≡ false }
-        requires room { HasRoom T.seen O.seen self.old }
+        requires new { list_any (bytes_eq folder.now) self.old.context.store.now.entered ≡ false }
+        requires room { HasRoom T.seen O.seen self.old.context }
         requires file { string_bytes file ≡ definition_file folder.now }
-        ensures same { Same self.old self.new }
-        ensures device { Fails T.seen O.seen self.old result self.new }
-        ensures known { IfOk result (λ code. code.names ≡ length self.new.store.now.names) }
-        ensures gives { (files : Files) (bytes : List ℕ) → Holds (T.seen self.old.tree.now) files
+        ensures same { Same self.old.context self.new.context }
+        ensures device { Fails T.seen O.seen self.old.context result self.new.context }
+        ensures known { IfOk result (λ code. code.names ≡ length self.new.context.store.now.names) }
+        ensures gives { (files : Files) (bytes : List ℕ) → Holds (T.seen self.old.context.tree.now) files
             → file_at files (definition_file folder.now) ≡ Some bytes → size ≡ length bytes
-            → Given (file_by self.new.store.now.names) files (opened_by folder.now (Some bytes)) (stand_of T.seen O.seen self.old)
-            result (stand_of T.seen O.seen self.new) }
+            → Given (file_by self.new.context.store.now.names) files (opened_by folder.now (Some bytes)) (stand_of T.seen O.seen self.old.context)
+            result (stand_of T.seen O.seen self.new.context) }
     {
-        self.store.enter(folder)?;
-        let folder = String::from_str(self.alloc, folder)?;
-        self.store.go(Place {
+        self.context.store.enter(folder)?;
+        let folder = String::from_str(self.context.alloc, folder)?;
+        self.context.store.go(Place {
             file,
             folder,
             line: 1,
@@ -104,64 +108,71 @@ impl<'a, T: Tree, O: Outputs, L: Ledger> Evaluator<'a, T, O, L> {
 
     // The code of the present definition file, which has so many bytes.
     fn read(&mut self, size: u64) -> Result<Code, Stop>
-        requires room { HasRoom T.seen O.seen self.old }
-        ensures same { Same self.old self.new }
-        ensures device { Fails T.seen O.seen self.old result self.new }
-        ensures known { IfOk result (λ code. code.names ≡ length self.new.store.now.names) }
-        ensures gives { (files : Files) (bytes : List ℕ) → Holds (T.seen self.old.tree.now) files
-            → file_at files self.old.store.now.file ≡ Some bytes → size ≡ length bytes
-            → Given (file_by self.new.store.now.names) files (deed (spelled bytes)) (stand_of T.seen O.seen self.old)
-            result (stand_of T.seen O.seen self.new) }
+        requires room { HasRoom T.seen O.seen self.old.context }
+        ensures same { Same self.old.context self.new.context }
+        ensures device { Fails T.seen O.seen self.old.context result self.new.context }
+        ensures known { IfOk result (λ code. code.names ≡ length self.new.context.store.now.names) }
+        ensures gives { (files : Files) (bytes : List ℕ) → Holds (T.seen self.old.context.tree.now) files
+            → file_at files self.old.context.store.now.file ≡ Some bytes → size ≡ length bytes
+            → Given (file_by self.new.context.store.now.names) files (deed (spelled bytes)) (stand_of T.seen O.seen self.old.context)
+            result (stand_of T.seen O.seen self.new.context) }
     {
-        let line = self.store.line();
+        let line = self.context.store.line();
         if size > MOST_BYTES {
-            return self.refuse(line, Refusal::Limit, "");
+            return self.context.refuse(line, Refusal::Limit, "");
         }
-        let bytes = read_file(self.alloc, self.tree, self.store.file(), size as usize)?;
+        let bytes = read_file(
+            self.context.alloc,
+            self.context.tree,
+            self.context.store.file(),
+            size as usize,
+        )?;
         self.code_of(&bytes)
     }
 
     // The code that bytes of the present definition file spell.
     fn code_of(&mut self, bytes: &[u8]) -> Result<Code, Stop>
-        ensures same { Same self.old self.new }
-        ensures device { Fails T.seen O.seen self.old result self.new }
-        ensures known { IfOk result (λ code. code.names ≡ length self.new.store.now.names) }
-        ensures gives { Answers T.seen O.seen (file_by self.new.store.now.names) (deed (spelled_by (is_utf8 bytes.now) bytes.now))
-            self.old result self.new }
+        ensures same { Same self.old.context self.new.context }
+        ensures device { Fails T.seen O.seen self.old.context result self.new.context }
+        ensures known { IfOk result (λ code. code.names ≡ length self.new.context.store.now.names) }
+        ensures gives { Answers T.seen O.seen (file_by self.new.context.store.now.names) (deed (spelled_by (is_utf8 bytes.now) bytes.now))
+            self.old.context result self.new.context }
     {
         match str::from_utf8(bytes) {
             Ok(text) => self.code_of_text(text),
             Err(error) => {
                 let line = line_at(bytes, error.valid_up_to());
-                self.refuse(line, Refusal::NotUtf8, "")
+                self.context.refuse(line, Refusal::NotUtf8, "")
             }
         }
     }
 
     // The code of a file.
     fn flatten(&mut self, file: &File<'_>) -> Result<Code, Stop>
-        ensures same { Same self.old self.new }
-        ensures device { Fails T.seen O.seen self.old result self.new }
-        ensures known { IfOk result (λ code. code.names ≡ length self.new.store.now.names) }
-        ensures gives { Answers T.seen O.seen (file_by self.new.store.now.names) (give (statements (file_of file.now)))
-            self.old result self.new }
+        ensures same { Same self.old.context self.new.context }
+        ensures device { Fails T.seen O.seen self.old.context result self.new.context }
+        ensures known { IfOk result (λ code. code.names ≡ length self.new.context.store.now.names) }
+        ensures gives { Answers T.seen O.seen (file_by self.new.context.store.now.names) (give (statements (file_of file.now)))
+            self.old.context result self.new.context }
     {
-        let code = self.store.flatten(self.alloc, file)?;
+        let code = self.context.store.flatten(self.context.alloc, file)?;
         Ok(code)
     }
 
     // The code that a text of the present definition file spells.
     fn code_of_text(&mut self, text: &str) -> Result<Code, Stop>
-        ensures same { Same self.old self.new }
-        ensures device { Fails T.seen O.seen self.old result self.new }
-        ensures known { IfOk result (λ code. code.names ≡ length self.new.store.now.names) }
-        ensures gives { Answers T.seen O.seen (file_by self.new.store.now.names) (deed (tree_or_fault (parsed text.now)))
-            self.old result self.new }
+        ensures same { Same self.old.context self.new.context }
+        ensures device { Fails T.seen O.seen self.old.context result self.new.context }
+        ensures known { IfOk result (λ code. code.names ≡ length self.new.context.store.now.names) }
+        ensures gives { Answers T.seen O.seen (file_by self.new.context.store.now.names) (deed (tree_or_fault (parsed text.now)))
+            self.old.context result self.new.context }
     {
-        match parse(self.alloc, text) {
+        match parse(self.context.alloc, text) {
             Ok(file) => self.flatten(&file),
             Err(SyntaxError::Memory) => Err(Stop::Memory),
-            Err(SyntaxError::Fault(fault)) => self.refuse(fault.line, refusal_of(fault.kind), ""),
+            Err(SyntaxError::Fault(fault)) => self
+                .context
+                .refuse(fault.line, refusal_of(fault.kind), ""),
         }
     }
 }

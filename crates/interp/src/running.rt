@@ -9,10 +9,10 @@ use crate::block::{Block, statements_of};
 use crate::evaluator::Evaluator;
 use crate::flow::Flow;
 use crate::frames::{BlockRest, Frame, LoopRest};
-use crate::loops::round_at;
 use crate::unwinding::unwind;
 use basics::faults::Refusal;
 use code::Code;
+use expressions::round_at;
 use ports::{Outputs, Tree};
 use std::rc::Rc;
 use std::sync::ledger::Ledger;
@@ -34,19 +34,19 @@ fn number_at(code: &Code, block: Block, at: usize) -> Option<usize>
 }
 
 impl<'a, T: Tree, O: Outputs, L: Ledger> Evaluator<'a, T, O, L> {
-    ghost use Rattle.interp.specs.Evaluates.{Answers, Fails, HasRoom, Same};
+    ghost use Rattle.expressions.specs.Contexts.{Answers, Fails, HasRoom, Same};
 
     /// Does the statements of the root file: 63 folders may stand inside one another below the root.
     pub fn run(&mut self, code: Code) -> Result<Flow, Stop>
-        requires known { code.names ≡ length self.old.store.now.names }
-        requires room { HasRoom T.seen O.seen self.old }
-        ensures same { Same self.old self.new }
-        ensures device { Fails T.seen O.seen self.old result self.new }
-        ensures gives { Answers T.seen O.seen (λ f. f) (do_all (folder 63) (file_by self.old.store.now.names code))
-            self.old result self.new }
+        requires known { code.names ≡ length self.old.context.store.now.names }
+        requires room { HasRoom T.seen O.seen self.old.context }
+        ensures same { Same self.old.context self.new.context }
+        ensures device { Fails T.seen O.seen self.old.context result self.new.context }
+        ensures gives { Answers T.seen O.seen (λ f. f) (do_all (folder 63) (file_by self.old.context.store.now.names code))
+            self.old.context result self.new.context }
     {
-        let shared = Rc::new(self.alloc, code)?;
-        let mut stack = Vec::new(self.alloc);
+        let shared = Rc::new(self.context.alloc, code)?;
+        let mut stack = Vec::new(self.context.alloc);
         stack.push(Frame::Block(BlockRest {
             code: shared,
             block: Block::File,
@@ -65,46 +65,46 @@ impl<'a, T: Tree, O: Outputs, L: Ledger> Evaluator<'a, T, O, L> {
 
     // What one frame does, which was taken from the stack. A fault ends the rules that are left on it.
     fn step(&mut self, frame: Frame, flow: Flow, stack: &mut Vec<Frame>) -> Result<Flow, Stop>
-        requires room { HasRoom T.seen O.seen self.old }
-        ensures same { Same self.old self.new }
-        ensures device { Fails T.seen O.seen self.old result self.new }
-        ensures gives { Steps T.seen O.seen frame flow self.old stack.old.items result self.new stack.new.items }
+        requires room { HasRoom T.seen O.seen self.old.context }
+        ensures same { Same self.old.context self.new.context }
+        ensures device { Fails T.seen O.seen self.old.context result self.new.context }
+        ensures gives { Steps T.seen O.seen frame flow self.old.context stack.old.items result self.new.context stack.new.items }
     {
         match self.turn(frame, flow, stack) {
             Ok(flow) => Ok(flow),
-            Err(stop) => Err(unwind(stop, stack, self.steps)),
+            Err(stop) => Err(unwind(stop, stack, self.context.steps)),
         }
     }
 
     // The same, before rules have ended by a fault.
     fn turn(&mut self, frame: Frame, flow: Flow, stack: &mut Vec<Frame>) -> Result<Flow, Stop>
-        requires room { HasRoom T.seen O.seen self.old }
-        ensures same { Same self.old self.new }
-        ensures device { Fails T.seen O.seen self.old result self.new }
-        ensures gives { Turns T.seen O.seen frame flow self.old stack.old.items result self.new stack.new.items }
+        requires room { HasRoom T.seen O.seen self.old.context }
+        ensures same { Same self.old.context self.new.context }
+        ensures device { Fails T.seen O.seen self.old.context result self.new.context }
+        ensures gives { Turns T.seen O.seen frame flow self.old.context stack.old.items result self.new.context stack.new.items }
     {
         match frame {
             Frame::Block(rest) => self.go_on(rest, flow, stack),
             Frame::Loop(rest) => self.go_round(rest, flow, stack),
             Frame::End => {
-                self.steps.tick();
+                self.context.steps.tick();
                 Ok(flow)
             }
             Frame::Left(place) => {
-                let _inner = self.store.go(place);
+                let _inner = self.context.store.go(place);
                 Ok(Flow::Next)
             }
-            Frame::Refuses(line) => self.refuse(line, Refusal::Type, ""),
+            Frame::Refuses(line) => self.context.refuse(line, Refusal::Type, ""),
         }
     }
 
     // After a statement.
     fn go_on(&mut self, rest: BlockRest, flow: Flow, stack: &mut Vec<Frame>) -> Result<Flow, Stop>
-        requires room { HasRoom T.seen O.seen self.old }
-        ensures same { Same self.old self.new }
-        ensures device { Fails T.seen O.seen self.old result self.new }
+        requires room { HasRoom T.seen O.seen self.old.context }
+        ensures same { Same self.old.context self.new.context }
+        ensures device { Fails T.seen O.seen self.old.context result self.new.context }
         ensures gives { Does T.seen O.seen (λ table. on_next flow (do_all (folder rest.left) (others_by table rest))) rest.code.value
-            self.old stack.old.items result self.new stack.new.items }
+            self.old.context stack.old.items result self.new.context stack.new.items }
     {
         match flow {
             Flow::Next => self.next_statement(rest, stack),
@@ -116,11 +116,11 @@ impl<'a, T: Tree, O: Outputs, L: Ledger> Evaluator<'a, T, O, L> {
 
     // The next statement of a block begins.
     fn next_statement(&mut self, rest: BlockRest, stack: &mut Vec<Frame>) -> Result<Flow, Stop>
-        requires room { HasRoom T.seen O.seen self.old }
-        ensures same { Same self.old self.new }
-        ensures device { Fails T.seen O.seen self.old result self.new }
+        requires room { HasRoom T.seen O.seen self.old.context }
+        ensures same { Same self.old.context self.new.context }
+        ensures device { Fails T.seen O.seen self.old.context result self.new.context }
         ensures gives { Does T.seen O.seen (λ table. do_all (folder rest.left) (others_by table rest)) rest.code.value
-            self.old stack.old.items result self.new stack.new.items }
+            self.old.context stack.old.items result self.new.context stack.new.items }
     {
         let BlockRest {
             code,
@@ -143,12 +143,12 @@ impl<'a, T: Tree, O: Outputs, L: Ledger> Evaluator<'a, T, O, L> {
 
     // After a round.
     fn go_round(&mut self, rest: LoopRest, flow: Flow, stack: &mut Vec<Frame>) -> Result<Flow, Stop>
-        requires room { HasRoom T.seen O.seen self.old }
-        ensures same { Same self.old self.new }
-        ensures device { Fails T.seen O.seen self.old result self.new }
+        requires room { HasRoom T.seen O.seen self.old.context }
+        ensures same { Same self.old.context self.new.context }
+        ensures device { Fails T.seen O.seen self.old.context result self.new.context }
         ensures gives { Does T.seen O.seen (λ table. after_round flow (rounds_of (round_by table rest.code.value rest.left rest.head)
             (rounds_left rest))) rest.code.value
-            self.old stack.old.items result self.new stack.new.items }
+            self.old.context stack.old.items result self.new.context stack.new.items }
     {
         match flow {
             Flow::Next => self.next_round(rest, stack),
@@ -160,11 +160,11 @@ impl<'a, T: Tree, O: Outputs, L: Ledger> Evaluator<'a, T, O, L> {
 
     // The next round of a loop begins.
     fn next_round(&mut self, rest: LoopRest, stack: &mut Vec<Frame>) -> Result<Flow, Stop>
-        requires room { HasRoom T.seen O.seen self.old }
-        ensures same { Same self.old self.new }
-        ensures device { Fails T.seen O.seen self.old result self.new }
+        requires room { HasRoom T.seen O.seen self.old.context }
+        ensures same { Same self.old.context self.new.context }
+        ensures device { Fails T.seen O.seen self.old.context result self.new.context }
         ensures gives { Does T.seen O.seen (λ table. rounds_of (round_by table rest.code.value rest.left rest.head) (rounds_left rest))
-            rest.code.value self.old stack.old.items result self.new stack.new.items }
+            rest.code.value self.old.context stack.old.items result self.new.context stack.new.items }
     {
         let Some(round) = round_at(&rest.whole, rest.at)? else {
             return Ok(Flow::Next);
@@ -184,7 +184,8 @@ impl<'a, T: Tree, O: Outputs, L: Ledger> Evaluator<'a, T, O, L> {
             left,
         }))?;
         stack.push(Frame::End)?;
-        self.bind(head.line, head.first, head.second, round)?;
+        self.context
+            .bind(head.line, head.first, head.second, round)?;
         stack.push(Frame::Block(BlockRest {
             code,
             block: head.body,

@@ -12,21 +12,22 @@ ghost use Rattle.interp.specs.Expressions.{given_by, value_of};
 ghost use Rattle.interp.specs.Folders.{folder};
 ghost use Rattle.interp.specs.Frames.{Acts, ChoosesOf, Does, above_branch, round_by};
 ghost use Rattle.interp.specs.Parts.{above};
-ghost use Rattle.interp.specs.Statements.{appended, assigned, branches_of, do_all, does, looped, own, stated, walked};
+ghost use Rattle.expressions.specs.Assignments.{appended, assigned, own};
+ghost use Rattle.interp.specs.Statements.{branches_of, do_all, does, stated, walked};
+ghost use Rattle.expressions.specs.Rounds.{looped};
 ghost use Rattle.interp.specs.declared.block.Block.TheVariants.{Part};
 ghost use Rattle.interp.specs.declared.flow.Flow.TheVariants.{Next};
 
 use crate::acting::Way;
 use crate::block::Block;
-use crate::conditions::Choice;
 use crate::evaluator::Evaluator;
 use crate::flow::Flow;
 use crate::frames::{BlockRest, Frame, LoopHead, LoopRest};
 use crate::halt::{Halt, ended_inside};
-use crate::loops::check_loop;
 use code::Code;
-use code::node::{BranchNode, Node, StatementNode};
+use code::node::{BranchNode, CallNode, ForeachNode, IfNode, Node, StatementNode};
 use data::Value;
+use expressions::{Choice, check_loop};
 use ports::{Outputs, Tree};
 use std::rc::Rc;
 use std::sync::ledger::Ledger;
@@ -48,7 +49,8 @@ fn loop_head(number: usize, line: usize, first: usize, second: Option<usize>) ->
 }
 
 impl<'a, T: Tree, O: Outputs, L: Ledger> Evaluator<'a, T, O, L> {
-    ghost use Rattle.interp.specs.Evaluates.{Answers, Evaluates, Fails, FailsInside, HasRoom, Same};
+    ghost use Rattle.expressions.specs.Contexts.{Answers, Fails, HasRoom, Same};
+    ghost use Rattle.interp.specs.Evaluates.{Evaluates, FailsInside};
 
     /// Begins the statement with this number, whose end is on the stack; so many more folders may stand inside one another.
     pub fn begin(
@@ -59,11 +61,11 @@ impl<'a, T: Tree, O: Outputs, L: Ledger> Evaluator<'a, T, O, L> {
         stack: &mut Vec<Frame>,
     ) -> Result<Flow, Stop>
         requires there { number < length code.now.value.statements.items }
-        requires room { HasRoom T.seen O.seen self.old }
-        ensures same { Same self.old self.new }
-        ensures device { Fails T.seen O.seen self.old result self.new }
+        requires room { HasRoom T.seen O.seen self.old.context }
+        ensures same { Same self.old.context self.new.context }
+        ensures device { Fails T.seen O.seen self.old.context result self.new.context }
         ensures gives { Does T.seen O.seen (λ table. does (folder left) (statement_at (statements_by table code.now.value) number))
-            code.now.value self.old stack.old.items result self.new stack.new.items }
+            code.now.value self.old.context stack.old.items result self.new.context stack.new.items }
     {
         match &code.statements[number] {
             StatementNode::Assign { name, line, value } => {
@@ -84,9 +86,11 @@ impl<'a, T: Tree, O: Outputs, L: Ledger> Evaluator<'a, T, O, L> {
             StatementNode::Break { .. } => Ok(Flow::Broken),
             StatementNode::Continue { .. } => Ok(Flow::Continued),
             StatementNode::If { node } => {
+                let node: &IfNode = node;
                 self.begin_branch(code, number, &node.branches, left, stack)
             }
             StatementNode::Foreach { node } => {
+                let node: &ForeachNode = node;
                 let head = loop_head(number, node.line, node.first, node.second);
                 self.begin_loop(code, node.list, head, left, stack)
             }
@@ -102,16 +106,16 @@ impl<'a, T: Tree, O: Outputs, L: Ledger> Evaluator<'a, T, O, L> {
         value: usize,
     ) -> Result<Flow, Halt>
         requires here { value < length code.now.nodes.items }
-        requires room { HasRoom T.seen O.seen self.old }
-        ensures same { Same self.old self.new }
-        ensures device { FailsInside T.seen O.seen self.old result self.new }
-        ensures gives { name < length self.old.store.now.names → Evaluates T.seen O.seen (λ f. f) (λ into ts.
+        requires room { HasRoom T.seen O.seen self.old.context }
+        ensures same { Same self.old.context self.new.context }
+        ensures device { FailsInside T.seen O.seen self.old.context result self.new.context }
+        ensures gives { name < length self.old.context.store.now.names → Evaluates T.seen O.seen (λ f. f) (λ into ts.
             next (ruled (value_of into (tree_at ts value))) (λ d. next (own d) (λ e. next (assigned line
-            (name_at self.old.store.now.names name) e) (λ _. give Next)))) code.now self.old result self.new }
+            (name_at self.old.context.store.now.names name) e) (λ _. give Next)))) code.now self.old.context result self.new.context }
     {
         let value = self.eval(code, value)?;
-        let own = self.own(value)?;
-        self.assign(line, name, own)?;
+        let own = self.context.own(value)?;
+        self.context.assign(line, name, own)?;
         Ok(Flow::Next)
     }
 
@@ -124,15 +128,29 @@ impl<'a, T: Tree, O: Outputs, L: Ledger> Evaluator<'a, T, O, L> {
         value: usize,
     ) -> Result<Flow, Halt>
         requires here { value < length code.now.nodes.items }
-        requires room { HasRoom T.seen O.seen self.old }
-        ensures same { Same self.old self.new }
-        ensures device { FailsInside T.seen O.seen self.old result self.new }
-        ensures gives { name < length self.old.store.now.names → Evaluates T.seen O.seen (λ f. f) (λ into ts.
-            next (appended line (name_at self.old.store.now.names name) (ruled (value_of into (tree_at ts value)))) (λ _. give Next))
-            code.now self.old result self.new }
+        requires room { HasRoom T.seen O.seen self.old.context }
+        ensures same { Same self.old.context self.new.context }
+        ensures device { FailsInside T.seen O.seen self.old.context result self.new.context }
+        ensures gives { name < length self.old.context.store.now.names → Evaluates T.seen O.seen (λ f. f) (λ into ts.
+            next (appended line (name_at self.old.context.store.now.names name) (ruled (value_of into (tree_at ts value)))) (λ _. give Next))
+            code.now self.old.context result self.new.context }
     {
         self.append(code, name, line, value)?;
         Ok(Flow::Next)
+    }
+
+    // The variable of a number takes the sum of what it has and the value of an expression.
+    fn append(&mut self, code: &Code, number: usize, line: usize, value: usize) -> Result<(), Halt>
+        requires here { value < length code.now.nodes.items }
+        requires room { HasRoom T.seen O.seen self.old.context }
+        ensures same { Same self.old.context self.new.context }
+        ensures device { FailsInside T.seen O.seen self.old.context result self.new.context }
+        ensures gives { number < length self.old.context.store.now.names → Evaluates T.seen O.seen (λ u. u) (λ into ts. appended line
+            (name_at self.old.context.store.now.names number) (ruled (value_of into (tree_at ts value)))) code.now self.old.context result self.new.context }
+    {
+        let _ = self.context.variable(number, line)?;
+        let right = self.eval(code, value)?;
+        Ok(self.context.add(line, number, right)?)
     }
 
     // An expression alone: a call may enter a folder, and what others give is let go.
@@ -144,13 +162,14 @@ impl<'a, T: Tree, O: Outputs, L: Ledger> Evaluator<'a, T, O, L> {
         stack: &mut Vec<Frame>,
     ) -> Result<Flow, Stop>
         requires here { value < length code.now.nodes.items }
-        requires room { HasRoom T.seen O.seen self.old }
-        ensures same { Same self.old self.new }
-        ensures device { Fails T.seen O.seen self.old result self.new }
+        requires room { HasRoom T.seen O.seen self.old.context }
+        ensures same { Same self.old.context self.new.context }
+        ensures device { Fails T.seen O.seen self.old.context result self.new.context }
         ensures gives { Does T.seen O.seen (λ table. stated (folder left) (tree_at (expressions_by table code.now) value))
-            code.now self.old stack.old.items result self.new stack.new.items }
+            code.now self.old.context stack.old.items result self.new.context stack.new.items }
     {
         if let Node::Call { call, line } = &code.nodes[value] {
+            let call: &CallNode = call;
             stack.push(Frame::End)?;
             match self.perform(code, *line, &call.name, &call.arguments) {
                 Ok(way) => self.take_way(way, left, stack),
@@ -169,24 +188,24 @@ impl<'a, T: Tree, O: Outputs, L: Ledger> Evaluator<'a, T, O, L> {
     // What an expression gives that is a statement and no call of a function: its last method may give nothing.
     fn alone(&mut self, code: &Code, value: usize) -> Result<Option<Value>, Halt>
         requires here { value < length code.now.nodes.items }
-        requires room { HasRoom T.seen O.seen self.old }
-        ensures same { Same self.old self.new }
-        ensures device { FailsInside T.seen O.seen self.old result self.new }
+        requires room { HasRoom T.seen O.seen self.old.context }
+        ensures same { Same self.old.context self.new.context }
+        ensures device { FailsInside T.seen O.seen self.old.context result self.new.context }
         ensures gives { Evaluates T.seen O.seen (option_map data_of) (λ into ts. ruled (given_by into (tree_at ts value))) code.now
-            self.old result self.new }
+            self.old.context result self.new.context }
     {
         let answer = self.given(code, value);
-        ended_inside(answer, self.steps)
+        ended_inside(answer, self.context.steps)
     }
 
     // The same, before its rule has ended.
     fn given(&mut self, code: &Code, value: usize) -> Result<Option<Value>, Halt>
         requires here { value < length code.now.nodes.items }
-        requires room { HasRoom T.seen O.seen self.old }
-        ensures same { Same self.old self.new }
-        ensures device { FailsInside T.seen O.seen self.old result self.new }
+        requires room { HasRoom T.seen O.seen self.old.context }
+        ensures same { Same self.old.context self.new.context }
+        ensures device { FailsInside T.seen O.seen self.old.context result self.new.context }
         ensures gives { Evaluates T.seen O.seen (option_map data_of) (λ into ts. given_by into (tree_at ts value)) code.now
-            self.old result self.new }
+            self.old.context result self.new.context }
     {
         if let Node::Postfix { first, links, line } = &code.nodes[value] {
             self.asked(code, *first as usize, links, *line)
@@ -197,10 +216,10 @@ impl<'a, T: Tree, O: Outputs, L: Ledger> Evaluator<'a, T, O, L> {
 
     // A call that is a statement goes on.
     fn take_way(&mut self, way: Way, left: usize, stack: &mut Vec<Frame>) -> Result<Flow, Stop>
-        requires room { HasRoom T.seen O.seen self.old }
-        ensures same { Same self.old self.new }
-        ensures device { Fails T.seen O.seen self.old result self.new }
-        ensures gives { Acts T.seen O.seen (by_way (folder left) (way_view way)) self.old stack.old.items result self.new stack.new.items }
+        requires room { HasRoom T.seen O.seen self.old.context }
+        ensures same { Same self.old.context self.new.context }
+        ensures device { Fails T.seen O.seen self.old.context result self.new.context }
+        ensures gives { Acts T.seen O.seen (by_way (folder left) (way_view way)) self.old.context stack.old.items result self.new.context stack.new.items }
     {
         match way {
             Way::Ends(flow) => Ok(flow),
@@ -220,13 +239,13 @@ impl<'a, T: Tree, O: Outputs, L: Ledger> Evaluator<'a, T, O, L> {
         requires here { list < length code.now.value.nodes.items }
         requires first { IsTrue (nat_lt head.first code.now.value.names) }
         requires second { IsTrue (second_within code.now.value.names head.second) }
-        requires room { HasRoom T.seen O.seen self.old }
-        ensures same { Same self.old self.new }
-        ensures device { Fails T.seen O.seen self.old result self.new }
+        requires room { HasRoom T.seen O.seen self.old.context }
+        ensures same { Same self.old.context self.new.context }
+        ensures device { Fails T.seen O.seen self.old.context result self.new.context }
         ensures gives { Does T.seen O.seen (λ table. next
             (ruled (value_of (folder left) (tree_at (expressions_by table code.now.value) list)))
             (λ d. walked head.line (round_by table code.now.value left head) (looped (option_map (name_at table) head.second) d)))
-            code.now.value self.old stack.old.items result self.new stack.new.items }
+            code.now.value self.old.context stack.old.items result self.new.context stack.new.items }
     {
         let whole = match self.eval(code, list) {
             Ok(whole) => whole,
@@ -244,7 +263,7 @@ impl<'a, T: Tree, O: Outputs, L: Ledger> Evaluator<'a, T, O, L> {
                 }))?;
                 Ok(Flow::Next)
             }
-            Err(refusal) => self.refuse(head.line, refusal, ""),
+            Err(refusal) => self.context.refuse(head.line, refusal, ""),
         }
     }
 
@@ -258,14 +277,14 @@ impl<'a, T: Tree, O: Outputs, L: Ledger> Evaluator<'a, T, O, L> {
         stack: &mut Vec<Frame>,
     ) -> Result<Flow, Stop>
         requires here { above above_branch parts.now ≤ length code.now.value.nodes.items }
-        requires room { HasRoom T.seen O.seen self.old }
-        ensures same { Same self.old self.new }
-        ensures device { Fails T.seen O.seen self.old result self.new }
+        requires room { HasRoom T.seen O.seen self.old.context }
+        ensures same { Same self.old.context self.new.context }
+        ensures device { Fails T.seen O.seen self.old.context result self.new.context }
         ensures gives { (otherwise : List ℕ)
             → ((part : ℕ) → statements_of code.now.value (Part number part) ≡ branch_or otherwise parts.now part)
             → Does T.seen O.seen (λ table. branches_of (folder left) (branches (map (branch_at (expressions_by table code.now.value)
             (statements_by table code.now.value)) parts.now)) (do_all (folder left) (block_by table code.now.value otherwise)))
-            code.now.value self.old stack.old.items result self.new stack.new.items }
+            code.now.value self.old.context stack.old.items result self.new.context stack.new.items }
     {
         match self.choose_part(code, parts) {
             Ok(Some(part)) => {
@@ -289,15 +308,15 @@ impl<'a, T: Tree, O: Outputs, L: Ledger> Evaluator<'a, T, O, L> {
     // The place of the branch whose condition is the first that holds, or the place behind them; none where a disabler skips all.
     fn choose_part(&mut self, code: &Code, parts: &[BranchNode]) -> Result<Option<usize>, Halt>
         requires here { above above_branch parts.now ≤ length code.now.nodes.items }
-        requires room { HasRoom T.seen O.seen self.old }
-        ensures same { Same self.old self.new }
-        ensures device { FailsInside T.seen O.seen self.old result self.new }
-        ensures gives { ChoosesOf T.seen O.seen parts.now code.now self.old result self.new }
+        requires room { HasRoom T.seen O.seen self.old.context }
+        ensures same { Same self.old.context self.new.context }
+        ensures device { FailsInside T.seen O.seen self.old.context result self.new.context }
+        ensures gives { ChoosesOf T.seen O.seen parts.now code.now self.old.context result self.new.context }
     {
         for part in 0..parts.len() {
             let branch = &parts[part];
             let value = self.eval(code, branch.condition)?;
-            match self.choose(branch.line, &value)? {
+            match self.context.choose(branch.line, &value)? {
                 Choice::Body => return Ok(Some(part)),
                 Choice::Others => {}
                 Choice::Skip => return Ok(None),

@@ -1,7 +1,6 @@
 pub mod Counting
 pub mod Either
 pub mod Exactly
-pub mod Found
 pub mod Installing
 pub mod Looking
 pub mod NamedFiles

@@ -6,6 +6,7 @@ pub mod Costs
 mod Counts
 pub mod Declaring
 pub mod Follow
+pub mod Found
 pub mod Holding
 pub mod Leading
 pub mod Look

@@ -2,7 +2,7 @@ use Rattle.std.proofs.Common.{sym, ap, ◌∙◌}
 use Rattle.world.proofs.Answering.{carries_none}
 use Rattle.configuration_calls.specs.ConfigurationData.{said_data}
 use Rattle.configuration_calls.specs.Given.{data_given}
-use Rattle.configuration_calls.proofs.Found.{carries_itself}
+use Rattle.world.proofs.Found.{carries_itself}
 use Rattle.configuration_calls.proofs.data_call.said_data.Goals as goal
 
 pub returns-in_err-found : goal.returns-in_err-found

@@ -3,7 +3,7 @@ use Rattle.template.specs.ConfigData.{content_of}
 use Rattle.world.proofs.Answering.{carries_none}
 use Rattle.configuration_calls.specs.Contents.{content_in}
 use Rattle.configuration_calls.specs.Methods.{content_given}
-use Rattle.configuration_calls.proofs.Found.{carries_found}
+use Rattle.world.proofs.Found.{carries_found}
 use Rattle.configuration_calls.proofs.methods.content_given.Goals as goal
 
 pub returns-in_err-found : goal.returns-in_err-found

@@ -1,6 +1,6 @@
 use Rattle.std.proofs.Common.{ℕ, sym, ◌∙◌}
 use Rattle.configuration_calls.specs.Methods.{other_given}
-use Rattle.configuration_calls.proofs.Found.{carries_itself}
+use Rattle.world.proofs.Found.{carries_itself}
 use Rattle.configuration_calls.proofs.methods.other_given.Goals as goal
 
 pub returns : goal.returns

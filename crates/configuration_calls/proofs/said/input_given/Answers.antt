@@ -4,7 +4,7 @@ use Rattle.world.specs.Settings.{SettingsData}
 use Rattle.world.proofs.Answering.{carries_none, carries_read}
 use Rattle.world.proofs.Values.{two}
 use Rattle.configuration_calls.specs.ConfigureFile.{input_given, input_named}
-use Rattle.configuration_calls.proofs.Found.{carries_found}
+use Rattle.world.proofs.Found.{carries_found}
 use Rattle.configuration_calls.proofs.said.input_given.Goals as goal
 
 pub returns-in_err-input : goal.returns-in_err-input

@@ -4,7 +4,7 @@ use Rattle.world.proofs.Answering.{carries_none, carries_read}
 use Rattle.configuration_calls.specs.ConfigureFile.{values_given}
 use Rattle.configuration_calls.specs.Given.{given_by}
 use Rattle.configuration_calls.specs.GivenView.{given_view}
-use Rattle.configuration_calls.proofs.Found.{carries_found}
+use Rattle.world.proofs.Found.{carries_found}
 use Rattle.configuration_calls.proofs.said.values_given.Goals as goal
 
 pub returns-in_err-found : goal.returns-in_err-found

@@ -5,8 +5,8 @@ use Rattle.interp.proofs.evaluation.definitions.Goals as goal
 
 pub returns-clause-gives : goal.returns-clause-gives
 returns-clause-gives g c = λ files h.
-    let held : Holds (g.T.Tree.seen c.new-evaluator.result.tree.now) files = subst (λ t. Holds (g.T.Tree.seen t) files) (sym c.new-evaluator.ensures.tree) h in
-    root_moved g.O.Outputs.seen c.new-evaluator.ensures.store c.new-evaluator.ensures.out c.new-evaluator.ensures.steps (search rules) (search rules) (search rules)
+    let held : Holds (g.T.Tree.seen c.new-context.result.tree.now) files = subst (λ t. Holds (g.T.Tree.seen t) files) (sym c.new-context.ensures.tree) h in
+    root_moved g.O.Outputs.seen c.new-context.ensures.store c.new-context.ensures.out c.new-context.ensures.steps (search rules) (search rules) (search rules)
     (record { gives = (c.definitions.ensures.gives files held).gives })
 
 pub returns-clause-device : goal.returns-clause-device

@@ -1,5 +1,5 @@
 use Rattle.data.specs.View.{data_of}
-use Rattle.interp.proofs.Walking.{walks_all}
+use Rattle.expressions.proofs.Walking.{walks_all}
 use Rattle.interp.proofs.law.loops_walk_all.Goals as goal
 
 pub returns : goal.returns

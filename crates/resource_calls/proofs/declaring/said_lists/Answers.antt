@@ -5,7 +5,7 @@ use Rattle.resource_calls.specs.DeclareDependency.{said_lists}
 use Rattle.resource_calls.specs.OwnLists.{own_lists}
 use Rattle.resource_calls.specs.OwnListsView.{own_view}
 use Rattle.resource_calls.specs.Place.{PlaceData}
-use Rattle.resource_calls.proofs.Found.{carries_found}
+use Rattle.world.proofs.Found.{carries_found}
 use Rattle.resource_calls.proofs.declaring.said_lists.Goals as goal
 
 pub returns-in_err-found : goal.returns-in_err-found

@@ -4,7 +4,7 @@ use Rattle.world.proofs.Answering.{carries_none, carries_read}
 use Rattle.resource_calls.specs.Destinations.{FoldersData, said_of}
 use Rattle.resource_calls.specs.DestinationsView.{said_view}
 use Rattle.resource_calls.specs.Installs.{said_installs}
-use Rattle.resource_calls.proofs.Found.{carries_found}
+use Rattle.world.proofs.Found.{carries_found}
 use Rattle.resource_calls.proofs.installs.said_installs.Goals as goal
 
 pub returns-in_err-found : goal.returns-in_err-found

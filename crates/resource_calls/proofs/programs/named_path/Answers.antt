@@ -4,7 +4,7 @@ use Rattle.world.specs.Settings.{SettingsData}
 use Rattle.world.proofs.Answering.{carries_none, carries_read}
 use Rattle.world.proofs.Values.{two}
 use Rattle.resource_calls.specs.Programs.{named_path}
-use Rattle.resource_calls.proofs.Found.{carries_found}
+use Rattle.world.proofs.Found.{carries_found}
 use Rattle.resource_calls.proofs.programs.named_path.Goals as goal
 
 pub returns-in_err-path : goal.returns-in_err-path

@@ -5,7 +5,7 @@ use Rattle.resource_calls.specs.Place.{PlaceData}
 use Rattle.resource_calls.specs.TestCommands.{run_of}
 use Rattle.resource_calls.specs.TestCommandsView.{run_view}
 use Rattle.resource_calls.specs.Tests.{said_run}
-use Rattle.resource_calls.proofs.Found.{carries_found}
+use Rattle.world.proofs.Found.{carries_found}
 use Rattle.resource_calls.proofs.testing.said_run.Goals as goal
 
 pub returns-in_err-found : goal.returns-in_err-found

@@ -5,7 +5,7 @@ use Rattle.target_calls.specs.CustomTargets.{declared_custom}
 use Rattle.target_calls.specs.BuildTargetsView.{named_target_view}
 use Rattle.target_calls.specs.Here.{HereData}
 use Rattle.target_calls.specs.CustomCalls.{said_custom}
-use Rattle.target_calls.proofs.Found.{carries_found}
+use Rattle.world.proofs.Found.{carries_found}
 use Rattle.target_calls.proofs.custom_call.said_custom.Goals as goal
 
 pub returns-in_err-found : goal.returns-in_err-found

@@ -5,7 +5,7 @@ use Rattle.target_calls.specs.BuildTargets.{declared}
 use Rattle.target_calls.specs.BuildTargetsView.{named_target_view}
 use Rattle.target_calls.specs.Here.{HereData}
 use Rattle.target_calls.specs.Targets.{said}
-use Rattle.target_calls.proofs.Found.{carries_found}
+use Rattle.world.proofs.Found.{carries_found}
 use Rattle.target_calls.proofs.declaring.said.Goals as goal
 
 pub returns-in_err-found : goal.returns-in_err-found

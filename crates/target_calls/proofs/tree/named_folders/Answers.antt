@@ -5,7 +5,7 @@ use Rattle.world.specs.Settings.{SettingsData}
 use Rattle.world.proofs.Answering.{carries_none, carries_read}
 use Rattle.world.proofs.Values.{two}
 use Rattle.target_calls.specs.Files.{named_folders}
-use Rattle.target_calls.proofs.Found.{carries_found}
+use Rattle.world.proofs.Found.{carries_found}
 use Rattle.target_calls.proofs.tree.named_folders.Goals as goal
 
 pub returns-in_err-paths : goal.returns-in_err-paths

@@ -1,9 +1,10 @@
-use Rattle.std.proofs.Common.{ℕ, suc, ◌≤◌, max, Bool, true, false, List, [], ◌∷◌, map, get_or, Option, Some, option_map, refl, sym, ap, ◌∙◌, arith, rules}
+use Rattle.std.proofs.Common.{ℕ, suc, ◌≤◌, max, Bool, true, false, List, [], ◌∷◌, map, get_or, Option, Some, option_map, refl, string_bytes, sym, ap, ◌∙◌, arith, rules}
 use Rattle.grammar.specs.ExpressionTree.{ListTree, DictionaryTree, FunctionTree, PostfixTree, ChainTree, expressions, entries, arguments, links, operands}
 use Rattle.grammar.specs.declared.tree.Operator.TheVariants as flatop
 use Rattle.code.specs.declared.node.Node.TheVariants as flat
 use Rattle.code.specs.declared.node.EntryNode.{EntryNode}
 use Rattle.code.specs.declared.node.ArgumentNode.{ArgumentNode}
+use Rattle.code.specs.declared.node.CallNode.{CallNode}
 use Rattle.code.specs.declared.node.OperandNode.{OperandNode}
 use Rattle.code.specs.declared.node.LinkNode.{LinkNode}
 use Rattle.code.specs.Nodes.{tree_at, entry_at, argument_at, operand_at, link_at, operand_within, link_within}
@@ -13,11 +14,12 @@ use Rattle.data.proofs.ItemsLemmas.{items_of-append}
 use Rattle.operators.specs.Literal.{pairs_of}
 use Rattle.arguments.specs.Arguments.{arguments_data, no_arguments}
 use Rattle.world.specs.Plan.{ruled, next}
-use Rattle.interp.specs.Expressions.{arguments_of, chain_of, chosen, entries_of, link_of, links_of, listed, method_called, method_of, paired, value_of, values_of, variable}
+use Rattle.interp.specs.Expressions.{arguments_of, chain_of, entries_of, link_of, links_of, method_called, method_of, value_of, values_of}
+use Rattle.expressions.specs.Forms.{chosen, listed, paired, variable}
 use Rattle.interp.specs.Parts.{above, above_number, above_entry, above_argument, above_operand, above_link}
 use Rattle.interp.specs.Folders.{folder}
 use Rattle.interp.proofs.Coming.{comes_as, comes_end, comes_given, comes_halt, comes_halt_inside, comes_last, comes_none, comes_rule, comes_stop, comes_then}
-use Rattle.interp.proofs.Evaluating.{given_as, given_give, given_then, goes_on, leads_as, leads_end, leads_inside, leads_on, leads_start, leads_within, next_is, next_item, no_item}
+use Rattle.expressions.proofs.Evaluating.{given_as, given_give, given_then, goes_on, leads_as, leads_end, leads_inside, leads_on, leads_start, leads_within, next_is, next_item, no_item}
 use Rattle.interp.proofs.Pairs.{pairs_of-push}
 use Rattle.interp.proofs.Reading.{reads_on, opened, parts_at, name_of, number_reach, first_reach, three_reach, numbers_reach, entries_reach, arguments_reach, operands_reach, links_reach}
 use Rattle.interp.proofs.evaluator.Evaluator.+eval.Goals as goal
@@ -89,7 +91,7 @@ pub form-dictionary-requires : goal.form-dictionary-requires
 form-dictionary-requires g t c κs lives = let reach : above above_entry c.deref-in-Dictionary.result.now ≤ c.args.node = rw c.deref-in-Dictionary.ensures.value (entries_reach c.args.node c.in-Dictionary.entries.items (parts_at c.args.code.now c.args.node c.index.result.now (flat.Dictionary c.in-Dictionary.entries c.in-Dictionary.line) c.requires.here c.index.ensures c.in-Dictionary.is)) in (omega arith, (lives.0, (lives.1.0, (lives.1.1, (omega arith, c.requires.room)))))
 
 pub form-call-requires : goal.form-call-requires
-form-call-requires g t c κs lives = let reach : above above_argument c.deref-in-Call-2.result.now ≤ c.args.node = rw c.deref-in-Call-2.ensures.value (arguments_reach c.args.node c.in-Call.arguments.items (parts_at c.args.code.now c.args.node c.index.result.now (flat.Call c.in-Call.name c.in-Call.arguments c.in-Call.line) c.requires.here c.index.ensures c.in-Call.is)) in (omega arith, (lives.0, (lives.1.0, (lives.1.1, (omega arith, c.requires.room)))))
+form-call-requires g t c κs lives = let reach : above above_argument c.deref-in-Call-3.result.now ≤ c.args.node = rw (c.deref-in-Call-3.ensures.value ∙ ap (λ (x : CallNode). x.arguments.items) c.deref-in-Call.ensures) (arguments_reach c.args.node c.in-Call.call.value.arguments.items (parts_at c.args.code.now c.args.node c.index.result.now (flat.Call c.in-Call.call c.in-Call.line) c.requires.here c.index.ensures c.in-Call.is)) in (omega arith, (lives.0, (lives.1.0, (lives.1.1, (omega arith, c.requires.room)))))
 
 pub form-chain-requires : goal.form-chain-requires
 form-chain-requires g t c κs lives = let reach : max (suc c.in-Chain.first) (above above_operand c.deref-in-Chain.result.now) ≤ c.args.node = rw c.deref-in-Chain.ensures.value (first_reach c.args.node c.in-Chain.first above_operand c.in-Chain.others.items (operand_within c.args.node) (operands_reach c.args.node c.in-Chain.others.items) (parts_at c.args.code.now c.args.node c.index.result.now (flat.Chain c.in-Chain.first c.in-Chain.others c.in-Chain.line) c.requires.here c.index.ensures c.in-Chain.is)) in (omega arith, (lives.0, (lives.1.0, (lives.1.1, (omega arith, c.requires.room)))))
@@ -104,7 +106,13 @@ pub form-returns-in-Dictionary-clause-gives : goal.form-returns-in-Dictionary-cl
 form-returns-in-Dictionary-clause-gives g t c = λ files left ts hold reads. comes_as (ap (value_of (folder left)) (sym (opened reads c.args.node c.index.result.now (flat.Dictionary c.in-Dictionary.entries c.in-Dictionary.line) c.requires.here c.index.ensures c.in-Dictionary.is))) (comes_as (ap (λ (xs : List EntryNode). value_of (folder left) (DictionaryTree (entries (map (entry_at ts) xs)) c.in-Dictionary.line)) c.deref-in-Dictionary.ensures.value) (c.dictionary.ensures.gives files left ts hold reads))
 
 pub form-returns-in-Call-clause-gives : goal.form-returns-in-Call-clause-gives
-form-returns-in-Call-clause-gives g t c = λ files left ts hold reads. comes_as (ap (value_of (folder left)) (sym (opened reads c.args.node c.index.result.now (flat.Call c.in-Call.name c.in-Call.arguments c.in-Call.line) c.requires.here c.index.ensures c.in-Call.is))) (comes_as (ap (λ (name : List ℕ). value_of (folder left) (FunctionTree name (arguments (map (argument_at ts) c.in-Call.arguments.items)) c.in-Call.line)) c.deref-in-Call.ensures) (comes_as (ap (λ (xs : List ArgumentNode). value_of (folder left) (FunctionTree c.deref-in-Call.result.now (arguments (map (argument_at ts) xs)) c.in-Call.line)) c.deref-in-Call-2.ensures.value) (c.call.ensures.gives files left ts hold reads)))
+form-returns-in-Call-clause-gives g t c = λ files left ts hold reads.
+    let line = c.in-Call.line in
+    comes_as (ap (value_of (folder left)) (sym (opened reads c.args.node c.index.result.now (flat.Call c.in-Call.call line) c.requires.here c.index.ensures c.in-Call.is)))
+    (comes_as (ap (λ (x : CallNode). value_of (folder left) (FunctionTree (string_bytes x.name) (arguments (map (argument_at ts) x.arguments.items)) line)) c.deref-in-Call.ensures)
+    (comes_as (ap (λ (name : List ℕ). value_of (folder left) (FunctionTree name (arguments (map (argument_at ts) c.deref-in-Call.result.now.arguments.items)) line)) c.deref-in-Call-2.ensures)
+    (comes_as (ap (λ (xs : List ArgumentNode). value_of (folder left) (FunctionTree c.deref-in-Call-2.result.now (arguments (map (argument_at ts) xs)) line)) c.deref-in-Call-3.ensures.value)
+    (c.call.ensures.gives files left ts hold reads))))
 
 pub form-returns-in-Chain-clause-gives : goal.form-returns-in-Chain-clause-gives
 form-returns-in-Chain-clause-gives g t c = λ files left ts hold reads. comes_as (ap (value_of (folder left)) (sym (opened reads c.args.node c.index.result.now (flat.Chain c.in-Chain.first c.in-Chain.others c.in-Chain.line) c.requires.here c.index.ensures c.in-Chain.is))) (comes_as (ap (λ (xs : List OperandNode). value_of (folder left) (ChainTree (tree_at ts c.in-Chain.first) (operands (map (operand_at ts) xs)) c.in-Chain.line)) c.deref-in-Chain.ensures.value) (c.chain.ensures.gives files left ts hold reads))
@@ -276,18 +284,18 @@ chain-loop-operand-init g t c = record { same = search rules; tree = search rule
 pub chain-returns-in_err-begun-clause-gives : goal.chain-returns-in_err-begun-clause-gives
 chain-returns-in_err-begun-clause-gives g t c = λ files left ts hold reads.
     let led = leads_as (ap (λ ys. chain_of (folder left) c.args.line (data_of c.loop-operand.value) (operands ys)) (next_item (operand_at ts) c.args.others.now c.loop-operand.operand-index (record { operator = flatop.Or; value = 0 }) c.loop-operand-test.true)) (c.loop-operand.invariant.done files left ts hold reads) in
-    comes_end led (comes_stop {view = data_of} (c.in_err-begun.ensures.gives files left (tree_at ts (get_or c.args.others.now c.loop-operand.operand-index (record { operator = flatop.Or; value = 0 })).value) led.holds) c.from_residual-in_err-begun.ensures.1)
+    comes_end led (comes_stop {view = data_of} (c.in_err-begun.ensures.gives files (ruled (value_of (folder left) (tree_at ts (get_or c.args.others.now c.loop-operand.operand-index (record { operator = flatop.Or; value = 0 })).value))) led.holds) c.from_residual-in_err-begun.ensures.1)
 
 pub chain-returns-in_err-right-clause-gives : goal.chain-returns-in_err-right-clause-gives
 chain-returns-in_err-right-clause-gives g t c = λ files left ts hold reads.
     let led = leads_as (ap (λ ys. chain_of (folder left) c.args.line (data_of c.loop-operand.value) (operands ys)) (next_item (operand_at ts) c.args.others.now c.loop-operand.operand-index (record { operator = flatop.Or; value = 0 }) c.loop-operand-test.true)) (c.loop-operand.invariant.done files left ts hold reads) in
-    let half = leads_within led (goes_on files c.args.line _ _ _ c.in-Waits.is (c.in_ok-begun.ensures.gives files left (tree_at ts (get_or c.args.others.now c.loop-operand.operand-index (record { operator = flatop.Or; value = 0 })).value) led.holds)) in
+    let half = leads_within led (goes_on files c.args.line _ _ _ c.in-Waits.is (c.in_ok-begun.ensures.gives files (ruled (value_of (folder left) (tree_at ts (get_or c.args.others.now c.loop-operand.operand-index (record { operator = flatop.Or; value = 0 })).value))) led.holds)) in
     comes_end half (comes_halt_inside (c.in_err-right.ensures.gives files left ts half.holds (reads_on reads half.continues.written.names)) c.from_residual-in_err-right.ensures.1)
 
 pub chain-returns-in_err-value-2-clause-gives : goal.chain-returns-in_err-value-2-clause-gives
 chain-returns-in_err-value-2-clause-gives g t c = λ files left ts hold reads.
     let led = leads_as (ap (λ ys. chain_of (folder left) c.args.line (data_of c.loop-operand.value) (operands ys)) (next_item (operand_at ts) c.args.others.now c.loop-operand.operand-index (record { operator = flatop.Or; value = 0 }) c.loop-operand-test.true)) (c.loop-operand.invariant.done files left ts hold reads) in
-    let half = leads_within led (goes_on files c.args.line _ _ _ c.in-Waits.is (c.in_ok-begun.ensures.gives files left (tree_at ts (get_or c.args.others.now c.loop-operand.operand-index (record { operator = flatop.Or; value = 0 })).value) led.holds)) in
+    let half = leads_within led (goes_on files c.args.line _ _ _ c.in-Waits.is (c.in_ok-begun.ensures.gives files (ruled (value_of (folder left) (tree_at ts (get_or c.args.others.now c.loop-operand.operand-index (record { operator = flatop.Or; value = 0 })).value))) led.holds)) in
     let whole = leads_inside half (c.in_ok-right.ensures.gives files left ts half.holds (reads_on reads half.continues.written.names)).comes in
     comes_end whole (comes_stop (c.in_err-value-2.ensures.gives files whole.holds) c.from_residual-in_err-value-2.ensures.1)
 
@@ -298,7 +306,7 @@ chain-loop-operand-preserved-in-Decided g t c = record {
   out = search rules;
   done = λ files left ts hold reads.
       let led = leads_as (ap (λ ys. chain_of (folder left) c.args.line (data_of c.loop-operand.value) (operands ys)) (next_item (operand_at ts) c.args.others.now c.loop-operand.operand-index (record { operator = flatop.Or; value = 0 }) c.loop-operand-test.true)) (c.loop-operand.invariant.done files left ts hold reads) in
-      leads_on led (goes_on files c.args.line _ _ _ c.in-Decided.is (c.in_ok-begun.ensures.gives files left (tree_at ts (get_or c.args.others.now c.loop-operand.operand-index (record { operator = flatop.Or; value = 0 })).value) led.holds));
+      leads_on led (goes_on files c.args.line _ _ _ c.in-Decided.is (c.in_ok-begun.ensures.gives files (ruled (value_of (folder left) (tree_at ts (get_or c.args.others.now c.loop-operand.operand-index (record { operator = flatop.Or; value = 0 })).value))) led.holds));
 }
 
 pub chain-loop-operand-preserved : goal.chain-loop-operand-preserved
@@ -308,7 +316,7 @@ chain-loop-operand-preserved g t c = record {
   out = search rules;
   done = λ files left ts hold reads.
       let led = leads_as (ap (λ ys. chain_of (folder left) c.args.line (data_of c.loop-operand.value) (operands ys)) (next_item (operand_at ts) c.args.others.now c.loop-operand.operand-index (record { operator = flatop.Or; value = 0 }) c.loop-operand-test.true)) (c.loop-operand.invariant.done files left ts hold reads) in
-      let half = leads_within led (goes_on files c.args.line _ _ _ c.in-Waits.is (c.in_ok-begun.ensures.gives files left (tree_at ts (get_or c.args.others.now c.loop-operand.operand-index (record { operator = flatop.Or; value = 0 })).value) led.holds)) in
+      let half = leads_within led (goes_on files c.args.line _ _ _ c.in-Waits.is (c.in_ok-begun.ensures.gives files (ruled (value_of (folder left) (tree_at ts (get_or c.args.others.now c.loop-operand.operand-index (record { operator = flatop.Or; value = 0 })).value))) led.holds)) in
       let whole = leads_inside half (c.in_ok-right.ensures.gives files left ts half.holds (reads_on reads half.continues.written.names)).comes in
       leads_on whole (c.in_ok-value-2.ensures.gives files whole.holds);
 }

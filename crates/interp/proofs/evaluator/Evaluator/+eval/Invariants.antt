@@ -7,8 +7,10 @@ use Rattle.arguments.specs.Arguments.{arguments_data, no_arguments}
 use Rattle.world.specs.Deed.{Files}
 use Rattle.world.specs.Gives.{Holds}
 use Rattle.world.specs.Plan.{next, ruled}
-use Rattle.interp.specs.Evaluates.{Leads, Reads, Same, stand_of}
-use Rattle.interp.specs.Expressions.{value_of, values_of, entries_of, arguments_of, links_of, chain_of, listed, paired}
+use Rattle.expressions.specs.Contexts.{Leads, Same, stand_of}
+use Rattle.interp.specs.Evaluates.{Reads}
+use Rattle.interp.specs.Expressions.{value_of, values_of, entries_of, arguments_of, links_of, chain_of}
+use Rattle.expressions.specs.Forms.{listed, paired}
 use Rattle.interp.specs.Folders.{folder}
 use Rattle.interp.specs.Parts.{above, above_number, above_entry, above_argument, above_operand, above_link}
 use Rattle.interp.proofs.evaluator.Evaluator.+eval.Given as goal
@@ -52,12 +54,12 @@ invariant-list-loop-item g l =
     let see = g.T.Tree.seen in
     let heard = g.O.Outputs.seen in
     record {
-      same : Same l.fn.self l.self;
-      tree : (see l.self.tree.now).failures ≡ (see l.fn.self.tree.now).failures;
-      out : (heard l.self.out.now).failures ≡ (heard l.fn.self.out.now).failures;
-      done : (files : Files) (left : ℕ) (ts : List ExpressionTree) → Holds (see l.fn.self.tree.now) files → Reads ts l.code l.fn.self.store.now.names
-          → Leads files (value_of (folder left) (ListTree (expressions (map (tree_at ts) l.fn.items)) l.fn.line)) (stand_of see heard l.fn.self)
-          (next (values_of (folder left) (items_of l.values.items) (expressions (map (tree_at ts) (drop l.item-index l.items)))) (listed l.line)) (stand_of see heard l.self);
+      same : Same l.fn.self.context l.self.context;
+      tree : (see l.self.context.tree.now).failures ≡ (see l.fn.self.context.tree.now).failures;
+      out : (heard l.self.context.out.now).failures ≡ (heard l.fn.self.context.out.now).failures;
+      done : (files : Files) (left : ℕ) (ts : List ExpressionTree) → Holds (see l.fn.self.context.tree.now) files → Reads ts l.code l.fn.self.context.store.now.names
+          → Leads files (value_of (folder left) (ListTree (expressions (map (tree_at ts) l.fn.items)) l.fn.line)) (stand_of see heard l.fn.self.context)
+          (next (values_of (folder left) (items_of l.values.items) (expressions (map (tree_at ts) (drop l.item-index l.items)))) (listed l.line)) (stand_of see heard l.self.context);
     }
 
 abbrev pub invariant-dictionary-loop-entry : goal.invariant-dictionary-loop-entry
@@ -65,12 +67,12 @@ invariant-dictionary-loop-entry g l =
     let see = g.T.Tree.seen in
     let heard = g.O.Outputs.seen in
     record {
-      same : Same l.fn.self l.self;
-      tree : (see l.self.tree.now).failures ≡ (see l.fn.self.tree.now).failures;
-      out : (heard l.self.out.now).failures ≡ (heard l.fn.self.out.now).failures;
-      done : (files : Files) (left : ℕ) (ts : List ExpressionTree) → Holds (see l.fn.self.tree.now) files → Reads ts l.code l.fn.self.store.now.names
-          → Leads files (value_of (folder left) (DictionaryTree (entries (map (entry_at ts) l.fn.entries)) l.fn.line)) (stand_of see heard l.fn.self)
-          (next (entries_of (folder left) (pairs_of l.pairs.items) (entries (map (entry_at ts) (drop l.entry-index l.entries)))) (paired l.line)) (stand_of see heard l.self);
+      same : Same l.fn.self.context l.self.context;
+      tree : (see l.self.context.tree.now).failures ≡ (see l.fn.self.context.tree.now).failures;
+      out : (heard l.self.context.out.now).failures ≡ (heard l.fn.self.context.out.now).failures;
+      done : (files : Files) (left : ℕ) (ts : List ExpressionTree) → Holds (see l.fn.self.context.tree.now) files → Reads ts l.code l.fn.self.context.store.now.names
+          → Leads files (value_of (folder left) (DictionaryTree (entries (map (entry_at ts) l.fn.entries)) l.fn.line)) (stand_of see heard l.fn.self.context)
+          (next (entries_of (folder left) (pairs_of l.pairs.items) (entries (map (entry_at ts) (drop l.entry-index l.entries)))) (paired l.line)) (stand_of see heard l.self.context);
     }
 
 abbrev pub invariant-arguments-loop-argument : goal.invariant-arguments-loop-argument
@@ -78,11 +80,11 @@ invariant-arguments-loop-argument g l =
     let see = g.T.Tree.seen in
     let heard = g.O.Outputs.seen in
     record {
-      same : Same l.fn.self l.self;
-      tree : (see l.self.tree.now).failures ≡ (see l.fn.self.tree.now).failures;
-      out : (heard l.self.out.now).failures ≡ (heard l.fn.self.out.now).failures;
-      done : (files : Files) (left : ℕ) (ts : List ExpressionTree) → Holds (see l.fn.self.tree.now) files → Reads ts l.code l.fn.self.store.now.names
-          → Leads files (arguments_of (folder left) no_arguments (arguments (map (argument_at ts) l.fn.arguments))) (stand_of see heard l.fn.self) (arguments_of (folder left) (arguments_data l.evaluated) (arguments (map (argument_at ts) (drop l.argument-index l.arguments)))) (stand_of see heard l.self);
+      same : Same l.fn.self.context l.self.context;
+      tree : (see l.self.context.tree.now).failures ≡ (see l.fn.self.context.tree.now).failures;
+      out : (heard l.self.context.out.now).failures ≡ (heard l.fn.self.context.out.now).failures;
+      done : (files : Files) (left : ℕ) (ts : List ExpressionTree) → Holds (see l.fn.self.context.tree.now) files → Reads ts l.code l.fn.self.context.store.now.names
+          → Leads files (arguments_of (folder left) no_arguments (arguments (map (argument_at ts) l.fn.arguments))) (stand_of see heard l.fn.self.context) (arguments_of (folder left) (arguments_data l.evaluated) (arguments (map (argument_at ts) (drop l.argument-index l.arguments)))) (stand_of see heard l.self.context);
     }
 
 abbrev pub invariant-asked-loop-link : goal.invariant-asked-loop-link
@@ -90,11 +92,11 @@ invariant-asked-loop-link g l =
     let see = g.T.Tree.seen in
     let heard = g.O.Outputs.seen in
     record {
-      same : Same l.fn.self l.self;
-      tree : (see l.self.tree.now).failures ≡ (see l.fn.self.tree.now).failures;
-      out : (heard l.self.out.now).failures ≡ (heard l.fn.self.out.now).failures;
-      done : (files : Files) (left : ℕ) (ts : List ExpressionTree) → Holds (see l.fn.self.tree.now) files → Reads ts l.code l.fn.self.store.now.names
-          → Leads files (next (ruled (value_of (folder left) (tree_at ts l.fn.first))) (λ d. links_of (folder left) l.fn.line (Some d) (links (map (link_at ts) l.fn.links)))) (stand_of see heard l.fn.self) (links_of (folder left) l.line (option_map data_of l.given) (links (map (link_at ts) (drop l.link-index l.links)))) (stand_of see heard l.self);
+      same : Same l.fn.self.context l.self.context;
+      tree : (see l.self.context.tree.now).failures ≡ (see l.fn.self.context.tree.now).failures;
+      out : (heard l.self.context.out.now).failures ≡ (heard l.fn.self.context.out.now).failures;
+      done : (files : Files) (left : ℕ) (ts : List ExpressionTree) → Holds (see l.fn.self.context.tree.now) files → Reads ts l.code l.fn.self.context.store.now.names
+          → Leads files (next (ruled (value_of (folder left) (tree_at ts l.fn.first))) (λ d. links_of (folder left) l.fn.line (Some d) (links (map (link_at ts) l.fn.links)))) (stand_of see heard l.fn.self.context) (links_of (folder left) l.line (option_map data_of l.given) (links (map (link_at ts) (drop l.link-index l.links)))) (stand_of see heard l.self.context);
     }
 
 abbrev pub invariant-chain-loop-operand : goal.invariant-chain-loop-operand
@@ -102,9 +104,9 @@ invariant-chain-loop-operand g l =
     let see = g.T.Tree.seen in
     let heard = g.O.Outputs.seen in
     record {
-      same : Same l.fn.self l.self;
-      tree : (see l.self.tree.now).failures ≡ (see l.fn.self.tree.now).failures;
-      out : (heard l.self.out.now).failures ≡ (heard l.fn.self.out.now).failures;
-      done : (files : Files) (left : ℕ) (ts : List ExpressionTree) → Holds (see l.fn.self.tree.now) files → Reads ts l.code l.fn.self.store.now.names
-          → Leads files (value_of (folder left) (ChainTree (tree_at ts l.fn.first) (operands (map (operand_at ts) l.fn.others)) l.fn.line)) (stand_of see heard l.fn.self) (chain_of (folder left) l.line (data_of l.value) (operands (map (operand_at ts) (drop l.operand-index l.others)))) (stand_of see heard l.self);
+      same : Same l.fn.self.context l.self.context;
+      tree : (see l.self.context.tree.now).failures ≡ (see l.fn.self.context.tree.now).failures;
+      out : (heard l.self.context.out.now).failures ≡ (heard l.fn.self.context.out.now).failures;
+      done : (files : Files) (left : ℕ) (ts : List ExpressionTree) → Holds (see l.fn.self.context.tree.now) files → Reads ts l.code l.fn.self.context.store.now.names
+          → Leads files (value_of (folder left) (ChainTree (tree_at ts l.fn.first) (operands (map (operand_at ts) l.fn.others)) l.fn.line)) (stand_of see heard l.fn.self.context) (chain_of (folder left) l.line (data_of l.value) (operands (map (operand_at ts) (drop l.operand-index l.others)))) (stand_of see heard l.self.context);
     }

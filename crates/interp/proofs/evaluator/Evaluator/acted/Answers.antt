@@ -1,7 +1,7 @@
 use Rattle.std.proofs.Common.{ap}
 use Rattle.arguments.specs.Arguments.{arguments_data}
 use Rattle.interp.specs.Acting.{acted_by}
-use Rattle.interp.proofs.Evaluating.{given_as}
+use Rattle.expressions.proofs.Evaluating.{given_as}
 use Rattle.interp.proofs.evaluator.Evaluator.acted.Goals as goal
 
 pub returns-in-Enter-clause-gives : goal.returns-in-Enter-clause-gives

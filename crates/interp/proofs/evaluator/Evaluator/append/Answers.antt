@@ -1,9 +1,9 @@
 use Rattle.std.proofs.Common.{ap}
 use Rattle.data.specs.View.{data_of}
-use Rattle.interp.specs.Statements.{summed}
-use Rattle.interp.proofs.Assigning.{name_stays}
+use Rattle.expressions.specs.Assignments.{summed}
+use Rattle.expressions.proofs.Assigning.{name_stays}
 use Rattle.interp.proofs.Coming.{comes_given, comes_halt, comes_last, comes_stop, comes_then}
-use Rattle.interp.proofs.Evaluating.{given_as, given_then}
+use Rattle.expressions.proofs.Evaluating.{given_as, given_then}
 use Rattle.interp.proofs.evaluator.Evaluator.append.Goals as goal
 
 pub returns-in_err-variable-clause-gives : goal.returns-in_err-variable-clause-gives

@@ -1,6 +1,6 @@
 use Rattle.std.proofs.Common.{refl}
 use Rattle.interp.proofs.Coming.{comes_given, comes_halt}
-use Rattle.interp.proofs.Evaluating.{given_give, given_then}
+use Rattle.expressions.proofs.Evaluating.{given_give, given_then}
 use Rattle.interp.proofs.evaluator.Evaluator.append_value.Goals as goal
 
 pub returns-in_err-append-clause-gives : goal.returns-in_err-append-clause-gives

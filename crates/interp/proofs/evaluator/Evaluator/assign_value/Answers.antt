@@ -1,8 +1,8 @@
 use Rattle.std.proofs.Common.{ap, refl, ◌∙◌}
 use Rattle.data.specs.View.{data_of}
-use Rattle.interp.specs.Statements.{assigned}
+use Rattle.expressions.specs.Assignments.{assigned}
 use Rattle.interp.proofs.Coming.{comes_given, comes_halt, comes_stop, comes_then}
-use Rattle.interp.proofs.Evaluating.{given_as, given_give, given_then}
+use Rattle.expressions.proofs.Evaluating.{given_as, given_give, given_then}
 use Rattle.interp.proofs.Spelling.{name_kept}
 use Rattle.interp.proofs.evaluator.Evaluator.assign_value.Goals as goal
 

@@ -10,7 +10,7 @@ use Rattle.interp.specs.declared.block.Block.TheVariants.{Part}
 use Rattle.interp.specs.declared.flow.Flow.{Flow}
 use Rattle.interp.specs.declared.flow.Flow.TheVariants as flows
 use Rattle.interp.proofs.Coming.{halted_enters, halted_stops}
-use Rattle.interp.proofs.Evaluating.{given_give, leads_as, leads_end}
+use Rattle.expressions.proofs.Evaluating.{given_give, leads_as, leads_end}
 use Rattle.interp.proofs.Spelling.{part_is, reads_at}
 use Rattle.interp.proofs.Stack.{leads_under, made_as, made_on, moves_block, moves_given, moves_none, moves_then, stacked_on}
 use Rattle.interp.proofs.evaluator.Evaluator.begin_branch.Goals as goal

@@ -5,10 +5,10 @@ use Rattle.code.specs.declared.code.Code.{Code}
 use Rattle.data.specs.View.{data_of}
 use Rattle.interp.specs.Blocks.{expressions_by}
 use Rattle.interp.specs.Frames.{behind_all, round_by}
-use Rattle.interp.specs.Rounds.{rounds_in}
+use Rattle.expressions.specs.Rounds.{rounds_in}
 use Rattle.interp.specs.Statements.{rounds_of}
 use Rattle.interp.proofs.Coming.{halted_enters, halted_stops, leads_left}
-use Rattle.interp.proofs.Evaluating.{given_as, given_refuse, given_stop, given_then, leads_as, leads_next}
+use Rattle.expressions.proofs.Evaluating.{given_as, given_refuse, given_stop, given_then, leads_as, leads_next}
 use Rattle.interp.proofs.Looping.{walks, walks_not}
 use Rattle.interp.proofs.Spelling.{reads_at}
 use Rattle.interp.proofs.Stack.{leads_under, made_as, made_on, moves_given, moves_loop, moves_none, moves_then, stacked_on}

@@ -1,7 +1,7 @@
 use Rattle.std.proofs.Common.{Some, ap, sym, ◌∙◌}
 use Rattle.arguments.specs.Arguments.{arguments_data}
 use Rattle.interp.specs.Expressions.{called_by}
-use Rattle.interp.proofs.Evaluating.{given_as, given_give, given_none}
+use Rattle.expressions.proofs.Evaluating.{given_as, given_give, given_none}
 use Rattle.interp.proofs.evaluator.Evaluator.called.Goals as goal
 
 pub returns-in_err-of_object-clause-gives : goal.returns-in_err-of_object-clause-gives

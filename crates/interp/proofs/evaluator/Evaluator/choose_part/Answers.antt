@@ -2,12 +2,11 @@ use Rattle.std.proofs.Common.{◌+◌, List, drop, map, length, sym, ap, refl, �
 use Rattle.code.specs.Statements.{branch_at, statement_at}
 use Rattle.code.specs.declared.node.BranchNode.{BranchNode}
 use Rattle.grammar.specs.Tree.{Branches, branches, statements}
-use Rattle.interp.specs.Conditions.{by_choice}
+use Rattle.interp.specs.Statements.{by_choice, branches_of, do_all}
 use Rattle.interp.specs.Folders.{folder}
 use Rattle.interp.specs.Frames.{part_done}
-use Rattle.interp.specs.Statements.{branches_of, do_all}
-use Rattle.interp.specs.declared.conditions.Choice.{Choice}
-use Rattle.interp.proofs.Evaluating.{leads_as, leads_further, leads_next, leads_start}
+use Rattle.expressions.specs.declared.conditions.Choice.{Choice}
+use Rattle.expressions.proofs.Evaluating.{leads_as, leads_further, leads_next, leads_start}
 use Rattle.interp.proofs.Reading.{reads_on}
 use Rattle.interp.proofs.Spelling.{branch_next, chooses_halt, chooses_refused, drop_all, part_behind, part_there}
 use Rattle.interp.proofs.evaluator.Evaluator.choose_part.Goals as goal

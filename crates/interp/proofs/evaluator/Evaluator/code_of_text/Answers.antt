@@ -2,7 +2,7 @@ use Rattle.std.proofs.Common.{◌≡◌, Err, refl, subst}
 use Rattle.grammar.specs.Parsed.{parsed}
 use Rattle.grammar.specs.Tree.{file_of}
 use Rattle.lexer.specs.Answers.{Refuses}
-use Rattle.interp.proofs.Evaluating.{given_as, given_none}
+use Rattle.expressions.proofs.Evaluating.{given_as, given_none}
 use Rattle.interp.proofs.Opening.{given_line, source_read, source_refused}
 use Rattle.interp.proofs.evaluator.Evaluator.code_of_text.Goals as goal
 

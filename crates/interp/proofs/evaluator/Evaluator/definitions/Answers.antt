@@ -1,5 +1,5 @@
 use Rattle.std.proofs.Common.{refl}
-use Rattle.interp.proofs.Evaluating.{given_give, given_stop, given_then}
+use Rattle.expressions.proofs.Evaluating.{given_give, given_stop, given_then}
 use Rattle.interp.proofs.evaluator.Evaluator.definitions.Goals as goal
 
 pub returns-in_err-code-clause-gives : goal.returns-in_err-code-clause-gives

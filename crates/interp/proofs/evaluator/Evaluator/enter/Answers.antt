@@ -3,12 +3,12 @@ use Rattle.basics.specs.declared.faults.refusal.Refusal.TheVariants as refusals
 use Rattle.world.specs.Answering.{Refuses}
 use Rattle.world.specs.Plan.{next}
 use Rattle.interp.specs.Blocks.{file_by}
-use Rattle.interp.specs.Evaluates.{stand_of}
+use Rattle.expressions.specs.Contexts.{stand_of}
 use Rattle.interp.specs.Folders.{folder, fresh, opened}
 use Rattle.interp.specs.Frames.{Rest, End, Left, behind, behind_all}
 use Rattle.interp.specs.Statements.{do_all}
 use Rattle.interp.specs.declared.frames.Frame.TheVariants as frames
-use Rattle.interp.proofs.Evaluating.{given_as, given_stop, given_then, leads_as, leads_further, leads_next, leads_start}
+use Rattle.expressions.proofs.Evaluating.{given_as, given_stop, given_then, leads_as, leads_further, leads_next, leads_start}
 use Rattle.interp.proofs.Places.{entered_fresh, folder_is, given_refused_here, leads_fresh}
 use Rattle.interp.proofs.Stack.{behind_two, leads_under, left_here, made_now, moves_as, moves_block, moves_given, moves_none, moves_then, stacked_on, stacked_top}
 use Rattle.interp.proofs.evaluator.Evaluator.enter.Goals as goal
@@ -23,8 +23,8 @@ returns-then-left-eq0-clause-gives g c = λ files rests hold stacked.
     let f = c.in_ok-path.ensures.gives files hold in
     moves_as (ap (behind_all rests) (ap (λ n. next (fresh c.args.text.now) (entered_fresh n)) (sym c.if-left-eq0.true) ∙ folder_is c.args.left c.args.text.now))
     (moves_given c.args.stack.now.items rests c.refuse.result stacked
-    (given_then {others = entered_fresh 0} f (given_refused_here {s = stand_of g.T.Tree.seen g.O.Outputs.seen c.args.self.now} c.refuse.result f.holds
-    (subst (λ (n : ℕ). Refuses (record { file = c.args.self.now.store.now.file; line = n; refusal = refusals.Limit; detail = [] }) c.refuse.result) c.line-line.ensures c.refuse.ensures))))
+    (given_then {others = entered_fresh 0} f (given_refused_here {s = stand_of g.T.Tree.seen g.O.Outputs.seen c.args.self.now.context} c.refuse.result f.holds
+    (subst (λ (n : ℕ). Refuses (record { file = c.args.self.now.context.store.now.file; line = n; refusal = refusals.Limit; detail = [] }) c.refuse.result) c.line-line.ensures c.refuse.ensures))))
 
 pub returns-in_err-outer-clause-gives : goal.returns-in_err-outer-clause-gives
 returns-in_err-outer-clause-gives g c = λ files rests hold stacked. moves_none c.from_residual-in_err-outer.result c.args.stack.now.items (leads_start hold) c.from_residual-in_err-outer.ensures.1
@@ -44,8 +44,8 @@ returns-clause-gives g c = λ files rests hold stacked.
     let f = leads_fresh c.args.text.now more (c.in_ok-path.ensures.gives files hold) in
     let path : c.deref.result.now ≡ string_bytes c.in_ok-path.path = c.deref.ensures in
     let o = given_as (ap opened path) (c.in_ok-opened.ensures.gives files f.holds) in
-    let names = c.open.new.self.store.now.names in
-    let here = c.args.self.now.store.now in
+    let names = c.open.new.self.context.store.now.names in
+    let here = c.args.self.now.context.store.now in
     let outer : Rest = Left here.file here.folder here.line in
     let inside = stacked_on c.args.stack.now.items rests o.gives.written.names stacked in
     let a = stacked_top c.args.stack.now.items c.push.new.self.items rests (frames.Left c.in_ok-outer.outer) outer c.in_ok-push.ensures.items inside (sym (left_here c.in_ok-outer.ensures.file c.in_ok-outer.ensures.folder c.in_ok-outer.ensures.line)) in

@@ -4,7 +4,7 @@ use Rattle.world.specs.Costs.{definition_file}
 use Rattle.world.specs.Store.{changing, world_of}
 use Rattle.world.specs.World.{with_place}
 use Rattle.world.specs.declared.stop.Stop.TheVariants as stops
-use Rattle.interp.proofs.Evaluating.{given_change, given_none, given_then}
+use Rattle.expressions.proofs.Evaluating.{given_change, given_none, given_then}
 use Rattle.interp.proofs.Opening.{given_enter, given_short}
 use Rattle.interp.proofs.evaluator.Evaluator.enter_folder.Goals as goal
 

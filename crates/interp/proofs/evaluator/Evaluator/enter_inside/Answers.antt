@@ -6,7 +6,7 @@ use Rattle.interp.specs.Frames.{Refuses, behind_all}
 use Rattle.interp.specs.Inside.{ended_all}
 use Rattle.interp.specs.declared.frames.Frame.{Frame}
 use Rattle.interp.specs.declared.frames.Frame.TheVariants as frames
-use Rattle.interp.proofs.Evaluating.{leads_start}
+use Rattle.expressions.proofs.Evaluating.{leads_start}
 use Rattle.interp.proofs.Stack.{behind_ends, behind_top, moves_as, moves_none, over_ends, stacked_ends, stacked_top, under_ends}
 use Rattle.interp.proofs.evaluator.Evaluator.enter_inside.Goals as goal
 

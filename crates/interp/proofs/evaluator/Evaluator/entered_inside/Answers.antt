@@ -10,7 +10,7 @@ use Rattle.interp.specs.Folders.{folder}
 use Rattle.interp.specs.declared.acting.Way.{Way}
 use Rattle.interp.specs.declared.flow.Flow.{Flow}
 use Rattle.interp.proofs.Coming.{comes_as, comes_given, comes_last, comes_none, comes_stop, comes_then}
-use Rattle.interp.proofs.Evaluating.{given_as, given_give, given_refuse, leads_as, leads_next, leads_other}
+use Rattle.expressions.proofs.Evaluating.{given_as, given_give, given_refuse, leads_as, leads_next, leads_other}
 use Rattle.interp.proofs.evaluator.Evaluator.entered_inside.Goals as goal
 
 pub returns-in_err-of_object-clause-gives : goal.returns-in_err-of_object-clause-gives

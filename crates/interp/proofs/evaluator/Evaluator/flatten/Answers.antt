@@ -1,6 +1,6 @@
 use Rattle.std.proofs.Common.{ap, refl}
 use Rattle.grammar.specs.Tree.{file_of, statements}
-use Rattle.interp.proofs.Assigning.{given_none_grown}
+use Rattle.expressions.proofs.Assigning.{given_none_grown}
 use Rattle.interp.proofs.Opening.{given_made}
 use Rattle.interp.proofs.evaluator.Evaluator.flatten.Goals as goal
 

@@ -1,15 +1,14 @@
 use Rattle.std.proofs.Common.{◌≤◌, suc, max, List, length, map, Some, sym, ap, subst, refl, arith}
-use Rattle.code.specs.Nodes.{link_at, link_within}
+use Rattle.code.specs.Nodes.{link_at, link_within, tree_at}
 use Rattle.code.specs.declared.node.LinkNode.{LinkNode}
 use Rattle.code.specs.declared.node.Node.TheVariants as nodes
 use Rattle.grammar.specs.ExpressionTree.{links}
 use Rattle.interp.specs.Expressions.{given_by, links_of, value_of}
 use Rattle.world.specs.Plan.{next, ruled}
-use Rattle.code.specs.Nodes.{tree_at}
 use Rattle.interp.specs.Parts.{above, above_link}
 use Rattle.interp.specs.Folders.{folder}
 use Rattle.interp.proofs.Coming.{comes_as, comes_given, comes_halt}
-use Rattle.interp.proofs.Evaluating.{given_as, given_give, given_then}
+use Rattle.expressions.proofs.Evaluating.{given_as, given_give, given_then}
 use Rattle.interp.proofs.Reading.{first_reach, links_reach, opened, parts_at}
 use Rattle.interp.proofs.Spelling.{given_at}
 use Rattle.interp.proofs.evaluator.Evaluator.given.Goals as goal

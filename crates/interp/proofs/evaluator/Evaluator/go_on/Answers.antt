@@ -4,7 +4,7 @@ use Rattle.interp.specs.Frames.{behind_all, others_by}
 use Rattle.interp.specs.Statements.{do_all, on_next}
 use Rattle.interp.specs.declared.flow.Flow.{Flow}
 use Rattle.interp.specs.declared.flow.Flow.TheVariants as flows
-use Rattle.interp.proofs.Evaluating.{given_give}
+use Rattle.expressions.proofs.Evaluating.{given_give}
 use Rattle.interp.proofs.Stack.{moves_as, moves_given}
 use Rattle.interp.proofs.evaluator.Evaluator.go_on.Goals as goal
 

@@ -3,7 +3,7 @@ use Rattle.interp.specs.Frames.{behind_all, round_by, rounds_left}
 use Rattle.interp.specs.Statements.{after_round, rounds_of}
 use Rattle.interp.specs.declared.flow.Flow.{Flow}
 use Rattle.interp.specs.declared.flow.Flow.TheVariants as flows
-use Rattle.interp.proofs.Evaluating.{given_give}
+use Rattle.expressions.proofs.Evaluating.{given_give}
 use Rattle.interp.proofs.Stack.{moves_as, moves_given}
 use Rattle.interp.proofs.evaluator.Evaluator.go_round.Goals as goal
 

@@ -3,7 +3,7 @@ use Rattle.data.specs.Data.{object_in}
 use Rattle.data.specs.View.{data_of}
 use Rattle.data.specs.declared.object.Object.{Object}
 use Rattle.interp.specs.Expressions.{method_at_by}
-use Rattle.interp.proofs.Evaluating.{given_as, given_give}
+use Rattle.expressions.proofs.Evaluating.{given_as, given_give}
 use Rattle.interp.proofs.evaluator.Evaluator.method_at.Goals as goal
 
 pub returns-then-is_disabler-clause-gives : goal.returns-then-is_disabler-clause-gives

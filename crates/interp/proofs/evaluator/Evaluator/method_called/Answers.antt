@@ -3,7 +3,7 @@ use Rattle.arguments.specs.Arguments.{arguments_data}
 use Rattle.data.specs.Data.{object_in}
 use Rattle.data.specs.View.{data_of}
 use Rattle.interp.specs.Expressions.{method_by, method_called_by}
-use Rattle.interp.proofs.Evaluating.{given_as, given_give, given_none}
+use Rattle.expressions.proofs.Evaluating.{given_as, given_give, given_none}
 use Rattle.interp.proofs.evaluator.Evaluator.method_called.Goals as goal
 
 pub returns-in_err-disabler_method-clause-gives : goal.returns-in_err-disabler_method-clause-gives

@@ -3,7 +3,7 @@ use Rattle.arguments.specs.Arguments.{arguments_data}
 use Rattle.data.specs.View.{data_of}
 use Rattle.data.specs.declared.object.Object.{Object}
 use Rattle.interp.specs.Expressions.{method_by}
-use Rattle.interp.proofs.Evaluating.{given_as}
+use Rattle.expressions.proofs.Evaluating.{given_as}
 use Rattle.interp.proofs.evaluator.Evaluator.method_given.Goals as goal
 
 pub returns-in-Some-clause-gives : goal.returns-in-Some-clause-gives

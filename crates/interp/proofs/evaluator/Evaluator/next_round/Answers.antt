@@ -1,10 +1,10 @@
 use Rattle.std.proofs.Common.{◌+◌, List, drop, Ok, sym, ap, refl, arith}
 use Rattle.data.specs.View.{data_of}
 use Rattle.interp.specs.Frames.{behind_all, round_by}
-use Rattle.interp.specs.Rounds.{round_data, rounds_in}
-use Rattle.interp.specs.Statements.{Round, rounds_of}
+use Rattle.expressions.specs.Rounds.{round_data, rounds_in, Round}
+use Rattle.interp.specs.Statements.{rounds_of}
 use Rattle.interp.specs.declared.flow.Flow.TheVariants as flows
-use Rattle.interp.proofs.Evaluating.{given_as, given_give, given_stop, leads_next, leads_start}
+use Rattle.expressions.proofs.Evaluating.{given_as, given_give, given_stop, leads_next, leads_start}
 use Rattle.interp.proofs.Spelling.{bound_as, named, place_there, second_named, round_is, round_none}
 use Rattle.interp.proofs.Stack.{leads_under, made_on, moves_as, moves_block, moves_given, moves_none, moves_round, stacked_on}
 use Rattle.interp.proofs.evaluator.Evaluator.next_round.Goals as goal
@@ -39,7 +39,7 @@ returns-in_err-bind-clause-gives g c = λ files rests table hold stacked made.
     let l = c.args.rest in
     let xs = rounds_in (data_of l.whole) in
     let here = round_is xs l.at c.in_ok-round.field-0 c.in-Some.round c.in-Some.is c.in_ok-round.ensures in
-    let names = c.args.self.now.store.now.names in
+    let names = c.args.self.now.context.store.now.names in
     let bind = given_as (bound_as made l.head.line l.head.first l.head.second (round_data c.in-Some.round) l.first l.second)
     (c.in_err-bind.ensures.gives (named made l.head.first l.first).0 (second_named made l.head.second l.second).0 files hold) in
     moves_round c.args.stack.now.items c.push.new.self.items c.push-2.new.self.items rests _ table here c.in_ok-clone.ensures.cases c.in_ok-push.ensures.items c.in_ok-push-2.ensures.items stacked made
@@ -50,7 +50,7 @@ returns-in_err-push-3-clause-gives g c = λ files rests table hold stacked made.
     let l = c.args.rest in
     let xs = rounds_in (data_of l.whole) in
     let here = round_is xs l.at c.in_ok-round.field-0 c.in-Some.round c.in-Some.is c.in_ok-round.ensures in
-    let names = c.args.self.now.store.now.names in
+    let names = c.args.self.now.context.store.now.names in
     let bind = given_as (bound_as made l.head.line l.head.first l.head.second (round_data c.in-Some.round) l.first l.second)
     (c.in_ok-bind.ensures.gives (named made l.head.first l.first).0 (second_named made l.head.second l.second).0 files hold) in
     moves_round c.args.stack.now.items c.push.new.self.items c.push-2.new.self.items rests _ table here c.in_ok-clone.ensures.cases c.in_ok-push.ensures.items c.in_ok-push-2.ensures.items stacked made
@@ -61,7 +61,7 @@ returns-clause-gives g c = λ files rests table hold stacked made.
     let l = c.args.rest in
     let xs = rounds_in (data_of l.whole) in
     let here = round_is xs l.at c.in_ok-round.field-0 c.in-Some.round c.in-Some.is c.in_ok-round.ensures in
-    let names = c.args.self.now.store.now.names in
+    let names = c.args.self.now.context.store.now.names in
     let bind = given_as (bound_as made l.head.line l.head.first l.head.second (round_data c.in-Some.round) l.first l.second)
     (c.in_ok-bind.ensures.gives (named made l.head.first l.first).0 (second_named made l.head.second l.second).0 files hold) in
     moves_round c.args.stack.now.items c.push.new.self.items c.push-2.new.self.items rests _ table here c.in_ok-clone.ensures.cases c.in_ok-push.ensures.items c.in_ok-push-2.ensures.items stacked made

@@ -5,7 +5,7 @@ use Rattle.interp.specs.Folders.{folder}
 use Rattle.interp.specs.Frames.{behind_all}
 use Rattle.interp.specs.Statements.{do_all}
 use Rattle.interp.specs.declared.flow.Flow.TheVariants as flows
-use Rattle.interp.proofs.Evaluating.{given_give, leads_start}
+use Rattle.expressions.proofs.Evaluating.{given_give, leads_start}
 use Rattle.interp.proofs.Stack.{moves_as, moves_given, moves_none, moves_statement}
 use Rattle.interp.proofs.evaluator.Evaluator.next_statement.Goals as goal
 

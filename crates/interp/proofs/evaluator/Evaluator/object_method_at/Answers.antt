@@ -1,6 +1,7 @@
 use Rattle.std.proofs.Common.{ap, sym, ◌∙◌}
-use Rattle.interp.specs.Expressions.{known_object_method, refused_name}
-use Rattle.interp.proofs.Evaluating.{given_as, given_refuse}
+use Rattle.interp.specs.Expressions.{known_object_method}
+use Rattle.expressions.specs.Forms.{refused_name}
+use Rattle.expressions.proofs.Evaluating.{given_as, given_refuse}
 use Rattle.interp.proofs.evaluator.Evaluator.object_method_at.Goals as goal
 
 pub returns-then-has_object_method-clause-gives : goal.returns-then-has_object_method-clause-gives

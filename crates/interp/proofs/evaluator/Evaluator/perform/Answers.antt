@@ -1,5 +1,5 @@
 use Rattle.interp.proofs.Coming.{comes_given, comes_halt, comes_last, comes_stop, comes_then}
-use Rattle.interp.proofs.Evaluating.{given_then}
+use Rattle.expressions.proofs.Evaluating.{given_then}
 use Rattle.interp.proofs.evaluator.Evaluator.perform.Goals as goal
 
 pub returns-in_err-function-clause-gives : goal.returns-in_err-function-clause-gives

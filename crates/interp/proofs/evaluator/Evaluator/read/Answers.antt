@@ -4,7 +4,7 @@ use Rattle.ports.specs.Tree.{bytes_at, file_at}
 use Rattle.world.specs.Plan.{deed}
 use Rattle.world.proofs.Holding.{holds_later}
 use Rattle.definition_files.specs.Files.{most_bytes, spelled_by}
-use Rattle.interp.proofs.Evaluating.{given_as}
+use Rattle.expressions.proofs.Evaluating.{given_as}
 use Rattle.interp.proofs.Opening.{given_over, given_short, given_within}
 use Rattle.interp.proofs.evaluator.Evaluator.read.Goals as goal
 

@@ -1,4 +1,4 @@
-use Rattle.interp.proofs.Evaluating.{given_rule}
+use Rattle.expressions.proofs.Evaluating.{given_rule}
 use Rattle.interp.proofs.evaluator.Evaluator.root.Goals as goal
 
 pub returns-clause-gives : goal.returns-clause-gives

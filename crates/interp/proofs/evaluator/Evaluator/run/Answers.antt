@@ -4,7 +4,7 @@ use Rattle.interp.specs.Blocks.{file_by}
 use Rattle.interp.specs.Folders.{folder}
 use Rattle.interp.specs.Statements.{do_all}
 use Rattle.interp.proofs.Ending.{moved_as, run_begun}
-use Rattle.interp.proofs.Evaluating.{given_none}
+use Rattle.expressions.proofs.Evaluating.{given_none}
 use Rattle.interp.proofs.Stack.{made_now, run_ended, run_none, run_stopped, step_then}
 use Rattle.interp.proofs.evaluator.Evaluator.run.Goals as goal
 
@@ -20,8 +20,8 @@ loop-step-init g c = record {
   tree = refl;
   out = refl;
   done = λ files hold.
-      moved_as (ap (λ (d : Code). do_all (folder 63) (file_by c.args.self.now.store.now.names d)) c.in_ok-shared.ensures.ok)
-      (run_begun c.new-stack.result.items c.push.new.self.items _ c.args.self.now.store.now.names c.new-stack.ensures.items c.in_ok-push.ensures.items (made_now c.in_ok-shared.ensures.ok c.requires.known) hold);
+      moved_as (ap (λ (d : Code). do_all (folder 63) (file_by c.args.self.now.context.store.now.names d)) c.in_ok-shared.ensures.ok)
+      (run_begun c.new-stack.result.items c.push.new.self.items _ c.args.self.now.context.store.now.names c.new-stack.ensures.items c.in_ok-push.ensures.items (made_now c.in_ok-shared.ensures.ok c.requires.known) hold);
 }
 
 pub loop-step-preserved : goal.loop-step-preserved

@@ -1,8 +1,9 @@
 use Rattle.std.proofs.Common.{ap, refl, sym, ◌∙◌}
 use Rattle.arguments.specs.Arguments.{arguments_data}
 use Rattle.arguments.specs.Misfits.{checked}
-use Rattle.interp.specs.Entering.{fitted, subdir_by}
-use Rattle.interp.proofs.Evaluating.{given_as, given_give, given_none, given_stop}
+use Rattle.expressions.specs.Forms.{fitted}
+use Rattle.interp.specs.Entering.{subdir_by}
+use Rattle.expressions.proofs.Evaluating.{given_as, given_give, given_none, given_stop}
 use Rattle.interp.proofs.evaluator.Evaluator.subdir.Goals as goal
 
 pub returns-then-gives_disabler-clause-gives : goal.returns-then-gives_disabler-clause-gives

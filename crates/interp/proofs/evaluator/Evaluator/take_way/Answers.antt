@@ -4,7 +4,7 @@ use Rattle.interp.specs.Entering.{by_way}
 use Rattle.interp.specs.Folders.{folder}
 use Rattle.interp.specs.Frames.{behind_all}
 use Rattle.interp.specs.declared.acting.Way.{Way}
-use Rattle.interp.proofs.Evaluating.{given_give}
+use Rattle.expressions.proofs.Evaluating.{given_give}
 use Rattle.interp.proofs.Stack.{moves_as, moves_given}
 use Rattle.interp.proofs.evaluator.Evaluator.take_way.Goals as goal
 

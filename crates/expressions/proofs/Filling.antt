@@ -1,0 +1,15 @@
+-- f-strings, part by part.
+use Rattle.std.proofs.Common.{◌≡◌, ℕ, List, [], Result}
+use Rattle.data.specs.Limits.{within_bytes}
+use Rattle.data.specs.declared.refusal.Refusal.{Refusal}
+use Rattle.texts.specs.Segments.{Segment}
+use Rattle.world.specs.Deed.{Files}
+use Rattle.world.specs.Gives.{Holds}
+use Rattle.expressions.specs.Contexts.{Leads, Stand}
+use Rattle.expressions.specs.Forms.{filled}
+
+-- of an f-string some parts are filled, by a text that may be too long already, and others are left
+pub record Filled (line : ℕ) (all left : List Segment) (made : Result (List ℕ) Refusal) (stand : Stand) : Type 0 where
+  pub text : List ℕ
+  pub short : made ≡ within_bytes text
+  pub led : (files : Files) → Holds stand.tree files → Leads files (filled line [] all) stand (filled line text left) stand

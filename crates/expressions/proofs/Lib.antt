@@ -1,0 +1,5 @@
+pub mod Assigning
+pub mod Evaluating
+pub mod Filling
+mod Meanings
+pub mod Walking

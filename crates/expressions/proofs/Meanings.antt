@@ -1,0 +1,79 @@
+-- The value of a literal, by what it means.
+use Rattle.std.proofs.Common.{◌≡◌, ℕ, Bool, true, false, List, refl, ap, ◌∙◌}
+use Rattle.std.specs.Prelude.{IsTrue, ◌&&◌, ◌==◌, bytes_eq}
+use Rattle.std.proofs.lemmas.Bool.Decides.{Decides-eqb}
+use Rattle.std.proofs.lemmas.Slice.Eq.{bytes_eq-Decides}
+use Rattle.grammar.specs.declared.tree.Literal.{Literal}
+use Rattle.grammar.specs.declared.tree.Literal.TheVariants as literals
+use Rattle.lexer.specs.Numerals.{magnitude}
+use Rattle.lexer.specs.Texts.{text_of}
+use Rattle.code.specs.Literals.{is_boolean, is_format, is_number, is_plain, kind_of}
+use Rattle.code.proofs.Trees.{both_true}
+use Rattle.data.specs.Data.{boolean, text}
+use Rattle.data.specs.Limits.{within}
+use Rattle.world.specs.Plan.{answered, give}
+use Rattle.expressions.specs.Forms.{format_string, literal_value, number}
+
+module _ (line : ℕ) (s : List ℕ) where
+  pub of_boolean : (l : Literal) (b : Bool) → IsTrue (is_boolean b l) → give (boolean b) ≡ literal_value line l s
+  of_boolean literals.True true h = refl
+  of_boolean literals.True false h = absurd cc
+  of_boolean literals.False true h = absurd cc
+  of_boolean literals.False false h = refl
+  of_boolean literals.Number true h = absurd cc
+  of_boolean literals.Number false h = absurd cc
+  of_boolean literals.String true h = absurd cc
+  of_boolean literals.String false h = absurd cc
+  of_boolean literals.RawString true h = absurd cc
+  of_boolean literals.RawString false h = absurd cc
+  of_boolean literals.FormatString true h = absurd cc
+  of_boolean literals.FormatString false h = absurd cc
+  of_boolean literals.RawFormatString true h = absurd cc
+  of_boolean literals.RawFormatString false h = absurd cc
+
+  of_number : (l : Literal) → IsTrue (is_number l) → answered line (number (magnitude s)) ≡ literal_value line l s
+  of_number literals.True h = absurd cc
+  of_number literals.False h = absurd cc
+  of_number literals.Number h = refl
+  of_number literals.String h = absurd cc
+  of_number literals.RawString h = absurd cc
+  of_number literals.FormatString h = absurd cc
+  of_number literals.RawFormatString h = absurd cc
+
+  pub of_integer : (l : Literal) (n : ℕ) → IsTrue (is_number l && (n == magnitude s)) → answered line (number n) ≡ literal_value line l s
+  of_integer l n h =
+      let p = both_true (is_number l) (n == magnitude s) h in
+      ap (λ m. answered line (number m)) ((Decides-eqb n (magnitude s)).0 p.1) ∙ of_number l p.0
+
+  of_plain : (l : Literal) → IsTrue (is_plain l) → answered line (within (text (text_of (kind_of l) s))) ≡ literal_value line l s
+  of_plain literals.True h = absurd cc
+  of_plain literals.False h = absurd cc
+  of_plain literals.Number h = absurd cc
+  of_plain literals.String h = refl
+  of_plain literals.RawString h = refl
+  of_plain literals.FormatString h = absurd cc
+  of_plain literals.RawFormatString h = absurd cc
+
+  pub of_text : (l : Literal) (t : List ℕ) → IsTrue (is_plain l && bytes_eq t (text_of (kind_of l) s))
+      → answered line (within (text t)) ≡ literal_value line l s
+  of_text l t h =
+      let p = both_true (is_plain l) (bytes_eq t (text_of (kind_of l) s)) h in
+      ap (λ u. answered line (within (text u))) ((bytes_eq-Decides t (text_of (kind_of l) s)).0 p.1) ∙ of_plain l p.0
+
+  of_places : (l : Literal) → IsTrue (is_format l) → format_string line (text_of (kind_of l) s) ≡ literal_value line l s
+  of_places literals.True h = absurd cc
+  of_places literals.False h = absurd cc
+  of_places literals.Number h = absurd cc
+  of_places literals.String h = absurd cc
+  of_places literals.RawString h = absurd cc
+  of_places literals.FormatString h = refl
+  of_places literals.RawFormatString h = refl
+
+  pub of_format : (l : Literal) (t : List ℕ) → IsTrue (is_format l && bytes_eq t (text_of (kind_of l) s))
+      → format_string line t ≡ literal_value line l s
+  of_format l t h =
+      let p = both_true (is_format l) (bytes_eq t (text_of (kind_of l) s)) h in
+      ap (format_string line) ((bytes_eq-Decides t (text_of (kind_of l) s)).0 p.1) ∙ of_places l p.0
+
+  pub of_source : (l : Literal) (t : List ℕ) → IsTrue (bytes_eq t s) → literal_value line l t ≡ literal_value line l s
+  of_source l t h = ap (literal_value line l) ((bytes_eq-Decides t s).0 h)

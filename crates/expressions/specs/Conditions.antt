@@ -1,0 +1,17 @@
+-- What conditions choose.
+use Rattle.std.specs.Prelude.{ℕ, Bool, true, false, [], Option, Some, None}
+use Rattle.basics.specs.declared.faults.refusal.Refusal.TheVariants as refusals
+use Rattle.world.specs.Plan.{Plan, give, refuse}
+use Rattle.expressions.specs.declared.conditions.Choice.{Choice}
+use Rattle.expressions.specs.declared.conditions.Choice.TheVariants.{Body, Others, Skip}
+
+-- a condition that is no boolean, by whether it is a disabler
+abbrev pub choice_without : ℕ → Bool → Plan Choice
+choice_without line true = give Skip
+choice_without line false = refuse line refusals.Type []
+
+-- by the boolean that a condition is, and whether it is a disabler
+abbrev pub choice_of : ℕ → Option Bool → Bool → Plan Choice
+choice_of line (Some true) disabled = give Body
+choice_of line (Some false) disabled = give Others
+choice_of line None disabled = choice_without line disabled

@@ -1,0 +1,264 @@
+-- What forms of expressions give for the values of their parts, and names.
+use Rattle.std.specs.Prelude.{ℕ, pos, ◌^◌, nat_lt, Bool, true, false, ◌||◌, ◌&&◌, List, [], ◌∷◌, ◌++◌, Option, Some, None, Result, Ok, Err, bytes_eq, codes, if◌then◌else◌}
+use Rattle.lexer.specs.Texts.{text_of}
+use Rattle.lexer.specs.Numerals.{magnitude}
+use Rattle.lexer.specs.declared.token.Kind.TheVariants as kinds
+use Rattle.grammar.specs.declared.tree.Literal.{Literal}
+use Rattle.grammar.specs.declared.tree.Literal.TheVariants as literals
+use Rattle.grammar.specs.declared.tree.Operator.{Operator}
+use Rattle.grammar.specs.declared.tree.Operator.TheVariants as operators
+use Rattle.grammar.specs.declared.tree.Prefix.{Prefix}
+use Rattle.grammar.specs.declared.tree.Prefix.TheVariants as prefixes
+use Rattle.data.specs.declared.object.Object.{Object}
+use Rattle.data.specs.declared.object.Object.TheVariants as objects
+use Rattle.data.specs.declared.refusal.Refusal.{Refusal as OperationRefusal}
+use Rattle.data.specs.declared.refusal.Refusal.TheVariants as operation
+use Rattle.data.specs.Data.{Data, boolean, integer, text, list, object, Items}
+use Rattle.data.specs.Limits.{within}
+use Rattle.basics.specs.declared.faults.refusal.Refusal.TheVariants as refusals
+use Rattle.printing.specs.Printed.{printed}
+use Rattle.texts.specs.declared.placed.Places.TheVariants as places
+use Rattle.texts.specs.Segments.{Segment, text as between, place, segments}
+use Rattle.operators.specs.declared.operator.Unary.{Unary}
+use Rattle.operators.specs.declared.operator.Unary.TheVariants.{Not, Negate}
+use Rattle.operators.specs.declared.operator.Binary.TheVariants as binaries
+use Rattle.operators.specs.declared.operator.Connective.TheVariants.{And, Or}
+use Rattle.operators.specs.Operations.{unary_answer, binary_answer, disabler}
+use Rattle.operators.specs.Logic.{left_answer, right_answer}
+use Rattle.operators.specs.Index.{index_answer}
+use Rattle.operators.specs.Literal.{literal_answer}
+use Rattle.methods.specs.Methods.{answer as method_answer}
+use Rattle.arguments.specs.Arguments.{ArgumentsData}
+use Rattle.arguments.specs.Misfits.{checked}
+use Rattle.language_calls.specs.Names.{function_named, is_left_out, is_predefined, predefined}
+use Rattle.language_calls.specs.Rows.{any_values}
+use Rattle.language_calls.specs.declared.function.Function.{Function}
+use Rattle.language_calls.specs.declared.function.Function.TheVariants as functions
+use Rattle.world.specs.Deed.{read}
+use Rattle.world.specs.Plan.{Plan, deed, ◌>>=◌, give, refuse, answered}
+use Rattle.arguments.specs.Refused.{RefusedData}
+use Rattle.expressions.specs.declared.meaning.Meaning.{Meaning}
+use Rattle.expressions.specs.declared.meaning.Meaning.TheVariants.{Combines, Connects}
+
+-- ---- names
+
+-- what is left out by this name
+abbrev pub left_out : {A : Type 0} → ℕ → List ℕ → Plan A
+left_out line name = refuse line refusals.LeftOut name
+
+abbrev pub known : ℕ → List ℕ → Option Data → Plan Data
+known line name (Some d) = give d
+known line name None = refuse line refusals.UndefinedName name
+
+-- the value of a variable that definition files set
+abbrev pub set_variable : ℕ → List ℕ → Plan Data
+set_variable line name = do
+  facts ← deed read
+  known line name (facts.variables name)
+
+-- the thing of the run that a name stands for
+abbrev pub thing : List ℕ → Plan Data
+thing name = give (predefined name)
+
+abbrev pub variable_by : Bool → ℕ → List ℕ → Plan Data
+variable_by true line name = thing name
+variable_by false line name = set_variable line name
+
+-- A name: the value of the variable, or the thing of the run that it stands for.
+abbrev pub variable : ℕ → List ℕ → Plan Data
+variable line name = variable_by (is_predefined name) line name
+
+-- ---- f-strings
+
+-- what may stand in an f-string: a boolean, an integer or a text
+abbrev pub is_plain : Data → Bool
+is_plain (boolean b) = true
+is_plain (integer z) = true
+is_plain (text t) = true
+is_plain _ = false
+
+abbrev pub printed_plain : ℕ → Bool → Data → Plan (List ℕ)
+printed_plain line true d = answered line (printed d)
+printed_plain line false d = refuse line refusals.Type []
+
+-- a place of an f-string: what the variable is printed as
+abbrev pub at_place : ℕ → List ℕ → Plan (List ℕ)
+at_place line name = do
+  d ← variable line name
+  printed_plain line (is_plain d) d
+
+-- a part of an f-string: what stands between places is as it is
+abbrev pub part_text : ℕ → Segment → Plan (List ℕ)
+part_text line (between t) = give t
+part_text line (place name) = at_place line name
+
+-- the text so far, and behind it what the parts give that are left
+abbrev pub filled : ℕ → List ℕ → List Segment → Plan Data
+filled line made [] = answered line (within (text made))
+filled line made (s ∷ ss) = do
+  t ← part_text line s
+  filled line (made ++ t) ss
+
+-- An f-string after its escapes: its places `@name@` are filled from the left, and what fills them is not looked at again.
+abbrev pub format_string : ℕ → List ℕ → Plan Data
+format_string line t = filled line [] (segments places.Names t)
+
+-- ---- literals
+
+-- a number, where it is in the range of integers
+abbrev pub number : ℕ → Result Data OperationRefusal
+number n = if nat_lt n (2 ^ 127) then Ok (integer (pos n)) else Err operation.Range
+
+-- A literal: `true`, a number, or a string with or without escapes, which may be an f-string.
+abbrev pub literal_value : ℕ → Literal → List ℕ → Plan Data
+literal_value line literals.True t = give (boolean true)
+literal_value line literals.False t = give (boolean false)
+literal_value line literals.Number t = answered line (number (magnitude t))
+literal_value line literals.String t = answered line (within (text (text_of kinds.String t)))
+literal_value line literals.RawString t = answered line (within (text (text_of kinds.RawString t)))
+literal_value line literals.FormatString t = format_string line (text_of kinds.FormatString t)
+literal_value line literals.RawFormatString t = format_string line (text_of kinds.RawFormatString t)
+
+-- ---- operators
+
+-- what an operator of a chain does
+abbrev pub meaning_of : Operator → Meaning
+meaning_of operators.Or = Connects Or
+meaning_of operators.And = Connects And
+meaning_of operators.Equal = Combines binaries.Equal
+meaning_of operators.NotEqual = Combines binaries.NotEqual
+meaning_of operators.Less = Combines binaries.Less
+meaning_of operators.LessOrEqual = Combines binaries.LessOrEqual
+meaning_of operators.Greater = Combines binaries.Greater
+meaning_of operators.GreaterOrEqual = Combines binaries.GreaterOrEqual
+meaning_of operators.In = Combines binaries.In
+meaning_of operators.NotIn = Combines binaries.NotIn
+meaning_of operators.Add = Combines binaries.Add
+meaning_of operators.Subtract = Combines binaries.Subtract
+meaning_of operators.Multiply = Combines binaries.Multiply
+meaning_of operators.Divide = Combines binaries.Divide
+meaning_of operators.Remainder = Combines binaries.Remainder
+
+-- the left side is the whole, or else the right side decides
+abbrev pub unless_decided : ℕ → Option Data → Plan Data → Plan Data
+unless_decided line (Some d) right = give d
+unless_decided line None right = do
+  e ← right
+  answered line (right_answer e)
+
+-- an operator between a value and what is still to be evaluated
+abbrev pub combined : ℕ → Meaning → Data → Plan Data → Plan Data
+combined line (Combines operator) d right = do
+  e ← right
+  answered line (binary_answer operator d e)
+combined line (Connects connective) d right = do
+  whole ← answered line (left_answer connective d)
+  unless_decided line whole right
+
+abbrev pub unary_of : Prefix → Unary
+unary_of prefixes.Not = Not
+unary_of prefixes.Negative = Negate
+
+-- a condition that is no boolean, by whether it is a disabler
+abbrev pub unchosen : ℕ → Bool → Plan Data
+unchosen line true = give disabler
+unchosen line false = refuse line refusals.Type []
+
+-- A ternary, by the boolean that its condition is and whether that is a disabler.
+abbrev pub chosen : ℕ → Option Bool → Bool → Plan Data → Plan Data → Plan Data
+chosen line (Some true) disabled one other = one
+chosen line (Some false) disabled one other = other
+chosen line None disabled one other = unchosen line disabled
+
+-- ---- forms, by the values of their parts
+
+abbrev pub listed : ℕ → Items → Plan Data
+listed line ds = answered line (within (list ds))
+
+abbrev pub paired : ℕ → List (Data × Data) → Plan Data
+paired line ps = answered line (literal_answer ps)
+
+abbrev pub prefixed : ℕ → Prefix → Data → Plan Data
+prefixed line prefix d = answered line (unary_answer (unary_of prefix) d)
+
+-- the part of a value at a place or key
+abbrev pub part_at : ℕ → Data → Data → Plan (Option Data)
+part_at line d i = do
+  part ← answered line (index_answer d i)
+  give (Some part)
+
+-- ---- calls
+
+-- a call that gives nothing is no expression
+abbrev pub needed : ℕ → Option Data → Plan Data
+needed line (Some d) = give d
+needed line None = refuse line refusals.Type []
+
+abbrev pub refused_name : {A : Type 0} → ℕ → List ℕ → Bool → Plan A
+refused_name line name true = left_out line name
+refused_name line name false = refuse line refusals.UnknownFunction name
+
+abbrev pub known_function : ℕ → List ℕ → Option Function → Plan Function
+known_function line name (Some f) = give f
+known_function line name None = refused_name line name (is_left_out name)
+
+-- the function of a name
+abbrev pub function_at : ℕ → List ℕ → Plan Function
+function_at line name = known_function line name (function_named name)
+
+-- before `project` was called, that is in its own arguments, only these are
+abbrev pub may_come_first : Function → Bool
+may_come_first functions.Disabler = true
+may_come_first functions.SubdirDone = true
+may_come_first f = false
+
+abbrev pub allowed : ℕ → Bool → Plan (Unit {0})
+allowed line true = give tt
+allowed line false = refuse line refusals.ProjectCall []
+
+-- the function of a call that is a part of an expression
+abbrev pub function_inside : ℕ → List ℕ → Plan Function
+function_inside line name = do
+  f ← function_at line name
+  facts ← deed read
+  _ ← allowed line (facts.is_begun || may_come_first f)
+  give f
+
+-- what a test of arguments answers, or its refusal at a line, with what that is about
+abbrev pub fitted : ℕ → Result (Unit {0}) RefusedData → Plan (Unit {0})
+fitted line (Ok u) = give tt
+fitted line (Err refused) = refuse line refused.refusal refused.detail
+
+-- ---- methods
+
+abbrev pub are_none : List Data → List (List ℕ × Data) → Bool
+are_none [] [] = true
+are_none _ _ = false
+
+abbrev pub is_empty : ArgumentsData → Bool
+is_empty a = are_none a.positional a.named
+
+-- a method of a disabler: `found()` is false, and anything else is a disabler
+abbrev pub disabler_method : List ℕ → ArgumentsData → Data
+disabler_method name a = if bytes_eq name (codes "found") && is_empty a then boolean false else disabler
+
+abbrev pub known_method : Bool → ℕ → List ℕ → Plan (Unit {0})
+known_method true line name = give tt
+known_method false line name = refuse line refusals.UnknownFunction name
+
+-- before `project` was called, that is in its own arguments, `meson` is asked nothing
+abbrev pub may_be_asked_first : Object → Bool
+may_be_asked_first objects.Meson = false
+may_be_asked_first o = true
+
+abbrev pub asked_of : ℕ → Object → Plan (Unit {0})
+asked_of line o = do
+  facts ← deed read
+  allowed line (facts.is_begun || may_be_asked_first o)
+
+-- a method of a value that is no object
+abbrev pub value_method : ℕ → Data → List ℕ → ArgumentsData → Plan (Option Data)
+value_method line d name a = do
+  _ ← fitted line (checked any_values a)
+  e ← answered line (method_answer d name a.positional)
+  give (Some e)

@@ -1,0 +1,55 @@
+-- The rounds of a loop.
+use Rattle.std.specs.Prelude.{◌≡◌, ◌≢◌, ℕ, ◌+◌, List, [], ◌∷◌, drop, Option, Some, None, Result, Ok, Err, option_map, is_some, Bool, length, nat_le, if◌then◌else◌}
+use Rattle.data.specs.Data.{Data, boolean, integer, text, list, dictionary, object, Items, no_items, item, Entries, no_entries, entry}
+use Rattle.data.specs.View.{data_of}
+use Rattle.basics.specs.declared.faults.refusal.Refusal.{Refusal}
+use Rattle.basics.specs.declared.faults.refusal.Refusal.TheVariants as refusals
+use Rattle.expressions.specs.declared.loops.Round.{Round as Declared}
+
+-- the values of a round's variables: of the first, and of the second where there is one
+abbrev pub Round : Type 0
+Round = Data × Option Data
+
+abbrev pub item_rounds : Items → List Round
+item_rounds no_items = []
+item_rounds (item d ds) = (d, None) ∷ item_rounds ds
+
+abbrev pub entry_rounds : Entries → List Round
+entry_rounds no_entries = []
+entry_rounds (entry key d es) = (text key, Some d) ∷ entry_rounds es
+
+-- No list or dictionary has more than 65,536 items, so this never refuses.
+abbrev pub limited : List Round → Result (List Round) Refusal
+limited rounds = if nat_le (length rounds) 65536 then Ok rounds else Err refusals.Limit
+
+-- one name walks a list, two a dictionary in order of insertion
+abbrev pub looped : Option (List ℕ) → Data → Result (List Round) Refusal
+looped None (list ds) = limited (item_rounds ds)
+looped (Some second) (dictionary es) = limited (entry_rounds es)
+looped second d = Err refusals.Type
+
+abbrev pub round_data : Declared → Round
+round_data r = (data_of r.first, option_map data_of r.second)
+
+-- all rounds over a value
+abbrev pub rounds_in : Data → List Round
+rounds_in (list ds) = item_rounds ds
+rounds_in (dictionary es) = entry_rounds es
+rounds_in (boolean b) = []
+rounds_in (integer z) = []
+rounds_in (text t) = []
+rounds_in (object o) = []
+
+-- the round at a place, and those behind it
+abbrev pub RoundAt : List Round → ℕ → Option Declared → Type 0
+RoundAt rounds at None = drop at rounds ≡ []
+RoundAt rounds at (Some r) = drop at rounds ≡ round_data r ∷ drop (at + 1) rounds
+
+-- the rounds that one name or two walk, or their refusal
+abbrev pub Loops : Bool → Data → Result (Unit {0}) Refusal → Type 0
+Loops has_second d (Ok u) = (second : Option (List ℕ)) → is_some second ≡ has_second → looped second d ≡ Ok (rounds_in d)
+Loops has_second d (Err refusal) = (second : Option (List ℕ)) → is_some second ≡ has_second → looped second d ≡ Err refusal
+
+-- no loop over a value is refused for its length
+abbrev pub WalksAll : Data → Type 0
+WalksAll d = (second : Option (List ℕ)) → looped second d ≢ Err refusals.Limit

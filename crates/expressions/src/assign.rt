@@ -1,0 +1,235 @@
+//! Variables that take values.
+ghost use Rattle.std.specs.Prelude.{◌≡◌, ◌<◌, ℕ, IsTrue, Some, length, nat_lt, option_map};
+ghost use Rattle.code.specs.Statements.{name_at, second_within};
+ghost use Rattle.data.specs.View.{data_of};
+ghost use Rattle.configuration_calls.specs.ConfigurationData.{copy_configuration};
+ghost use Rattle.world.specs.Answering.{Refuses};
+ghost use Rattle.world.specs.Gives.{failures_after};
+ghost use Rattle.world.specs.Plan.{deed, next};
+ghost use Rattle.expressions.specs.Forms.{thing};
+ghost use Rattle.expressions.specs.Rounds.{round_data};
+ghost use Rattle.expressions.specs.Assignments.{added, assigned, bound, configuration_in, configuration_of, copied, own, summed};
+
+use crate::context::Context;
+use crate::loops::Round;
+use basics::faults::Refusal;
+use configuration_calls::copied;
+use data::{Object, Value};
+use language_calls::is_predefined;
+use operators::{Binary, binary};
+use ports::{Outputs, Tree};
+use std::sync::ledger::Ledger;
+use world::{Caller, Stop};
+
+// The number of an object that is configuration data.
+#[inline(always)]
+fn configuration_of(object: &Object) -> Option<usize>
+    ensures { result ≡ configuration_of object.now }
+{
+    match object {
+        Object::ConfigurationData(number) => Some(*number),
+        _ => None,
+    }
+}
+
+// The number of configuration data.
+#[inline(always)]
+fn configuration_in(value: &Value) -> Option<usize>
+    ensures { result ≡ configuration_in (data_of value.now) }
+{
+    configuration_of(value.as_object()?)
+}
+
+impl<'a, T: Tree, O: Outputs, L: Ledger> Context<'a, T, O, L> {
+    ghost use Rattle.expressions.specs.Contexts.{Answers, Fails, HasRoom, Same, fault_on};
+
+    // The number of a copy of configuration data.
+    #[inline(never)]
+    fn copy_made(&mut self, number: usize) -> Result<usize, Stop>
+        requires room { HasRoom T.seen O.seen self.old }
+        ensures same { Same self.old self.new }
+        ensures device { Fails T.seen O.seen self.old result self.new }
+        ensures gives { Answers T.seen O.seen (λ n. n) (deed (copy_configuration number)) self.old result self.new }
+    {
+        let mut caller = Caller {
+            alloc: self.alloc,
+            store: self.store,
+            tree: self.tree,
+            out: self.out,
+        };
+        copied(&mut caller, number)
+    }
+
+    // A copy of configuration data.
+    #[inline(never)]
+    fn copied(&mut self, number: usize) -> Result<Value, Stop>
+        requires room { HasRoom T.seen O.seen self.old }
+        ensures same { Same self.old self.new }
+        ensures device { Fails T.seen O.seen self.old result self.new }
+        ensures gives { Answers T.seen O.seen data_of (copied number) self.old result self.new }
+    {
+        let copy = self.copy_made(number)?;
+        Ok(Value::of_object(self.alloc, Object::ConfigurationData(copy))?)
+    }
+
+    /// What an assignment gives a variable: of configuration data a copy, which may be changed again, and else the value itself.
+    #[inline(always)]
+    pub fn own(&mut self, value: Value) -> Result<Value, Stop>
+        requires room { HasRoom T.seen O.seen self.old }
+        ensures same { Same self.old self.new }
+        ensures device { Fails T.seen O.seen self.old result self.new }
+        ensures gives { Answers T.seen O.seen data_of (own (data_of value)) self.old result self.new }
+    {
+        match configuration_in(&value) {
+            Some(number) => self.copied(number),
+            None => Ok(value),
+        }
+    }
+
+    /// The variable of a number takes a value: error 11 where its name stands for a thing of the run.
+    #[inline(always)]
+    pub fn assign(&mut self, line: usize, number: usize, value: Value) -> Result<(), Stop>
+        ensures same { Same self.old self.new }
+        ensures device { Fails T.seen O.seen self.old result self.new }
+        ensures gives { number < length self.old.store.now.names → Answers T.seen O.seen
+            (λ u. u) (assigned line (name_at self.old.store.now.names number) (data_of value)) self.old result self.new }
+    {
+        let name = self.store.name(number);
+        if is_predefined(name) {
+            return self.refuse(line, Refusal::Arguments, "");
+        }
+        self.store.put(number, value)?;
+        Ok(())
+    }
+
+    /// The variables of a round take their values: the first, and the second where there is one.
+    #[inline(always)]
+    pub fn bind(
+        &mut self,
+        line: usize,
+        first: usize,
+        second: Option<usize>,
+        round: Round,
+    ) -> Result<(), Stop>
+        ensures same { Same self.old self.new }
+        ensures device { Fails T.seen O.seen self.old result self.new }
+        ensures gives { first < length self.old.store.now.names → IsTrue (second_within (length self.old.store.now.names) second)
+            → Answers T.seen O.seen (λ u. u) (bound line (name_at self.old.store.now.names first) (option_map
+            (name_at self.old.store.now.names) second) (round_data round)) self.old result self.new }
+    {
+        match second {
+            Some(second) => self.bind_pair(line, first, second, round),
+            None => self.assign(line, first, round.first),
+        }
+    }
+
+    // The same with two names.
+    #[inline(never)]
+    fn bind_pair(
+        &mut self,
+        line: usize,
+        first: usize,
+        second: usize,
+        round: Round,
+    ) -> Result<(), Stop>
+        ensures same { Same self.old self.new }
+        ensures device { Fails T.seen O.seen self.old result self.new }
+        ensures gives { first < length self.old.store.now.names → IsTrue (nat_lt second (length self.old.store.now.names))
+            → Answers T.seen O.seen (λ u. u) (bound line (name_at self.old.store.now.names first) (Some
+            (name_at self.old.store.now.names second)) (round_data round)) self.old result self.new }
+    {
+        let Round {
+            first: key,
+            second: value,
+        } = round;
+        match value {
+            Some(value) => self.assign_both(line, (first, key), (second, value)),
+            None => self.assign(line, first, key),
+        }
+    }
+
+    // Two variables take their values.
+    #[inline(never)]
+    fn assign_both(
+        &mut self,
+        line: usize,
+        one: (usize, Value),
+        other: (usize, Value),
+    ) -> Result<(), Stop>
+        ensures same { Same self.old self.new }
+        ensures device { Fails T.seen O.seen self.old result self.new }
+        ensures gives { one.0 < length self.old.store.now.names → IsTrue (nat_lt other.0 (length self.old.store.now.names))
+            → Answers T.seen O.seen (λ u. u) (bound line (name_at self.old.store.now.names one.0) (Some
+            (name_at self.old.store.now.names other.0)) (data_of one.1, Some (data_of other.1))) self.old result self.new }
+    {
+        self.assign(line, one.0, one.1)?;
+        let answer = self.assign(line, other.0, other.1);
+        answer
+    }
+
+    /// The variable of a number takes the sum of what it has and a value. Its value is taken out of it first: what nobody else holds
+    /// grows in place.
+    pub fn add(&mut self, line: usize, number: usize, right: Value) -> Result<(), Stop>
+        ensures same { Same self.old self.new }
+        ensures device { Fails T.seen O.seen self.old result self.new }
+        ensures gives { number < length self.old.store.now.names → Answers T.seen O.seen (λ u. u)
+            (summed line (name_at self.old.store.now.names number) (data_of right)) self.old result self.new }
+    {
+        let is_thing = is_predefined(self.store.name(number));
+        if is_thing {
+            return self.add_to_thing(line, number, right);
+        }
+        let taken = self.store.take(number);
+        match taken {
+            Some(left) => self.sum(line, number, left, right),
+            None => self.unknown(line, number),
+        }
+    }
+
+    // The thing of the run that the name of a number stands for.
+    #[inline(never)]
+    fn thing_at(&self, number: usize) -> Result<Value, Stop>
+        ensures gives { number < length self.now.store.now.names
+            → Answers T.seen O.seen data_of (thing (name_at self.now.store.now.names number)) self.now result self.now }
+        ensures quiet { (n : ℕ) → failures_after n result ≡ n }
+    {
+        let name = self.store.name(number);
+        self.thing(name)
+    }
+
+    // Refuses the name of a number, whose variable has no value.
+    #[inline(never)]
+    fn unknown(&self, line: usize, number: usize) -> Result<(), Stop>
+        ensures refuses { number < length self.now.store.now.names → Refuses (fault_on self.now line Refusal.UndefinedName
+            (name_at self.now.store.now.names number)) result }
+        ensures quiet { (n : ℕ) → failures_after n result ≡ n }
+    {
+        let name = self.store.name(number);
+        self.refuse(line, Refusal::UndefinedName, name)
+    }
+
+    // The same where its name stands for a thing of the run.
+    #[inline(never)]
+    fn add_to_thing(&mut self, line: usize, number: usize, right: Value) -> Result<(), Stop>
+        ensures same { Same self.old self.new }
+        ensures device { Fails T.seen O.seen self.old result self.new }
+        ensures gives { number < length self.old.store.now.names → Answers T.seen O.seen (λ u. u)
+            (next (thing (name_at self.old.store.now.names number))
+            (λ d. added line (name_at self.old.store.now.names number) d (data_of right))) self.old result self.new }
+    {
+        let thing = self.thing_at(number)?;
+        self.sum(line, number, thing, right)
+    }
+
+    // The variable of a number takes the sum of two values.
+    fn sum(&mut self, line: usize, number: usize, left: Value, right: Value) -> Result<(), Stop>
+        ensures same { Same self.old self.new }
+        ensures device { Fails T.seen O.seen self.old result self.new }
+        ensures gives { number < length self.old.store.now.names → Answers T.seen O.seen (λ u. u)
+            (added line (name_at self.old.store.now.names number) (data_of left) (data_of right)) self.old result self.new }
+    {
+        let answer = binary(self.alloc, Binary::Add, left, right)?;
+        let sum = self.answered(line, answer)?;
+        self.assign(line, number, sum)
+    }
+}

@@ -1,0 +1,130 @@
+//! What an evaluation works on, and the small answers that it gives.
+ghost use Rattle.std.specs.Prelude.{◌≡◌, ◌<◌, ℕ, IfOk, Result, None, length, option_map, slice_index_or};
+ghost use Rattle.data.specs.Data.{Data, is_disabler};
+ghost use Rattle.data.specs.Tables.{Answers as AnswersSo};
+ghost use Rattle.data.specs.View.{data_of};
+ghost use Rattle.data.specs.declared.refusal.Refusal.{Refusal as OperationRefusal};
+ghost use Rattle.arguments.specs.Refused.{answer_data};
+ghost use Rattle.basics.specs.View.{fault_view};
+ghost use Rattle.world.specs.Answering.{Refuses};
+ghost use Rattle.world.specs.Gives.{failures_after};
+ghost use Rattle.world.specs.Plan.{answered};
+ghost use Rattle.expressions.specs.Forms.{fitted, needed, unchosen};
+
+use arguments::Refused;
+use basics::faults::{Fault, Refusal};
+use data::Value;
+use ports::{Outputs, Tree};
+use std::alloc::{AllocError, Global};
+use std::sync::ledger::Ledger;
+use world::{Steps, Stop, Store, of_operation};
+
+/// What an evaluation works on: the world, the devices, and the counter of rules.
+#[derive(Drop)]
+pub struct Context<'a, T, O, L: Ledger> {
+    pub alloc: Global,
+    pub store: &'a mut Store,
+    pub tree: &'a mut T,
+    pub out: &'a mut O,
+    pub steps: &'a mut Steps<L>,
+}
+
+impl<'a, T: Tree, O: Outputs, L: Ledger> Context<'a, T, O, L> {
+    ghost use Rattle.expressions.specs.Contexts.{Answers, fault_on};
+
+    /// A context over what is lent.
+    pub fn new(
+        alloc: Global,
+        store: &'a mut Store,
+        tree: &'a mut T,
+        out: &'a mut O,
+        steps: &'a mut Steps<L>,
+    ) -> Self
+        ensures store_name { result.store.ghost_name ≡ store.entry.ghost_name }
+        ensures tree_name { result.tree.ghost_name ≡ tree.entry.ghost_name }
+        ensures out_name { result.out.ghost_name ≡ out.entry.ghost_name }
+        ensures steps_name { result.steps.ghost_name ≡ steps.entry.ghost_name }
+        ensures store { result.store.now ≡ store.old }
+        ensures tree { result.tree.now ≡ tree.old }
+        ensures out { result.out.now ≡ out.old }
+        ensures steps { result.steps.now ≡ steps.old }
+    {
+        Context {
+            alloc,
+            store,
+            tree,
+            out,
+            steps,
+        }
+    }
+
+    fn fault(&self, line: usize, refusal: Refusal, detail: &str) -> Result<Fault, AllocError>
+        ensures { IfOk result (λ f. fault_view f ≡ fault_on self.now line refusal detail.now) }
+    {
+        let file = self.store.file();
+        Fault::new(self.alloc, file, line, refusal, detail)
+    }
+
+    /// Refuses what stands in a line of the present file, for this name, path or text.
+    pub fn refuse<A>(&self, line: usize, refusal: Refusal, detail: &str) -> Result<A, Stop>
+        ensures { Refuses (fault_on self.now line refusal detail.now) result }
+    {
+        match self.fault(line, refusal, detail) {
+            Ok(fault) => Err(Stop::Refused(fault)),
+            Err(_) => Err(Stop::Memory),
+        }
+    }
+
+    /// Refuses what is left out by this name.
+    pub fn left_out<A>(&self, line: usize, name: &str) -> Result<A, Stop>
+        ensures { Refuses (fault_on self.now line Refusal.LeftOut name.now) result }
+    {
+        self.refuse(line, Refusal::LeftOut, name)
+    }
+
+    /// What an operation answered, or the stop of its refusal.
+    pub fn answered(&self, line: usize, answer: Result<Value, data::Refusal>) -> Result<Value, Stop>
+        ensures gives { (given : Result Data OperationRefusal) → AnswersSo given answer
+            → Answers T.seen O.seen data_of (answered line given) self.now result self.now }
+        ensures quiet { (n : ℕ) → failures_after n result ≡ n }
+    {
+        match answer {
+            Ok(value) => Ok(value),
+            Err(refusal) => self.refuse(line, of_operation(refusal), ""),
+        }
+    }
+
+    /// What a call gave, where it gave a value.
+    pub fn needed(&self, line: usize, answer: Option<Value>) -> Result<Value, Stop>
+        ensures gives { Answers T.seen O.seen data_of (needed line (option_map data_of answer)) self.now result self.now }
+        ensures quiet { (n : ℕ) → failures_after n result ≡ n }
+    {
+        match answer {
+            Some(value) => Ok(value),
+            None => self.refuse(line, Refusal::Type, ""),
+        }
+    }
+
+    /// What a ternary gives whose condition is no boolean: a disabler, where it is one.
+    pub fn unchosen(&self, line: usize, value: Value) -> Result<Value, Stop>
+        ensures gives { Answers T.seen O.seen data_of (unchosen line (is_disabler (data_of value))) self.now result self.now }
+        ensures quiet { (n : ℕ) → failures_after n result ≡ n }
+    {
+        if value.is_disabler() {
+            Ok(value)
+        } else {
+            self.refuse(line, Refusal::Type, "")
+        }
+    }
+
+    /// What a test of arguments answered, or the stop of its refusal, with what that is about.
+    pub fn fitted(&self, line: usize, answer: Result<(), Refused>) -> Result<(), Stop>
+        ensures gives { Answers T.seen O.seen (λ u. u) (fitted line (answer_data answer)) self.now result self.now }
+        ensures quiet { (n : ℕ) → failures_after n result ≡ n }
+    {
+        match answer {
+            Ok(()) => Ok(()),
+            Err(refused) => self.refuse(line, refused.refusal, refused.detail.as_str()),
+        }
+    }
+}

@@ -1,0 +1,56 @@
+//! What forms of nodes give for the values of their parts.
+ghost use Rattle.std.specs.Prelude.{◌≡◌, ℕ, option_map};
+ghost use Rattle.data.specs.View.{data_of, items_of};
+ghost use Rattle.operators.specs.Literal.{pairs_of};
+ghost use Rattle.world.specs.Gives.{failures_after};
+ghost use Rattle.expressions.specs.Forms.{listed, paired, part_at, prefixed};
+
+use crate::context::Context;
+use crate::meaning::unary_of;
+use data::Value;
+use grammar::tree::Prefix;
+use operators::{dictionary, index, list, unary};
+use ports::{Outputs, Tree};
+use std::sync::ledger::Ledger;
+use world::Stop;
+
+impl<'a, T: Tree, O: Outputs, L: Ledger> Context<'a, T, O, L> {
+    ghost use Rattle.expressions.specs.Contexts.{Answers};
+
+    /// `[first, second]`
+    pub fn listed(&self, line: usize, values: Vec<Value>) -> Result<Value, Stop>
+        ensures gives { Answers T.seen O.seen data_of (listed line (items_of values.items)) self.now result self.now }
+        ensures quiet { (n : ℕ) → failures_after n result ≡ n }
+    {
+        let answer = list(self.alloc, values)?;
+        self.answered(line, answer)
+    }
+
+    /// `{key : value, key : value}`
+    pub fn paired(&self, line: usize, pairs: Vec<(Value, Value)>) -> Result<Value, Stop>
+        ensures gives { Answers T.seen O.seen data_of (paired line (pairs_of pairs.items)) self.now result self.now }
+        ensures quiet { (n : ℕ) → failures_after n result ≡ n }
+    {
+        let answer = dictionary(self.alloc, pairs)?;
+        self.answered(line, answer)
+    }
+
+    /// `not value` or `-value`
+    pub fn prefixed(&self, line: usize, prefix: Prefix, value: Value) -> Result<Value, Stop>
+        ensures gives { Answers T.seen O.seen data_of (prefixed line prefix (data_of value)) self.now result self.now }
+        ensures quiet { (n : ℕ) → failures_after n result ≡ n }
+    {
+        let answer = unary(unary_of(prefix), value);
+        self.answered(line, answer)
+    }
+
+    /// `whole[at]`
+    pub fn part_at(&self, line: usize, whole: &Value, at: &Value) -> Result<Option<Value>, Stop>
+        ensures gives { Answers T.seen O.seen (option_map data_of) (part_at line (data_of whole.now) (data_of at.now))
+            self.now result self.now }
+        ensures quiet { (n : ℕ) → failures_after n result ≡ n }
+    {
+        let answer = index(self.alloc, whole, at)?;
+        Ok(Some(self.answered(line, answer)?))
+    }
+}

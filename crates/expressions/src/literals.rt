@@ -1,0 +1,96 @@
+//! The values of literals.
+ghost use Rattle.std.specs.Prelude.{◌≡◌, ℕ, IfOk, Ok, string_bytes};
+ghost use Rattle.data.specs.Data.{text};
+ghost use Rattle.data.specs.Limits.{within};
+ghost use Rattle.data.specs.Tables.{Answers as AnswersSo};
+ghost use Rattle.data.specs.View.{data_of};
+ghost use Rattle.lexer.specs.Numerals.{magnitude};
+ghost use Rattle.lexer.specs.Texts.{text_of};
+ghost use Rattle.world.specs.Gives.{failures_after};
+ghost use Rattle.world.specs.Plan.{answered};
+ghost use Rattle.expressions.specs.Forms.{literal_value, number};
+
+use crate::context::Context;
+use code::{LiteralNode, Meaning};
+use data::{Text, Value};
+use grammar::tree::Literal;
+use lexer::token::Kind;
+use lexer::{magnitude, text_of_slice};
+use ports::{Outputs, Tree};
+use std::alloc::{AllocError, Global};
+use std::sync::ledger::Ledger;
+use world::Stop;
+
+// The integer of a number token.
+fn number(text: &str) -> Result<Value, data::Refusal>
+    ensures { AnswersSo (number (magnitude text.now)) result }
+{
+    let Some(magnitude) = magnitude(text) else {
+        return Err(data::Refusal::Range);
+    };
+    if magnitude < 1 << 127 {
+        Ok(Value::Integer(magnitude as i128))
+    } else {
+        Err(data::Refusal::Range)
+    }
+}
+
+// The integer of a number that 64 bits hold.
+fn small_integer(n: u64) -> Value
+    ensures { number n ≡ Ok (data_of result) }
+{
+    Value::Integer(n as i128)
+}
+
+// The value of a text, shared.
+fn shared(string: &Text) -> Result<Value, AllocError>
+    ensures { IfOk result (λ v. within (text string.now) ≡ Ok (data_of v)) }
+{
+    let _within = string.as_str();
+    Ok(Value::Text(string.clone()?))
+}
+
+impl<'a, T: Tree, O: Outputs, L: Ledger> Context<'a, T, O, L> {
+    ghost use Rattle.expressions.specs.Contexts.{Answers};
+
+    // The text of a string of this kind.
+    fn decoded(&self, line: usize, kind: Kind, slice: &str) -> Result<Value, Stop>
+        ensures gives { Answers T.seen O.seen data_of (answered line (within (text (text_of kind slice.now)))) self.now result self.now }
+        ensures quiet { (n : ℕ) → failures_after n result ≡ n }
+    {
+        let string = text_of_slice(self.alloc, kind, slice)?;
+        let answer = Value::of_string(self.alloc, string)?;
+        self.answered(line, answer)
+    }
+
+    // The value of a literal that stands so in the source.
+    fn unread(&self, line: usize, literal: Literal, text: &str) -> Result<Value, Stop>
+        ensures gives { Answers T.seen O.seen data_of (literal_value line literal text.now) self.now result self.now }
+        ensures quiet { (n : ℕ) → failures_after n result ≡ n }
+    {
+        match literal {
+            Literal::True => Ok(Value::Boolean(true)),
+            Literal::False => Ok(Value::Boolean(false)),
+            Literal::Number => self.answered(line, number(text)),
+            Literal::String => self.decoded(line, Kind::String, text),
+            Literal::RawString => self.decoded(line, Kind::RawString, text),
+            Literal::FormatString => self.decoded_format(line, Kind::FormatString, text),
+            Literal::RawFormatString => self.decoded_format(line, Kind::RawFormatString, text),
+        }
+    }
+
+    // The value of a literal.
+    pub fn literal(&self, line: usize, node: &LiteralNode) -> Result<Value, Stop>
+        ensures gives { Answers T.seen O.seen data_of (literal_value line node.now.literal (string_bytes node.now.source.value))
+            self.now result self.now }
+        ensures quiet { (n : ℕ) → failures_after n result ≡ n }
+    {
+        match &node.meaning {
+            Meaning::Boolean(value) => Ok(Value::Boolean(*value)),
+            Meaning::Integer(n) => Ok(small_integer(*n)),
+            Meaning::Text(text) => Ok(shared(text)?),
+            Meaning::Format(text) => self.with_places(line, text.as_str()),
+            Meaning::Source(text) => self.unread(line, node.literal, text.as_str()),
+        }
+    }
+}

@@ -1,0 +1,97 @@
+//! The rounds of a loop.
+ghost use Rattle.std.specs.Prelude.{◌≡◌, ◌≤◌, IfOk, false, length, true};
+ghost use Rattle.data.specs.Data.{Data};
+ghost use Rattle.data.specs.Few.{item_count};
+ghost use Rattle.data.specs.View.{data_of, items_of};
+ghost use Rattle.expressions.specs.Rounds.{Loops, RoundAt, entry_rounds, item_rounds, rounds_in};
+
+use basics::faults::Refusal;
+use data::{Dictionary, Value, values_have_few_items};
+use std::alloc::{AllocError, Global};
+
+/// The values of a round's variables: of the first, and of the second where there is one.
+#[derive(Drop)]
+pub struct Round {
+    pub first: Value,
+    pub second: Option<Value>,
+}
+
+// The item of a list at a place.
+#[inline(always)]
+fn item_at(items: &[Value], at: usize) -> Result<Option<Round>, AllocError>
+    ensures { IfOk result (λ r. RoundAt (item_rounds (items_of items.now)) at r) }
+{
+    if at >= items.len() {
+        return Ok(None);
+    }
+    let item = items[at].clone()?;
+    Ok(Some(Round {
+        first: item,
+        second: None,
+    }))
+}
+
+// The key and the value of a dictionary at a place. The key's bytes are shared.
+#[inline(never)]
+fn entry_at(dictionary: &Dictionary, at: usize) -> Result<Option<Round>, AllocError>
+    ensures { IfOk result (λ r. RoundAt (entry_rounds dictionary.now) at r) }
+{
+    if at >= dictionary.len() {
+        return Ok(None);
+    }
+    let values = dictionary.values();
+    let key = dictionary.key(at).clone()?;
+    let value = values[at].clone()?;
+    Ok(Some(Round {
+        first: Value::Text(key),
+        second: Some(value),
+    }))
+}
+
+/// The round over a list or a dictionary at a place, none behind the last. What it gives is shared with the whole.
+#[inline(always)]
+pub fn round_at(whole: &Value, at: usize) -> Result<Option<Round>, AllocError>
+    ensures { IfOk result (λ r. RoundAt (rounds_in (data_of whole.now)) at r) }
+{
+    match whole {
+        Value::List(list) => item_at(list.items(), at),
+        Value::Dictionary(dictionary) => entry_at(dictionary, at),
+        Value::Boolean(_) | Value::Integer(_) | Value::Text(_) | Value::Object(_) => Ok(None),
+    }
+}
+
+// Whether a loop with two names can walk a value.
+fn check_entries(whole: &Value) -> Result<(), Refusal>
+    requires { item_count (data_of whole.now) ≤ 65536 }
+    ensures { Loops true (data_of whole.now) result }
+{
+    match whole.as_dictionary() {
+        Some(_) => Ok(()),
+        None => Err(Refusal::Type),
+    }
+}
+
+// Whether a loop with one name can walk a value.
+fn check_items(whole: &Value) -> Result<(), Refusal>
+    requires { item_count (data_of whole.now) ≤ 65536 }
+    ensures { Loops false (data_of whole.now) result }
+{
+    match whole.as_list() {
+        Some(_) => Ok(()),
+        None => Err(Refusal::Type),
+    }
+}
+
+/// Whether a loop with one name or with two can walk a value: one walks a list, two a dictionary.
+pub fn check_loop(has_second: bool, whole: &Value) -> Result<(), Refusal>
+    ensures loops { Loops has_second (data_of whole.now) result }
+    ensures few { length (rounds_in (data_of whole.now)) ≤ 65536 }
+{
+    // The law by which nothing is too long to be walked; the call does nothing.
+    values_have_few_items(whole);
+    if has_second {
+        check_entries(whole)
+    } else {
+        check_items(whole)
+    }
+}

@@ -1,0 +1,197 @@
+//! Names: of variables, of functions, and of the methods of values.
+ghost use Rattle.std.specs.Prelude.{◌≡◌, ◌<◌, ◌||◌, ◌&&◌, ℕ, IfOk, [], false, length, option_map, slice_index_or};
+ghost use Rattle.arguments.specs.Arguments.{arguments_data};
+ghost use Rattle.data.specs.View.{data_of};
+ghost use Rattle.methods.specs.Methods.{has_name};
+ghost use Rattle.world.specs.Gives.{failures_after};
+ghost use Rattle.expressions.specs.Forms.{asked_of, disabler_method, function_at, function_inside, known, known_method, may_be_asked_first, may_come_first, thing, value_method, variable};
+
+use crate::context::Context;
+use arguments::{Arguments, check};
+use basics::faults::Refusal;
+use data::{Object, Value};
+use language_calls::{
+    Function, any_values, function_named, is_left_out, is_predefined, predefined,
+};
+use methods::{has_method, method};
+use ports::{Outputs, Tree};
+use std::alloc::{AllocError, Global};
+use std::sync::ledger::Ledger;
+use world::Stop;
+
+// Whether a function may be called in the arguments of `project`.
+fn may_come_first(function: Function) -> bool
+    ensures { result ≡ Rattle.expressions.specs.Forms.may_come_first function }
+{
+    matches!(function, Function::Disabler | Function::SubdirDone)
+}
+
+// Whether an object may be asked something in the arguments of `project`.
+fn may_be_asked_first(object: &Object) -> bool
+    ensures { result ≡ Rattle.expressions.specs.Forms.may_be_asked_first object.now }
+{
+    !matches!(object, Object::Meson)
+}
+
+fn is_empty(arguments: &Arguments) -> bool
+    ensures { result ≡ Rattle.expressions.specs.Forms.is_empty (arguments_data arguments.now) }
+{
+    match (arguments.positional.as_slice(), arguments.named.as_slice()) {
+        ([], []) => true,
+        _ => false,
+    }
+}
+
+/// A method of a disabler: `found()` is false, and anything else is a disabler.
+pub fn disabler_method(
+    alloc: Global,
+    name: &str,
+    arguments: &Arguments,
+) -> Result<Value, AllocError>
+    ensures { IfOk result (λ v. data_of v ≡ disabler_method name.now (arguments_data arguments.now)) }
+{
+    if name == "found" && is_empty(arguments) {
+        Ok(Value::Boolean(false))
+    } else {
+        Value::of_object(alloc, Object::Disabler)
+    }
+}
+
+impl<'a, T: Tree, O: Outputs, L: Ledger> Context<'a, T, O, L> {
+    ghost use Rattle.expressions.specs.Contexts.{Answers};
+
+    // The thing of the run that a name stands for.
+    pub fn thing(&self, name: &str) -> Result<Value, Stop>
+        ensures gives { Answers T.seen O.seen data_of (thing name.now) self.now result self.now }
+        ensures quiet { (n : ℕ) → failures_after n result ≡ n }
+    {
+        let value = predefined(self.alloc, name)?;
+        Ok(value)
+    }
+
+    /// The value of the variable of a number.
+    pub fn variable(&self, number: usize, line: usize) -> Result<Value, Stop>
+        ensures gives { number < length self.now.store.now.names
+            → Answers T.seen O.seen data_of (variable line (slice_index_or self.now.store.now.names number [])) self.now result self.now }
+        ensures quiet { (n : ℕ) → failures_after n result ≡ n }
+    {
+        let name = self.store.name(number);
+        if is_predefined(name) {
+            return self.thing(name);
+        }
+        let value = self.store.value(number)?;
+        self.known(line, name, value)
+    }
+
+    // The value of the variable of a name.
+    pub fn named(&self, line: usize, name: &str) -> Result<Value, Stop>
+        ensures gives { Answers T.seen O.seen data_of (variable line name.now) self.now result self.now }
+        ensures quiet { (n : ℕ) → failures_after n result ≡ n }
+    {
+        if is_predefined(name) {
+            return self.thing(name);
+        }
+        let value = self.store.find(name)?;
+        self.known(line, name, value)
+    }
+
+    // The value of a variable that has one.
+    fn known(&self, line: usize, name: &str, value: Option<Value>) -> Result<Value, Stop>
+        ensures gives { Answers T.seen O.seen data_of (known line name.now (option_map data_of value)) self.now result self.now }
+        ensures quiet { (n : ℕ) → failures_after n result ≡ n }
+    {
+        match value {
+            Some(value) => Ok(value),
+            None => self.refuse(line, Refusal::UndefinedName, name),
+        }
+    }
+
+    /// The function of a name.
+    pub fn function_at(&self, line: usize, name: &str) -> Result<Function, Stop>
+        ensures gives { Answers T.seen O.seen (λ f. f) (function_at line name.now) self.now result self.now }
+        ensures quiet { (n : ℕ) → failures_after n result ≡ n }
+    {
+        match function_named(name) {
+            Some(function) => Ok(function),
+            None => {
+                if is_left_out(name) {
+                    self.left_out(line, name)
+                } else {
+                    self.refuse(line, Refusal::UnknownFunction, name)
+                }
+            }
+        }
+    }
+
+    // Whether a function may be called inside of an expression yet.
+    fn is_allowed(&self, function: Function) -> bool
+        ensures { result ≡ (self.now.store.now.is_begun || may_come_first function) }
+    {
+        self.store.is_begun() || may_come_first(function)
+    }
+
+    /// The function of a call that is a part of an expression.
+    pub fn function_inside(&self, line: usize, name: &str) -> Result<Function, Stop>
+        ensures gives { Answers T.seen O.seen (λ f. f) (function_inside line name.now) self.now result self.now }
+        ensures quiet { (n : ℕ) → failures_after n result ≡ n }
+    {
+        let function = self.function_at(line, name)?;
+        let is_allowed = self.is_allowed(function);
+        if is_allowed {
+            Ok(function)
+        } else {
+            self.refuse(line, Refusal::ProjectCall, "")
+        }
+    }
+
+    // Whether an object may be asked something yet.
+    fn may_be_asked(&self, object: &Object) -> bool
+        ensures { result ≡ (self.now.store.now.is_begun || may_be_asked_first object.now) }
+    {
+        self.store.is_begun() || may_be_asked_first(object)
+    }
+
+    /// Refuses to ask what may not be asked yet.
+    pub fn asked_of(&self, line: usize, object: &Object) -> Result<(), Stop>
+        ensures gives { Answers T.seen O.seen (λ u. u) (asked_of line object.now) self.now result self.now }
+        ensures quiet { (n : ℕ) → failures_after n result ≡ n }
+    {
+        let may_be_asked = self.may_be_asked(object);
+        if may_be_asked {
+            Ok(())
+        } else {
+            self.refuse(line, Refusal::ProjectCall, "")
+        }
+    }
+
+    /// Refuses a name that no method of a value has.
+    pub fn value_method_at(&self, line: usize, whole: &Value, name: &str) -> Result<(), Stop>
+        ensures gives { Answers T.seen O.seen (λ u. u) (known_method (has_name (data_of whole.now) name.now) line name.now)
+            self.now result self.now }
+        ensures quiet { (n : ℕ) → failures_after n result ≡ n }
+    {
+        if has_method(whole, name) {
+            Ok(())
+        } else {
+            self.refuse(line, Refusal::UnknownFunction, name)
+        }
+    }
+
+    /// A method of a value that is no object.
+    pub fn value_method(
+        &self,
+        line: usize,
+        whole: &Value,
+        name: &str,
+        arguments: &Arguments,
+    ) -> Result<Option<Value>, Stop>
+        ensures gives { Answers T.seen O.seen (option_map data_of)
+            (value_method line (data_of whole.now) name.now (arguments_data arguments.now)) self.now result self.now }
+        ensures quiet { (n : ℕ) → failures_after n result ≡ n }
+    {
+        let fits = check(self.alloc, &any_values(), arguments)?;
+        self.fitted(line, fits)?;
+        let answer = method(self.alloc, whole, name, &arguments.positional)?;
+        Ok(Some(self.answered(line, answer)?))
+    }
+}

@@ -1,8 +1,0 @@
-use Rattle.interp.proofs.Evaluating.{given_stop, given_then}
-use Rattle.interp.proofs.evaluator.Evaluator.add_to_thing.Goals as goal
-
-pub returns-in_err-thing-clause-gives : goal.returns-in_err-thing-clause-gives
-returns-in_err-thing-clause-gives g c = λ within files h. given_stop (c.in_err-thing.ensures.gives within files h) c.from_residual.ensures.1
-
-pub returns-clause-gives : goal.returns-clause-gives
-returns-clause-gives g c = λ within files h. given_then (c.in_ok-thing.ensures.gives within files h) (c.sum.ensures.gives within files h)

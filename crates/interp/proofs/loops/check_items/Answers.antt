@@ -1,7 +1,0 @@
-use Rattle.std.proofs.Common.{sym}
-use Rattle.data.specs.View.{data_of}
-use Rattle.interp.proofs.Walking.{loops_list}
-use Rattle.interp.proofs.loops.check_items.Goals as goal
-
-pub returns-in-Some : goal.returns-in-Some
-returns-in-Some c = loops_list (data_of c.args.whole.now) _ (sym c.in-Some.ensures) c.requires

@@ -1,0 +1,160 @@
+//! Calls: of functions, and of methods.
+ghost use Rattle.std.specs.Prelude.{◌≡◌, ℕ, false, option_map};
+ghost use Rattle.arguments.specs.Arguments.{arguments_data};
+ghost use Rattle.data.specs.Data.{object_in};
+ghost use Rattle.data.specs.View.{data_of};
+ghost use Rattle.world.specs.Gives.{failures_after};
+ghost use Rattle.interp.specs.Expressions.{called, called_by, method_at, method_by, method_called, object_method_at, object_method_called};
+
+use crate::evaluator::Evaluator;
+use arguments::{Arguments, gives_disabler};
+use basics::faults::Refusal;
+use calls::{Function, call, is_turned_off};
+use data::{Object, Value};
+use expressions::disabler_method;
+use objects::{has_object_method, is_left_out_method, object_method};
+use ports::{Outputs, Tree};
+use std::sync::ledger::Ledger;
+use world::{Caller, Stop};
+
+impl<'a, T: Tree, O: Outputs, L: Ledger> Evaluator<'a, T, O, L> {
+    ghost use Rattle.expressions.specs.Contexts.{Answers, Fails, HasRoom, Same};
+
+    /// A function on its evaluated arguments: it gives a value, or nothing.
+    pub fn called(
+        &mut self,
+        line: usize,
+        function: Function,
+        arguments: &Arguments,
+    ) -> Result<Option<Value>, Stop>
+        requires room { HasRoom T.seen O.seen self.old.context }
+        ensures same { Same self.old.context self.new.context }
+        ensures device { Fails T.seen O.seen self.old.context result self.new.context }
+        ensures gives { Answers T.seen O.seen (option_map data_of) (called line function (arguments_data arguments.now))
+            self.old.context result self.new.context }
+    {
+        if is_turned_off(function, arguments) {
+            return Ok(Some(Value::of_object(self.context.alloc, Object::Disabler)?));
+        }
+        self.carry_out(line, function, arguments)
+    }
+
+    // A function on its arguments, at a line.
+    fn carry_out(
+        &mut self,
+        line: usize,
+        function: Function,
+        arguments: &Arguments,
+    ) -> Result<Option<Value>, Stop>
+        requires room { HasRoom T.seen O.seen self.old.context }
+        ensures same { Same self.old.context self.new.context }
+        ensures device { Fails T.seen O.seen self.old.context result self.new.context }
+        ensures gives { Answers T.seen O.seen (option_map data_of) (called_by false line function (arguments_data arguments.now))
+            self.old.context result self.new.context }
+    {
+        self.context.store.at(line);
+        let mut caller = Caller {
+            alloc: self.context.alloc,
+            store: self.context.store,
+            tree: self.context.tree,
+            out: self.context.out,
+        };
+        call(&mut caller, function, arguments)
+    }
+
+    // Refuses a name that no method of an object has, and what may not be asked yet.
+    fn object_method_at(&self, line: usize, object: &Object, name: &str) -> Result<(), Stop>
+        ensures gives { Answers T.seen O.seen (λ u. u) (object_method_at line object.now name.now) self.now.context result self.now.context }
+        ensures quiet { (n : ℕ) → failures_after n result ≡ n }
+    {
+        if has_object_method(object, name) {
+            return self.context.asked_of(line, object);
+        }
+        if is_left_out_method(object, name) {
+            self.context.left_out(line, name)
+        } else {
+            self.context.refuse(line, Refusal::UnknownFunction, name)
+        }
+    }
+
+    // Refuses a name that no method of a receiver has.
+    pub fn method_at(&self, line: usize, whole: &Value, name: &str) -> Result<(), Stop>
+        ensures gives { Answers T.seen O.seen (λ u. u) (method_at line (data_of whole.now) name.now) self.now.context result self.now.context }
+        ensures quiet { (n : ℕ) → failures_after n result ≡ n }
+    {
+        if whole.is_disabler() {
+            return Ok(());
+        }
+        match whole.as_object() {
+            Some(object) => self.object_method_at(line, object, name),
+            None => self.context.value_method_at(line, whole, name),
+        }
+    }
+
+    // A method of a receiver on its evaluated arguments: it gives a value, or nothing.
+    pub fn method_called(
+        &mut self,
+        line: usize,
+        whole: &Value,
+        name: &str,
+        arguments: &Arguments,
+    ) -> Result<Option<Value>, Stop>
+        requires room { HasRoom T.seen O.seen self.old.context }
+        ensures same { Same self.old.context self.new.context }
+        ensures device { Fails T.seen O.seen self.old.context result self.new.context }
+        ensures gives { Answers T.seen O.seen (option_map data_of)
+            (method_called line (data_of whole.now) name.now (arguments_data arguments.now)) self.old.context result self.new.context }
+    {
+        if whole.is_disabler() {
+            return Ok(Some(disabler_method(self.context.alloc, name, arguments)?));
+        }
+        if gives_disabler(arguments) {
+            return Ok(Some(Value::of_object(self.context.alloc, Object::Disabler)?));
+        }
+        self.method_given(line, whole, name, arguments)
+    }
+
+    // The same without a disabler.
+    fn method_given(
+        &mut self,
+        line: usize,
+        whole: &Value,
+        name: &str,
+        arguments: &Arguments,
+    ) -> Result<Option<Value>, Stop>
+        requires room { HasRoom T.seen O.seen self.old.context }
+        ensures same { Same self.old.context self.new.context }
+        ensures device { Fails T.seen O.seen self.old.context result self.new.context }
+        ensures gives { Answers T.seen O.seen (option_map data_of) (method_by false (object_in (data_of whole.now)) line
+            (data_of whole.now) name.now (arguments_data arguments.now)) self.old.context result self.new.context }
+    {
+        match whole.as_object() {
+            Some(object) => self.object_method(line, object, name, arguments),
+            None => self.context.value_method(line, whole, name, arguments),
+        }
+    }
+
+    // A method of an object on its arguments, at a line.
+    fn object_method(
+        &mut self,
+        line: usize,
+        object: &Object,
+        name: &str,
+        arguments: &Arguments,
+    ) -> Result<Option<Value>, Stop>
+        requires room { HasRoom T.seen O.seen self.old.context }
+        ensures same { Same self.old.context self.new.context }
+        ensures device { Fails T.seen O.seen self.old.context result self.new.context }
+        ensures gives { Answers T.seen O.seen (option_map data_of)
+            (object_method_called line object.now name.now (arguments_data arguments.now)) self.old.context result self.new.context }
+    {
+        self.context.store.at(line);
+        let mut caller = Caller {
+            alloc: self.context.alloc,
+            store: self.context.store,
+            tree: self.context.tree,
+            out: self.context.out,
+        };
+        object_method(&mut caller, object, name, arguments)
+    }
+}

@@ -1,0 +1,270 @@
+//! Expressions: one function for each form of node.
+ghost use Rattle.std.specs.Prelude.{◌<◌, ◌≤◌, ◌+◌, ℕ, suc, max, Some, length, map, option_map};
+ghost use Rattle.grammar.specs.ExpressionTree.{ListTree, DictionaryTree, FunctionTree, ChainTree, TernaryTree, expressions, entries as entry_trees, arguments as argument_trees, links as link_trees, operands as operand_trees};
+ghost use Rattle.code.specs.Nodes.{tree_at, entry_at, argument_at, operand_at, link_at};
+ghost use Rattle.data.specs.View.{data_of};
+ghost use Rattle.arguments.specs.Arguments.{arguments_data, no_arguments};
+ghost use Rattle.world.specs.Plan.{next, ruled};
+ghost use Rattle.interp.specs.Expressions.{value_of, arguments_of, link_of, links_of};
+ghost use Rattle.interp.specs.Parts.{above, above_number, above_entry, above_argument, above_operand, above_link};
+
+use crate::evaluator::Evaluator;
+use crate::halt::{Halt, ended_inside};
+use arguments::{Arguments, add_argument, no_arguments};
+use code::Code;
+use code::node::{ArgumentNode, CallNode, EntryNode, LinkNode, Node, OperandNode};
+use data::Value;
+use expressions::Begun;
+use ports::{Outputs, Tree};
+use std::sync::ledger::Ledger;
+
+impl<'a, T: Tree, O: Outputs, L: Ledger> Evaluator<'a, T, O, L> {
+    ghost use Rattle.interp.specs.Evaluates.{Evaluates, FailsInside};
+    ghost use Rattle.expressions.specs.Contexts.{HasRoom, Same};
+
+    /// The value of the expression with this number.
+    #[cycle(eval)]
+    pub fn eval(&mut self, code: &Code, node: usize) -> Result<Value, Halt>
+        requires here { node < length code.now.nodes.items }
+        requires room { HasRoom T.seen O.seen self.old.context }
+        ensures same { Same self.old.context self.new.context }
+        ensures device { FailsInside T.seen O.seen self.old.context result self.new.context }
+        ensures gives { Evaluates T.seen O.seen data_of (λ into ts. ruled (value_of into (tree_at ts node))) code.now
+            self.old.context result self.new.context }
+    {
+        let answer = self.form(code, node);
+        ended_inside(answer, self.context.steps)
+    }
+
+    /// The same, before its rule has ended.
+    #[cycle(eval)]
+    pub fn form(&mut self, code: &Code, node: usize) -> Result<Value, Halt>
+        requires here { node < length code.now.nodes.items }
+        requires room { HasRoom T.seen O.seen self.old.context }
+        ensures same { Same self.old.context self.new.context }
+        ensures device { FailsInside T.seen O.seen self.old.context result self.new.context }
+        ensures gives { Evaluates T.seen O.seen data_of (λ into ts. value_of into (tree_at ts node)) code.now self.old.context result self.new.context }
+    {
+        match &code.nodes[node] {
+            Node::Name { number, line } => Ok(self.context.variable(*number, *line)?),
+            Node::Literal { literal, line } => Ok(self.context.literal(*line, literal)?),
+            Node::List { items, line } => self.list(code, items, *line),
+            Node::Dictionary { entries, line } => self.dictionary(code, entries, *line),
+            Node::Call { call, line } => {
+                let call: &CallNode = call;
+                self.call(code, &call.name, &call.arguments, *line)
+            }
+            Node::Postfix { first, links, line } => {
+                let given = self.asked(code, *first as usize, links, *line)?;
+                Ok(self.context.needed(*line, given)?)
+            }
+            Node::Prefix {
+                prefix,
+                value,
+                line,
+            } => {
+                let value = self.eval(code, *value)?;
+                Ok(self.context.prefixed(*line, *prefix, value)?)
+            }
+            Node::Chain {
+                first,
+                others,
+                line,
+            } => self.chain(code, *first as usize, others, *line),
+            Node::Ternary {
+                test,
+                yes,
+                no,
+                line,
+            } => self.ternary(code, *test, *yes, *no, *line),
+        }
+    }
+
+    // `[first, second]`
+    #[cycle(eval)]
+    fn list(&mut self, code: &Code, items: &[usize], line: usize) -> Result<Value, Halt>
+        requires here { above above_number items.now ≤ length code.now.nodes.items }
+        requires room { HasRoom T.seen O.seen self.old.context }
+        ensures same { Same self.old.context self.new.context }
+        ensures device { FailsInside T.seen O.seen self.old.context result self.new.context }
+        ensures gives { Evaluates T.seen O.seen data_of (λ into ts. value_of into
+            (ListTree (expressions (map (tree_at ts) items.now)) line)) code.now self.old.context result self.new.context }
+    {
+        let mut values = Vec::new(self.context.alloc);
+        for item in items {
+            let value = self.eval(code, *item)?;
+            values.push(value)?;
+        }
+        Ok(self.context.listed(line, values)?)
+    }
+
+    // `{key : value, key : value}`
+    #[cycle(eval)]
+    fn dictionary(&mut self, code: &Code, entries: &[EntryNode], line: usize) -> Result<Value, Halt>
+        requires here { above above_entry entries.now ≤ length code.now.nodes.items }
+        requires room { HasRoom T.seen O.seen self.old.context }
+        ensures same { Same self.old.context self.new.context }
+        ensures device { FailsInside T.seen O.seen self.old.context result self.new.context }
+        ensures gives { Evaluates T.seen O.seen data_of (λ into ts. value_of into (DictionaryTree (entry_trees
+            (map (entry_at ts) entries.now)) line)) code.now self.old.context result self.new.context }
+    {
+        let mut pairs = Vec::new(self.context.alloc);
+        for entry in entries {
+            let key = self.eval(code, entry.key)?;
+            let value = self.eval(code, entry.value)?;
+            pairs.push((key, value))?;
+        }
+        Ok(self.context.paired(line, pairs)?)
+    }
+
+    // `name(argument, name: argument)`, which has to give a value.
+    #[cycle(eval)]
+    fn call(
+        &mut self,
+        code: &Code,
+        name: &str,
+        arguments: &[ArgumentNode],
+        line: usize,
+    ) -> Result<Value, Halt>
+        requires here { above above_argument arguments.now ≤ length code.now.nodes.items }
+        requires room { HasRoom T.seen O.seen self.old.context }
+        ensures same { Same self.old.context self.new.context }
+        ensures device { FailsInside T.seen O.seen self.old.context result self.new.context }
+        ensures gives { Evaluates T.seen O.seen data_of (λ into ts. value_of into (FunctionTree name.now (argument_trees
+            (map (argument_at ts) arguments.now)) line)) code.now self.old.context result self.new.context }
+    {
+        let function = self.context.function_inside(line, name)?;
+        let arguments = self.arguments(code, arguments)?;
+        self.called_inside(line, function, &arguments)
+    }
+
+    /// The values of these arguments, in order.
+    #[cycle(eval)]
+    pub fn arguments(&mut self, code: &Code, arguments: &[ArgumentNode]) -> Result<Arguments, Halt>
+        requires here { above above_argument arguments.now ≤ length code.now.nodes.items }
+        requires room { HasRoom T.seen O.seen self.old.context }
+        ensures same { Same self.old.context self.new.context }
+        ensures device { FailsInside T.seen O.seen self.old.context result self.new.context }
+        ensures gives { Evaluates T.seen O.seen arguments_data (λ into ts. arguments_of into no_arguments (argument_trees
+            (map (argument_at ts) arguments.now))) code.now self.old.context result self.new.context }
+    {
+        let mut evaluated = no_arguments(self.context.alloc);
+        for argument in arguments {
+            let value = self.eval(code, argument.value)?;
+            add_argument(self.context.alloc, &mut evaluated, &argument.name, value)?;
+        }
+        Ok(evaluated)
+    }
+
+    /// What the last link gives of what is asked of an expression: a method may give nothing.
+    #[cycle(eval)]
+    pub fn asked(
+        &mut self,
+        code: &Code,
+        first: usize,
+        links: &[LinkNode],
+        line: usize,
+    ) -> Result<Option<Value>, Halt>
+        requires here { max (suc first) (above above_link links.now) ≤ length code.now.nodes.items }
+        requires room { HasRoom T.seen O.seen self.old.context }
+        ensures same { Same self.old.context self.new.context }
+        ensures device { FailsInside T.seen O.seen self.old.context result self.new.context }
+        ensures gives { Evaluates T.seen O.seen (option_map data_of) (λ into ts. next (ruled (value_of into (tree_at ts first)))
+            (λ d. links_of into line (Some d) (link_trees (map (link_at ts) links.now)))) code.now self.old.context result self.new.context }
+    {
+        let value = self.eval(code, first)?;
+        let mut given = Some(value);
+        for link in links {
+            let whole = self.context.needed(line, given)?;
+            given = self.link(code, line, link, whole)?;
+        }
+        Ok(given)
+    }
+
+    // What is asked of a value once.
+    #[cycle(eval)]
+    fn link(
+        &mut self,
+        code: &Code,
+        line: usize,
+        link: &LinkNode,
+        whole: Value,
+    ) -> Result<Option<Value>, Halt>
+        requires here { above_link link.now ≤ length code.now.nodes.items }
+        requires room { HasRoom T.seen O.seen self.old.context }
+        ensures same { Same self.old.context self.new.context }
+        ensures device { FailsInside T.seen O.seen self.old.context result self.new.context }
+        ensures gives { Evaluates T.seen O.seen (option_map data_of) (λ into ts. link_of into line (data_of whole)
+            (link_at ts link.now)) code.now self.old.context result self.new.context }
+    {
+        match link {
+            LinkNode::Method { name, arguments } => {
+                self.method_at(line, &whole, name)?;
+                let arguments = self.arguments(code, arguments)?;
+                Ok(self.method_called(line, &whole, name, &arguments)?)
+            }
+            LinkNode::Index { index } => {
+                let at = self.eval(code, *index)?;
+                Ok(self.context.part_at(line, &whole, &at)?)
+            }
+        }
+    }
+
+    // `first + second - third`
+    #[cycle(eval)]
+    fn chain(
+        &mut self,
+        code: &Code,
+        first: usize,
+        others: &[OperandNode],
+        line: usize,
+    ) -> Result<Value, Halt>
+        requires here { max (suc first) (above above_operand others.now) ≤ length code.now.nodes.items }
+        requires room { HasRoom T.seen O.seen self.old.context }
+        ensures same { Same self.old.context self.new.context }
+        ensures device { FailsInside T.seen O.seen self.old.context result self.new.context }
+        ensures gives { Evaluates T.seen O.seen data_of (λ into ts. value_of into (ChainTree (tree_at ts first) (operand_trees
+            (map (operand_at ts) others.now)) line)) code.now self.old.context result self.new.context }
+    {
+        let mut value = self.eval(code, first)?;
+        for operand in others {
+            let begun = self.context.begun(line, operand.operator, value)?;
+            let half = match begun {
+                Begun::Decided(whole) => {
+                    value = whole;
+                    continue;
+                }
+                Begun::Waits(half) => half,
+            };
+            let right = self.eval(code, operand.value)?;
+            value = self.context.completed(line, half, right)?;
+        }
+        Ok(value)
+    }
+
+    // `test ? yes : no`
+    #[cycle(eval)]
+    fn ternary(
+        &mut self,
+        code: &Code,
+        test: usize,
+        yes: usize,
+        no: usize,
+        line: usize,
+    ) -> Result<Value, Halt>
+        requires here { max (suc test) (max (suc yes) (suc no)) ≤ length code.now.nodes.items }
+        requires room { HasRoom T.seen O.seen self.old.context }
+        ensures same { Same self.old.context self.new.context }
+        ensures device { FailsInside T.seen O.seen self.old.context result self.new.context }
+        ensures gives { Evaluates T.seen O.seen data_of
+            (λ into ts. value_of into (TernaryTree (tree_at ts test) (tree_at ts yes) (tree_at ts no) line)) code.now
+            self.old.context result self.new.context }
+    {
+        let value = self.eval(code, test)?;
+        match value.as_boolean() {
+            Some(true) => self.eval(code, yes),
+            Some(false) => self.eval(code, no),
+            None => Ok(self.context.unchosen(line, value)?),
+        }
+    }
+}
