@@ -18,9 +18,10 @@ from tools.last_setup import build_folder_of  # noqa: E402
 COPY = os.path.join(WORK, "checkout")
 MESON = os.path.join(COPY, "meson")
 # It shows its words, is another command where a file `instead` says so, and writes what stands in `template`. Its questions stand in
-# `questions`.
+# `questions`, and what it tells of a fault in `told`.
 PROGRAM = f"""#!/bin/sh
 if test "$1" = questions; then . {WORK}/questions; exit; fi
+if test "$1" = fault && test -f {WORK}/told; then . {WORK}/told; exit; fi
 echo "program $*"
 if test -f {WORK}/instead; then . {WORK}/instead; fi
 for last; do :; done
@@ -216,7 +217,11 @@ def test_explain() -> None:
         check(f"meson explain: {name}", is_good and is_untouched and (done.stderr == "") == (status < 2), f"{done}")
 
     fault = "echo 'meson.build:2: ERROR: E9 arguments' >&2; exit 1"
+    put("told", f"""echo "keyword 'instal': there is none"; {fault}\n""")
     explains("a fault", fault, ["b"], 1, "executable: keyword 'instal': there is none; near: 'install'")
+    put("told", f"""echo "keyword 'instal': there is none"; echo 'meson.build:3: ERROR: E9 arguments' >&2; exit 1\n""")
+    explains("a fault of another run is not told", fault, ["b"], 1, "executable: it can't do with what it got")
+    os.remove(f"{WORK}/told")
     shown = "meson.build:2: ERROR: E9 arguments\n  2 | exec"
     with_words = f'case "$*" in "questions -D x=1 --native-file=/"*"/native.ini -- b") {fault} ;; esac'
     explains("a fault, with words", with_words, ["-D", "x=1", "--native-file=n.ini", "--", "b"], 1, shown)

@@ -7,7 +7,7 @@ import re
 # What a hole of a table looks like: '…', or '…1' and '…2' where a row has two columns.
 HOLE = re.compile(r"…(\d?)")
 
-# Parts of a row of which each makes a row of its own: '‹a¦b¦c›'.
+# Parts of a row of which each makes a row of its own: '‹a¦b¦c›'; in a result the part at the same place, or '‹1›' for the chosen one.
 CHOICE = re.compile(r"‹([^›]*)›")
 
 # What stands between a row and its result, and between the columns of a row.
@@ -191,19 +191,32 @@ def rows_of(group, title, items, rows, shown):
         source, arrow, result = (" " + line).rpartition(ARROW)
         if not arrow:
             raise FormError(f"{at}: a row has '{ARROW}' before what it must come to")
-        source = source[1:].rstrip()
-        for one in choices_of(source):
+        for one, result_of_one in choices_of(source[1:].rstrip(), result.strip(), at):
             columns = columns_of(one, len(holes), at)
-            cases.append(Case(group, title, at, items, one or "(nothing)", columns, result.strip(), text == "printed"))
+            cases.append(Case(group, title, at, items, one or "(nothing)", columns, result_of_one, text == "printed"))
     return cases
 
 
-def choices_of(source):
-    """The rows that a row stands for: one for each of the parts between '‹' and '›', where it has some."""
+def choices_of(source, result, place):
+    """The rows that a row stands for, each with its result: one for each of the parts between '‹' and '›', where it has some."""
     choices = [it.split("¦") for it in CHOICE.findall(source)]
     between = CHOICE.split(source)[::2]
-    for chosen in itertools.product(*choices):
-        yield between[0] + "".join(part + rest for part, rest in zip(chosen, between[1:]))
+    for numbers in itertools.product(*(range(len(parts)) for parts in choices)):
+        chosen = [parts[number] for parts, number in zip(choices, numbers)]
+        of_result = CHOICE.sub(lambda it: part_of_result(it[1], choices, numbers, place), result)
+        yield between[0] + "".join(part + rest for part, rest in zip(chosen, between[1:])), of_result
+
+
+def part_of_result(inner, choices, numbers, place):
+    """What stands for '‹inner›' in a result: the chosen part of the choice with this number, or the part that stands at the same place as
+    the chosen one of the first choice of the row that has as many."""
+    parts = inner.split("¦")
+    if len(parts) == 1 and inner.isdigit() and 0 < int(inner) <= len(choices):
+        return choices[int(inner) - 1][numbers[int(inner) - 1]]
+    for of_row, number in zip(choices, numbers):
+        if len(of_row) == len(parts) > 1:
+            return parts[number]
+    raise FormError(f"{place}: no choice of the row has as many parts as '‹{inner}›'")
 
 
 def columns_of(source, count, place):

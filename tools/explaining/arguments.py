@@ -1,36 +1,47 @@
-"""E9: a call with its arguments, by what it takes and what it got."""
+"""E9: a call with its arguments, by what the program tells of them, or else by what the call does with them."""
 from __future__ import annotations
+
+import re
 
 from porting import left, tree
 from tools.explaining.context import Context
 from tools.explaining.detail import Detail, detail, listed, near, quoted
 from tools.explaining.instead import in_its_place
-from tools.explaining.rows import FUNCTIONS, METHODS, OF_KIND, Kind, Row
-from tools.explaining.rules import BUILDS, broken_rule
-from tools.explaining.values import OWN, Value
+from tools.explaining.rows import FUNCTIONS, KINDS, METHODS, OF_VALUES, PRINTED, Kind, Row
+from tools.explaining.rules import broken_rule, hint_of, place_of_text, value_of_key
+from tools.explaining.told import GOT, NONE
+from tools.explaining.values import OBJECT, OWN, Value
 
-
-def row_of(context: Context, call: tree.Call) -> Row | None:
-    if call.receiver is None or call.name in METHODS:
-        return FUNCTIONS.get(call.name) if call.receiver is None else METHODS[call.name]
-    value = context.value(call.receiver) if any(name == call.name for _, name in OF_KIND) else None
-    return OF_KIND.get((value.kind, call.name)) if value else None
+# What is taken and is no kind of values, where what was given says more.
+OTHERS = ("'c'", "one file")
+# What is told of more than one argument, and of words of commands.
+UNPRINTED, FOR_NOTHING = "one can't be printed", " stands for nothing"
 
 
 def refused(context: Context) -> Detail:
     """E9 at a call, or at an assignment to a name that can't be set."""
-    statement = context.place.statement
+    call, statement = call_of(context), context.place.statement
+    if call is not None:
+        return of_told(context, call) if context.told.whole else of_call(context, call)
+    own = own_name(statement)
+    if own is not None:
+        return detail(f"{quoted(own)} can't be set: it is a variable of the program's own", at=statement.start)
+    return detail(f"{quoted(context.place.source(statement))}: a value can't be used so", at=statement.start)
+
+
+def call_of(context: Context) -> tree.Call | None:
+    """The call that is refused: the one that what is told may be of, where that is one alone, or else the node at fault; none of an
+    assignment."""
+    told, calls = context.told, context.place.calls()
+    fitting = [it for it in calls if told.may_be_of(it)] if told.whole else []
+    if len(fitting) == 1:
+        return fitting[0]
     node = context.probe.culprit if context.probe.can_ask else None
-    call = node if isinstance(node, tree.Call) else None
-    if call is None and (node is None or not isinstance(node, tree.Call)):
-        own = own_name(statement) if node is None else None
-        if own is not None:
-            return detail(f"{quoted(own)} can't be set: it is a variable of the program's own", at=statement.start)
-        candidates = context.place.calls()
-        call = next((it for it in candidates[::-1] if of_words(context, it)), candidates[0] if candidates else None)
-    if call is None:
-        return detail(f"{quoted(context.place.source(statement))}: a value can't be used so", at=statement.start)
-    return of_words(context, call) or of_values(context, call)
+    if isinstance(node, tree.Call) and (node in fitting or not fitting):
+        return node
+    if not fitting and node is None and own_name(context.place.statement) is not None:
+        return None
+    return (fitting or calls or [None])[0]
 
 
 def own_name(statement: tree.Statement) -> str | None:
@@ -38,47 +49,90 @@ def own_name(statement: tree.Statement) -> str | None:
     return next((it for it in tree.names_set_by(statement) if it in OWN), None)
 
 
-def of_words(context: Context, call: tree.Call) -> Detail | None:
-    """Keywords that are not there, or missing, and numbers of arguments: by the text alone."""
-    row = row_of(context, call)
-    if row is None:
-        return None
-    for name, word in call.keywords.items():
-        if name not in row.keywords:
-            takes = f"{call.name} takes {listed(row.keywords)}" if row.keywords else f"{call.name} takes no keywords"
-            told = in_its_place("Keywords", name, left.KEYWORDS.get(call.name, {}).get(name, ""))
-            return detail(f"{call.name}: keyword {quoted(name)}: there is none{near(name, row.keywords)}", told or takes, at=word.start)
-    for name in row.needed:
-        if name not in call.keywords:
-            return detail(f"{call.name}: the keyword {quoted(name)} is missing, and is needed", at=call.start)
+def of_told(context: Context, call: tree.Call) -> Detail:
+    """What the program tells, at its place in the call, with what the text and the values say of it."""
+    told = context.told
+    node = told.value_in(call) if told.may_be_of(call) else None
+    if told.so == NONE and told.keyword is not None:
+        return unknown_keyword(context, call, told.keyword)
+    if told.text is not None:
+        given = value_of_key(context, call, told.text) if told.kind else None
+        text = f"{call.name}: {told.shown}" + (f"{GOT}{given.shown()}" if given else "")
+        return detail(text, hint_of(context, call), at=place_of_text(context, call, told.text))
+    if told.so == UNPRINTED:
+        return unprinted(context, call)
+    if node is None:
+        return detail(f"{call.name}: {told.shown}", at=place_of_count(call, told.so))
+    if told.kind in KINDS or told.kind in OTHERS:
+        return detail(f"{call.name}: {told.shown.partition(GOT)[0]}{got(context, context.value(node))}", at=node.start)
+    rule = broken_rule(context, call, values_of(context, call)) if told.so.endswith(FOR_NOTHING) else None
+    return detail(f"{call.name}: {told.shown}", *(rule.lines if rule else ()), at=rule.at if rule else node.start)
+
+
+def unprinted(context: Context, call: tree.Call) -> Detail:
+    """The first argument that has no printed text."""
+    for number, node in enumerate(call.arguments, 1):
+        value = context.value(node)
+        misfit = misfit_of(PRINTED, value) if value is not None else ""
+        if misfit:
+            return detail(f"{call.name}: {context.told.shown}: argument {number} is {misfit}", f"it prints {PRINTED.words}", at=node.start)
+    return detail(f"{call.name}: {context.told.shown}", f"it prints {PRINTED.words}", at=call.start)
+
+
+def values_of(context: Context, call: tree.Call) -> dict[str, Value]:
+    """The values of the arguments that are known, by their names and numbers."""
+    found = {name: context.value(item) for name, _, item in items_of(call)}
+    return {name: it for name, it in found.items() if it is not None}
+
+
+def got(context: Context, value: Value | None) -> str:
+    """What was given where another kind is taken: the value itself, where it is known, or what is told of it."""
+    told = context.told
+    kind = KINDS.get(told.kind or "")
+    found = (misfit_of(kind, value) if kind else value.shown()) if value is not None and value.kind != OBJECT else ""
+    return GOT + found if found else "".join(told.shown.partition(GOT)[1:])
+
+
+def unknown_keyword(context: Context, call: tree.Call, name: str) -> Detail:
+    known = (FUNCTIONS if call.receiver is None else METHODS).get(call.name, ())
+    takes = f"{call.name} takes {listed(known)}" if known else f"{call.name} takes no keywords"
+    instead = in_its_place("Keywords", name, left.KEYWORDS.get(call.name, {}).get(name, ""))
+    return detail(f"{call.name}: {context.told.shown}{near(name, known)}", instead or takes, at=context.told.words_of(call)[0].start)
+
+
+def place_of_count(call: tree.Call, so: str) -> int:
+    """Where the arguments begin that are too many; of other counts, and of a keyword that is missing, the call."""
+    most = re.fullmatch(r"takes (\d+), and got more", so)
+    return call.arguments[int(most[1])].start if most and int(most[1]) < len(call.arguments) else call.start
+
+
+def of_call(context: Context, call: tree.Call) -> Detail:
+    """A call of which the program tells nothing: kinds of values of a method, then rules of the call; else what each argument is."""
+    row, values = row_of(context, call), {}
     count = len(call.arguments)
-    if count < row.least or row.most is not None and count > row.most:
+    if row and (count < row.least or row.most is not None and count > row.most):
         at = call.arguments[row.most].start if row.most is not None and count > row.most else call.start
         return detail(f"{call.name}: takes {row.count()} without a name, and got {count}", at=at)
-    return None
-
-
-def of_values(context: Context, call: tree.Call) -> Detail:
-    """Kinds of values, then rules of the call; else what each argument is."""
-    row, values = row_of(context, call), {}
     for name, number, item in items_of(call):
         values[name] = value = context.value(item)
-        kind = (row.keywords.get(name) if number is None else row.kind(number)) if row else None
+        kind = row.kind(number) if row and number is not None else None
         if kind is not None and value is not None and (misfit := misfit_of(kind, value)):
-            return detail(f"{call.name}: {name_of(name, number)}: takes {kind.words}, and got {misfit}", at=item.start)
-    if call.name == "project" and not context.probe.can_ask:
-        for node in (it for item in call.items for it in tree.inside(item)):
-            if isinstance(node, (tree.Call, tree.Name)) and node is not call:
-                return detail(f"project: its values are plain ones, and {quoted(context.place.source(node))} is none", at=node.start)
+            return detail(f"{call.name}: {name_of(name, number)}: takes {kind.words}{GOT}{misfit}", at=item.start)
     rule = broken_rule(context, call, {name: it for name, it in values.items() if it is not None})
     if rule is not None:
         return rule
     dropped = context.probe.without(call) if context.probe.can_ask else None
     if dropped is not None:
         value = values.get(dropped.name)
-        got = value.shown() if value else quoted(context.place.source(dropped.value))
-        return detail(f"{call.name}: keyword {quoted(dropped.name)}: can't be {got}", at=dropped.start)
+        given = value.shown() if value else quoted(context.place.source(dropped.value))
+        return detail(f"{call.name}: keyword {quoted(dropped.name)}: can't be {given}", at=dropped.start)
     return all_values(context, call, values)
+
+
+def row_of(context: Context, call: tree.Call) -> Row | None:
+    """What a method of a value takes."""
+    value = context.value(call.receiver) if call.receiver is not None and any(name == call.name for _, name in OF_VALUES) else None
+    return OF_VALUES.get((value.kind, call.name)) if value else None
 
 
 def misfit_of(kind: Kind, value: Value) -> str:
@@ -102,10 +156,4 @@ def all_values(context: Context, call: tree.Call, values: dict[str, Value | None
     """What the call was given, where no rule is known that says more."""
     on = f" of {value.shown()}" if call.receiver is not None and (value := context.value(call.receiver)) else ""
     given = [f"{name_of(name, number)} is {value.shown()}" for name, number, _ in items_of(call) if (value := values.get(name))]
-    row = row_of(context, call)
-    if call.name in BUILDS:
-        why = f"{call.name}: among its sources is a file that ends in neither '.c' nor '.h', or none that ends in '.c'"
-        return detail(why, f"it got: {listed(given)}", at=call.start)
-    takes = [f"argument {it + 1} {row.kind(it).words}" for it in range(min(row.most or len(row.kinds), 4))] if row and row.most != 0 else []
-    told = f"it takes: {listed(takes)}" if takes else ""
-    return detail(f"{call.name}{on}: it can't do with what it got: {listed(given) or 'nothing'}", told, at=call.start)
+    return detail(f"{call.name}{on}: it can't do with what it got: {listed(given) or 'nothing'}", at=call.start)

@@ -11,6 +11,7 @@ from tools.explaining.detail import Detail, detail, shown
 from tools.explaining.place import place_of
 from tools.explaining.probe import Probe
 from tools.explaining.run import LONGEST, MACHINE, MOST_BYTES, WORDS, Asked, Fault, Outcome, about, in_place, machine_path, room_of
+from tools.explaining.told import Told, told_of
 
 DONE, NOT_READ, BAD_WORDS = 0, 2, 4
 ON_STATEMENTS = {
@@ -20,8 +21,8 @@ ON_STATEMENTS = {
     24: others.too_late,
 }
 ON_TEXTS = {2: grammar.token_detail, 3: grammar.grammar_detail, 4: grammar.nesting_detail}
-# The faults of which the program may say which argument they are about.
-OF_ARGUMENTS = (9, 11, 23)
+# The faults of which the program tells more than their line says.
+TOLD = (9, 11, 15, 23)
 # How long a file is that is looked at, and what is said of one that isn't.
 MOST_CHARACTERS = 1 << 20
 TOO_LONG = "a text or a definition file may have 16,777,216 bytes, a machine file 33,554,432, and a line of a template 65,536"
@@ -82,19 +83,10 @@ def explained(asked: Asked, fault: Fault) -> list[str]:
     """The fault line, the line of the source with its mark, and the detail."""
     text = text_of(asked, fault)
     try:
-        found = detail_of(asked, fault, text)
-        if fault.number in OF_ARGUMENTS:
-            found = with_told(found, about(asked, fault))
+        found = detail_of(asked, fault, told_of(about(asked, fault) if fault.number in TOLD else ""), text)
     except subprocess.TimeoutExpired:
         found = detail("it takes too long to ask what stands there")
     return [one_line(fault.shown()), *(shown(text, fault.line, found.at) if text is not None else []), *map(one_line, found.lines)]
-
-
-def with_told(found: Detail, told: str) -> Detail:
-    """A detail; before it what the program says of the arguments, where the detail is about another one."""
-    subject = told.partition(": ")[0]
-    words = {"arguments": "without a name"}.get(subject, subject)
-    return found if not told or any(words in it for it in found.lines) else Detail((told, *found.lines), found.at)
 
 
 def text_of(asked: Asked, fault: Fault) -> str | None:
@@ -112,13 +104,13 @@ def text_of(asked: Asked, fault: Fault) -> str | None:
     return data.decode(errors="backslashreplace")
 
 
-def detail_of(asked: Asked, fault: Fault, text: str | None) -> Detail:
+def detail_of(asked: Asked, fault: Fault, told: Told, text: str | None) -> Detail:
     if fault.number == 1:
         return grammar.bytes_detail(bytes_of(asked, fault))
     if fault.file == WORDS:
-        return settings.of_word(asked, fault)
+        return settings.of_value(asked, told)
     if fault.file == MACHINE:
-        return settings.of_machine(asked, fault) if fault.number in (15, 23) else of_machine(asked, fault)
+        return settings.of_machine(asked, fault, told) if fault.number in (15, 23) else of_machine(asked, fault)
     if text is None:
         return detail(f"the folder has no {fault.file}: `meson explain` is called in the folder of the sources, as `meson setup`")
     if len(text) > MOST_CHARACTERS:
@@ -126,10 +118,10 @@ def detail_of(asked: Asked, fault: Fault, text: str | None) -> Detail:
     if fault.number in ON_TEXTS:
         return ON_TEXTS[fault.number](text, fault.line)
     if fault.file in settings.FILES:
-        return settings.of_option_file(asked, fault, text)
+        return settings.of_option_file(asked, fault, told, text)
     if fault.number == 19:
         return others.template(grammar.line_text(text, fault.line))
-    return on_statement(asked, fault, text)
+    return on_statement(asked, fault, told, text)
 
 
 def of_machine(asked: Asked, fault: Fault) -> Detail:
@@ -143,10 +135,10 @@ def bytes_of(asked: Asked, fault: Fault) -> bytes:
         return it.read()
 
 
-def on_statement(asked: Asked, fault: Fault, text: str) -> Detail:
+def on_statement(asked: Asked, fault: Fault, told: Told, text: str) -> Detail:
     """A fault of a statement: its values are asked of the program."""
     place = place_of(fault.file, text, fault.line) if read(os.path.join(asked.root, fault.file)) is not None else None
     if place is None:
         return detail(UNSEEN.get(fault.number, "what is refused stands in this line"))
     with room_of(asked, fault.file, text) as room:
-        return ON_STATEMENTS[fault.number](Context(asked, fault, place, Probe(room, place, fault.number, set_in(asked.root))))
+        return ON_STATEMENTS[fault.number](Context(asked, fault, told, place, Probe(room, place, fault.number, set_in(asked.root))))

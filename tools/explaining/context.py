@@ -13,14 +13,16 @@ from porting.parser import parse
 from tools.explaining.place import Place
 from tools.explaining.probe import Probe
 from tools.explaining.run import Asked, Fault
+from tools.explaining.told import Told
 from tools.explaining.values import DICTIONARY, OWN, Value
 
 
 @dataclasses.dataclass
 class Context:
-    """A fault of a definition file, where it stands, and who answers what is there."""
+    """A fault of a definition file, what the program tells that it is about, where it stands, and who answers what is there."""
     asked: Asked
     fault: Fault
+    told: Told
     place: Place
     probe: Probe
 

@@ -128,41 +128,46 @@ def no_dependency(context: Context, call: tree.Call, names: list[str]) -> str:
 
 
 def left_out(context: Context) -> Detail:
-    """E23: a function, a method, a keyword or a value."""
-    for call in context.place.calls()[::-1]:
-        if call.receiver is None and call.name not in FUNCTIONS:
-            first = call.arguments[0] if call.arguments else None
-            module = f"import('{first.value}')" if call.name == "import" and isinstance(first, tree.Text) else call.name
-            told = in_its_place("Functions", module) or in_its_place("Functions", "import('fs')" if call.name == "import" else call.name,
-                                                                     left.FUNCTIONS.get(call.name, ""))
-            what = f", and so is the module {quoted(first.value)}" if call.name == "import" and isinstance(first, tree.Text) else ""
-            return detail(f"the function {quoted(call.name)} is left out{what}", told, at=call.start)
-        if call.receiver is not None and call.name not in METHODS and in_its_place("Methods", call.name):
-            return detail(f"the method {quoted(call.name)} is left out", in_its_place("Methods", call.name), at=call.name_start)
-        for name, word in call.keywords.items():
-            row = FUNCTIONS.get(call.name)
-            short = left.KEYWORDS.get(call.name, {}).get(name, "")
-            if (row is None or name not in row.keywords) and (told := in_its_place("Keywords", name, short)):
-                return detail(f"{call.name}: the keyword {quoted(name)} is left out", told, at=word.start)
-    for call in context.place.calls():
-        if call.name == "project":
-            return of_project(context, call)
-        for method in (it for it in left.METHODS.values() if call.receiver is not None and call.name in it):
-            return detail(f"the method {quoted(call.name)} is left out", f"write in its place: {method[call.name]}", at=call.name_start)
-        for name, word in call.keywords.items():
-            if name in ("format", "protocol"):
-                return detail(f"{call.name}: this value of {quoted(name)} is left out", in_its_place("Keywords", name), at=word.start)
-    call = context.place.calls()[0] if context.place.calls() else None
-    return detail(f"{quoted(call.name)} is left out" if call else "something of this line is left out", at=call.start if call else None)
+    """E23: a function, a method, a keyword, a language or a value, as it is told."""
+    told, calls = context.told, context.place.calls()
+    if told.keyword is not None:
+        return left_keyword(context, told.keyword)
+    if told.name is None:
+        return of_project(context, next((it for it in calls if it.name == "project"), None))
+    name = told.name
+    call = next((it for it in calls[::-1] if it.name == name), None)
+    if call is not None and call.receiver is not None:
+        instead = in_its_place("Methods", name, next((it[name] for it in left.METHODS.values() if name in it), ""))
+        return detail(f"the method {quoted(name)} is left out", instead, at=call.name_start)
+    first = call.arguments[0] if call is not None and call.arguments else None
+    module = first.value if name == "import" and isinstance(first, tree.Text) else None
+    instead = in_its_place("Functions", f"import('{module}')" if module else name) or in_its_place(
+        "Functions", "import('fs')" if name == "import" else name, left.FUNCTIONS.get(name, ""))
+    what = f", and so is the module {quoted(module)}" if module else ""
+    return detail(f"the function {quoted(name)} is left out{what}", instead, at=call.start if call else None)
 
 
-def of_project(context: Context, call: tree.Call) -> Detail:
-    """A language beside C, or a value of an option that is left out."""
-    for argument in call.arguments[1:]:
+def left_keyword(context: Context, name: str) -> Detail:
+    """A keyword that is left out, of the call that has it."""
+    calls = [it for it in context.place.calls() if context.told.may_be_of(it)]
+    culprit = context.probe.culprit if len(calls) > 1 and context.probe.can_ask else None
+    call = culprit if isinstance(culprit, tree.Call) and culprit in calls else calls[-1] if calls else None
+    if call is None:
+        return detail(context.told.shown, in_its_place("Keywords", name))
+    instead = in_its_place("Keywords", name, left.KEYWORDS.get(call.name, {}).get(name, ""))
+    return detail(f"{call.name}: {context.told.shown}", instead, at=context.told.words_of(call)[0].start)
+
+
+def of_project(context: Context, call: tree.Call | None) -> Detail:
+    """A language beside C, of which nothing is told, or a value of an option."""
+    told = context.told
+    given = call.keywords.get("default_options") if call else None
+    if told.option is not None:
+        instead = in_its_place("Functions", "default_library=both")
+        return detail(f"project: default_options: {told.shown}", instead, at=given.start if given else None)
+    for argument in call.arguments[1:] if call else []:
         for node in tree.inside(argument):
             if isinstance(node, tree.Text) and node.value != "c":
                 why = f"project: the language {quoted(node.value)} is left out: C alone is built"
                 return detail(why, in_its_place("Functions", "add_languages"), at=node.start)
-    given = call.keywords.get("default_options")
-    return detail("project: default_options: default_library=both is left out", in_its_place("Functions", "default_library=both"),
-                  at=given.start if given else call.start)
+    return detail("project: a language beside C is left out", in_its_place("Functions", "add_languages"), at=call.start if call else None)

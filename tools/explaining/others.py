@@ -19,15 +19,11 @@ RESERVED = ("all", "build.ninja", "meson-info/introspect.json")
 def duplicate(context: Context) -> Detail:
     """E11: a keyword, a key or an output twice."""
     nodes = [node for root in tree.expressions_of(context.place.statement) for node in tree.inside(root)]
-    for node in nodes:
-        if isinstance(node, tree.Call):
-            seen: dict[str, tree.Keyword] = {}
-            for item in node.items:
-                if isinstance(item, tree.Keyword) and item.name in seen:
-                    first = context.place.line_of(seen[item.name].start)
-                    return detail(f"{node.name}: the keyword {quoted(item.name)} stands twice: in line {first} before", at=item.start)
-                if isinstance(item, tree.Keyword):
-                    seen[item.name] = item
+    calls = [it for it in nodes if isinstance(it, tree.Call) and context.told.may_be_of(it)] if context.told.keyword is not None else []
+    if calls:
+        first, second = context.told.words_of(calls[0])[:2]
+        why = f"in line {context.place.line_of(first.start)} before"
+        return detail(f"{calls[0].name}: {context.told.shown}: {why}", at=second.start)
     culprit = context.probe.culprit if context.probe.can_ask else None
     dictionaries = [culprit] if isinstance(culprit, tree.Dictionary) else [it for it in nodes if isinstance(it, tree.Dictionary)]
     if not isinstance(culprit, tree.Call):

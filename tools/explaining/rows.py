@@ -1,4 +1,5 @@
-"""What each function takes: its arguments, from the least number to the most, and its keywords; of each the kind of its value."""
+"""What functions and methods have and take, for words of explanations: keywords, kinds of values, and the arguments of methods of values,
+of which the program tells nothing."""
 from __future__ import annotations
 
 import dataclasses
@@ -26,39 +27,76 @@ class Kind:
         return None
 
 
-TEXT_ = Kind("a text", (TEXT,))
-TEXTS = Kind("texts", (TEXT,), True)
-TRUTH_ = Kind("a truth value", (TRUTH,))
-NUMBER = Kind("an integer", (INTEGER,))
-ANY = Kind("any value", (TEXT, INTEGER, TRUTH, LIST, DICTIONARY, OBJECT))
-VALUE = Kind("a text, an integer or a truth value", (TEXT, INTEGER, TRUTH))
-SOURCES = Kind("texts, files and custom targets", (TEXT, OBJECT), True, ("list of files", "custom target"))
-FILES = Kind("texts and files", (TEXT, OBJECT), True, ("list of files",))
-ONE_FILE = Kind("one text or file", (TEXT, OBJECT), True, ("list of files",))
+TEXT_, TEXTS = Kind("a text", (TEXT,)), Kind("texts", (TEXT,), True)
+NUMBER, ANY = Kind("an integer", (INTEGER,)), Kind("any value", (TEXT, INTEGER, TRUTH, LIST, DICTIONARY, OBJECT))
 PRINTED = Kind("texts, integers, truth values, and lists and dictionaries of these", (TEXT, INTEGER, TRUTH, DICTIONARY), True)
-FOLDERS = Kind("texts and include_directories", (TEXT, OBJECT), True, ("include_directories object",))
-LIBRARIES = Kind("libraries", (OBJECT,), True, ("library", "target"))
-TARGETS = Kind("targets", (OBJECT,), True, ("executable", "library", "target", "custom target"))
-DEPENDENCIES = Kind("dependencies", (OBJECT,), True, ("dependency",))
-REQUIRED = Kind("a truth value or a feature option", (TRUTH, OBJECT), False, ("feature option",))
-WORDS = Kind("texts, files, programs and targets", (TEXT, OBJECT), True, ("list of files", "program", *TARGETS.objects))
-ARGUMENTS = Kind("texts, files and targets", (TEXT, OBJECT), True, ("list of files", *TARGETS.objects))
-PROGRAM = Kind("a program, an executable, a custom target or a file", (OBJECT,), False,
-               ("program", "executable", "target", "custom target"))
-ENVIRONMENT = Kind("a dictionary of texts, or texts NAME=VALUE", (TEXT, DICTIONARY), True)
-DEFAULTS = Kind("texts name=value, or a dictionary", (TEXT, DICTIONARY), True)
-DATA = Kind("configuration data or a dictionary", (DICTIONARY, OBJECT), False, ("configuration data object",))
-VERSION = Kind("a text or an integer", (TEXT, INTEGER))
+TARGETS, LISTED = ("executable", "library", "target", "custom target"), ("list of files",)
+# The kinds that the program tells, each by its words.
+KINDS = {it.words: it for it in (
+    TEXT_, TEXTS, NUMBER, Kind("a truth value", (TRUTH,)), Kind("a text or an integer", (TEXT, INTEGER)),
+    Kind("a text, an integer or a truth value", (TEXT, INTEGER, TRUTH)), Kind("a dictionary", (DICTIONARY,)),
+    Kind("texts, or a dictionary", (TEXT, DICTIONARY), True), Kind("texts and files", (TEXT, OBJECT), True, LISTED),
+    Kind("texts, files and custom targets", (TEXT, OBJECT), True, (*LISTED, "custom target")),
+    Kind("texts and include_directories", (TEXT, OBJECT), True, ("include_directories object",)),
+    Kind("executables and libraries", (OBJECT,), True, ("executable", "library", "target")),
+    Kind("libraries", (OBJECT,), True, ("library", "target")), Kind("targets", (OBJECT,), True, TARGETS),
+    Kind("texts, files and targets", (TEXT, OBJECT), True, (*LISTED, *TARGETS)),
+    Kind("texts, files, programs and targets", (TEXT, OBJECT), True, (*LISTED, "program", *TARGETS)),
+    Kind("a program, a target or a file", (OBJECT,), False, ("program", *TARGETS)), Kind("dependencies", (OBJECT,), True, ("dependency",)),
+    Kind("a truth value or a feature option", (TRUTH, OBJECT), False, ("feature option",)),
+    Kind("configuration data", (OBJECT,), False, ("configuration data object",)),
+    Kind("configuration data or a dictionary", (DICTIONARY, OBJECT), False, ("configuration data object",)))}
+
+TARGET = ("sources", "include_directories", "c_args", "link_args", "link_with", "dependencies", "install", "install_dir",
+          "build_by_default")
+# The keywords of each function.
+FUNCTIONS: dict[str, tuple[str, ...]] = {
+    "project": ("version", "license", "default_options", "meson_version"),
+    **dict.fromkeys(("executable", "static_library"), TARGET),
+    **dict.fromkeys(("shared_library", "library"), (*TARGET, "version", "soversion")),
+    "custom_target": ("input", "depend_files", "output", "command", "capture", "depfile", "depends", "build_by_default", "install_dir",
+                      "install"),
+    "dependency": ("required", "disabler", "version", "method", "static", "native", "include_type"),
+    "declare_dependency": ("include_directories", "compile_args", "link_args", "link_with", "sources", "dependencies", "version"),
+    "find_program": ("required", "disabler", "native"),
+    "configure_file": ("input", "output", "configuration", "install_dir", "format", "encoding"),
+    "test": ("args", "env", "should_fail", "suite", "timeout", "depends", "workdir", "is_parallel"),
+    "install_headers": ("install_dir", "subdir"), **dict.fromkeys(("install_data", "install_man"), ("install_dir",)),
+    **dict.fromkeys(("add_project_arguments", "add_project_link_arguments"), ("language",)),
+    "subdir": ("if_found",), "include_directories": ("is_system",),
+    **dict.fromkeys(("assert", "configuration_data", "disabler", "error", "files", "get_option", "get_variable", "is_disabler",
+                     "is_variable", "join_paths", "message", "range", "set_variable", "subdir_done", "unset_variable", "warning"), ()),
+}
+# Of which kind an object is, or a value, that has these methods.
+METHODS_OF = {
+    TEXT: "contains startswith endswith format join replace split splitlines strip substring to_int to_lower to_upper underscorify "
+          "version_compare",
+    INTEGER: "is_even is_odd to_string", TRUTH: "to_int to_string", LIST: "contains get length", DICTIONARY: "get has_key keys",
+    "feature option": "enabled disabled auto allowed", "dependency": "found name version", "program": "found full_path path",
+    "target": "name full_path", "custom target": "name full_path to_list",
+    "configuration data object": "set set10 set_quoted get get_unquoted has keys merge_from", "machine": "system cpu_family cpu endian",
+    "meson object": "project_name project_version current_source_dir current_build_dir project_source_root project_build_root source_root "
+                    "build_root is_subproject is_cross_build backend version get_compiler",
+    "compiler": "get_id version has_header check_header has_function has_type has_member has_header_symbol has_argument has_link_argument "
+                "get_supported_arguments sizeof alignment find_library",
+}
+ASKING = ("prefix", "dependencies", "args", "include_directories", "dirs")
+# The keywords of each method.
+METHODS: dict[str, tuple[str, ...]] = {
+    **{name: () for text in METHODS_OF.values() for name in text.split()},
+    **dict.fromkeys(("has_header", "check_header", "has_function", "has_type", "has_argument", "has_link_argument", "has_member",
+                     "has_header_symbol", "find_library"), (*ASKING, "required")),
+    **dict.fromkeys(("sizeof", "alignment", "get_supported_arguments"), ASKING),
+    **dict.fromkeys(("set", "set10", "set_quoted"), ("description",)),
+}
 
 
 @dataclasses.dataclass(frozen=True)
 class Row:
-    """The kinds of the arguments, of which the last is that of all further ones; how many there may be; the keywords."""
-    kinds: tuple[Kind, ...]
-    least: int
-    most: int | None
-    keywords: dict[str, Kind] = dataclasses.field(default_factory=dict)
-    needed: tuple[str, ...] = ()
+    """The kinds of the arguments of a method, of which the last is that of all further ones; how many there may be."""
+    kinds: tuple[Kind, ...] = (ANY,)
+    least: int = 0
+    most: int | None = 0
 
     def kind(self, number: int) -> Kind:
         return self.kinds[min(number, len(self.kinds) - 1)]
@@ -72,96 +110,14 @@ class Row:
         return str(self.least) if self.least == self.most else f"{self.least} to {self.most}"
 
 
-TARGET = {"sources": SOURCES, "include_directories": FOLDERS, "c_args": TEXTS, "link_args": TEXTS, "link_with": LIBRARIES,
-          "dependencies": DEPENDENCIES, "install": TRUTH_, "install_dir": TEXT_, "build_by_default": TRUTH_}
-SHARED = {**TARGET, "version": TEXT_, "soversion": VERSION}
-INSTALLED = {"install_dir": TEXT_}
-
-FUNCTIONS = {
-    "project": Row((TEXT_, TEXTS), 1, None, {"version": TEXT_, "license": TEXTS, "default_options": DEFAULTS, "meson_version": TEXT_}),
-    "executable": Row((TEXT_, SOURCES), 1, None, TARGET),
-    "static_library": Row((TEXT_, SOURCES), 1, None, TARGET),
-    "shared_library": Row((TEXT_, SOURCES), 1, None, SHARED),
-    "library": Row((TEXT_, SOURCES), 1, None, SHARED),
-    "custom_target": Row((TEXT_,), 1, 1, {
-        "input": SOURCES, "depend_files": SOURCES, "output": TEXTS, "command": WORDS, "capture": TRUTH_, "depfile": TEXT_,
-        "depends": TARGETS, "build_by_default": TRUTH_, **INSTALLED, "install": TRUTH_}, ("output", "command")),
-    "dependency": Row((TEXT_,), 1, None, {
-        "required": REQUIRED, "disabler": TRUTH_, "version": TEXTS, "method": TEXT_, "static": TRUTH_, "native": TRUTH_,
-        "include_type": TEXT_}),
-    "declare_dependency": Row((ANY,), 0, 0, {
-        "include_directories": FOLDERS, "compile_args": TEXTS, "link_args": TEXTS, "link_with": LIBRARIES, "sources": SOURCES,
-        "dependencies": DEPENDENCIES, "version": TEXT_}),
-    "find_program": Row((TEXT_,), 1, None, {"required": REQUIRED, "disabler": TRUTH_, "native": TRUTH_}),
-    "configuration_data": Row((Kind("a dictionary", (DICTIONARY,)),), 0, 1),
-    "configure_file": Row((ANY,), 0, 0, {
-        "input": ONE_FILE, "output": TEXT_, "configuration": DATA, **INSTALLED, "format": TEXT_, "encoding": TEXT_},
-        ("output", "configuration")),
-    "test": Row((TEXT_, PROGRAM), 2, 2, {
-        "args": ARGUMENTS, "env": ENVIRONMENT, "should_fail": TRUTH_, "suite": TEXTS, "timeout": NUMBER, "depends": TARGETS,
-        "workdir": TEXT_, "is_parallel": TRUTH_}),
-    "install_headers": Row((FILES,), 0, None, {**INSTALLED, "subdir": TEXT_}),
-    "install_data": Row((FILES,), 0, None, INSTALLED),
-    "install_man": Row((FILES,), 0, None, INSTALLED),
-    "add_project_arguments": Row((TEXTS,), 0, None, {"language": TEXTS}, ("language",)),
-    "add_project_link_arguments": Row((TEXTS,), 0, None, {"language": TEXTS}, ("language",)),
-    "subdir": Row((TEXT_,), 1, 1, {"if_found": DEPENDENCIES}),
-    "include_directories": Row((TEXTS,), 0, None, {"is_system": TRUTH_}),
-    "files": Row((TEXTS,), 0, None),
-    "join_paths": Row((TEXT_,), 1, None),
-    "get_option": Row((TEXT_,), 1, 1),
-    "range": Row((NUMBER,), 1, 3),
-    "message": Row((PRINTED,), 1, None),
-    "warning": Row((PRINTED,), 1, None),
-    "error": Row((PRINTED,), 1, None),
-    "assert": Row((TRUTH_, TEXT_), 1, 2),
-    "set_variable": Row((TEXT_, ANY), 2, 2),
-    "get_variable": Row((TEXT_, ANY), 1, 2),
-    "is_variable": Row((TEXT_,), 1, 1),
-    "unset_variable": Row((TEXT_,), 1, 1),
-    "subdir_done": Row((ANY,), 0, 0),
-    "disabler": Row((ANY,), 0, 0),
-    "is_disabler": Row((ANY,), 1, 1),
-}
-CHECK = {"prefix": TEXTS, "dependencies": DEPENDENCIES, "args": TEXTS, "include_directories": FOLDERS}
-ASKED = {**CHECK, "required": REQUIRED}
-# Of which kind an object, or a value, is that has these methods.
-METHODS_OF = {
-    TEXT: "contains startswith endswith format join replace split splitlines strip substring to_int to_lower to_upper underscorify "
-          "version_compare",
-    INTEGER: "is_even is_odd to_string", TRUTH: "to_int to_string", LIST: "contains get length", DICTIONARY: "get has_key keys",
-    "feature option": "enabled disabled auto allowed", "dependency": "found name version", "program": "found full_path path",
-    "target": "name full_path", "custom target": "name full_path to_list",
-    "configuration data object": "set set10 set_quoted get get_unquoted has keys merge_from", "machine": "system cpu_family cpu endian",
-    "meson object": "project_name project_version current_source_dir current_build_dir project_source_root project_build_root source_root "
-                    "build_root is_subproject is_cross_build backend version get_compiler",
-    "compiler": "get_id version has_header check_header has_function has_type has_member has_header_symbol has_argument has_link_argument "
-                "get_supported_arguments sizeof alignment find_library",
-}
-# Methods whose arguments depend on what has them.
-OF_KIND = {
-    (TEXT, "contains"): Row((TEXT_,), 1, 1), (LIST, "contains"): Row((ANY,), 1, 1), (TEXT, "format"): Row((PRINTED,), 0, None),
-    (LIST, "get"): Row((NUMBER, ANY), 1, 2), (DICTIONARY, "get"): Row((TEXT_, ANY), 1, 2),
-    ("configuration data object", "get"): Row((TEXT_, ANY), 1, 2), ("configuration data object", "keys"): Row((ANY,), 0, 0),
-    (DICTIONARY, "keys"): Row((ANY,), 0, 0), (INTEGER, "to_string"): Row((ANY,), 0, 0), (TRUTH, "to_string"): Row((TEXT_,), 0, 2),
-}
-# Of methods the kinds, by the name alone, where all objects that have it take the same.
-METHODS = {
-    **{name: Row((ANY,), 0, 0) for text in METHODS_OF.values() for name in text.split()
-       if name not in (it for _, it in OF_KIND)},
-    **{name: Row((TEXT_,), 1, 1, ASKED) for name in ("has_header", "check_header", "has_function", "has_type", "has_argument",
-                                                     "has_link_argument")},
-    **{name: Row((TEXT_,), 2, 2, ASKED) for name in ("has_member", "has_header_symbol")},
-    **{name: Row((TEXT_,), 1, 1, CHECK) for name in ("sizeof", "alignment")},
-    "get_supported_arguments": Row((TEXTS,), 0, None, CHECK),
-    "find_library": Row((TEXT_,), 1, 1, {"required": REQUIRED, "dirs": TEXTS}),
-    "startswith": Row((TEXT_,), 1, 1), "endswith": Row((TEXT_,), 1, 1), "join": Row((TEXTS,), 0, None), "replace": Row((TEXT_,), 2, 2),
-    "split": Row((TEXT_,), 0, 1), "strip": Row((TEXT_,), 0, 1), "substring": Row((NUMBER,), 0, 2), "version_compare": Row((TEXT_,), 1, 1),
-    "has_key": Row((TEXT_,), 1, 1), "has": Row((TEXT_,), 1, 1),
-    "set": Row((TEXT_, VALUE), 2, 2, {"description": TEXT_}), "set10": Row((TEXT_, TRUTH_), 2, 2, {"description": TEXT_}),
-    "set_quoted": Row((TEXT_, TEXT_), 2, 2, {"description": TEXT_}), "get_unquoted": Row((TEXT_, ANY), 1, 2),
-    "merge_from": Row((Kind("configuration data", (OBJECT,), False, ("configuration data object",)),), 1, 1),
-    "get_compiler": Row((TEXT_,), 1, 1),
+# What methods of values take, by the kind of the value.
+OF_VALUES: dict[tuple[str, str], Row] = {
+    **{(kind, name): Row() for kind in (TEXT, INTEGER, TRUTH, LIST, DICTIONARY) for name in METHODS_OF[kind].split()},
+    **{(TEXT, name): Row((TEXT_,), 1, 1) for name in ("contains", "startswith", "endswith", "version_compare")},
+    **{(TEXT, name): Row((TEXT_,), 0, 1) for name in ("split", "strip")},
+    (TEXT, "format"): Row((PRINTED,), 0, None), (TEXT, "join"): Row((TEXTS,), 0, None), (TEXT, "replace"): Row((TEXT_,), 2, 2),
+    (TEXT, "substring"): Row((NUMBER,), 0, 2), (TRUTH, "to_string"): Row((TEXT_,), 0, 2), (LIST, "contains"): Row((ANY,), 1, 1),
+    (LIST, "get"): Row((NUMBER, ANY), 1, 2), (DICTIONARY, "get"): Row((TEXT_, ANY), 1, 2), (DICTIONARY, "has_key"): Row((TEXT_,), 1, 1),
 }
 
 

@@ -10,4 +10,5 @@ pub mod Pieces
 pub mod Refused
 pub mod Row
 pub mod RowView
+pub mod Rules
 pub mod Words

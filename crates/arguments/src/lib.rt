@@ -11,6 +11,7 @@ mod pieces;
 mod reader;
 mod refused;
 mod row;
+mod rule;
 mod words;
 
 pub use arguments::{Arguments, Named, add_argument, no_arguments};
@@ -20,3 +21,4 @@ pub use given::Requirement;
 pub use reader::check;
 pub use refused::Refused;
 pub use row::{Keyword, Kind, Piece, Row};
+pub use rule::Rule;

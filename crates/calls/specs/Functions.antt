@@ -1,5 +1,5 @@
 -- The functions of the page "Reference manual", on evaluated arguments.
-use Rattle.std.specs.Prelude.{Bool, false, not, [], ◌&&◌, Option, None, if◌then◌else◌}
+use Rattle.std.specs.Prelude.{Bool, false, not, ◌&&◌, Option, None, codes, if◌then◌else◌}
 use Rattle.data.specs.Data.{Data}
 use Rattle.arguments.specs.Arguments.{ArgumentsData}
 use Rattle.arguments.specs.Disablers.{gives_disabler}
@@ -55,9 +55,12 @@ abbrev pub has_unwanted_disabler : Function → ArgumentsData → Bool
 has_unwanted_disabler functions.Project a = gives_disabler a
 has_unwanted_disabler f a = false
 
+unfoldable pub without_disabler : Function → ArgumentsData → Deed (Unit {0})
+without_disabler f a = need (not (has_unwanted_disabler f a)) refusals.Arguments (codes "arguments: takes no disabler")
+
 -- a function on its arguments, which its row looks at first; then `project` given a disabler is E9, also where its row lets that through
 unfoldable pub call : Function → ArgumentsData → Deed (Option Data)
 call f a = do
   _ ← fit (row_for f a) a
-  _ ← need (not (has_unwanted_disabler f a)) refusals.Arguments []
+  _ ← without_disabler f a
   does f a

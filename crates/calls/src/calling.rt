@@ -1,14 +1,12 @@
 //! A function on its arguments.
-ghost use Rattle.std.specs.Prelude.{◌≡◌, not, ◌&&◌, [], option_map};
+ghost use Rattle.std.specs.Prelude.{◌≡◌, ◌&&◌, option_map};
 ghost use Rattle.data.specs.View.{data_of};
 ghost use Rattle.arguments.specs.Arguments.{arguments_data};
 ghost use Rattle.arguments.specs.RowView.{row_data};
 ghost use Rattle.world.specs.Answering.{Carries, HasRoom};
 ghost use Rattle.world.specs.Caller.{state_of};
-ghost use Rattle.world.specs.Deed.{need};
 ghost use Rattle.world.specs.Fit.{fit};
-ghost use Rattle.calls.specs.Functions.{call, does, has_other_format, has_unwanted_disabler, row_for};
-ghost use Rattle.basics.specs.declared.faults.refusal.Refusal.TheVariants as refusals;
+ghost use Rattle.calls.specs.Functions.{call, does, has_other_format, has_unwanted_disabler, row_for, without_disabler};
 ghost use Rattle.language_calls.specs.Turning.{makes_file};
 
 use crate::project_functions::project_function;
@@ -59,12 +57,16 @@ fn refuse_disabler<T: Tree, O: Outputs>(
     function: Function,
     arguments: &Arguments,
 ) -> Result<(), Stop>
-    ensures { Carries (λ u. u) (need (not (has_unwanted_disabler function (arguments_data arguments.now))) refusals.Arguments [])
+    ensures { Carries (λ u. u) (without_disabler function (arguments_data arguments.now))
         (state_of T.seen O.seen caller.now)
         result (state_of T.seen O.seen caller.now) }
 {
     let unwanted = has_unwanted_disabler(function, arguments);
-    caller.need(!unwanted, Refusal::Arguments, "")
+    caller.need(
+        !unwanted,
+        Refusal::Arguments,
+        "arguments: takes no disabler",
+    )
 }
 
 // Refuses arguments that the function does not take.

@@ -1,19 +1,20 @@
 -- `configuration_data`, and copies of what it gives.
-use Rattle.std.specs.Prelude.{ℕ, Option, Some, ok_or}
+use Rattle.std.specs.Prelude.{ℕ, Option, Some}
 use Rattle.arguments.specs.Arguments.{ArgumentsData}
 use Rattle.arguments.specs.Given.{argument}
 use Rattle.data.specs.Data.{Data, object}
 use Rattle.data.specs.declared.object.Object.TheVariants as objects
-use Rattle.basics.specs.declared.faults.refusal.Refusal.TheVariants as refusals
 use Rattle.template.specs.Config.{Configuration}
 use Rattle.world.specs.Configuring.{add_configuration, configuration_at}
-use Rattle.world.specs.Deed.{Deed, give, read, ◌>>=◌, fitting}
+use Rattle.world.specs.Deed.{Deed, give, read, ◌>>=◌}
+use Rattle.world.specs.Ruled.{ruled}
+use Rattle.configuration_calls.specs.Breaches.{values_breach}
 use Rattle.configuration_calls.specs.Contents.{unfrozen}
 use Rattle.configuration_calls.specs.Given.{data_given}
 
 -- the data that the arguments describe: E9 where a key is no name, or a value no text, integer or truth value
 unfoldable pub said_data : ArgumentsData → Deed Configuration
-said_data a = fitting (ok_or (data_given (argument 0 a)) refusals.Arguments)
+said_data a = ruled (data_given (argument 0 a)) (values_breach (argument 0 a)).0 (values_breach (argument 0 a)).1
 
 -- `configuration_data(dictionary)`: data with the values of the dictionary, which may be left out
 unfoldable pub configuration_data : ArgumentsData → Deed (Option Data)

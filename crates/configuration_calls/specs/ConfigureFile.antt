@@ -1,5 +1,5 @@
 -- `configure_file`: a file that is made while the definition files are read.
-use Rattle.std.specs.Prelude.{ℕ, Bool, true, false, List, [], ◌∷◌, Option, Some, None, codes, bytes_eq, is_some, ok_or, option_and_then}
+use Rattle.std.specs.Prelude.{ℕ, Bool, true, false, List, [], ◌∷◌, Option, Some, None, codes, bytes_eq, is_some, option_and_then}
 use Rattle.std.specs.Prelude.{option_map}
 use Rattle.std.specs.Prelude.{if◌then◌else◌}
 use Rattle.arguments.specs.Arguments.{ArgumentsData}
@@ -10,6 +10,7 @@ use Rattle.data.specs.Limits.{within_bytes}
 use Rattle.data.specs.declared.object.Object.{Object}
 use Rattle.data.specs.declared.object.Object.TheVariants as objects
 use Rattle.edge.specs.Texts.{Path, Text}
+use Rattle.arguments.specs.declared.rule.Rule.TheVariants as rules
 use Rattle.basics.specs.declared.faults.refusal.Refusal.TheVariants as refusals
 use Rattle.operators.specs.Texts.{path_below}
 use Rattle.paths.specs.Paths.{tree_path}
@@ -19,7 +20,9 @@ use Rattle.resources.specs.Installs.{destination}
 use Rattle.targets.specs.Files.{path_in}
 use Rattle.world.specs.Configuring.{freeze_configured}
 use Rattle.world.specs.Declaring.{add_install}
-use Rattle.world.specs.Deed.{Deed, give, read, make, ◌>>=◌, answered, fitting, need}
+use Rattle.world.specs.Deed.{Deed, give, read, make, ◌>>=◌, answered, need}
+use Rattle.world.specs.Ruled.{obeyed, ruled}
+use Rattle.configuration_calls.specs.Breaches.{input_breach, values_breach}
 use Rattle.world.specs.Making.{Filling}
 use Rattle.world.specs.Options.{option_text}
 use Rattle.world.specs.World.{Facts}
@@ -67,13 +70,14 @@ input_named source_root folder a =
 unfoldable pub input_given : ArgumentsData → Deed (Option Path)
 input_given a = do
   facts ← read
-  fitting (ok_or (input_named facts.settings.source_root facts.folder a) refusals.Arguments)
+  ruled (input_named facts.settings.source_root facts.folder a) (input_breach a).0 (input_breach a).1
 
 -- the values of `configuration`: E9 where they are no configuration data
 unfoldable pub values_given : ArgumentsData → Deed GivenData
 values_given a = do
   facts ← read
-  fitting (ok_or (option_and_then (given_by facts) (keyword (codes "configuration") a)) refusals.Arguments)
+  ruled (option_and_then (given_by facts) (keyword (codes "configuration") a)) (values_breach (keyword (codes "configuration") a)).0
+      (values_breach (keyword (codes "configuration") a)).1
 
 -- ---- where the output is installed
 
@@ -132,7 +136,7 @@ configured a (Some path) values = do
 unfoldable pub configure_file : ArgumentsData → Deed (Option Data)
 configure_file a = do
   _ ← need (has_meson_format a) refusals.LeftOut []
-  _ ← need (is_file_name (text_of (codes "output") a)) refusals.Arguments []
+  _ ← obeyed (is_file_name (text_of (codes "output") a)) rules.IsFileName (text_of (codes "output") a)
   input ← input_given a
   values ← values_given a
   configured a input values

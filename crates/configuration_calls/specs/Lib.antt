@@ -1,3 +1,4 @@
+pub mod Breaches
 pub mod ConfigurationData
 pub mod ConfigureFile
 pub mod Contents

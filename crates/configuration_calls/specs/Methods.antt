@@ -4,12 +4,14 @@ use Rattle.std.specs.Prelude.{if◌then◌else◌}
 use Rattle.arguments.specs.Arguments.{ArgumentsData}
 use Rattle.arguments.specs.Given.{argument, flag_at, text_at}
 use Rattle.data.specs.Data.{Data, boolean}
+use Rattle.arguments.specs.declared.rule.Rule.TheVariants as rules
 use Rattle.basics.specs.declared.faults.refusal.Refusal.TheVariants as refusals
 use Rattle.template.specs.Config.{Content, Number, names, value_of}
 use Rattle.template.specs.Line.{is_name}
 use Rattle.world.specs.Configuring.{configuration_at, merge_configured, set_configured, set_quoted}
-use Rattle.world.specs.Deed.{Deed, give, refuse, read, ◌>>=◌, answered, fitting, need}
+use Rattle.world.specs.Deed.{Deed, give, refuse, read, ◌>>=◌, answered, fitting}
 use Rattle.world.specs.Fit.{fit}
+use Rattle.world.specs.Ruled.{obeyed}
 use Rattle.configuration_calls.specs.Contents.{content_in, found_or, found_unquoted}
 use Rattle.operators.specs.TextLists.{text_list}
 use Rattle.configuration_calls.specs.Given.{entries_of, number_in}
@@ -36,7 +38,7 @@ has_method name = is_some (named name)
 -- the name that a call is given first: E9 where it is no name of configuration data
 unfoldable pub name_given : ArgumentsData → Deed (List ℕ)
 name_given a = do
-  _ ← need (is_name (text_at 0 a)) refusals.Arguments []
+  _ ← obeyed (is_name (text_at 0 a)) rules.IsValueName (text_at 0 a)
   give (text_at 0 a)
 
 -- `get(name, fallback)`: E10 where the name stands for nothing and no fallback is given

@@ -10,9 +10,9 @@ ghost use Rattle.configuration_calls.specs.ConfigurationData.{configuration_data
 ghost use Rattle.configuration_calls.specs.Contents.{unfrozen};
 ghost use Rattle.configuration_calls.specs.Given.{data_given, data_with};
 
+use crate::breaches::values_breach;
 use crate::contents::entries_in;
 use arguments::Arguments;
-use basics::faults::Refusal;
 use data::{Object, Value};
 use ports::{Outputs, Tree};
 use std::alloc::{AllocError, Global};
@@ -45,8 +45,15 @@ fn said_data<T: Tree, O: Outputs>(
     ensures { Carries (λ c. c) (said_data (arguments_data arguments.now))
         (state_of T.seen O.seen caller.now) result (state_of T.seen O.seen caller.now) }
 {
-    let found = data_given(caller.alloc, arguments.argument(0))?;
-    caller.fitting(found.ok_or(Refusal::Arguments))
+    let value = arguments.argument(0);
+    let found = data_given(caller.alloc, value)?;
+    match found {
+        Some(values) => Ok(values),
+        None => {
+            let (rule, text) = values_breach(value);
+            caller.refuse_by(rule, text)
+        }
+    }
 }
 
 /// `configuration_data(dictionary)`: E9 where a key is no name, or a value no text, integer or truth value.

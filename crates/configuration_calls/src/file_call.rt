@@ -14,7 +14,7 @@ ghost use Rattle.configuration_calls.specs.Written.{CarriesOf, filling_in};
 
 use crate::said::{Given, has_meson_format, input_given, values_given};
 use crate::written::write_output;
-use arguments::Arguments;
+use arguments::{Arguments, Rule};
 use basics::faults::Refusal;
 use data::{Object, Text, Value};
 use operators::path_below;
@@ -175,11 +175,8 @@ pub fn configure_file<T: Tree, O: Outputs>(
         (state_of T.seen O.seen caller.old) result (state_of T.seen O.seen caller.new) }
 {
     caller.need(has_meson_format(arguments), Refusal::LeftOut, "")?;
-    caller.need(
-        is_file_name(arguments.text("output")),
-        Refusal::Arguments,
-        "",
-    )?;
+    let output = arguments.text("output");
+    caller.obey(is_file_name(output), Rule::IsFileName, output)?;
     let input = input_given(caller, arguments)?;
     let given = values_given(caller, arguments)?;
     configure(caller, arguments, &given, &input)

@@ -20,7 +20,7 @@ ghost use Rattle.configuration_calls.specs.Rows.{row_of};
 use crate::contents::{content_in, found_or, found_unquoted, is_name};
 use crate::data_call::copy_of;
 use crate::rows::row_of;
-use arguments::Arguments;
+use arguments::{Arguments, Rule};
 use basics::faults::Refusal;
 use data::{Object, Value};
 use operators::text_list;
@@ -77,7 +77,7 @@ fn name_given<'a, T: Tree, O: Outputs>(
         (state_of T.seen O.seen caller.now) result (state_of T.seen O.seen caller.now) }
 {
     let name = arguments.text_at(0);
-    caller.need(is_name(name), Refusal::Arguments, "")?;
+    caller.obey(is_name(name), Rule::IsValueName, name)?;
     Ok(name)
 }
 

@@ -11,11 +11,11 @@ ghost use Rattle.configuration_calls.specs.ConfigureFile.{values_given};
 ghost use Rattle.configuration_calls.specs.Given.{dictionary_given, given_by};
 ghost use Rattle.configuration_calls.specs.GivenView.{given_view};
 
+use crate::breaches::{input_breach, values_breach};
 use crate::contents::entries_in;
 use crate::data_call::copy_of;
 use crate::methods::number_in;
 use arguments::Arguments;
-use basics::faults::Refusal;
 use data::{Object, Value};
 use paths::tree_path;
 use ports::{Outputs, Tree};
@@ -119,7 +119,13 @@ pub fn input_given<T: Tree, O: Outputs>(
 {
     let source_root = caller.store.settings().source_root.as_str();
     let input = input_named(caller.alloc, source_root, caller.store.folder(), arguments)?;
-    caller.fitting(input.ok_or(Refusal::Arguments))
+    match input {
+        Some(input) => Ok(input),
+        None => {
+            let (rule, text) = input_breach(caller.alloc, arguments)?;
+            caller.refuse_by(rule, text)
+        }
+    }
 }
 
 // The values of a dictionary.
@@ -175,5 +181,11 @@ pub fn values_given<T: Tree, O: Outputs>(
 {
     let value = arguments.keyword("configuration");
     let found = values_of(caller.alloc, caller.store, value)?;
-    caller.fitting(found.ok_or(Refusal::Arguments))
+    match found {
+        Some(given) => Ok(given),
+        None => {
+            let (rule, text) = values_breach(value);
+            caller.refuse_by(rule, text)
+        }
+    }
 }

@@ -1,3 +1,4 @@
 mod Pieces
 pub mod Looked
+pub mod Detailed
 pub mod Refused

@@ -1,3 +1,4 @@
+pub mod Details
 pub mod Files
 pub mod Finding
 pub mod FindingView

@@ -38,3 +38,13 @@ kept_more ks new all k i item h at same e so_far =
     ∙ ap (λ l. put_new l (string_bytes (get_or all i item))) so_far
     ∙ sym (put_all_new-push [] (texts (take i all)) (string_bytes (get_or all i item)))
     ∙ ap (put_all_new []) (sym (ap texts (take_more all i item h) ∙ map-append string_bytes (take i all) (get_or all i item ∷ [])))
+
+-- the same of a list in place of a set
+pub few_more : (ks new all : List (String Global)) (i : ℕ) (item : String Global) → i < length all → item ≡ get_or all i item
+    → texts new ≡ put_new (texts ks) (string_bytes item) → texts ks ≡ put_all_new [] (texts (take i all)) → texts new ≡ put_all_new [] (texts (take (i + 1) all))
+few_more ks new all i item h at e so_far =
+    e
+    ∙ ap (put_new (texts ks)) (ap string_bytes at)
+    ∙ ap (λ l. put_new l (string_bytes (get_or all i item))) so_far
+    ∙ sym (put_all_new-push [] (texts (take i all)) (string_bytes (get_or all i item)))
+    ∙ ap (put_all_new []) (sym (ap texts (take_more all i item h) ∙ map-append string_bytes (take i all) (get_or all i item ∷ [])))

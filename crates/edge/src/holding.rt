@@ -76,7 +76,8 @@ fn can_hold_optional(text: &Option<String>) -> bool
     }
 }
 
-fn is_some_list(list: &[String]) -> bool
+/// Whether there is something in the list.
+pub fn is_some_list(list: &[String]) -> bool
     ensures { result ≡ is_some_list (texts list.now) }
 {
     !list.is_empty()

@@ -11,7 +11,7 @@ mod texts;
 pub use basics::text_lists::{copies, strings};
 pub use edge::Edge;
 pub use holding::{
-    are_paths, are_writable, can_hold_path, can_hold_value, can_hold_values, is_path,
+    are_paths, are_writable, can_hold_path, can_hold_value, can_hold_values, is_path, is_some_list,
 };
 pub use parts::OwnParts;
 pub use paths::{is_upward, object_path, source_path, source_root};

@@ -1,6 +1,7 @@
 //! Lists of texts, and sets of them.
-ghost use Rattle.std.specs.Prelude.{◌≡◌, ◌++◌, map, IfOk};
-ghost use Rattle.edge.specs.Texts.{texts, first_kept, holds};
+ghost use Rattle.std.specs.Prelude.{◌≡◌, ◌++◌, bytes_eq, map, string_bytes, IfOk};
+ghost use Rattle.std.specs.List.{list_any};
+ghost use Rattle.edge.specs.Texts.{texts, first_kept, holds, put_new};
 
 use basics::tables::{SipSet, new_set};
 use basics::text_lists::copies;
@@ -26,8 +27,43 @@ pub fn push_copies(to: &mut Vec<String>, from: &[String]) -> Result<(), AllocErr
     Ok(())
 }
 
-/// Of equal texts the first is kept.
-pub fn first_kept(alloc: Global, all: &[String]) -> Result<Vec<String>, AllocError>
+// Of so many texts each is compared with those before it, which is faster than a set.
+const FEW: usize = 8;
+
+fn is_one_of(list: &[String], text: &str) -> bool
+    ensures { result ≡ list_any (λ s. bytes_eq text.now (string_bytes s)) list.now }
+{
+    list.iter().any(|other| text == other.as_str())
+}
+
+fn stands_in(list: &[String], text: &str) -> bool
+    ensures { result ≡ holds text.now (texts list.now) }
+{
+    is_one_of(list, text)
+}
+
+// Appends the text, unless it stands there.
+fn put_new(kept: &mut Vec<String>, text: &String) -> Result<(), AllocError>
+    ensures { IfOk result (λ _. texts kept.new.items ≡ put_new (texts kept.old.items) (string_bytes text.now)) }
+{
+    if !stands_in(kept, text) {
+        kept.push(text.clone()?)?;
+    }
+    Ok(())
+}
+
+// Of few texts.
+fn first_of_few(alloc: Global, all: &[String]) -> Result<Vec<String>, AllocError>
+    ensures { IfOk result (λ v. texts v.items ≡ first_kept (texts all.now)) }
+{
+    let mut kept = Vec::new(alloc);
+    for text in all {
+        put_new(&mut kept, text)?;
+    }
+    Ok(kept)
+}
+
+fn first_by_set(alloc: Global, all: &[String]) -> Result<Vec<String>, AllocError>
     ensures { IfOk result (λ v. texts v.items ≡ first_kept (texts all.now)) }
 {
     let mut kept = new_set(alloc);
@@ -35,6 +71,17 @@ pub fn first_kept(alloc: Global, all: &[String]) -> Result<Vec<String>, AllocErr
         kept.insert(text.clone()?)?;
     }
     copies(alloc, kept.as_slice())
+}
+
+/// Of equal texts the first is kept.
+pub fn first_kept(alloc: Global, all: &[String]) -> Result<Vec<String>, AllocError>
+    ensures { IfOk result (λ v. texts v.items ≡ first_kept (texts all.now)) }
+{
+    if all.len() <= FEW {
+        first_of_few(alloc, all)
+    } else {
+        first_by_set(alloc, all)
+    }
 }
 
 /// Whether the text is one of those in the set.

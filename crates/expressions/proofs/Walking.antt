@@ -1,14 +1,12 @@
 -- The rounds of loops.
-use Rattle.std.proofs.Common.{◌≡◌, ℕ, zero, suc, ◌+◌, ◌<◌, ◌≤◌, Bool, true, false, List, [], ◌∷◌, length, drop, get_or, add-one, drop-cons, drop_of_length-le, Option, Some, None, is_some, Ok, Err, refl, sym, ap, ◌∙◌, arith}
-use Rattle.std.specs.Prelude.{nat_le, slice_get, if◌then◌else◌}
-use Rattle.std.proofs.lemmas.Bool.Decides.{nat_tests}
+use Rattle.std.proofs.Common.{◌≡◌, ℕ, zero, suc, ◌+◌, ◌<◌, ◌≤◌, Bool, true, false, List, [], ◌∷◌, length, drop, get_or, add-one, drop-cons, drop_of_length-le, Option, Some, None, is_some, Ok, refl, sym, ap, ◌∙◌, arith}
+use Rattle.std.specs.Prelude.{slice_get}
 use Rattle.std.proofs.lemmas.Option.{get_or_from_slice_get}
 use Rattle.data.specs.Data.{Data, boolean, integer, text, list, dictionary, object, Items, no_items, item, count, items_in, Entries, no_entries, entry, entry_count, entry_values, entries_in, keys_in}
 use Rattle.data.specs.Few.{item_count}
 use Rattle.data.specs.View.{data_of, items_of}
 use Rattle.data.specs.declared.value.Value.{Value}
-use Rattle.basics.specs.declared.faults.refusal.Refusal.TheVariants as refusals
-use Rattle.expressions.specs.Rounds.{Loops, WalksAll, rounds_in, Round, item_rounds, entry_rounds, limited, looped}
+use Rattle.expressions.specs.Rounds.{HasFewRounds, Loops, Round, entry_rounds, item_rounds, rounds_in}
 
 rounds_counted : (xs : List Value) → length (item_rounds (items_of xs)) ≡ length xs
 rounds_counted [] = refl
@@ -39,7 +37,7 @@ rounds_of_entries no_entries = refl
 rounds_of_entries (entry k d es) = ap suc (rounds_of_entries es)
 
 -- there are no more rounds than items
-pub rounds_few : (d : Data) → item_count d ≤ 65536 → length (rounds_in d) ≤ 65536
+pub rounds_few : (d : Data) → item_count d ≤ 65536 → HasFewRounds d
 rounds_few (list ds) few = omega (arith, few, rounds_of_items ds)
 rounds_few (dictionary es) few = omega (arith, few, rounds_of_entries es)
 rounds_few (boolean b) few = omega arith
@@ -47,57 +45,25 @@ rounds_few (integer z) few = omega arith
 rounds_few (text t) few = omega arith
 rounds_few (object o) few = omega arith
 
-limited_by : (rs : List Round) (b : Bool) → nat_le (length rs) 65536 ≡ b → length rs ≤ 65536 → (if b then Ok rs else Err refusals.Limit) ≡ Ok rs
-limited_by rs true e few = refl
-limited_by rs false e few = absurd (grind (arith, nat_tests, e, few))
-
--- few rounds are not refused
-few_rounds : (rs : List Round) → length rs ≤ 65536 → limited rs ≡ Ok rs
-few_rounds rs few = limited_by rs (nat_le (length rs) 65536) refl few
-
-one_name : (ds : Items) → count ds ≤ 65536 → (second : Option (List ℕ)) → is_some second ≡ false → looped second (list ds) ≡ Ok (item_rounds ds)
-one_name ds few None h = few_rounds (item_rounds ds) (rounds_few (list ds) few)
-one_name ds few (Some name) h = absurd (let f : true ≡ false = h in cc)
-
-two_names : (es : Entries) → entry_count es ≤ 65536 → (second : Option (List ℕ)) → is_some second ≡ true → looped second (dictionary es) ≡ Ok (entry_rounds es)
-two_names es few None h = absurd (let f : false ≡ true = h in cc)
-two_names es few (Some name) h = few_rounds (entry_rounds es) (rounds_few (dictionary es) few)
-
 -- a list is walked by one name
-pub loops_list : (d : Data) (ds : Items) → items_in d ≡ Some ds → item_count d ≤ 65536 → Loops false d (Ok tt)
-loops_list (list es) ds e few = one_name es few
-loops_list (boolean b) ds e few = absurd (let h : None ≡ Some ds = e in cc)
-loops_list (integer z) ds e few = absurd (let h : None ≡ Some ds = e in cc)
-loops_list (text t) ds e few = absurd (let h : None ≡ Some ds = e in cc)
-loops_list (dictionary es) ds e few = absurd (let h : None ≡ Some ds = e in cc)
-loops_list (object o) ds e few = absurd (let h : None ≡ Some ds = e in cc)
+pub loops_list : (d : Data) (ds : Items) → items_in d ≡ Some ds → Loops false d (Ok tt)
+loops_list (list es) ds e None h = refl
+loops_list (list es) ds e (Some name) h = absurd (let f : true ≡ false = h in cc)
+loops_list (boolean b) ds e = absurd (let h : None ≡ Some ds = e in cc)
+loops_list (integer z) ds e = absurd (let h : None ≡ Some ds = e in cc)
+loops_list (text t) ds e = absurd (let h : None ≡ Some ds = e in cc)
+loops_list (dictionary es) ds e = absurd (let h : None ≡ Some ds = e in cc)
+loops_list (object o) ds e = absurd (let h : None ≡ Some ds = e in cc)
 
 -- a dictionary is walked by two
-pub loops_dictionary : (d : Data) (es : Entries) → entries_in d ≡ Some es → item_count d ≤ 65536 → Loops true d (Ok tt)
-loops_dictionary (dictionary ds) es e few = two_names ds few
-loops_dictionary (boolean b) es e few = absurd (let h : None ≡ Some es = e in cc)
-loops_dictionary (integer z) es e few = absurd (let h : None ≡ Some es = e in cc)
-loops_dictionary (text t) es e few = absurd (let h : None ≡ Some es = e in cc)
-loops_dictionary (list ds) es e few = absurd (let h : None ≡ Some es = e in cc)
-loops_dictionary (object o) es e few = absurd (let h : None ≡ Some es = e in cc)
-
--- no loop over a value with few items is refused for its length
-walked_all : (d : Data) (second : Option (List ℕ)) → item_count d ≤ 65536 → looped second d ≡ Err refusals.Limit → ⊥
-walked_all (list ds) None few e = (let f : Ok (item_rounds ds) ≡ Err refusals.Limit = sym (one_name ds few None refl) ∙ e in cc)
-walked_all (dictionary es) (Some second) few e = (let f : Ok (entry_rounds es) ≡ Err refusals.Limit = sym (two_names es few (Some second) refl) ∙ e in cc)
-walked_all (list ds) (Some second) few e = cc
-walked_all (dictionary es) None few e = cc
-walked_all (boolean b) None few e = cc
-walked_all (boolean b) (Some second) few e = cc
-walked_all (integer z) None few e = cc
-walked_all (integer z) (Some second) few e = cc
-walked_all (text t) None few e = cc
-walked_all (text t) (Some second) few e = cc
-walked_all (object o) None few e = cc
-walked_all (object o) (Some second) few e = cc
-
-pub walks_all : (d : Data) → item_count d ≤ 65536 → WalksAll d
-walks_all d few second e = walked_all d second few e
+pub loops_dictionary : (d : Data) (es : Entries) → entries_in d ≡ Some es → Loops true d (Ok tt)
+loops_dictionary (dictionary ds) es e None h = absurd (let f : false ≡ true = h in cc)
+loops_dictionary (dictionary ds) es e (Some name) h = refl
+loops_dictionary (boolean b) es e = absurd (let h : None ≡ Some es = e in cc)
+loops_dictionary (integer z) es e = absurd (let h : None ≡ Some es = e in cc)
+loops_dictionary (text t) es e = absurd (let h : None ≡ Some es = e in cc)
+loops_dictionary (list ds) es e = absurd (let h : None ≡ Some es = e in cc)
+loops_dictionary (object o) es e = absurd (let h : None ≡ Some es = e in cc)
 
 -- none is left behind the last entry
 pub entry_behind : (es : Entries) (i : ℕ) → entry_count es ≤ i → drop i (entry_rounds es) ≡ []

@@ -1,5 +1,5 @@
 -- The rounds of a loop.
-use Rattle.std.specs.Prelude.{◌≡◌, ◌≢◌, ℕ, ◌+◌, List, [], ◌∷◌, drop, Option, Some, None, Result, Ok, Err, option_map, is_some, Bool, length, nat_le, if◌then◌else◌}
+use Rattle.std.specs.Prelude.{◌≡◌, ℕ, ◌+◌, ◌≤◌, List, [], ◌∷◌, drop, Option, Some, None, Result, Ok, Err, option_map, is_some, Bool, length}
 use Rattle.data.specs.Data.{Data, boolean, integer, text, list, dictionary, object, Items, no_items, item, Entries, no_entries, entry}
 use Rattle.data.specs.View.{data_of}
 use Rattle.basics.specs.declared.faults.refusal.Refusal.{Refusal}
@@ -18,14 +18,10 @@ abbrev pub entry_rounds : Entries → List Round
 entry_rounds no_entries = []
 entry_rounds (entry key d es) = (text key, Some d) ∷ entry_rounds es
 
--- No list or dictionary has more than 65,536 items, so this never refuses.
-abbrev pub limited : List Round → Result (List Round) Refusal
-limited rounds = if nat_le (length rounds) 65536 then Ok rounds else Err refusals.Limit
-
 -- one name walks a list, two a dictionary in order of insertion
 abbrev pub looped : Option (List ℕ) → Data → Result (List Round) Refusal
-looped None (list ds) = limited (item_rounds ds)
-looped (Some second) (dictionary es) = limited (entry_rounds es)
+looped None (list ds) = Ok (item_rounds ds)
+looped (Some second) (dictionary es) = Ok (entry_rounds es)
 looped second d = Err refusals.Type
 
 abbrev pub round_data : Declared → Round
@@ -50,6 +46,6 @@ abbrev pub Loops : Bool → Data → Result (Unit {0}) Refusal → Type 0
 Loops has_second d (Ok u) = (second : Option (List ℕ)) → is_some second ≡ has_second → looped second d ≡ Ok (rounds_in d)
 Loops has_second d (Err refusal) = (second : Option (List ℕ)) → is_some second ≡ has_second → looped second d ≡ Err refusal
 
--- no loop over a value is refused for its length
-abbrev pub WalksAll : Data → Type 0
-WalksAll d = (second : Option (List ℕ)) → looped second d ≢ Err refusals.Limit
+-- a loop over this has few rounds
+abbrev pub HasFewRounds : Data → Type 0
+HasFewRounds d = length (rounds_in d) ≤ 65536

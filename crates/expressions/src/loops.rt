@@ -1,9 +1,8 @@
 //! The rounds of a loop.
-ghost use Rattle.std.specs.Prelude.{◌≡◌, ◌≤◌, IfOk, false, length, true};
+ghost use Rattle.std.specs.Prelude.{◌≡◌, IfOk, false, true};
 ghost use Rattle.data.specs.Data.{Data};
-ghost use Rattle.data.specs.Few.{item_count};
 ghost use Rattle.data.specs.View.{data_of, items_of};
-ghost use Rattle.expressions.specs.Rounds.{Loops, RoundAt, entry_rounds, item_rounds, rounds_in};
+ghost use Rattle.expressions.specs.Rounds.{HasFewRounds, Loops, RoundAt, entry_rounds, item_rounds, rounds_in};
 
 use basics::faults::Refusal;
 use data::{Dictionary, Value, values_have_few_items};
@@ -62,7 +61,6 @@ pub fn round_at(whole: &Value, at: usize) -> Result<Option<Round>, AllocError>
 
 // Whether a loop with two names can walk a value.
 fn check_entries(whole: &Value) -> Result<(), Refusal>
-    requires { item_count (data_of whole.now) ≤ 65536 }
     ensures { Loops true (data_of whole.now) result }
 {
     match whole.as_dictionary() {
@@ -73,7 +71,6 @@ fn check_entries(whole: &Value) -> Result<(), Refusal>
 
 // Whether a loop with one name can walk a value.
 fn check_items(whole: &Value) -> Result<(), Refusal>
-    requires { item_count (data_of whole.now) ≤ 65536 }
     ensures { Loops false (data_of whole.now) result }
 {
     match whole.as_list() {
@@ -85,9 +82,9 @@ fn check_items(whole: &Value) -> Result<(), Refusal>
 /// Whether a loop with one name or with two can walk a value: one walks a list, two a dictionary.
 pub fn check_loop(has_second: bool, whole: &Value) -> Result<(), Refusal>
     ensures loops { Loops has_second (data_of whole.now) result }
-    ensures few { length (rounds_in (data_of whole.now)) ≤ 65536 }
+    ensures few { HasFewRounds (data_of whole.now) }
 {
-    // The law by which nothing is too long to be walked; the call does nothing.
+    // The law that `few` rests on; the call does nothing.
     values_have_few_items(whole);
     if has_second {
         check_entries(whole)

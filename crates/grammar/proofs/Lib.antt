@@ -1,7 +1,9 @@
 pub mod Alike
 pub mod Atoms
+pub mod AtomTails
 pub mod Binding
 pub mod Blocks
+pub mod BlockTails
 pub mod Chain
 pub mod Chains
 pub mod TernaryLines

@@ -14,6 +14,7 @@ use Rattle.world.specs.World.{World, with_facts, with_line}
 use Rattle.world.specs.declared.stop.Stop.{Stop}
 use Rattle.world.specs.declared.stop.Stop.TheVariants as stops
 use Rattle.expressions.specs.Contexts.{Stand, Given, Leads}
+use Rattle.interp.specs.Bounds.{Bounds}
 use Rattle.interp.specs.Evaluates.{HaltsTo, Comes}
 use Rattle.interp.specs.Folders.{folder}
 use Rattle.interp.specs.Inside.{Deepens, RuleEnds, ended_all, enters, inside}
@@ -51,7 +52,7 @@ ended-alike files (suc n) p q w h =
     let a = ended-alike files n p q w h in
     record { fault = a.fault; world = a.world; marks = a.marks ++ Ended ∷ []; one = ap with_end a.one; other = ap with_end a.other }
 
-inside-alike : (A B : Type 0) (files : Files) (left : ℕ) (entry : Inside) (w : World)
+inside-alike : (A B : Type 0) (files : Files) (left : Bounds) (entry : Inside) (w : World)
     → Alike (carry files (inside {A = A} left entry) w) (carry files (inside {A = B} left entry) w)
 inside-alike A B files left entry w =
     ended-alike files entry.rules (enters {A = A} left entry) (enters {A = B} left entry) w
@@ -62,7 +63,7 @@ alike-follow others a = ap (λ x. follow x others) a.one ∙ sym a.other
 
 -- ---- what was left for a folder
 
-pub leads_left : {A B : Type 0} {files : Files} (left : ℕ) (entry : Inside) {p : Plan A} {others : A → Plan B} {s0 s1 : Stand}
+pub leads_left : {A B : Type 0} {files : Files} (left : Bounds) (entry : Inside) {p : Plan A} {others : A → Plan B} {s0 s1 : Stand}
     → Leads files p s0 (inside left entry) s1 → Leads files (next p others) s0 (inside left entry) s1
 leads_left {A = A} {B = B} {files = files} left entry {others = others} {s1 = s1} l = record {
   continues = record {
@@ -95,21 +96,21 @@ given_halt view' stops.Device g = record { gives = g.gives; holds = g.holds }
 given_halt view' stops.Memory g = record { gives = g.gives; holds = g.holds }
 
 -- the call stopped
-pub halted_stops : {A B : Type 0} {view : B → A} {files : Files} {left : ℕ} {p : Plan A} {s0 s1 : Stand} {halt : Halt} {stop : Stop} → halt ≡ halts.Stops stop
+pub halted_stops : {A B : Type 0} {view : B → A} {files : Files} {left : Bounds} {p : Plan A} {s0 s1 : Stand} {halt : Halt} {stop : Stop} → halt ≡ halts.Stops stop
     → Comes view files left p s0 (Err halt) s1 → Given {B = A} (λ a. a) files p s0 (Err stop) s1
 halted_stops {files = files} {left = left} {p = p} {s0 = s0} {s1 = s1} e h = subst (λ d. HaltsTo files left p s0 d s1) e h.comes
 
 -- it was left for a folder
-pub halted_enters : {A B : Type 0} {view : B → A} {files : Files} {left : ℕ} {p : Plan A} {s0 s1 : Stand} {halt : Halt} {entry : Inside} → halt ≡ halts.Enters entry
+pub halted_enters : {A B : Type 0} {view : B → A} {files : Files} {left : Bounds} {p : Plan A} {s0 s1 : Stand} {halt : Halt} {entry : Inside} → halt ≡ halts.Enters entry
     → Comes view files left p s0 (Err halt) s1 → Leads files p s0 (inside left entry) s1
 halted_enters {files = files} {left = left} {p = p} {s0 = s0} {s1 = s1} e h = subst (λ d. HaltsTo files left p s0 d s1) e h.comes
 
-pub halts_then : {A B : Type 0} (files : Files) (left : ℕ) (p : Plan A) (others : A → Plan B) (s0 s1 : Stand) (halt : Halt)
+pub halts_then : {A B : Type 0} (files : Files) (left : Bounds) (p : Plan A) (others : A → Plan B) (s0 s1 : Stand) (halt : Halt)
     → HaltsTo files left p s0 halt s1 → HaltsTo files left (next p others) s0 halt s1
 halts_then files left p others s0 s1 (halts.Stops stop) h = given_stop h refl
 halts_then files left p others s0 s1 (halts.Enters entry) h = leads_left left entry h
 
-pub halts_end : {A : Type 0} (files : Files) (left : ℕ) (whole rest : Plan A) (s0 s s1 : Stand) (halt : Halt) → Leads files whole s0 rest s
+pub halts_end : {A : Type 0} (files : Files) (left : Bounds) (whole rest : Plan A) (s0 s s1 : Stand) (halt : Halt) → Leads files whole s0 rest s
     → HaltsTo files left rest s halt s1 → HaltsTo files left whole s0 halt s1
 halts_end files left whole rest s0 s s1 (halts.Stops stop) l h = leads_end l h
 halts_end files left whole rest s0 s s1 (halts.Enters entry) l h = leads_further l h
@@ -117,58 +118,58 @@ halts_end files left whole rest s0 s s1 (halts.Enters entry) l h = leads_further
 -- ---- one after another
 
 -- a call that gives
-pub comes_given : {A B : Type 0} {view : B → A} {files : Files} {left : ℕ} {p : Plan A} {s0 s1 : Stand} {x : B} → Given view files p s0 (Ok x) s1
+pub comes_given : {A B : Type 0} {view : B → A} {files : Files} {left : Bounds} {p : Plan A} {s0 s1 : Stand} {x : B} → Given view files p s0 (Ok x) s1
     → Comes view files left p s0 (Ok x) s1
 comes_given g = record { comes = g }
 
 -- one call, and then the rest
-pub comes_then : {A B C D : Type 0} {view : C → A} {view' : D → B} {files : Files} {left : ℕ} {p : Plan A} {others : A → Plan B} {s0 s1 s2 : Stand} {x : C} {result : Result D Halt}
+pub comes_then : {A B C D : Type 0} {view : C → A} {view' : D → B} {files : Files} {left : Bounds} {p : Plan A} {others : A → Plan B} {s0 s1 s2 : Stand} {x : C} {result : Result D Halt}
     → Given view files p s0 (Ok x) s1 → Comes view' files left (others (view x)) s1 result s2 → Comes view' files left (next p others) s0 result s2
 comes_then {result = Ok y} g h = record { comes = given_then g h.comes }
 comes_then {result = Err (halts.Stops stop)} g h = record { comes = given_then g h.comes }
 comes_then {result = Err (halts.Enters entry)} g h = record { comes = leads_further (leads_next g) h.comes }
 
 -- a call that halts
-pub comes_halt : {A B C D : Type 0} {view : C → A} {view' : D → B} {files : Files} {left : ℕ} {p : Plan A} {others : A → Plan B} {s0 s1 : Stand} {halt : Halt} {result : Result D Halt}
+pub comes_halt : {A B C D : Type 0} {view : C → A} {view' : D → B} {files : Files} {left : Bounds} {p : Plan A} {others : A → Plan B} {s0 s1 : Stand} {halt : Halt} {result : Result D Halt}
     → Comes view files left p s0 (Err halt) s1 → IsErrAnd result (λ e. e ≡ halt) → Comes view' files left (next p others) s0 result s1
 comes_halt {result = Ok x} h is = absurd is
 comes_halt {files = files} {left = left} {p = p} {others = others} {s0 = s0} {s1 = s1} {halt = halt} {result = Err e} h is =
     record { comes = subst (λ d. HaltsTo files left (next p others) s0 d s1) (sym is) (halts_then files left p others s0 s1 halt h.comes) }
 
 -- inside of what comes first
-pub comes_halt_inside : {A B C D E : Type 0} {view : C → A} {view' : D → B} {files : Files} {left : ℕ} {p : Plan A} {others : A → Plan E} {more : E → Plan B} {s0 s1 : Stand} {halt : Halt} {result : Result D Halt}
+pub comes_halt_inside : {A B C D E : Type 0} {view : C → A} {view' : D → B} {files : Files} {left : Bounds} {p : Plan A} {others : A → Plan E} {more : E → Plan B} {s0 s1 : Stand} {halt : Halt} {result : Result D Halt}
     → Comes view files left p s0 (Err halt) s1 → IsErrAnd result (λ e. e ≡ halt) → Comes view' files left (next (next p others) more) s0 result s1
 comes_halt_inside {E = E} {files = files} {left = left} {p = p} {others = others} {s0 = s0} {s1 = s1} {halt = halt} h is =
     comes_halt {view = λ (x : E). x} {halt = halt} (record { comes = halts_then files left p others s0 s1 halt h.comes }) is
 
 -- a call that stops
-pub comes_stop : {A B C D : Type 0} {view : C → A} {view' : D → B} {files : Files} {left : ℕ} {p : Plan A} {others : A → Plan B} {s0 s1 : Stand} {stop : Stop} {result : Result D Halt}
+pub comes_stop : {A B C D : Type 0} {view : C → A} {view' : D → B} {files : Files} {left : Bounds} {p : Plan A} {others : A → Plan B} {s0 s1 : Stand} {stop : Stop} {result : Result D Halt}
     → Given view files p s0 (Err stop) s1 → IsErrAnd result (λ e. e ≡ halts.Stops stop) → Comes view' files left (next p others) s0 result s1
 comes_stop {result = Ok x} g is = absurd is
 comes_stop {files = files} {left = left} {p = p} {others = others} {s0 = s0} {s1 = s1} {result = Err e} g is =
     record { comes = subst (λ d. HaltsTo files left (next p others) s0 d s1) (sym is) (given_stop g refl) }
 
 -- the last one stops
-pub comes_last : {A C D : Type 0} {view : C → A} {view' : D → A} {files : Files} {left : ℕ} {p : Plan A} {s0 s1 : Stand} {stop : Stop} {result : Result D Halt}
+pub comes_last : {A C D : Type 0} {view : C → A} {view' : D → A} {files : Files} {left : Bounds} {p : Plan A} {s0 s1 : Stand} {stop : Stop} {result : Result D Halt}
     → Given view files p s0 (Err stop) s1 → IsErrAnd result (λ e. e ≡ halts.Stops stop) → Comes view' files left p s0 result s1
 comes_last {result = Ok x} g is = absurd is
 comes_last {A = A} {files = files} {left = left} {p = p} {s0 = s0} {s1 = s1} {stop = stop} {result = Err e} g is =
     record { comes = subst (λ d. HaltsTo files left p s0 d s1) (sym is) (given_halt (λ (a : A). a) stop g) }
 
 -- want of memory
-pub comes_none : {A B : Type 0} {view : B → A} {files : Files} {left : ℕ} {p : Plan A} {s : Stand} {result : Result B Halt} → Holds s.tree files
+pub comes_none : {A B : Type 0} {view : B → A} {files : Files} {left : Bounds} {p : Plan A} {s : Stand} {result : Result B Halt} → Holds s.tree files
     → IsErrAnd result (λ e. e ≡ halts.Stops stops.Memory) → Comes view files left p s result s
 comes_none {result = Ok x} h is = absurd is
 comes_none {files = files} {left = left} {p = p} {s = s} {result = Err e} h is =
     record { comes = subst (λ d. HaltsTo files left p s d s) (sym is) (given_none h refl) }
 
 -- the same plan, written otherwise
-pub comes_as : {A B : Type 0} {view : B → A} {files : Files} {left : ℕ} {p q : Plan A} {s s1 : Stand} {result : Result B Halt} → p ≡ q
+pub comes_as : {A B : Type 0} {view : B → A} {files : Files} {left : Bounds} {p q : Plan A} {s s1 : Stand} {result : Result B Halt} → p ≡ q
     → Comes view files left p s result s1 → Comes view files left q s result s1
 comes_as {view = view} {files = files} {left = left} {s = s} {s1 = s1} {result = result} e h = subst (λ x. Comes view files left x s result s1) e h
 
 -- what the rest comes to, the whole comes to
-pub comes_end : {B D : Type 0} {view : D → B} {files : Files} {left : ℕ} {whole rest : Plan B} {s0 s s1 : Stand} {result : Result D Halt}
+pub comes_end : {B D : Type 0} {view : D → B} {files : Files} {left : Bounds} {whole rest : Plan B} {s0 s s1 : Stand} {result : Result D Halt}
     → Leads files whole s0 rest s → Comes view files left rest s result s1 → Comes view files left whole s0 result s1
 comes_end {result = Ok x} l h = record { comes = leads_end l h.comes }
 comes_end {files = files} {left = left} {whole = whole} {rest = rest} {s0 = s0} {s = s} {s1 = s1} {result = Err halt} l h =
@@ -181,12 +182,12 @@ ended-same A B (stops.Refused fault) = refl
 ended-same A B stops.Device = refl
 ended-same A B stops.Memory = refl
 
-ruled-inside : {A : Type 0} (left : ℕ) (entry : Inside)
+ruled-inside : {A : Type 0} (left : Bounds) (entry : Inside)
     → ruled (inside {A = A} left entry) ≡ inside left (record { text = entry.text; line = entry.line; rules = entry.rules + 1 })
 ruled-inside left entry = ap (λ n. ended_all n (enters left entry)) (sym (add-one entry.rules))
 
 -- the expression was left before it
-rule-left : {A B : Type 0} (view : B → A) {files : Files} (left : ℕ) {p : Plan A} {s0 s1 : Stand} (entry : Inside) (result : Result B Halt)
+rule-left : {A B : Type 0} (view : B → A) {files : Files} (left : Bounds) {p : Plan A} {s0 s1 : Stand} (entry : Inside) (result : Result B Halt)
     → Deepens entry result → Leads files p s0 (inside left entry) s1 → Comes view files left (ruled p) s0 result s1
 rule-left view left entry (Ok x) d l = absurd d
 rule-left view {files = files} left {p = p} {s0 = s0} {s1 = s1} entry (Err (halts.Stops stop)) d l =
@@ -195,7 +196,7 @@ rule-left view {files = files} left {p = p} {s0 = s0} {s1 = s1} entry (Err (halt
     record { comes = subst (λ e. HaltsTo files left (ruled p) s0 (halts.Enters e) s1) (sym d) (leads_as (ruled-inside left entry) (leads_rule l)) }
 
 -- the rule of a node
-pub comes_rule : {A B : Type 0} {view : B → A} {files : Files} {left : ℕ} {p : Plan A} {s0 : Stand} {w : World} {names : List (List ℕ)} {tree : TreeState} {out : OutputState} {n m : ℕ} (answer result : Result B Halt)
+pub comes_rule : {A B : Type 0} {view : B → A} {files : Files} {left : Bounds} {p : Plan A} {s0 : Stand} {w : World} {names : List (List ℕ)} {tree : TreeState} {out : OutputState} {n m : ℕ} (answer result : Result B Halt)
     → RuleEnds answer n result m → Comes view files left p s0 answer (record { world = w; names = names; tree = tree; out = out; ticks = n })
     → Comes view files left (ruled p) s0 result (record { world = w; names = names; tree = tree; out = out; ticks = m })
 comes_rule {view = view} {files = files} {left = left} {p = p} {s0 = s0} {w = w} {names = names} {tree = tree} {out = out} {m = m} (Ok x) result r h =

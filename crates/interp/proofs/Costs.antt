@@ -1,4 +1,4 @@
--- No evaluation ends more rules than its tree costs.
+-- No evaluation in which long loops are refused ends more rules than its tree costs.
 use Rattle.std.proofs.Common.{◌≡◌, ℕ, zero, suc, ◌+◌, ◌*◌, ◌≤◌, Bool, true, false, List, [], ◌∷◌, ◌++◌, Option, Some, None, is_some, Result, Ok, Err, refl, ap, ◌∙◌, arith}
 use Rattle.std.specs.Prelude.{if◌then◌else◌, nat_le, nat_lt, not, ◌||◌, ◌&&◌, length, bytes_eq}
 use Rattle.std.specs.List.{list_any}
@@ -53,16 +53,16 @@ use Rattle.interp.specs.declared.flow.Flow.TheVariants.{Next, Continued, Broken,
 use Rattle.expressions.specs.declared.conditions.Choice.{Choice}
 use Rattle.expressions.specs.declared.conditions.Choice.TheVariants.{Body, Others, Skip}
 use Rattle.expressions.specs.Conditions.{choice_of, choice_without}
-use Rattle.interp.specs.Statements.{by_choice, on_next, after_round, rounds_of, walked, stated, does, branches_of, do_all}
+use Rattle.interp.specs.Statements.{by_choice, on_next, after_round, rounds_of, walked, walked_by, stated, does, branches_of, do_all}
 use Rattle.interp.specs.declared.acting.Action.{Action}
 use Rattle.interp.specs.declared.acting.Action.TheVariants.{Call, Enter, Leave}
 use Rattle.interp.specs.Acting.{acted_by, done_by, performed}
 use Rattle.interp.specs.Entering.{WayData, Ends, Enters, action_of, by_way, subdir_by}
 use Rattle.expressions.specs.Assignments.{configuration_in, own_by, own, added, appended, summed, assigned_by, assigned, bound}
 use Rattle.expressions.specs.Rounds.{Round, looped, item_rounds, entry_rounds}
-use Rattle.interp.specs.Folders.{opened_by, opened, fresh_by, fresh, go_back, folder}
+use Rattle.interp.specs.Folders.{opened_by, opened, fresh_by, fresh, go_back, folder_by}
 use Rattle.definition_files.specs.Files.{most_bytes, refuse_line, tree_or_fault, spelled_by, spelled}
-use Rattle.interp.specs.Evaluation.{begun_by, is_project, begins, begins_all, root, MachineSaid, sections_of, definitions, evaluated, evaluation}
+use Rattle.interp.specs.Evaluation.{begun_by, is_project, begins, begins_all, root, MachineSaid, sections_of, defined, evaluated_few, evaluation}
 use Rattle.interp.specs.Laws.{StepsWithinCost}
 use Rattle.interp.proofs.Paths.{not_opened, is_definition}
 use Rattle.definition_files.specs.Places.{refuse_at}
@@ -267,15 +267,15 @@ module _ (files : Files) where
   rounds-cost round c p [] = free _
   rounds-cost round c p (r ∷ rs) = more (omega (arith, suc-mul (length rs) (c + 1))) (chain (rules (p r)) (λ flow. after_round-cost flow (rounds-cost round c p rs)))
 
-  limited-cost : (line : ℕ) (round : Round → Plan Flow) (c : ℕ) → ((r : Round) → Takes file_cost files c (round r)) → (rs : List Round) (b : Bool) → nat_le (length rs) 65536 ≡ b
-      → Takes file_cost files (65536 * (c + 1)) (walked line round (if b then Ok rs else Err refusals.Limit))
-  limited-cost line round c p rs true few = let fit : length rs ≤ 65536 = grind (arith, nat_tests, few) in more (mul-le-mul_right (c + 1) fit) (rounds-cost round c p rs)
-  limited-cost line round c p rs false few = refuse-cost line refusals.Limit []
+  allowed-cost : (line : ℕ) (round : Round → Plan Flow) (c : ℕ) → ((r : Round) → Takes file_cost files c (round r)) → (rs : List Round) (b : Bool) → nat_le (length rs) 65536 ≡ b
+      → Takes file_cost files (65536 * (c + 1)) (walked_by b line (rounds_of round rs))
+  allowed-cost line round c p rs true few = let fit : length rs ≤ 65536 = grind (arith, nat_tests, few) in more (mul-le-mul_right (c + 1) fit) (rounds-cost round c p rs)
+  allowed-cost line round c p rs false few = refuse-cost line refusals.Limit []
 
   walked-cost : (line : ℕ) (round : Round → Plan Flow) (c : ℕ) → ((r : Round) → Takes file_cost files c (round r)) → (second : Option (List ℕ)) (d : Data)
-      → Takes file_cost files (65536 * (c + 1)) (walked line round (looped second d))
-  walked-cost line round c p None (list ds) = limited-cost line round c p (item_rounds ds) (nat_le (length (item_rounds ds)) 65536) refl
-  walked-cost line round c p (Some second) (dictionary es) = limited-cost line round c p (entry_rounds es) (nat_le (length (entry_rounds es)) 65536) refl
+      → Takes file_cost files (65536 * (c + 1)) (walked true line round (looped second d))
+  walked-cost line round c p None (list ds) = allowed-cost line round c p (item_rounds ds) (nat_le (length (item_rounds ds)) 65536) refl
+  walked-cost line round c p (Some second) (dictionary es) = allowed-cost line round c p (entry_rounds es) (nat_le (length (entry_rounds es)) 65536) refl
   walked-cost line round c p None (boolean b) = refuse-cost line refusals.Type []
   walked-cost line round c p None (integer z) = refuse-cost line refusals.Type []
   walked-cost line round c p None (text t) = refuse-cost line refusals.Type []
@@ -378,7 +378,7 @@ module _ (files : Files) where
     stated-cost (TernaryTree test one other line) = alone-cost (chain (value-cost test) (λ d. chosen-cost line (boolean_in d) (is_disabler d) (value-cost one) (value-cost other)))
 
     mutual
-      does-cost : (s : StatementTree) → Takes file_cost files (statement_cost s) (ruled (does into s))
+      does-cost : (s : StatementTree) → Takes file_cost files (statement_cost s) (ruled (does into true s))
       does-cost (AssignTree name line value) = rules (last (value-cost value) (λ d. first (own-cost d) (λ e. first (assigned-cost line name e) (λ u. none _))))
       does-cost (AppendTree name line value) = rules (last (appended-cost line name value) (λ u. none _))
       does-cost (ValueTree e line) = rules (stated-cost e)
@@ -386,13 +386,13 @@ module _ (files : Files) where
       does-cost (ContinueTree line) = rules (none _)
       does-cost (IfTree line branches otherwise) = rules (branches-cost branches otherwise (all-cost otherwise))
       does-cost (ForeachTree line name second items items_line body) =
-          rules (chain (value-cost items) (walked-cost line (λ r. next_plan (bound line name second r) (λ u. do_all into body)) (statements_cost body) (λ r. first (bound-cost line name second r) (λ u. all-cost body)) second))
+          rules (chain (value-cost items) (walked-cost line (λ r. next_plan (bound line name second r) (λ u. do_all into true body)) (statements_cost body) (λ r. first (bound-cost line name second r) (λ u. all-cost body)) second))
 
-      branches-cost : (bs : Branches) (otherwise : Statements) → Takes file_cost files (statements_cost otherwise) (do_all into otherwise) → Takes file_cost files (branches_cost bs + statements_cost otherwise) (branches_of into bs (do_all into otherwise))
+      branches-cost : (bs : Branches) (otherwise : Statements) → Takes file_cost files (statements_cost otherwise) (do_all into true otherwise) → Takes file_cost files (branches_cost bs + statements_cost otherwise) (branches_of into true bs (do_all into true otherwise))
       branches-cost NoBranch otherwise p = more (omega arith) p
       branches-cost (MoreBranches test line body bs) otherwise p = more (omega arith) (chain (value-cost test) (λ d. first (choice-cost line (boolean_in d) (is_disabler d)) (λ choice. by_choice-cost choice (all-cost body) (branches-cost bs otherwise p))))
 
-      all-cost : (ss : Statements) → Takes file_cost files (statements_cost ss) (do_all into ss)
+      all-cost : (ss : Statements) → Takes file_cost files (statements_cost ss) (do_all into true ss)
       all-cost NoStatement = free _
       all-cost (MoreStatements s ss) = chain (does-cost s) (λ flow. on_next-cost flow (all-cost ss))
 
@@ -485,10 +485,10 @@ module _ (files : Files) where
   back-cost : {c : ℕ} (plan : Plan Flow) (outer : Facts) → Takes file_cost files c plan → Takes file_cost files (1 + c) (next_plan (ruled plan) (λ u. next_plan (go_back outer) (λ v. give Next)))
   back-cost plan outer p = last (rules p) (λ u. first (none _) (λ v. none _))
 
-  folder-cost : (left : ℕ) (t : List ℕ) → Takes file_cost files 0 (folder left t)
+  folder-cost : (left : ℕ) (t : List ℕ) → Takes file_cost files 0 (folder_by true left t)
   folder-cost zero t = record { costs = record { within = λ w. omega (arith, fresh-paid (λ path. deed (refuse_deed refusals.Limit [])) t w (λ path h. omega arith)) } }
   folder-cost (suc left) t =
-      let others : Facts → Statements → Plan Flow = λ outer body. next_plan (ruled (do_all (folder left) body)) (λ u. next_plan (go_back outer) (λ v. give Next)) in
+      let others : Facts → Statements → Plan Flow = λ outer body. next_plan (ruled (do_all (folder_by true left) true body)) (λ u. next_plan (go_back outer) (λ v. give Next)) in
       record {
         costs = record {
           within = λ w. omega (
@@ -497,7 +497,7 @@ module _ (files : Files) where
                 (λ path h. omega (
                   arith,
                   spent-after file_cost files [] (carry files (next_plan (opened path) (others w.facts)) w),
-                  body-paid path (others w.facts) (λ body. back-cost (do_all (folder left) body) w.facts (all-cost (folder left) (folder-cost left) body)) w h,
+                  body-paid path (others w.facts) (λ body. back-cost (do_all (folder_by true left) true body) w.facts (all-cost (folder_by true left) (folder-cost left) body)) w h,
                 )),
           );
         };
@@ -522,13 +522,13 @@ module _ (files : Files) where
   begins_all-cost NoStatement = begun-cost 1 false
   begins_all-cost (MoreStatements s ss) = begins-cost s
 
-  root-cost : (ss : Statements) → Takes file_cost files (statements_cost ss) (root ss)
-  root-cost ss = first (begins_all-cost ss) (λ u. all-cost (folder 63) (folder-cost 63) ss)
+  root-cost : (ss : Statements) → Takes file_cost files (statements_cost ss) (root true ss)
+  root-cost ss = first (begins_all-cost ss) (λ u. all-cost (folder_by true 63) (folder-cost 63) ss)
 
-  definitions-cost : (w : World) → is_opened w.entered (definition_file []) ≡ false → spent file_cost files (carry files definitions w) ≤ unopened file_cost files w.entered
-  definitions-cost w new = body-paid [] (λ body. next_plan (ruled (root body)) (λ u. give (tt {0}))) (λ body. last (rules (root-cost body)) (λ u. none _)) w new
+  definitions-cost : (w : World) → is_opened w.entered (definition_file []) ≡ false → spent file_cost files (carry files (defined true) w) ≤ unopened file_cost files w.entered
+  definitions-cost w new = body-paid [] (λ body. next_plan (ruled (root true body)) (λ u. give (tt {0}))) (λ body. last (rules (root-cost body)) (λ u. none _)) w new
 
-  begun_run : (said : MachineSaid) (w : World) → w.entered ≡ [] → spent file_cost files (carry files (evaluation said) w) ≤ unopened file_cost files w.entered
+  begun_run : (said : MachineSaid) (w : World) → w.entered ≡ [] → spent file_cost files (carry files (evaluation true said) w) ≤ unopened file_cost files w.entered
   unfolding refuse_at
   begun_run (Ok sections) w none_entered = definitions-cost w (ap (λ l. is_opened l (definition_file [])) none_entered)
   begun_run (Err fault) w none_entered = omega arith
@@ -537,10 +537,10 @@ unopened-none : (files : Files) → unopened file_cost files [] ≡ tree_cost fi
 unopened-none [] = refl
 unopened-none (f ∷ fs) = ap (λ n. file_cost f + n) (unopened-none fs)
 
-within_cost : (files : Files) (said : MachineSaid) (w : World) → w.entered ≡ [] → ends_of (marks_of (carry files (evaluation said) w)) ≤ tree_cost files
+within_cost : (files : Files) (said : MachineSaid) (w : World) → w.entered ≡ [] → ends_of (marks_of (carry files (evaluation true said) w)) ≤ tree_cost files
 within_cost files said w none_entered =
     omega (arith, begun_run files said w none_entered, ap (unopened file_cost files) none_entered, unopened-none files)
 
 pub steps_within_cost : StepsWithinCost
-unfolding evaluated
+unfolding evaluated_few
 steps_within_cost files settings said = within_cost files said (first_world settings (sections_of said)) refl

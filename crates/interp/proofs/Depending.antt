@@ -1,5 +1,5 @@
 -- What an evaluation depends on.
-use Rattle.std.proofs.Common.{◌≡◌, [], Ok, Err, ap, ◌∙◌}
+use Rattle.std.proofs.Common.{false, ◌≡◌, [], Ok, Err, ap, ◌∙◌}
 use Rattle.machine_file.specs.declared.fault.MachineFault.{MachineFault}
 use Rattle.definition_files.specs.Places.{refuse_at}
 use Rattle.world.specs.Deed.{Files}
@@ -13,7 +13,7 @@ use Rattle.interp.specs.Laws.{DependsOnLooked}
 -- a machine file that is refused, before anything is looked at or asked
 same_refused : (f g : Files) (settings : SettingsData) (fault : MachineFault) → evaluated g settings (Err fault) ≡ ran_over [] (evaluated f settings (Err fault))
 unfolding evaluated refuse_at
-same_refused f g settings fault = (plan-depends (evaluation (Err fault))).same f g [] (first_world settings []) tt tt
+same_refused f g settings fault = (plan-depends (evaluation false (Err fault))).same f g [] (first_world settings []) tt tt
 
 pub depends_on_looked : DependsOnLooked
 unfolding evaluated

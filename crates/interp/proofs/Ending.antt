@@ -1,10 +1,11 @@
 -- Steps that stop.
-use Rattle.std.proofs.Common.{◌≡◌, ℕ, ◌+◌, List, [], ◌∷◌, ◌++◌, Ok, Err, sym, subst}
+use Rattle.std.proofs.Common.{Bool, ◌≡◌, ℕ, ◌+◌, List, [], ◌∷◌, ◌++◌, Ok, Err, sym, subst}
 use Rattle.world.specs.Deed.{Files}
 use Rattle.world.specs.Gives.{Holds}
 use Rattle.world.specs.Plan.{Plan}
 use Rattle.world.specs.declared.stop.Stop.{Stop}
 use Rattle.expressions.specs.Contexts.{Stand, Given}
+use Rattle.interp.specs.Bounds.{bounds}
 use Rattle.interp.specs.Folders.{folder}
 use Rattle.interp.specs.Statements.{do_all}
 use Rattle.interp.specs.declared.flow.Flow.{Flow}
@@ -30,11 +31,11 @@ pub stepped_on : {files : Files} {whole : Plan Flow} {s0 s1 : Stand} {flow : Flo
 stepped_on m = record { steps = m.moves }
 
 -- the run begins with one block
-pub run_begun : (fs gs : List Frame) (b : BlockRest) {files : Files} {s : Stand} (table : List (List ℕ)) → fs ≡ [] → gs ≡ fs ++ frames.Block b ∷ [] → Made b.code.value s.names table
-    → Holds s.tree files → Moved files (do_all (folder b.left) (others_by table b)) s Next gs s
-run_begun fs gs b {s = s} table none is m h =
+pub run_begun : (few : Bool) (fs gs : List Frame) (b : BlockRest) {files : Files} {s : Stand} (table : List (List ℕ)) → fs ≡ [] → gs ≡ fs ++ frames.Block b ∷ [] → Made b.code.value s.names table
+    → Holds s.tree files → Moved files (do_all (folder (bounds few b.left)) few (others_by table b)) s Next gs s
+run_begun few fs gs b {s = s} table none is m h =
     let first : Stacked s.names fs [] = record { each = subst (λ l. EachMeans s.names l []) (sym none) tt } in
-    (moves_block fs gs [] b table first is m (leads_start h)).moves
+    (moves_block few fs gs [] b table first is m (leads_start h)).moves
 
 pub moved_as : {files : Files} {whole other : Plan Flow} {s0 s1 : Stand} {flow : Flow} {fs : List Frame} → whole ≡ other → Moved files whole s0 flow fs s1 → Moved files other s0 flow fs s1
 moved_as {files = files} {s0 = s0} {s1 = s1} {flow = flow} {fs = fs} e m = subst (λ p. Moved files p s0 flow fs s1) e m

@@ -1,18 +1,24 @@
 -- Runs that a person worked out, which the definitions have to give.
-use Rattle.std.proofs.Common.{◌≡◌, false, [], Some, None, codes, refl}
+use Rattle.std.proofs.Common.{◌≡◌, false, [], ◌∷◌, Some, None, codes, refl}
+use Rattle.std.specs.Str.{chars, is_utf8}
+use lib.Utf8.{encode}
+use Rattle.lexer.specs.Lexing.{format_at, lex, lexed, number_at, string_at, symbol_at, token_at, word_at}
 use Rattle.grammar.specs.ExpressionTree.{LiteralTree, ListTree, NameTree, NoExpression, MoreExpressions}
-use Rattle.grammar.specs.Tree.{AssignTree, BreakTree, ForeachTree, Statements, NoStatement, MoreStatements}
+use Rattle.grammar.specs.Parsed.{parsed}
+use Rattle.grammar.specs.Tree.{AssignTree, BreakTree, ForeachTree, ValueTree, Statements, NoStatement, MoreStatements}
 use Rattle.grammar.specs.declared.tree.Literal.TheVariants as literals
 use Rattle.basics.specs.declared.faults.refusal.Refusal.TheVariants as refusals
 use Rattle.data.specs.Data.{boolean}
-use Rattle.world.specs.Deed.{need}
-use Rattle.world.specs.Plan.{carry, give}
+use Rattle.definition_files.specs.Files.{refuse_line, spelled, spelled_by, tree_or_fault}
+use Rattle.world.specs.Deed.{Files, need}
+use Rattle.world.specs.Plan.{◌>>=◌, carry, give}
 use Rattle.world.specs.Run.{Run, Faulted, marks_of, outcome_of, world_after}
 use Rattle.world.specs.Settings.{SettingsData}
 use Rattle.world.specs.Start.{first_world}
 use Rattle.world.specs.Trace.{ends_of}
 use Rattle.world.specs.World.{World, entering}
-use Rattle.interp.specs.Folders.{folder}
+use Rattle.interp.specs.Bounds.{bounds}
+use Rattle.interp.specs.Folders.{folder, go_to}
 use Rattle.interp.specs.Statements.{do_all}
 use Rattle.interp.specs.declared.flow.Flow.{Flow}
 use Rattle.interp.specs.declared.flow.Flow.TheVariants.{Next}
@@ -32,7 +38,7 @@ loop body =
     (ListTree (MoreExpressions (LiteralTree literals.True (codes "true") 1) (MoreExpressions (LiteralTree literals.False (codes "false") 1) NoExpression)) 1) 1 body) NoStatement
 
 abbrev run : Statements → Run Flow
-run statements = carry [] (do_all (λ _. give Next) statements) begun
+run statements = carry [] (do_all (λ _. give Next) false statements) begun
 
 -- y = x
 abbrev assigns : Statements
@@ -52,18 +58,32 @@ rules_broken = refl
 -- ---- folders
 
 -- there is no file
-absent : outcome_of (carry [] (folder 1 (codes "sub")) begun)
+absent : outcome_of (carry [] (folder (bounds false 1) (codes "sub")) begun)
     ≡ Faulted (record { file = codes "meson.build"; line = 1; refusal = refusals.FileMissing; detail = codes "sub/meson.build" })
 unfolding need
 absent = refl
 
 -- it was entered before
-again : outcome_of (carry [] (folder 1 (codes "sub")) (entering begun (codes "sub")))
+again : outcome_of (carry [] (folder (bounds false 1) (codes "sub")) (entering begun (codes "sub")))
     ≡ Faulted (record { file = codes "meson.build"; line = 1; refusal = refusals.Subdir; detail = [] })
 unfolding need
 again = refl
 
 -- no folder leads out of the tree
-above : outcome_of (carry [] (folder 1 (codes "..")) begun)
+above : outcome_of (carry [] (folder (bounds false 1) (codes "..")) begun)
     ≡ Faulted (record { file = codes "meson.build"; line = 1; refusal = refusals.Subdir; detail = [] })
 above = refl
+
+-- its file is cut into tokens up to the sign that is none, in the second line; what is refused there is refused in that file
+file_inside : Files
+file_inside = (codes "sub/meson.build", codes "\n$\n") ∷ []
+
+inside : outcome_of (carry file_inside (folder (bounds false 1) (codes "sub")) begun)
+    ≡ Faulted (record { file = codes "sub/meson.build"; line = 2; refusal = refusals.Token; detail = [] })
+unfolding need spelled spelled_by tree_or_fault refuse_line is_utf8 chars encode parsed lexed lex token_at word_at number_at string_at format_at symbol_at
+inside = refl
+
+-- a name that no variable has, in the second line of a folder's file
+unknown : outcome_of (carry [] (go_to (codes "sub") >>= λ _. do_all (folder (bounds false 1)) false (MoreStatements (ValueTree (NameTree (codes "y") 2) 2) NoStatement)) begun)
+    ≡ Faulted (record { file = codes "sub/meson.build"; line = 2; refusal = refusals.UndefinedName; detail = codes "y" })
+unknown = refl

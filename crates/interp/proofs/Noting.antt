@@ -1,5 +1,5 @@
 -- What the project of an evaluation notes.
-use Rattle.std.proofs.Common.{refl}
+use Rattle.std.proofs.Common.{false, refl}
 use Rattle.world.specs.Deed.{Files}
 use Rattle.world.specs.Noted.{NotesLooks}
 use Rattle.world.specs.Run.{world_after}
@@ -11,7 +11,7 @@ use Rattle.interp.specs.Laws.{NotesWhatItLooksAt}
 
 looks : (files : Files) (settings : SettingsData) (said : MachineSaid) → NotesLooks files (world_after (evaluated files settings said))
 unfolding evaluated
-looks files settings said = plan-notes files (evaluation said) (first_world settings (sections_of said)) refl
+looks files settings said = plan-notes files (evaluation false said) (first_world settings (sections_of said)) refl
 
 pub notes_what_it_looks_at : NotesWhatItLooksAt
 notes_what_it_looks_at = record {

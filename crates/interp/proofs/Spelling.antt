@@ -20,6 +20,7 @@ use Rattle.grammar.specs.Tree.{StatementTree, Statements, MoreBranches, branches
 use Rattle.world.specs.Deed.{Files}
 use Rattle.world.specs.Plan.{Plan, give, next, ruled}
 use Rattle.world.specs.declared.stop.Stop.{Stop}
+use Rattle.interp.specs.Bounds.{Bounds}
 use Rattle.interp.specs.Blocks.{branch_or, expressions_by, node_at, statements_by}
 use Rattle.interp.specs.Evaluates.{Comes, HaltsTo, Reads}
 use Rattle.expressions.specs.Contexts.{Given, Stand, Leads}
@@ -93,25 +94,25 @@ place_there xs at x ys is = let e : length (drop at xs) ≡ suc (length ys) = ap
 -- ---- the parts of an `if`
 
 -- a part is a block of the statement
-pub part_is : (into : List ℕ → Plan Flow) (ts : List ExpressionTree) (ss : List StatementTree) (otherwise : List ℕ) (bs : List BranchNode) (k : ℕ)
-    → part_done into (branches (map (branch_at ts ss) bs)) (statements (map (statement_at ss) otherwise)) (Some k) ≡ do_all into (statements (map (statement_at ss) (branch_or otherwise bs k)))
-part_is into ts ss otherwise [] k = refl
-part_is into ts ss otherwise (b ∷ bs) zero = refl
-part_is into ts ss otherwise (b ∷ bs) (suc k) = part_is into ts ss otherwise bs k
+pub part_is : (into : List ℕ → Plan Flow) (few : Bool) (ts : List ExpressionTree) (ss : List StatementTree) (otherwise : List ℕ) (bs : List BranchNode) (k : ℕ)
+    → part_done into few (branches (map (branch_at ts ss) bs)) (statements (map (statement_at ss) otherwise)) (Some k) ≡ do_all into few (statements (map (statement_at ss) (branch_or otherwise bs k)))
+part_is into few ts ss otherwise [] k = refl
+part_is into few ts ss otherwise (b ∷ bs) zero = refl
+part_is into few ts ss otherwise (b ∷ bs) (suc k) = part_is into few ts ss otherwise bs k
 
 -- the part of a branch that is there
-pub part_there : (into : List ℕ → Plan Flow) (ts : List ExpressionTree) (ss : List StatementTree) (otherwise : Statements) (bs : List BranchNode) (k : ℕ) (b : BranchNode) → k < length bs
-    → part_done into (branches (map (branch_at ts ss) bs)) otherwise (Some k) ≡ do_all into (statements (map (statement_at ss) (get_or bs k b).body.items))
-part_there into ts ss otherwise [] k b l = absurd (omega arith)
-part_there into ts ss otherwise (x ∷ bs) zero b l = refl
-part_there into ts ss otherwise (x ∷ bs) (suc k) b l = part_there into ts ss otherwise bs k b (omega arith)
+pub part_there : (into : List ℕ → Plan Flow) (few : Bool) (ts : List ExpressionTree) (ss : List StatementTree) (otherwise : Statements) (bs : List BranchNode) (k : ℕ) (b : BranchNode) → k < length bs
+    → part_done into few (branches (map (branch_at ts ss) bs)) otherwise (Some k) ≡ do_all into few (statements (map (statement_at ss) (get_or bs k b).body.items))
+part_there into few ts ss otherwise [] k b l = absurd (omega arith)
+part_there into few ts ss otherwise (x ∷ bs) zero b l = refl
+part_there into few ts ss otherwise (x ∷ bs) (suc k) b l = part_there into few ts ss otherwise bs k b (omega arith)
 
 -- the part behind all branches
-pub part_behind : (into : List ℕ → Plan Flow) (ts : List ExpressionTree) (ss : List StatementTree) (otherwise : Statements) (bs : List BranchNode) (k : ℕ) → length bs ≤ k
-    → part_done into (branches (map (branch_at ts ss) bs)) otherwise (Some k) ≡ do_all into otherwise
-part_behind into ts ss otherwise [] k l = refl
-part_behind into ts ss otherwise (x ∷ bs) zero l = absurd (omega arith)
-part_behind into ts ss otherwise (x ∷ bs) (suc k) l = part_behind into ts ss otherwise bs k (omega arith)
+pub part_behind : (into : List ℕ → Plan Flow) (few : Bool) (ts : List ExpressionTree) (ss : List StatementTree) (otherwise : Statements) (bs : List BranchNode) (k : ℕ) → length bs ≤ k
+    → part_done into few (branches (map (branch_at ts ss) bs)) otherwise (Some k) ≡ do_all into few otherwise
+part_behind into few ts ss otherwise [] k l = refl
+part_behind into few ts ss otherwise (x ∷ bs) zero l = absurd (omega arith)
+part_behind into few ts ss otherwise (x ∷ bs) (suc k) l = part_behind into few ts ss otherwise bs k (omega arith)
 
 -- a name that was there is there, and is the same
 pub name_kept : {old new : List (List ℕ)} (h : IsFront old new) (number : ℕ) → number < length old → (number < length new) × (name_at new number ≡ name_at old number)
@@ -140,14 +141,14 @@ pub branch_next : (ts : List ExpressionTree) (ss : List StatementTree) (bs : Lis
 branch_next ts ss bs i b l at = ap branches (next_is (branch_at ts ss) bs i b l at)
 
 -- a condition that halts
-pub chooses_halt : {A C : Type 0} {view : C → A} {files : Files} {left : ℕ} {whole : Plan Flow} {p : Plan A} {others : A → Plan Flow} {s0 s1 s2 : Stand} {halt : Halt} (part : Option ℕ → Plan Flow) (result : Result (Option ℕ) Halt)
+pub chooses_halt : {A C : Type 0} {view : C → A} {files : Files} {left : Bounds} {whole : Plan Flow} {p : Plan A} {others : A → Plan Flow} {s0 s1 s2 : Stand} {halt : Halt} (part : Option ℕ → Plan Flow) (result : Result (Option ℕ) Halt)
     → IsErrAnd result (λ e. e ≡ halt) → Leads files whole s0 (next p others) s1 → Comes view files left p s1 (Err halt) s2 → Chooses files left whole s0 part result s2
 chooses_halt part (Ok x) is l h = absurd is
 chooses_halt {files = files} {left = left} {whole = whole} {p = p} {others = others} {s0 = s0} {s1 = s1} {s2 = s2} {halt = halt} part (Err e) is l h =
     subst (λ d. HaltsTo files left whole s0 d s2) (sym is) (halts_end files left whole (next p others) s0 s1 s2 halt l (halts_then files left p others s1 s2 halt h.comes))
 
 -- a choice that stops
-pub chooses_refused : {A C : Type 0} {view : C → A} {files : Files} (left : ℕ) {whole : Plan Flow} {p : Plan A} {others : A → Plan Flow} {s0 s1 s2 : Stand} {stop : Stop} (part : Option ℕ → Plan Flow) (result : Result (Option ℕ) Halt)
+pub chooses_refused : {A C : Type 0} {view : C → A} {files : Files} (left : Bounds) {whole : Plan Flow} {p : Plan A} {others : A → Plan Flow} {s0 s1 s2 : Stand} {stop : Stop} (part : Option ℕ → Plan Flow) (result : Result (Option ℕ) Halt)
     → IsErrAnd result (λ e. e ≡ halts.Stops stop) → Leads files whole s0 (next p others) s1 → Given view files p s1 (Err stop) s2 → Chooses files left whole s0 part result s2
 chooses_refused left part (Ok x) is l g = absurd is
 chooses_refused {files = files} left {whole = whole} {s0 = s0} {s2 = s2} {stop = stop} part (Err e) is l g =

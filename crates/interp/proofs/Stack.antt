@@ -1,5 +1,5 @@
 -- Plans under a stack of frames.
-use Rattle.std.proofs.Common.{◌≡◌, ℕ, zero, suc, ◌+◌, List, [], ◌∷◌, ◌++◌, Result, Ok, Err, IsErrAnd, drop, length, refl, sym, subst, ap, ◌∙◌, option_map, arith}
+use Rattle.std.proofs.Common.{◌≡◌, Bool, ℕ, zero, suc, ◌+◌, List, [], ◌∷◌, ◌++◌, Result, Ok, Err, IsErrAnd, drop, length, refl, sym, subst, ap, ◌∙◌, option_map, arith}
 use Rattle.code.specs.Draft.{IsFront}
 use Rattle.code.specs.declared.code.Code.{Code}
 use Rattle.code.specs.Statements.{name_at, statement_at}
@@ -16,6 +16,7 @@ use Rattle.world.proofs.Follow.{after-nil, done}
 use Rattle.world.proofs.Marks.{front_of_front, none_added, same_front}
 use Rattle.interp.specs.Blocks.{block_by, statements_by, statements_of}
 use Rattle.expressions.specs.Contexts.{Stand, Given, seen_of, Leads}
+use Rattle.interp.specs.Bounds.{bounds}
 use Rattle.interp.specs.Folders.{folder}
 use Rattle.expressions.specs.Rounds.{Round}
 use Rattle.interp.specs.Statements.{after_round, do_all, does, on_next, rounds_of}
@@ -33,7 +34,7 @@ use Rattle.expressions.proofs.Evaluating.{follow-after, with_end-after, given_gi
 
 -- a run, and what is left behind it
 abbrev onto : Files → Rest → Run Flow → Run Flow
-onto files (Others left ss) r = follow r (λ flow. carry files (on_next flow (do_all (folder left) ss)))
+onto files (Others left ss) r = follow r (λ flow. carry files (on_next flow (do_all (folder left) left.few ss)))
 onto files (Rounds left line first second body rounds) r = follow r (λ flow. carry files (after_round flow (rounds_of (one_round left line first second body) rounds)))
 onto files End r = with_end r
 onto files (Left file below line) r = follow r (λ flow. carry files (gone_back file below line flow))
@@ -153,8 +154,8 @@ pub made_on : {c : Code} {old new table : List (List ℕ)} → IsFront old new �
 made_on {old = old} {new = new} {table = table} h m = record { front = front_of_front table old new m.front h; known = m.known }
 
 means-on : (f : Frame) (r : Rest) {old new : List (List ℕ)} → IsFront old new → Means old f r → Means new f r
-means-on (frames.Block b) r h m = record { table = m.table; made = made_on h m.made; is = m.is }
-means-on (frames.Loop l) r h m = record { table = m.table; made = made_on h m.made; is = m.is }
+means-on (frames.Block b) r h m = record { table = m.table; made = made_on h m.made; few = m.few; is = m.is }
+means-on (frames.Loop l) r h m = record { table = m.table; made = made_on h m.made; few = m.few; is = m.is }
 means-on frames.End r h m = m
 means-on (frames.Left place) r h m = m
 means-on (frames.Refuses line) r h m = m
@@ -266,30 +267,30 @@ pub leads_laid : (rs : List Rest) (r : Rest) {files : Files} {whole : Plan Flow}
 leads_laid rs r is l = leads_as (ap (behind_all rs) (sym is) ∙ sym (behind_top rs r (give Next))) (leads_further l (leads_under rs (leads_back l.holds)))
 
 -- so a block begins
-pub moves_block : (fs gs : List Frame) (rs : List Rest) (b : BlockRest) {files : Files} {whole : Plan Flow} {s0 s : Stand} (table : List (List ℕ))
+pub moves_block : (few : Bool) (fs gs : List Frame) (rs : List Rest) (b : BlockRest) {files : Files} {whole : Plan Flow} {s0 s : Stand} (table : List (List ℕ))
     → Stacked s.names fs rs → gs ≡ fs ++ frames.Block b ∷ [] → Made b.code.value s.names table
-    → Leads files whole s0 (behind_all rs (do_all (folder b.left) (others_by table b))) s → Moves files whole s0 (Ok Next) gs s
-moves_block fs gs rs b table h is m l = record {
+    → Leads files whole s0 (behind_all rs (do_all (folder (bounds few b.left)) few (others_by table b))) s → Moves files whole s0 (Ok Next) gs s
+moves_block few fs gs rs b table h is m l = record {
   moves = record {
-    rests = rs ++ Others b.left (others_by table b) ∷ [];
-    stacked = stacked_top fs gs rs (frames.Block b) (Others b.left (others_by table b)) is h (record { table = table; made = m; is = refl });
-    leads = leads_laid rs (Others b.left (others_by table b)) {others = λ flow. on_next flow (do_all (folder b.left) (others_by table b))} refl l;
+    rests = rs ++ Others (bounds few b.left) (others_by table b) ∷ [];
+    stacked = stacked_top fs gs rs (frames.Block b) (Others (bounds few b.left) (others_by table b)) is h (record { table = table; made = m; few = few; is = refl });
+    leads = leads_laid rs (Others (bounds few b.left) (others_by table b)) {others = λ flow. on_next flow (do_all (folder (bounds few b.left)) few (others_by table b))} refl l;
   };
 }
 
-abbrev pub rounds_rest : List (List ℕ) → LoopRest → Rest
-rounds_rest table l = Rounds l.left l.head.line (name_at table l.head.first) (option_map (name_at table) l.head.second)
+abbrev pub rounds_rest : Bool → List (List ℕ) → LoopRest → Rest
+rounds_rest few table l = Rounds (bounds few l.left) l.head.line (name_at table l.head.first) (option_map (name_at table) l.head.second)
     (block_by table l.code.value (statements_of l.code.value l.head.body)) (rounds_left l)
 
 -- so does a loop
-pub moves_loop : (fs gs : List Frame) (rs : List Rest) (r : LoopRest) {files : Files} {whole : Plan Flow} {s0 s : Stand} (table : List (List ℕ))
+pub moves_loop : (few : Bool) (fs gs : List Frame) (rs : List Rest) (r : LoopRest) {files : Files} {whole : Plan Flow} {s0 s : Stand} (table : List (List ℕ))
     → Stacked s.names fs rs → gs ≡ fs ++ frames.Loop r ∷ [] → Made r.code.value s.names table
-    → Leads files whole s0 (behind_all rs (rounds_of (round_by table r.code.value r.left r.head) (rounds_left r))) s → Moves files whole s0 (Ok Next) gs s
-moves_loop fs gs rs r table h is m l = record {
+    → Leads files whole s0 (behind_all rs (rounds_of (round_by table r.code.value (bounds few r.left) r.head) (rounds_left r))) s → Moves files whole s0 (Ok Next) gs s
+moves_loop few fs gs rs r table h is m l = record {
   moves = record {
-    rests = rs ++ rounds_rest table r ∷ [];
-    stacked = stacked_top fs gs rs (frames.Loop r) (rounds_rest table r) is h (record { table = table; made = m; is = refl });
-    leads = leads_laid rs (rounds_rest table r) {others = λ flow. after_round flow (rounds_of (round_by table r.code.value r.left r.head) (rounds_left r))} refl l;
+    rests = rs ++ rounds_rest few table r ∷ [];
+    stacked = stacked_top fs gs rs (frames.Loop r) (rounds_rest few table r) is h (record { table = table; made = m; few = few; is = refl });
+    leads = leads_laid rs (rounds_rest few table r) {others = λ flow. after_round flow (rounds_of (round_by table r.code.value (bounds few r.left) r.head) (rounds_left r))} refl l;
   };
 }
 
@@ -340,36 +341,36 @@ pub made_now : {c d : Code} {names : List (List ℕ)} → c ≡ d → d.names �
 made_now {names = names} e n = record { front = same_front names; known = omega (arith, ap (λ (x : Code). x.names) e, n) }
 
 -- the next statement of a block is put on the stack, and the end of its rule
-pub moves_statement : (fs gs hs : List Frame) (rs : List Rest) (b : BlockRest) {files : Files} {s0 s1 : Stand} {result : Result Flow Stop} {ks : List Frame} {c : Code} {numbers : List ℕ} {number : ℕ} (table : List (List ℕ))
+pub moves_statement : (few : Bool) (fs gs hs : List Frame) (rs : List Rest) (b : BlockRest) {files : Files} {s0 s1 : Stand} {result : Result Flow Stop} {ks : List Frame} {c : Code} {numbers : List ℕ} {number : ℕ} (table : List (List ℕ))
     → numbers ≡ number ∷ drop b.at (statements_of c b.block) → b.code.value ≡ c → gs ≡ fs ++ frames.Block b ∷ [] → hs ≡ gs ++ frames.End ∷ []
     → Stacked s0.names fs rs → Made c s0.names table
-    → ((rests : List Rest) → Stacked s0.names hs rests → Moves files (behind_all rests (does (folder b.left) (statement_at (statements_by table c) number))) s0 result ks s1)
-    → Moves files (behind_all rs (do_all (folder b.left) (block_by table c numbers))) s0 result ks s1
-moves_statement fs gs hs rs b {s0 = s0} {c = c} {numbers = numbers} {number = number} table are same put end h made step =
-    let o : Rest = Others b.left (block_by table c (drop b.at (statements_of c b.block))) in
+    → ((rests : List Rest) → Stacked s0.names hs rests → Moves files (behind_all rests (does (folder (bounds few b.left)) few (statement_at (statements_by table c) number))) s0 result ks s1)
+    → Moves files (behind_all rs (do_all (folder (bounds few b.left)) few (block_by table c numbers))) s0 result ks s1
+moves_statement few fs gs hs rs b {s0 = s0} {c = c} {numbers = numbers} {number = number} table are same put end h made step =
+    let o : Rest = Others (bounds few b.left) (block_by table c (drop b.at (statements_of c b.block))) in
     let m : Made b.code.value s0.names table = subst (λ (d : Code). Made d s0.names table) (sym same) made in
-    let is : o ≡ Others b.left (others_by table b) = ap (λ (d : Code). Others b.left (block_by table d (drop b.at (statements_of d b.block)))) (sym same) in
-    let one = stacked_top fs gs rs (frames.Block b) o put h (record { table = table; made = m; is = is }) in
+    let is : o ≡ Others (bounds few b.left) (others_by table b) = ap (λ (d : Code). Others (bounds few b.left) (block_by table d (drop b.at (statements_of d b.block)))) (sym same) in
+    let one = stacked_top fs gs rs (frames.Block b) o put h (record { table = table; made = m; few = few; is = is }) in
     let two = stacked_top gs hs (rs ++ o ∷ []) frames.End End end one refl in
-    moves_as (behind_two rs o End (does (folder b.left) (statement_at (statements_by table c) number))
-    ∙ ap (λ (ns : List ℕ). behind_all rs (do_all (folder b.left) (block_by table c ns))) (sym are))
+    moves_as (behind_two rs o End (does (folder (bounds few b.left)) few (statement_at (statements_by table c) number))
+    ∙ ap (λ (ns : List ℕ). behind_all rs (do_all (folder (bounds few b.left)) few (block_by table c ns))) (sym are))
     (step ((rs ++ o ∷ []) ++ End ∷ []) two)
 
 -- so is the next round of a loop, whose variables take their values first
-pub moves_round : (fs gs hs : List Frame) (rs : List Rest) (l : LoopRest) {files : Files} {s0 s1 : Stand} {result : Result Flow Stop} {ks : List Frame} {c : Code} {left : List Round} {r : Round} (table : List (List ℕ))
+pub moves_round : (few : Bool) (fs gs hs : List Frame) (rs : List Rest) (l : LoopRest) {files : Files} {s0 s1 : Stand} {result : Result Flow Stop} {ks : List Frame} {c : Code} {left : List Round} {r : Round} (table : List (List ℕ))
     → left ≡ r ∷ rounds_left l → l.code.value ≡ c → gs ≡ fs ++ frames.Loop l ∷ [] → hs ≡ gs ++ frames.End ∷ []
     → Stacked s0.names fs rs → Made c s0.names table
-    → ((rests : List Rest) → Stacked s0.names hs rests → Moves files (behind_all rests (round_by table c l.left l.head r)) s0 result ks s1)
-    → Moves files (behind_all rs (rounds_of (round_by table c l.left l.head) left)) s0 result ks s1
-moves_round fs gs hs rs l {s0 = s0} {c = c} {left = left} {r = r} table are same put end h made step =
-    let o : Rest = Rounds l.left l.head.line (name_at table l.head.first) (option_map (name_at table) l.head.second) (block_by table c (statements_of c l.head.body)) (rounds_left l) in
+    → ((rests : List Rest) → Stacked s0.names hs rests → Moves files (behind_all rests (round_by table c (bounds few l.left) l.head r)) s0 result ks s1)
+    → Moves files (behind_all rs (rounds_of (round_by table c (bounds few l.left) l.head) left)) s0 result ks s1
+moves_round few fs gs hs rs l {s0 = s0} {c = c} {left = left} {r = r} table are same put end h made step =
+    let o : Rest = Rounds (bounds few l.left) l.head.line (name_at table l.head.first) (option_map (name_at table) l.head.second) (block_by table c (statements_of c l.head.body)) (rounds_left l) in
     let m : Made l.code.value s0.names table = subst (λ (d : Code). Made d s0.names table) (sym same) made in
-    let is : o ≡ rounds_rest table l =
-    ap (λ (d : Code). Rounds l.left l.head.line (name_at table l.head.first) (option_map (name_at table) l.head.second) (block_by table d (statements_of d l.head.body)) (rounds_left l)) (sym same) in
-    let one = stacked_top fs gs rs (frames.Loop l) o put h (record { table = table; made = m; is = is }) in
+    let is : o ≡ rounds_rest few table l =
+    ap (λ (d : Code). Rounds (bounds few l.left) l.head.line (name_at table l.head.first) (option_map (name_at table) l.head.second) (block_by table d (statements_of d l.head.body)) (rounds_left l)) (sym same) in
+    let one = stacked_top fs gs rs (frames.Loop l) o put h (record { table = table; made = m; few = few; is = is }) in
     let two = stacked_top gs hs (rs ++ o ∷ []) frames.End End end one refl in
-    moves_as (behind_two rs o End (round_by table c l.left l.head r)
-    ∙ ap (λ (xs : List Round). behind_all rs (rounds_of (round_by table c l.left l.head) xs)) (sym are))
+    moves_as (behind_two rs o End (round_by table c (bounds few l.left) l.head r)
+    ∙ ap (λ (xs : List Round). behind_all rs (rounds_of (round_by table c (bounds few l.left) l.head) xs)) (sym are))
     (step ((rs ++ o ∷ []) ++ End ∷ []) two)
 
 -- the same code

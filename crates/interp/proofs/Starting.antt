@@ -22,7 +22,7 @@ use Rattle.world.specs.Store.{Kept, world_of}
 use Rattle.interp.specs.Evaluated.{Evaluated}
 use Rattle.interp.proofs.Ticking.{evaluated_done, evaluated_none, evaluated_stop, unnamed}
 use Rattle.world.specs.Gives.{Ends, Gives}
-use Rattle.world.specs.Run.{Done}
+use Rattle.world.specs.Run.{Done, Run}
 use Rattle.world.specs.Plan.{carry}
 use Rattle.world.specs.Trace.{Seen, seen}
 use Rattle.world.specs.World.{World, with_facts, with_place}
@@ -31,7 +31,7 @@ use Rattle.world.specs.declared.stop.Stop.TheVariants as stops
 use Rattle.world.proofs.Follow.{begun, refused_later}
 use Rattle.grammar.specs.Tree.{StatementTree, AssignTree, AppendTree, ValueTree, BreakTree, ContinueTree, IfTree, ForeachTree, Statements, NoStatement, MoreStatements}
 use Rattle.interp.specs.Beginnings.{Reads, RootGives, Starts, begun_at, line_before, line_unless, other_line}
-use Rattle.interp.specs.Evaluation.{MachineSaid, begins, begins_all, begun_by, definitions, evaluated, is_project}
+use Rattle.interp.specs.Evaluation.{MachineSaid, begins, begins_all, begun_by, defined, evaluation, is_project, sections_of}
 use Rattle.interp.proofs.Blocks.{number_below}
 use Rattle.interp.specs.declared.block.Block.TheVariants as blocks
 
@@ -78,12 +78,15 @@ begins_at (MoreStatements s ss) o is = ap begun_at is ∙ sym (begins_as s)
 pub first_below : (c : Code) (number : ℕ) (rest : List ℕ) → c.body.items ≡ number ∷ rest → number < length c.statements.items
 first_below c number rest is = number_below c blocks.File (number ∷ rest) 0 0 (sym is) (omega arith)
 
+-- an evaluation, by whether long loops are refused
+abbrev pub run_of : Bool → Files → SettingsData → MachineSaid → Run (Unit {0})
+run_of few files s said = carry files (evaluation few said) (first_world s (sections_of said))
+
 -- the world in which the root file is evaluated, and the whole evaluation
-pub started : (files : Files) (s : SettingsData) (said : MachineSaid) (kept : Kept) → Starts s said (Ok kept)
-    → carry files definitions (world_of kept) ≡ evaluated files s said
-unfolding evaluated
-started files s (Ok sections) kept is = ap (carry files definitions) is
-started files s (Err fault) kept is = absurd is
+started : (few : Bool) (files : Files) (s : SettingsData) (said : MachineSaid) (kept : Kept) → Starts s said (Ok kept)
+    → carry files (defined few) (world_of kept) ≡ run_of few files s said
+started few files s (Ok sections) kept is = ap (carry files (defined few)) is
+started few files s (Err fault) kept is = absurd is
 
 -- what stops where the machine file is read stops the start
 unread : {A : Type 0} (view : A → List Section) (s : SettingsData) (said : MachineSaid) (e : Stop) → Reads view said (Err e) → Starts s said (Err e)
@@ -106,32 +109,32 @@ was_read view s (Ok sections) x k h e = e ∙ ap (first_world s) h
 was_read view s (Err g) x k h e = absurd h
 
 -- a machine file that is refused, or no memory
-pub not_started : (files : Files) (s : SettingsData) (said : MachineSaid) (e : Stop) (result : Result Kept Stop) (out : OutputState) (n : ℕ) → IsErrAnd result (λ r. r ≡ e)
-    → Starts s said (Err e) → Evaluated (evaluated files s said) result (seen out n []) (seen out n [])
-unfolding evaluated refuse_at
-not_started files s said stops.Memory result out n is h = evaluated_none (evaluated files s said) (seen out n []) result is
-not_started files s said stops.Device result out n is h = absurd h
-not_started files s (Ok sections) (stops.Refused f) result out n is h = absurd h
-not_started files s (Err fault) (stops.Refused f) result out n is h =
+pub not_started : (few : Bool) (files : Files) (s : SettingsData) (said : MachineSaid) (e : Stop) (result : Result Kept Stop) (out : OutputState) (n : ℕ) → IsErrAnd result (λ r. r ≡ e)
+    → Starts s said (Err e) → Evaluated (run_of few files s said) result (seen out n []) (seen out n [])
+unfolding refuse_at
+not_started few files s said stops.Memory result out n is h = evaluated_none (run_of few files s said) (seen out n []) result is
+not_started few files s said stops.Device result out n is h = absurd h
+not_started few files s (Ok sections) (stops.Refused f) result out n is h = absurd h
+not_started few files s (Err fault) (stops.Refused f) result out n is h =
     let w = first_world s [] in
-    evaluated_stop (evaluated files s (Err fault)) (stops.Refused f) result w (seen out n []) (seen out n []) is
+    evaluated_stop (run_of few files s (Err fault)) (stops.Refused f) result w (seen out n []) (seen out n []) is
     (refused_later (λ (u : Unit {0}). u) (told fault) (stops.Refused f) (with_facts w (with_place (codes "<machine file>") [] fault.line w.facts)) w (seen out n [])
-    (begun (evaluated files s (Err fault)) (seen out n [])) h refl)
+    (begun (run_of few files s (Err fault)) (seen out n [])) h refl)
 
 -- the root file ended
-pub whole_done : (files : Files) (s : SettingsData) (said : MachineSaid) (kept k : Kept) (old new : Seen) → Starts s said (Ok kept)
-    → Ends (carry files definitions (world_of kept)) (Done tt) (world_of k) old new → Evaluated (evaluated files s said) (Ok k) (unnamed old) (unnamed new)
-whole_done files s said kept k old new is g =
-    evaluated_done (evaluated files s said) k old new
-    (subst (λ r. Ends r (Done tt) (world_of k) old new) (started files s said kept is) g)
+pub whole_done : (few : Bool) (files : Files) (s : SettingsData) (said : MachineSaid) (kept k : Kept) (old new : Seen) → Starts s said (Ok kept)
+    → Ends (carry files (defined few) (world_of kept)) (Done tt) (world_of k) old new → Evaluated (run_of few files s said) (Ok k) (unnamed old) (unnamed new)
+whole_done few files s said kept k old new is g =
+    evaluated_done (run_of few files s said) k old new
+    (subst (λ r. Ends r (Done tt) (world_of k) old new) (started few files s said kept is) g)
 
 -- or it stopped
-pub whole_stopped : (files : Files) (s : SettingsData) (said : MachineSaid) (kept : Kept) (w : World) (e : Stop) (result : Result Kept Stop) (old new : Seen) → Starts s said (Ok kept)
-    → IsErrAnd result (λ r. r ≡ e) → Gives {A = Unit {0}} {B = Unit {0}} (λ r. r) (carry files definitions (world_of kept)) (Err e) w old new
-    → Evaluated (evaluated files s said) result (unnamed old) (unnamed new)
-whole_stopped files s said kept w e result old new is stop g =
-    evaluated_stop (evaluated files s said) e result w old new stop
-    (subst (λ x. Gives {A = Unit {0}} {B = Unit {0}} (λ r. r) x (Err e) w old new) (started files s said kept is) g)
+pub whole_stopped : (few : Bool) (files : Files) (s : SettingsData) (said : MachineSaid) (kept : Kept) (w : World) (e : Stop) (result : Result Kept Stop) (old new : Seen) → Starts s said (Ok kept)
+    → IsErrAnd result (λ r. r ≡ e) → Gives {A = Unit {0}} {B = Unit {0}} (λ r. r) (carry files (defined few) (world_of kept)) (Err e) w old new
+    → Evaluated (run_of few files s said) result (unnamed old) (unnamed new)
+whole_stopped few files s said kept w e result old new is stop g =
+    evaluated_stop (run_of few files s said) e result w old new stop
+    (subst (λ x. Gives {A = Unit {0}} {B = Unit {0}} (λ r. r) x (Err e) w old new) (started few files s said kept is) g)
 
 -- the first number of a list
 pub first_is : (xs : List ℕ) (n : ℕ) → Some n ≡ slice_get xs 0 → (rest : List ℕ) × (xs ≡ n ∷ rest)

@@ -1,6 +1,6 @@
 -- How a whole evaluation has ticked.
 use Rattle.std.proofs.Common.{◌≡◌, ℕ, ◌+◌, ◌≤◌, List, [], ◌++◌, length, Result, Ok, Err, IsErrAnd, refl, sym, ap, subst, arith}
-use Rattle.world.specs.Counts.{EndsKeepUp, below, counts_from}
+use Rattle.world.specs.Counts.{EndsKeepUp, TicksAll, below, counts_from}
 use Rattle.world.specs.Gives.{Ends, Gives, failures_after}
 use Rattle.world.specs.Run.{Run, Done, marks_of}
 use Rattle.world.specs.Store.{Kept, world_of}
@@ -65,9 +65,9 @@ fails_none e (Err s) tree out is quiet =
 
 -- ---- ticks
 
-some_ticked : (marks : List Mark) (cost : ℕ) (old new : Seen) → EndsKeepUp → ends_of marks ≤ cost → Begins marks old new → TickedSome marks cost old new
-some_ticked marks cost old new keeps most b =
-    let all : ends_of marks ≡ ends_of (b.made ++ b.left) = ap ends_of b.all in
+some_ticked : (marks few : List Mark) (cost : ℕ) (old new : Seen) → EndsKeepUp → ends_of few ≤ cost → Begins marks old new → Begins few old new → TickedSome marks cost old new
+some_ticked marks few cost old new keeps most b f =
+    let all : ends_of few ≡ ends_of (f.made ++ f.left) = ap ends_of f.all in
     let kept : below (length (steps_of b.made)) (counts_from 0 marks) ≤ ends_of b.made =
     subst (λ ms. below (length (steps_of b.made)) (counts_from 0 ms) ≤ ends_of b.made) (sym b.all) (keeps b.made b.left) in
     record {
@@ -75,13 +75,18 @@ some_ticked marks cost old new keeps most b =
       left = b.left;
       all = b.all;
       sent = b.written.sent;
-      most = omega (arith, all, ends_of-append b.made b.left, b.written.ticks, most);
+      most = omega (arith, all, ends_of-append f.made f.left, f.written.ticks, most);
       least = omega (arith, kept, b.written.ticks);
     }
 
--- each rule that has ended has ticked, and no other
-pub ticked : (run : Run (Unit {0})) (cost : ℕ) (result : Result Kept Stop) (old new : Seen) → EndsKeepUp → ends_of (marks_of run) ≤ cost → Evaluated run result old new → Ticked run cost result old new
-ticked run cost (Ok k) old new keeps most g = record { each = g.written.ticks; within = most }
-ticked run cost (Err (stops.Refused fault)) old new keeps most g = record { each = g.written.ticks; within = most }
-ticked run cost (Err stops.Device) old new keeps most g = some_ticked (marks_of run) cost old new keeps most g
-ticked run cost (Err stops.Memory) old new keeps most g = some_ticked (marks_of run) cost old new keeps most g
+all_ticked : (marks few : List Mark) (cost : ℕ) (old new : Seen) → ends_of few ≤ cost → Adds old marks new → Adds old few new → TicksAll marks cost old.ticks new.ticks
+all_ticked marks few cost old new most a f = record { each = a.ticks; within = omega (arith, a.ticks, f.ticks, most) }
+
+-- Each rule that has ended has ticked, and no other. The call did what the run does, and so it did what the run does in which long loops
+-- are refused, whose rules are counted.
+pub ticked : (run few : Run (Unit {0})) (cost : ℕ) (result : Result Kept Stop) (old new : Seen) → EndsKeepUp → ends_of (marks_of few) ≤ cost
+    → Evaluated run result old new → Evaluated few result old new → Ticked run cost result old new
+ticked run few cost (Ok k) old new keeps most g f = all_ticked (marks_of run) (marks_of few) cost old new most g.written f.written
+ticked run few cost (Err (stops.Refused fault)) old new keeps most g f = all_ticked (marks_of run) (marks_of few) cost old new most g.written f.written
+ticked run few cost (Err stops.Device) old new keeps most g f = some_ticked (marks_of run) (marks_of few) cost old new keeps most g f
+ticked run few cost (Err stops.Memory) old new keeps most g f = some_ticked (marks_of run) (marks_of few) cost old new keeps most g f

@@ -15,7 +15,7 @@ use Rattle.world.specs.Store.{Kept, world_of}
 use Rattle.world.specs.Trace.{seen}
 use Rattle.world.specs.declared.stop.Stop.{Stop}
 use Rattle.world.specs.declared.stop.Stop.TheVariants as stops
-use Rattle.interp.specs.Evaluation.{MachineSaid, definitions, is_project}
+use Rattle.interp.specs.Evaluation.{MachineSaid, defined, definitions, is_project}
 
 -- the line of a statement that is no call of `project`
 abbrev pub line_unless : ℕ → Bool → Option ℕ
@@ -59,8 +59,10 @@ Starts s (Err f) (Err (stops.Refused fault)) = fault_view fault ≡ told f
 Starts s said (Err stops.Device) = ⊥
 Starts s said (Err stops.Memory) = Unit {0}
 
--- over these files, a call did from one store to another what the root file does
+-- over these files, a call did from one store to another what the root file does, and so where long loops are refused
 pub record RootGives (files : Files) (old : Kept) (out : OutputState) (ticks : ℕ) (result : Result (Unit {0})
     Stop) (new : Kept) (out_now : OutputState) (ticks_now : ℕ) : Type 0 where
   pub gives : Gives (λ u. u) (carry files definitions (world_of old)) result (world_of new) (seen out ticks old.names)
+      (seen out_now ticks_now new.names)
+  pub few : Gives (λ u. u) (carry files (defined true) (world_of old)) result (world_of new) (seen out ticks old.names)
       (seen out_now ticks_now new.names)

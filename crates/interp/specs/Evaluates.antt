@@ -14,20 +14,21 @@ use Rattle.expressions.specs.declared.context.Context.{Context}
 use Rattle.interp.specs.declared.flow.Flow.{Flow}
 use Rattle.interp.specs.declared.halt.Halt.{Halt}
 use Rattle.interp.specs.declared.halt.Halt.TheVariants as halts
+use Rattle.interp.specs.Bounds.{Bounds}
 use Rattle.interp.specs.Folders.{folder}
 use Rattle.interp.specs.Inside.{failures_inside, inside}
 
 -- the call stopped as the plan does; or it was left for a folder, so that the whole plan is from here on what is done of that
-abbrev pub HaltsTo : {A : Type 0} → Files → ℕ → Plan A → Stand → Halt → Stand → Type 0
+abbrev pub HaltsTo : {A : Type 0} → Files → Bounds → Plan A → Stand → Halt → Stand → Type 0
 HaltsTo {A = A} files left plan old (halts.Stops stop) new = Given {B = A} (λ a. a) files plan old (Err stop) new
 HaltsTo files left plan old (halts.Enters entry) new = Leads files plan old (inside left entry) new
 
-abbrev pub ComesTo : {A B : Type 0} → (B → A) → Files → ℕ → Plan A → Stand → Result B Halt → Stand → Type 0
+abbrev pub ComesTo : {A B : Type 0} → (B → A) → Files → Bounds → Plan A → Stand → Result B Halt → Stand → Type 0
 ComesTo view files left plan old (Ok x) new = Given view files plan old (Ok x) new
 ComesTo view files left plan old (Err halt) new = HaltsTo files left plan old halt new
 
 -- what a call inside of an expression came to, where so many more folders may stand inside one another
-pub record Comes {A B : Type 0} (view : B → A) (files : Files) (left : ℕ) (plan : Plan A) (old : Stand) (result : Result B Halt)
+pub record Comes {A B : Type 0} (view : B → A) (files : Files) (left : Bounds) (plan : Plan A) (old : Stand) (result : Result B Halt)
     (new : Stand) : Type 0 where
   pub comes : ComesTo view files left plan old result new
 
@@ -50,12 +51,12 @@ module _ {T O L : Type 0} where
   abbrev pub Evaluates : {A B : Type 0} → (T → TreeState) → (O → OutputState) → (B → A)
       → ((List ℕ → Plan Flow) → List ExpressionTree → Plan A) → Code → Context T O L → Result B Halt → Context T O L → Type 0
   Evaluates tree out view plan code old result new =
-      (files : Files) (left : ℕ) (ts : List ExpressionTree) → Holds (tree old.tree.now) files → Reads ts code old.store.now.names
+      (files : Files) (left : Bounds) (ts : List ExpressionTree) → Holds (tree old.tree.now) files → Reads ts code old.store.now.names
       → Comes view files left (plan (folder left) ts) (stand_of tree out old) result (stand_of tree out new)
 
   -- the same of a plan that no code has to be read for
   abbrev pub Tries : {A B : Type 0} → (T → TreeState) → (O → OutputState) → (B → A) → ((List ℕ → Plan Flow) → Plan A)
       → Context T O L → Result B Halt → Context T O L → Type 0
   Tries tree out view plan old result new =
-      (files : Files) (left : ℕ) → Holds (tree old.tree.now) files
+      (files : Files) (left : Bounds) → Holds (tree old.tree.now) files
       → Comes view files left (plan (folder left)) (stand_of tree out old) result (stand_of tree out new)

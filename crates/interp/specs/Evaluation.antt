@@ -15,6 +15,7 @@ use Rattle.world.specs.Plan.{Plan, carry, deed, ruled, ◌>>=◌, give, refuse}
 use Rattle.world.specs.Run.{Run}
 use Rattle.world.specs.Settings.{SettingsData}
 use Rattle.world.specs.Start.{first_world}
+use Rattle.interp.specs.Bounds.{bounds}
 use Rattle.interp.specs.Folders.{opened, folder}
 use Rattle.interp.specs.declared.flow.Flow.{Flow}
 use Rattle.interp.specs.Statements.{do_all}
@@ -43,10 +44,10 @@ begins_all NoStatement = begun_by 1 false
 begins_all (MoreStatements s ss) = begins s
 
 -- the statements of the root file; 63 folders may stand inside one another below the root
-abbrev pub root : Statements → Plan Flow
-root ss = do
+abbrev pub root : Bool → Statements → Plan Flow
+root few ss = do
   _ ← begins_all ss
-  do_all (folder 63) ss
+  do_all (folder (bounds few 63)) few ss
 
 -- what a machine file says: its sections, or the fault that it has
 abbrev pub MachineSaid : Type 0
@@ -62,18 +63,26 @@ abbrev pub sections_of : MachineSaid → List Section
 sections_of (Ok sections) = sections
 sections_of (Err fault) = []
 
--- what definition files do, from the root file on
-abbrev pub definitions : Plan (Unit {0})
-definitions = do
+-- what definition files do, from the root file on; `few`: a loop over more than 65,536 values is refused
+abbrev pub defined : Bool → Plan (Unit {0})
+defined few = do
   body ← opened []
-  _ ← ruled (root body)
+  _ ← ruled (root few body)
   give tt
 
+-- a loop walks all that it is over
+abbrev pub definitions : Plan (Unit {0})
+definitions = defined false
+
 -- the definition files are evaluated where the machine file has sections; its fault is at its line of `<machine file>`
-abbrev pub evaluation : MachineSaid → Plan (Unit {0})
-evaluation (Ok sections) = definitions
-evaluation (Err fault) = deed (refuse_at (codes "<machine file>") fault.line fault.refusal)
+abbrev pub evaluation : Bool → MachineSaid → Plan (Unit {0})
+evaluation few (Ok sections) = defined few
+evaluation few (Err fault) = deed (refuse_at (codes "<machine file>") fault.line fault.refusal)
 
 -- the whole evaluation of these files, with these settings, over a machine file that says this
 unfoldable pub evaluated : Files → SettingsData → MachineSaid → Run (Unit {0})
-evaluated files s said = carry files (evaluation said) (first_world s (sections_of said))
+evaluated files s said = carry files (evaluation false said) (first_world s (sections_of said))
+
+-- the same, where a loop over more than 65,536 values is refused
+unfoldable pub evaluated_few : Files → SettingsData → MachineSaid → Run (Unit {0})
+evaluated_few files s said = carry files (evaluation true said) (first_world s (sections_of said))

@@ -1,5 +1,5 @@
 -- Folders, and the files that they are entered by.
-use Rattle.std.specs.Prelude.{ℕ, zero, suc, List, [], length, nat_lt, not, bytes_eq, Option, Some, None, refl}
+use Rattle.std.specs.Prelude.{ℕ, Bool, zero, suc, List, [], length, nat_lt, not, bytes_eq, Option, Some, None, refl}
 use Rattle.std.specs.List.{list_any}
 use Rattle.grammar.specs.Tree.{Statements}
 use Rattle.basics.specs.declared.faults.refusal.Refusal.TheVariants as refusals
@@ -11,6 +11,7 @@ use Rattle.world.specs.Plan.{Plan, deed, ruled, enter, entered, ◌>>=◌, give}
 use Rattle.definition_files.specs.Files.{spelled}
 use Rattle.interp.specs.declared.flow.Flow.{Flow}
 use Rattle.interp.specs.declared.flow.Flow.TheVariants.{Next}
+use Rattle.interp.specs.Bounds.{Bounds}
 use Rattle.interp.specs.Statements.{do_all}
 
 -- what is done next is done in a folder's definition file
@@ -51,14 +52,18 @@ fresh text = do
   fresh_by (folder_below facts.folder text) folders
 
 -- The folder that a text names is entered, and its definition file does what it does, where so many more may stand inside one another.
-abbrev pub folder : ℕ → List ℕ → Plan Flow
-folder zero text = do
+abbrev pub folder_by : Bool → ℕ → List ℕ → Plan Flow
+folder_by few zero text = do
   path ← fresh text
   deed (refuse refusals.Limit [])
-folder (suc left) text = do
+folder_by few (suc left) text = do
   path ← fresh text
   outer ← deed read
   body ← opened path
-  _ ← ruled (do_all (folder left) body)
+  _ ← ruled (do_all (folder_by few left) few body)
   _ ← go_back outer
   give Next
+
+-- so within these bounds
+abbrev pub folder : Bounds → List ℕ → Plan Flow
+folder b = folder_by b.few b.left

@@ -1,5 +1,5 @@
 -- What is left to do of statements that have begun, frame by frame.
-use Rattle.std.specs.Prelude.{◌≡◌, ℕ, zero, suc, ◌+◌, ◌≤◌, List, [], ◌∷◌, drop, length, map, option_map, Option, Some, None, Result, Ok, Err, string_bytes, refl}
+use Rattle.std.specs.Prelude.{◌≡◌, Bool, ℕ, zero, suc, ◌+◌, ◌≤◌, List, [], ◌∷◌, drop, length, map, option_map, Option, Some, None, Result, Ok, Err, string_bytes, refl}
 use Rattle.code.specs.Draft.{IsFront}
 use Rattle.code.specs.Statements.{branch_at, name_at}
 use Rattle.code.specs.declared.code.Code.{Code}
@@ -28,6 +28,7 @@ use Rattle.interp.specs.declared.frames.Frame.TheVariants as frames
 use Rattle.interp.specs.Blocks.{block_by, statements_of}
 use Rattle.expressions.specs.Contexts.{Stand, Given, Leads, stand_of}
 use Rattle.interp.specs.Evaluates.{HaltsTo, Reads}
+use Rattle.interp.specs.Bounds.{Bounds, bounds}
 use Rattle.interp.specs.Folders.{folder}
 use Rattle.expressions.specs.Rounds.{rounds_in, Round}
 use Rattle.interp.specs.Statements.{after_round, branches_of, do_all, on_next, rounds_of}
@@ -37,9 +38,9 @@ use Rattle.expressions.specs.Assignments.{bound}
 
 pub data Rest : Type 0 where
   -- the other statements of a block, where so many more folders may stand inside one another
-  Others : ℕ → Statements → Rest
+  Others : Bounds → Statements → Rest
   -- so of a loop: its line, its names, the statements of a round, and the other rounds
-  Rounds : ℕ → ℕ → List ℕ → Option (List ℕ) → Statements → List Round → Rest
+  Rounds : Bounds → ℕ → List ℕ → Option (List ℕ) → Statements → List Round → Rest
   -- the end of a rule
   End : Rest
   -- a file is left, for this file, its folder and this line
@@ -48,10 +49,10 @@ pub data Rest : Type 0 where
   Refuses : ℕ → Rest
 
 -- one round of a loop
-abbrev pub one_round : ℕ → ℕ → List ℕ → Option (List ℕ) → Statements → Round → Plan Flow
+abbrev pub one_round : Bounds → ℕ → List ℕ → Option (List ℕ) → Statements → Round → Plan Flow
 one_round left line first second body r = do
   _ ← bound line first second r
-  do_all (folder left) body
+  do_all (folder left) left.few body
 
 -- a file hands nothing on
 abbrev pub gone_back : List ℕ → List ℕ → ℕ → Flow → Plan Flow
@@ -61,7 +62,7 @@ gone_back file folder line flow = do
 
 -- what is done, and what is left behind it
 abbrev pub behind : Rest → Plan Flow → Plan Flow
-behind (Others left ss) p = p >>= λ flow. on_next flow (do_all (folder left) ss)
+behind (Others left ss) p = p >>= λ flow. on_next flow (do_all (folder left) left.few ss)
 behind (Rounds left line first second body rounds) p =
     p >>= λ flow. after_round flow (rounds_of (one_round left line first second body) rounds)
 behind End p = ruled p
@@ -87,10 +88,11 @@ others_by table b = block_by table b.code.value (drop b.at (statements_of b.code
 pub record MeansBlock (names : List (List ℕ)) (b : BlockRest) (rest : Rest) : Type 0 where
   pub table : List (List ℕ)
   pub made : Made b.code.value names table
-  pub is : rest ≡ Others b.left (others_by table b)
+  pub few : Bool
+  pub is : rest ≡ Others (bounds few b.left) (others_by table b)
 
 -- one round of the loop with this head
-abbrev pub round_by : List (List ℕ) → Code → ℕ → LoopHead → Round → Plan Flow
+abbrev pub round_by : List (List ℕ) → Code → Bounds → LoopHead → Round → Plan Flow
 round_by table c left h =
     one_round left h.line (name_at table h.first) (option_map (name_at table) h.second) (block_by table c (statements_of c h.body))
 
@@ -101,7 +103,8 @@ rounds_left l = drop l.at (rounds_in (data_of l.whole))
 pub record MeansLoop (names : List (List ℕ)) (l : LoopRest) (rest : Rest) : Type 0 where
   pub table : List (List ℕ)
   pub made : Made l.code.value names table
-  pub is : rest ≡ Rounds l.left l.head.line (name_at table l.head.first) (option_map (name_at table) l.head.second)
+  pub few : Bool
+  pub is : rest ≡ Rounds (bounds few l.left) l.head.line (name_at table l.head.first) (option_map (name_at table) l.head.second)
       (block_by table l.code.value (statements_of l.code.value l.head.body)) (rounds_left l)
 
 abbrev pub Means : List (List ℕ) → Frame → Rest → Type 0
@@ -180,16 +183,16 @@ abbrev pub above_branch : BranchNode → ℕ
 above_branch b = suc b.condition
 
 -- a choice was made of the parts of an `if`, from which on the whole plan is this one; or none was
-abbrev pub Chooses : Files → ℕ → Plan Flow → Stand → (Option ℕ → Plan Flow) → Result (Option ℕ) Halt → Stand → Type 0
+abbrev pub Chooses : Files → Bounds → Plan Flow → Stand → (Option ℕ → Plan Flow) → Result (Option ℕ) Halt → Stand → Type 0
 Chooses files left whole old part (Ok chosen) now = Leads files whole old (part chosen) now
 Chooses files left whole old part (Err halt) now = HaltsTo files left whole old halt now
 
 -- what is done of a part of an `if`, by its place; nothing, where the whole is skipped
-abbrev pub part_done : (List ℕ → Plan Flow) → Branches → Statements → Option ℕ → Plan Flow
-part_done into bs otherwise None = give Next
-part_done into NoBranch otherwise (Some part) = do_all into otherwise
-part_done into (MoreBranches test line body bs) otherwise (Some zero) = do_all into body
-part_done into (MoreBranches test line body bs) otherwise (Some (suc part)) = part_done into bs otherwise (Some part)
+abbrev pub part_done : (List ℕ → Plan Flow) → Bool → Branches → Statements → Option ℕ → Plan Flow
+part_done into few bs otherwise None = give Next
+part_done into few NoBranch otherwise (Some part) = do_all into few otherwise
+part_done into few (MoreBranches test line body bs) otherwise (Some zero) = do_all into few body
+part_done into few (MoreBranches test line body bs) otherwise (Some (suc part)) = part_done into few bs otherwise (Some part)
 
 module _ {T O L : Type 0} where
   -- over what is left of a stack the call does what this plan does, by the table of names as it was when the code was made
@@ -227,7 +230,9 @@ module _ {T O L : Type 0} where
   abbrev pub ChoosesOf : (T → TreeState) → (O → OutputState) → List BranchNode → Code
       → Evaluator T O L → Result (Option ℕ) Halt → Evaluator T O L → Type 0
   ChoosesOf tree out parts code old result new =
-      (files : Files) (ts : List ExpressionTree) (ss : List StatementTree) (left : ℕ) (otherwise : Statements)
+      (files : Files) (ts : List ExpressionTree) (ss : List StatementTree) (left : Bounds) (otherwise : Statements)
       → Holds (tree old.tree.now) files → Reads ts code old.store.now.names
-      → Chooses files left (branches_of (folder left) (branches (map (branch_at ts ss) parts)) (do_all (folder left) otherwise))
-      (stand_of tree out old) (part_done (folder left) (branches (map (branch_at ts ss) parts)) otherwise) result (stand_of tree out new)
+      → Chooses files left
+      (branches_of (folder left) left.few (branches (map (branch_at ts ss) parts)) (do_all (folder left) left.few otherwise))
+      (stand_of tree out old) (part_done (folder left) left.few (branches (map (branch_at ts ss) parts)) otherwise) result
+      (stand_of tree out new)

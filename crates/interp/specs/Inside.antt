@@ -7,6 +7,7 @@ use Rattle.world.specs.declared.stop.Stop.TheVariants as stops
 use Rattle.interp.specs.declared.halt.Halt.{Halt}
 use Rattle.interp.specs.declared.halt.Halt.TheVariants as halts
 use Rattle.interp.specs.declared.halt.Inside.{Inside}
+use Rattle.interp.specs.Bounds.{Bounds}
 use Rattle.interp.specs.Folders.{folder}
 
 -- after this so many rules end
@@ -16,11 +17,11 @@ ended_all (suc n) p = ruled (ended_all n p)
 
 -- The folder is entered, where so many more may stand inside one another, and its definition file does what it does. The call gives
 -- nothing, so it is refused then.
-abbrev pub enters : {A : Type 0} → ℕ → Inside → Plan A
+abbrev pub enters : {A : Type 0} → Bounds → Inside → Plan A
 enters left entry = folder left (string_bytes entry.text) >>= λ _. refuse entry.line refusals.Type []
 
 -- and the rules of the expression end
-abbrev pub inside : {A : Type 0} → ℕ → Inside → Plan A
+abbrev pub inside : {A : Type 0} → Bounds → Inside → Plan A
 inside left entry = ended_all entry.rules (enters left entry)
 
 -- ---- rules that end

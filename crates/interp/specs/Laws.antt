@@ -9,7 +9,7 @@ use Rattle.world.specs.Settings.{SettingsData}
 use Rattle.world.specs.Trace.{ends_of}
 use Rattle.world.specs.World.{Asked}
 use Rattle.interp.specs.Cost.{tree_cost}
-use Rattle.interp.specs.Evaluation.{IsSaid, MachineSaid, evaluated, sections_of}
+use Rattle.interp.specs.Evaluation.{IsSaid, MachineSaid, evaluated, evaluated_few, sections_of}
 
 -- two machine files agree on these questions: both have sections, which answer them the same, or both have the same fault
 abbrev pub SayAlike : MachineSaid → MachineSaid → List Asked → Type 0
@@ -37,10 +37,10 @@ pub record NotesWhatItLooksAt : Type 0 where
 abbrev pub ClosesWhatItMakes : Type 0
 ClosesWhatItMakes = (files : Files) (settings : SettingsData) (said : MachineSaid) → ClosesOutputs (evaluated files settings said)
 
--- an evaluation ends no more rules than its tree of files costs
+-- An evaluation in which no loop is over more than 65,536 values ends no more rules than its tree of files costs.
 abbrev pub StepsWithinCost : Type 0
 StepsWithinCost = (files : Files) (settings : SettingsData) (said : MachineSaid)
-    → ends_of (marks_of (evaluated files settings said)) ≤ tree_cost files
+    → ends_of (marks_of (evaluated_few files settings said)) ≤ tree_cost files
 
 -- Bytes are read as a machine file that says one thing, and no other.
 pub record MachineFilesSay : Type 0 where

@@ -1,9 +1,10 @@
 -- What statements do: one paragraph for each form of node.
-use Rattle.std.specs.Prelude.{ℕ, List, [], ◌∷◌, Result, Ok, Err}
+use Rattle.std.specs.Prelude.{ℕ, Bool, true, false, List, [], ◌∷◌, length, nat_le, Result, Ok, Err}
 use Rattle.grammar.specs.ExpressionTree.{ExpressionTree, FunctionTree}
 use Rattle.grammar.specs.Tree.{StatementTree, AssignTree, AppendTree, ValueTree, BreakTree, ContinueTree, IfTree, ForeachTree, Statements, NoStatement, MoreStatements, Branches, NoBranch, MoreBranches}
 use Rattle.data.specs.Data.{boolean_in, is_disabler}
 use Rattle.basics.specs.declared.faults.refusal.Refusal.{Refusal}
+use Rattle.basics.specs.declared.faults.refusal.Refusal.TheVariants as refusals
 use Rattle.world.specs.Plan.{Plan, ruled, ◌>>=◌, give, refuse}
 use Rattle.expressions.specs.Assignments.{appended, assigned, bound, own}
 use Rattle.expressions.specs.Conditions.{choice_of}
@@ -37,9 +38,18 @@ rounds_of round (r ∷ rs) = do
   flow ← ruled (round r)
   after_round flow (rounds_of round rs)
 
-abbrev pub walked : ℕ → (Round → Plan Flow) → Result (List Round) Refusal → Plan Flow
-walked line round (Ok rounds) = rounds_of round rounds
-walked line round (Err refusal) = refuse line refusal []
+-- Whether there are no more rounds than may be; `few`: those of a loop are counted.
+abbrev pub are_allowed : Bool → List Round → Bool
+are_allowed false rounds = true
+are_allowed true rounds = nat_le (length rounds) 65536
+
+abbrev pub walked_by : Bool → ℕ → Plan Flow → Plan Flow
+walked_by true line rounds = rounds
+walked_by false line rounds = refuse line refusals.Limit []
+
+abbrev pub walked : Bool → ℕ → (Round → Plan Flow) → Result (List Round) Refusal → Plan Flow
+walked few line round (Ok rounds) = walked_by (are_allowed few rounds) line (rounds_of round rounds)
+walked few line round (Err refusal) = refuse line refusal []
 
 -- what is done of an `if` by what is chosen of it
 abbrev pub by_choice : Choice → Plan Flow → Plan Flow → Plan Flow
@@ -56,8 +66,11 @@ module _ (into : List ℕ → Plan Flow) where
     _ ← ruled (given_by into e)
     give Next
 
-  -- ---- statements
+-- ---- statements
 
+-- So is `into` here; and `few` is whether a loop over more than 65,536 values is refused. What definition files mean is said without that
+-- refusal. With it the rules that end can be counted before any run; and since no value has so many items, a run of the program is both.
+module _ (into : List ℕ → Plan Flow) (few : Bool) where
   abbrev mutual
     pub does : StatementTree → Plan Flow
     does (AssignTree name line value) = do
@@ -68,13 +81,13 @@ module _ (into : List ℕ → Plan Flow) where
     does (AppendTree name line value) = do
       _ ← appended line name (ruled (value_of into value))
       give Next
-    does (ValueTree e line) = stated e
+    does (ValueTree e line) = stated into e
     does (BreakTree line) = give Broken
     does (ContinueTree line) = give Continued
     does (IfTree line branches otherwise) = branches_of branches (do_all otherwise)
     does (ForeachTree line first second items items_line body) = do
       d ← ruled (value_of into items)
-      walked line (λ r. bound line first second r >>= λ _. do_all body) (looped second d)
+      walked few line (λ r. bound line first second r >>= λ _. do_all body) (looped second d)
 
     pub branches_of : Branches → Plan Flow → Plan Flow
     branches_of NoBranch otherwise = otherwise

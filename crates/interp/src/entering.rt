@@ -1,5 +1,6 @@
 //! Statements that enter a folder.
-ghost use Rattle.std.specs.Prelude.{◌≡◌, IfOk, string_bytes};
+ghost use Rattle.std.specs.Prelude.{Bool, ◌≡◌, IfOk, string_bytes};
+ghost use Rattle.interp.specs.Bounds.{bounds};
 ghost use Rattle.interp.specs.Folders.{folder};
 ghost use Rattle.interp.specs.Frames.{Acts};
 
@@ -36,7 +37,8 @@ impl<'a, T: Tree, O: Outputs, L: Ledger> Evaluator<'a, T, O, L> {
         requires room { HasRoom T.seen O.seen self.old.context }
         ensures same { Same self.old.context self.new.context }
         ensures device { Fails T.seen O.seen self.old.context result self.new.context }
-        ensures gives { Acts T.seen O.seen (folder left text.now) self.old.context stack.old.items result self.new.context stack.new.items }
+        ensures gives { (few : Bool) → Acts T.seen O.seen (folder (bounds few left) text.now)
+            self.old.context stack.old.items result self.new.context stack.new.items }
     {
         let path = self.fresh(text)?;
         if left == 0 {

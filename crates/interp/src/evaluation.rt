@@ -1,5 +1,5 @@
 //! A whole evaluation.
-ghost use Rattle.std.specs.Prelude.{◌≡◌, ℕ, [], IfOk, length};
+ghost use Rattle.std.specs.Prelude.{Bool, ◌≡◌, ℕ, [], IfOk, length};
 ghost use Rattle.std.specs.Rc.{rc_value};
 ghost use Rattle.machine_file.specs.View.{machine_in};
 ghost use Rattle.ports.specs.Endings.{HasRoom};
@@ -12,7 +12,7 @@ ghost use Rattle.interp.specs.Beginnings.{Reads, RootGives, Starts};
 ghost use Rattle.interp.specs.Blocks.{file_by};
 ghost use Rattle.interp.specs.Cost.{tree_cost};
 ghost use Rattle.interp.specs.Evaluated.{Evaluated, FailsOnce, Ticked};
-ghost use Rattle.interp.specs.Evaluation.{IsSaid, MachineSaid, definitions, evaluated, root};
+ghost use Rattle.interp.specs.Evaluation.{IsSaid, MachineSaid, defined, evaluated, root};
 
 use crate::beginning::line_before_project;
 use crate::evaluator::Evaluator;
@@ -44,7 +44,8 @@ impl<'a, T: Tree, O: Outputs, L: Ledger> Evaluator<'a, T, O, L> {
         requires room { HasRooms T.seen O.seen self.old.context }
         ensures same { Same self.old.context self.new.context }
         ensures device { Fails T.seen O.seen self.old.context result self.new.context }
-        ensures gives { Answers T.seen O.seen (λ f. f) (root (file_by self.old.context.store.now.names code)) self.old.context result self.new.context }
+        ensures gives { (few : Bool) → Answers T.seen O.seen (λ f. f) (root few (file_by self.old.context.store.now.names code))
+            self.old.context result self.new.context }
     {
         match line_before_project(&code) {
             Some(line) => self.context.refuse(line, Refusal::ProjectCall, ""),
@@ -58,7 +59,8 @@ impl<'a, T: Tree, O: Outputs, L: Ledger> Evaluator<'a, T, O, L> {
         requires room { HasRooms T.seen O.seen self.old.context }
         ensures same { Same self.old.context self.new.context }
         ensures device { Fails T.seen O.seen self.old.context result self.new.context }
-        ensures gives { Answers T.seen O.seen (λ f. f) (ruled (root (file_by self.old.context.store.now.names code))) self.old.context result self.new.context }
+        ensures gives { (few : Bool) → Answers T.seen O.seen (λ f. f) (ruled (root few (file_by self.old.context.store.now.names code)))
+            self.old.context result self.new.context }
     {
         let answer = self.root_statements(code);
         ended(answer, self.context.steps)
@@ -70,7 +72,7 @@ impl<'a, T: Tree, O: Outputs, L: Ledger> Evaluator<'a, T, O, L> {
         requires room { HasRooms T.seen O.seen self.old.context }
         ensures same { Same self.old.context self.new.context }
         ensures device { Fails T.seen O.seen self.old.context result self.new.context }
-        ensures gives { Answers T.seen O.seen (λ u. u) definitions self.old.context result self.new.context }
+        ensures gives { (few : Bool) → Answers T.seen O.seen (λ u. u) (defined few) self.old.context result self.new.context }
     {
         let code = self.open("")?;
         self.root(code)?;

@@ -1,8 +1,10 @@
 //! Calls inside of expressions, which have to give a value.
+ghost use Rattle.std.specs.Prelude.{Bool};
 ghost use Rattle.arguments.specs.Arguments.{arguments_data};
 ghost use Rattle.arguments.specs.Disablers.{gives_disabler};
 ghost use Rattle.data.specs.View.{data_of};
 ghost use Rattle.world.specs.Plan.{next};
+ghost use Rattle.interp.specs.Bounds.{bounds};
 ghost use Rattle.interp.specs.Expressions.{called, called_inside, entered_inside};
 ghost use Rattle.expressions.specs.Forms.{needed};
 ghost use Rattle.interp.specs.Frames.{Acts};
@@ -93,7 +95,8 @@ impl<'a, T: Tree, O: Outputs, L: Ledger> Evaluator<'a, T, O, L> {
         requires room { HasRoom T.seen O.seen self.old.context }
         ensures same { Same self.old.context self.new.context }
         ensures device { Fails T.seen O.seen self.old.context result self.new.context }
-        ensures gives { Acts T.seen O.seen (inside left entry) self.old.context stack.old.items result self.new.context stack.new.items }
+        ensures gives { (few : Bool) → Acts T.seen O.seen (inside (bounds few left) entry)
+            self.old.context stack.old.items result self.new.context stack.new.items }
     {
         for _rule in 0..entry.rules {
             stack.push(Frame::End)?;

@@ -1,7 +1,7 @@
 //! What holds of every evaluation.
 ghost use Rattle.data.specs.View.{data_of};
 ghost use Rattle.interp.specs.Laws.{ClosesWhatItMakes, DependsOnLooked, MachineFilesSay, NotesWhatItLooksAt, StepsWithinCost};
-ghost use Rattle.expressions.specs.Rounds.{WalksAll};
+ghost use Rattle.expressions.specs.Rounds.{HasFewRounds};
 
 use data::{Value, values_have_few_items};
 
@@ -22,14 +22,14 @@ pub fn closes_what_it_makes()
     ensures { ClosesWhatItMakes }
 {}
 
-/// No loop over a value is refused for its length: no list and no dictionary has more items than a loop can walk.
-pub fn loops_walk_all(value: &Value)
-    ensures { WalksAll (data_of value.now) }
+/// A loop over a value has no more than 65,536 rounds: no list and no dictionary has more items.
+pub fn loops_are_few(value: &Value)
+    ensures { HasFewRounds (data_of value.now) }
 {
     values_have_few_items(value);
 }
 
-/// An evaluation ends no more rules than its tree of files costs.
+/// An evaluation in which no loop is over more than 65,536 values ends no more rules than its tree of files costs.
 pub fn steps_within_cost()
     ensures { StepsWithinCost }
 {}

@@ -33,6 +33,6 @@ mod unwinding;
 pub use evaluation::{Inputs, definitions, evaluate, read_machine};
 pub use evaluator::Evaluator;
 pub use law::{
-    closes_what_it_makes, depends_on_looked, loops_walk_all, machine_files_say,
+    closes_what_it_makes, depends_on_looked, loops_are_few, machine_files_say,
     notes_what_it_looks_at, steps_within_cost,
 };

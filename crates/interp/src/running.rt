@@ -1,5 +1,6 @@
 //! The statements of a file and of those that it enters, on one stack of frames.
-ghost use Rattle.std.specs.Prelude.{◌≡◌, ◌<◌, ◌+◌, ◌^◌, IfSome, OnSome, length};
+ghost use Rattle.std.specs.Prelude.{Bool, ◌≡◌, ◌<◌, ◌+◌, ◌^◌, IfSome, OnSome, length};
+ghost use Rattle.interp.specs.Bounds.{bounds};
 ghost use Rattle.interp.specs.Blocks.{file_by, statements_of};
 ghost use Rattle.interp.specs.Folders.{folder};
 ghost use Rattle.interp.specs.Frames.{Does, NumberAt, Steps, Turns, others_by, round_by, rounds_left};
@@ -42,8 +43,8 @@ impl<'a, T: Tree, O: Outputs, L: Ledger> Evaluator<'a, T, O, L> {
         requires room { HasRoom T.seen O.seen self.old.context }
         ensures same { Same self.old.context self.new.context }
         ensures device { Fails T.seen O.seen self.old.context result self.new.context }
-        ensures gives { Answers T.seen O.seen (λ f. f) (do_all (folder 63) (file_by self.old.context.store.now.names code))
-            self.old.context result self.new.context }
+        ensures gives { (few : Bool) → Answers T.seen O.seen (λ f. f)
+            (do_all (folder (bounds few 63)) few (file_by self.old.context.store.now.names code)) self.old.context result self.new.context }
     {
         let shared = Rc::new(self.context.alloc, code)?;
         let mut stack = Vec::new(self.context.alloc);
@@ -103,7 +104,8 @@ impl<'a, T: Tree, O: Outputs, L: Ledger> Evaluator<'a, T, O, L> {
         requires room { HasRoom T.seen O.seen self.old.context }
         ensures same { Same self.old.context self.new.context }
         ensures device { Fails T.seen O.seen self.old.context result self.new.context }
-        ensures gives { Does T.seen O.seen (λ table. on_next flow (do_all (folder rest.left) (others_by table rest))) rest.code.value
+        ensures gives { (few : Bool) → Does T.seen O.seen (λ table. on_next flow
+            (do_all (folder (bounds few rest.left)) few (others_by table rest))) rest.code.value
             self.old.context stack.old.items result self.new.context stack.new.items }
     {
         match flow {
@@ -119,8 +121,8 @@ impl<'a, T: Tree, O: Outputs, L: Ledger> Evaluator<'a, T, O, L> {
         requires room { HasRoom T.seen O.seen self.old.context }
         ensures same { Same self.old.context self.new.context }
         ensures device { Fails T.seen O.seen self.old.context result self.new.context }
-        ensures gives { Does T.seen O.seen (λ table. do_all (folder rest.left) (others_by table rest)) rest.code.value
-            self.old.context stack.old.items result self.new.context stack.new.items }
+        ensures gives { (few : Bool) → Does T.seen O.seen (λ table. do_all (folder (bounds few rest.left)) few (others_by table rest))
+            rest.code.value self.old.context stack.old.items result self.new.context stack.new.items }
     {
         let BlockRest {
             code,
@@ -146,8 +148,8 @@ impl<'a, T: Tree, O: Outputs, L: Ledger> Evaluator<'a, T, O, L> {
         requires room { HasRoom T.seen O.seen self.old.context }
         ensures same { Same self.old.context self.new.context }
         ensures device { Fails T.seen O.seen self.old.context result self.new.context }
-        ensures gives { Does T.seen O.seen (λ table. after_round flow (rounds_of (round_by table rest.code.value rest.left rest.head)
-            (rounds_left rest))) rest.code.value
+        ensures gives { (few : Bool) → Does T.seen O.seen (λ table. after_round flow
+            (rounds_of (round_by table rest.code.value (bounds few rest.left) rest.head) (rounds_left rest))) rest.code.value
             self.old.context stack.old.items result self.new.context stack.new.items }
     {
         match flow {
@@ -163,8 +165,9 @@ impl<'a, T: Tree, O: Outputs, L: Ledger> Evaluator<'a, T, O, L> {
         requires room { HasRoom T.seen O.seen self.old.context }
         ensures same { Same self.old.context self.new.context }
         ensures device { Fails T.seen O.seen self.old.context result self.new.context }
-        ensures gives { Does T.seen O.seen (λ table. rounds_of (round_by table rest.code.value rest.left rest.head) (rounds_left rest))
-            rest.code.value self.old.context stack.old.items result self.new.context stack.new.items }
+        ensures gives { (few : Bool) → Does T.seen O.seen (λ table.
+            rounds_of (round_by table rest.code.value (bounds few rest.left) rest.head) (rounds_left rest)) rest.code.value
+            self.old.context stack.old.items result self.new.context stack.new.items }
     {
         let Some(round) = round_at(&rest.whole, rest.at)? else {
             return Ok(Flow::Next);

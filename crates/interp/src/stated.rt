@@ -1,10 +1,11 @@
 //! Statements that begin: what they leave to do is put on the stack.
-ghost use Rattle.std.specs.Prelude.{◌≡◌, ◌<◌, ◌≤◌, ℕ, IsTrue, List, length, map, nat_lt, option_map};
+ghost use Rattle.std.specs.Prelude.{Bool, ◌≡◌, ◌<◌, ◌≤◌, ℕ, IsTrue, List, length, map, nat_lt, option_map};
 ghost use Rattle.code.specs.Nodes.{tree_at};
 ghost use Rattle.code.specs.Statements.{branch_at, name_at, second_within, statement_at};
 ghost use Rattle.data.specs.View.{data_of};
 ghost use Rattle.grammar.specs.Tree.{branches};
 ghost use Rattle.world.specs.Plan.{give, next, ruled};
+ghost use Rattle.interp.specs.Bounds.{bounds};
 ghost use Rattle.interp.specs.Acting.{way_view};
 ghost use Rattle.interp.specs.Entering.{by_way};
 ghost use Rattle.interp.specs.Blocks.{block_by, branch_or, expressions_by, statements_by, statements_of};
@@ -64,7 +65,8 @@ impl<'a, T: Tree, O: Outputs, L: Ledger> Evaluator<'a, T, O, L> {
         requires room { HasRoom T.seen O.seen self.old.context }
         ensures same { Same self.old.context self.new.context }
         ensures device { Fails T.seen O.seen self.old.context result self.new.context }
-        ensures gives { Does T.seen O.seen (λ table. does (folder left) (statement_at (statements_by table code.now.value) number))
+        ensures gives { (few : Bool) → Does T.seen O.seen (λ table.
+            does (folder (bounds few left)) few (statement_at (statements_by table code.now.value) number))
             code.now.value self.old.context stack.old.items result self.new.context stack.new.items }
     {
         match &code.statements[number] {
@@ -165,8 +167,9 @@ impl<'a, T: Tree, O: Outputs, L: Ledger> Evaluator<'a, T, O, L> {
         requires room { HasRoom T.seen O.seen self.old.context }
         ensures same { Same self.old.context self.new.context }
         ensures device { Fails T.seen O.seen self.old.context result self.new.context }
-        ensures gives { Does T.seen O.seen (λ table. stated (folder left) (tree_at (expressions_by table code.now) value))
-            code.now self.old.context stack.old.items result self.new.context stack.new.items }
+        ensures gives { (few : Bool) → Does T.seen O.seen (λ table.
+            stated (folder (bounds few left)) (tree_at (expressions_by table code.now) value)) code.now
+            self.old.context stack.old.items result self.new.context stack.new.items }
     {
         if let Node::Call { call, line } = &code.nodes[value] {
             let call: &CallNode = call;
@@ -219,7 +222,8 @@ impl<'a, T: Tree, O: Outputs, L: Ledger> Evaluator<'a, T, O, L> {
         requires room { HasRoom T.seen O.seen self.old.context }
         ensures same { Same self.old.context self.new.context }
         ensures device { Fails T.seen O.seen self.old.context result self.new.context }
-        ensures gives { Acts T.seen O.seen (by_way (folder left) (way_view way)) self.old.context stack.old.items result self.new.context stack.new.items }
+        ensures gives { (few : Bool) → Acts T.seen O.seen (by_way (folder (bounds few left)) (way_view way))
+            self.old.context stack.old.items result self.new.context stack.new.items }
     {
         match way {
             Way::Ends(flow) => Ok(flow),
@@ -242,9 +246,10 @@ impl<'a, T: Tree, O: Outputs, L: Ledger> Evaluator<'a, T, O, L> {
         requires room { HasRoom T.seen O.seen self.old.context }
         ensures same { Same self.old.context self.new.context }
         ensures device { Fails T.seen O.seen self.old.context result self.new.context }
-        ensures gives { Does T.seen O.seen (λ table. next
-            (ruled (value_of (folder left) (tree_at (expressions_by table code.now.value) list)))
-            (λ d. walked head.line (round_by table code.now.value left head) (looped (option_map (name_at table) head.second) d)))
+        ensures gives { (few : Bool) → Does T.seen O.seen (λ table. next
+            (ruled (value_of (folder (bounds few left)) (tree_at (expressions_by table code.now.value) list)))
+            (λ d. walked few head.line (round_by table code.now.value (bounds few left) head)
+            (looped (option_map (name_at table) head.second) d)))
             code.now.value self.old.context stack.old.items result self.new.context stack.new.items }
     {
         let whole = match self.eval(code, list) {
@@ -280,10 +285,11 @@ impl<'a, T: Tree, O: Outputs, L: Ledger> Evaluator<'a, T, O, L> {
         requires room { HasRoom T.seen O.seen self.old.context }
         ensures same { Same self.old.context self.new.context }
         ensures device { Fails T.seen O.seen self.old.context result self.new.context }
-        ensures gives { (otherwise : List ℕ)
+        ensures gives { (few : Bool) (otherwise : List ℕ)
             → ((part : ℕ) → statements_of code.now.value (Part number part) ≡ branch_or otherwise parts.now part)
-            → Does T.seen O.seen (λ table. branches_of (folder left) (branches (map (branch_at (expressions_by table code.now.value)
-            (statements_by table code.now.value)) parts.now)) (do_all (folder left) (block_by table code.now.value otherwise)))
+            → Does T.seen O.seen (λ table. branches_of (folder (bounds few left)) few (branches (map (branch_at
+            (expressions_by table code.now.value) (statements_by table code.now.value)) parts.now))
+            (do_all (folder (bounds few left)) few (block_by table code.now.value otherwise)))
             code.now.value self.old.context stack.old.items result self.new.context stack.new.items }
     {
         match self.choose_part(code, parts) {

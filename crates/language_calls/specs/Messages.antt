@@ -17,7 +17,7 @@ line_of (d ∷ ds) = whole (shown d ∷ behind_spaces ds)
 
 -- values that have a printed text, or the call is refused (E9)
 unfoldable pub need_printable : List Data → Deed (Unit {0})
-need_printable ds = need (list_all is_printable ds) refusals.Arguments []
+need_printable ds = need (list_all is_printable ds) refusals.Arguments (codes "arguments: one can't be printed")
 
 -- a line of the log, which begins so
 unfoldable pub logged : List ℕ → ArgumentsData → Deed (Option Data)

@@ -1,11 +1,13 @@
 -- The functions that name a variable by a text.
 use Rattle.std.specs.Prelude.{ℕ, Bool, true, false, not, ◌||◌, ◌&&◌, List, [], Option, Some, None, is_some, refl}
 use Rattle.data.specs.Data.{Data, boolean}
+use Rattle.arguments.specs.declared.rule.Rule.TheVariants as rules
 use Rattle.basics.specs.declared.faults.refusal.Refusal.TheVariants as refusals
 use Rattle.arguments.specs.Arguments.{ArgumentsData}
 use Rattle.arguments.specs.Given.{argument, text_at}
 use Rattle.world.specs.World.{with_variable}
 use Rattle.world.specs.Deed.{Deed, give, refuse, read, change, ◌>>=◌, need}
+use Rattle.world.specs.Ruled.{obeyed}
 use Rattle.language_calls.specs.Names.{is_name, is_predefined, predefined}
 
 -- a name that definition files may set
@@ -19,7 +21,7 @@ set_to name None = refuse refusals.Arguments []
 -- `set_variable(name, value)`
 unfoldable pub set_variable : ArgumentsData → Deed (Option Data)
 set_variable a = do
-  _ ← need (is_settable (text_at 0 a)) refusals.Arguments []
+  _ ← obeyed (is_settable (text_at 0 a)) rules.IsSettable (text_at 0 a)
   _ ← set_to (text_at 0 a) (argument 1 a)
   give None
 
@@ -46,20 +48,20 @@ variable_or false name fallback = set_or name fallback
 -- `get_variable(name, fallback)`
 unfoldable pub get_variable : ArgumentsData → Deed (Option Data)
 get_variable a = do
-  _ ← need (is_name (text_at 0 a)) refusals.Arguments []
+  _ ← obeyed (is_name (text_at 0 a)) rules.IsVariableName (text_at 0 a)
   variable_or (is_predefined (text_at 0 a)) (text_at 0 a) (argument 1 a)
 
 -- `is_variable(name)`
 unfoldable pub is_variable : ArgumentsData → Deed (Option Data)
 is_variable a = do
-  _ ← need (is_name (text_at 0 a)) refusals.Arguments []
+  _ ← obeyed (is_name (text_at 0 a)) rules.IsVariableName (text_at 0 a)
   facts ← read
   give (Some (boolean (is_predefined (text_at 0 a) || is_some (facts.variables (text_at 0 a)))))
 
 -- `unset_variable(name)`
 unfoldable pub unset_variable : ArgumentsData → Deed (Option Data)
 unset_variable a = do
-  _ ← need (is_settable (text_at 0 a)) refusals.Arguments []
+  _ ← obeyed (is_settable (text_at 0 a)) rules.IsSettable (text_at 0 a)
   facts ← read
   _ ← need (is_some (facts.variables (text_at 0 a))) refusals.UndefinedName (text_at 0 a)
   _ ← change (with_variable (text_at 0 a) None) (λ facts. refl)

@@ -36,7 +36,11 @@ fn need_printable<T: Tree, O: Outputs>(
     ensures { Carries (λ u. u) (need_printable (map data_of values.now)) (state_of T.seen O.seen caller.now) result
         (state_of T.seen O.seen caller.now) }
 {
-    caller.need(are_printable(values), Refusal::Arguments, "")
+    caller.need(
+        are_printable(values),
+        Refusal::Arguments,
+        "arguments: one can't be printed",
+    )
 }
 
 // The text of a piece; a number's is put into the buffer.

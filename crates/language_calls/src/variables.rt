@@ -9,7 +9,7 @@ ghost use Rattle.language_calls.specs.Variables.{get_variable, is_settable, is_v
 ghost use Rattle.language_calls.specs.Variables.{thing, value_or, variable_or};
 
 use crate::names::{is_name, is_predefined, predefined};
-use arguments::Arguments;
+use arguments::{Arguments, Rule};
 use basics::faults::Refusal;
 use data::Value;
 use ports::{Outputs, Tree};
@@ -64,7 +64,7 @@ pub fn set_variable<T: Tree, O: Outputs>(
         (state_of T.seen O.seen caller.new) }
 {
     let name = arguments.text_at(0);
-    caller.need(is_settable(name), Refusal::Arguments, "")?;
+    caller.obey(is_settable(name), Rule::IsSettable, name)?;
     set_to(caller, name, arguments.argument(1))?;
     Ok(None)
 }
@@ -135,7 +135,7 @@ pub fn get_variable<T: Tree, O: Outputs>(
         (state_of T.seen O.seen caller.now) }
 {
     let name = arguments.text_at(0);
-    caller.need(is_name(name), Refusal::Arguments, "")?;
+    caller.obey(is_name(name), Rule::IsVariableName, name)?;
     variable_or(caller, name, arguments.argument(1))
 }
 
@@ -148,7 +148,7 @@ pub fn is_variable<T: Tree, O: Outputs>(
         (state_of T.seen O.seen caller.now) }
 {
     let name = arguments.text_at(0);
-    caller.need(is_name(name), Refusal::Arguments, "")?;
+    caller.obey(is_name(name), Rule::IsVariableName, name)?;
     let value = caller.store.find(name)?;
     Ok(Some(Value::Boolean(is_set(name, value))))
 }
@@ -162,7 +162,7 @@ pub fn unset_variable<T: Tree, O: Outputs>(
         (state_of T.seen O.seen caller.new) }
 {
     let name = arguments.text_at(0);
-    caller.need(is_settable(name), Refusal::Arguments, "")?;
+    caller.obey(is_settable(name), Rule::IsSettable, name)?;
     let value = caller.store.find(name)?;
     caller.need(is_known(value), Refusal::UndefinedName, name)?;
     caller.store.unset(name);

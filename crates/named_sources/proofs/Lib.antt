@@ -1,1 +1,6 @@
+mod Examples
 pub mod FilesBehind
+pub mod NameTexts
+pub mod Numbers
+pub mod Places
+pub mod Steps

@@ -1,9 +1,13 @@
 pub mod Each
 pub mod Folders
+pub mod Holes
+pub mod HolesView
 pub mod Libraries
+pub mod Names
 pub mod Outputs
 pub mod Sources
 pub mod SourcesView
+pub mod Unnamed
 pub mod Values
 pub mod ValuesView
 pub mod Versions

@@ -48,8 +48,8 @@ fn of_text(
     }
 }
 
-// The folders that a value names.
-fn folders_in(
+/// The folders that a value names.
+pub(crate) fn folders_in(
     alloc: Global,
     source_root: &str,
     folder: &str,

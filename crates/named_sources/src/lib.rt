@@ -1,17 +1,28 @@
-//! What the arguments of a call that declares a target name: sources, folders, libraries, a version, and outputs of the targets so far.
+//! What the arguments of a call that declares a target name: sources, folders, libraries, a version, and outputs of the targets so far; and
+//! what the placeholders in the texts of a custom target stand for, as `@INPUT@` and `@BASENAME@` (the Reference manual's `custom_target`).
 //! Nothing is asked of the tree here.
 #![tactic(auto)]
 
+mod filling;
 mod folders;
+mod holes;
 mod libraries;
+mod names;
 mod outputs;
 mod sources;
+mod unnamed;
 mod values;
 mod versions;
+mod words;
 
+pub use filling::filled;
 pub use folders::{folders_of, strings};
+pub use holes::{Meaning, Place, Scope, meaning_of};
 pub use libraries::numbers_of;
+pub use names::plain_name;
 pub use outputs::{output_at, outputs_at};
 pub use sources::{NamedSource, sources_of};
+pub use unnamed::{unnamed_folder, unnamed_source};
 pub use values::{directories_at, files_at};
 pub use versions::is_library_version;
+pub use words::words_of;

@@ -84,8 +84,8 @@ fn of_text(
     }
 }
 
-// The source that a value names.
-fn source_of(
+/// The source that a value names.
+pub(crate) fn source_of(
     alloc: Global,
     source_root: &str,
     folder: &str,

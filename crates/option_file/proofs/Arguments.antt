@@ -1,18 +1,19 @@
 -- The arguments of a call, one by one.
-use Rattle.std.proofs.Common.{◌≡◌, ℕ, ◌+◌, ◌<◌, ◌≤◌, Bool, true, false, List, [], ◌∷◌, length, drop, get_or, Option, Some, None, Err}
+use Rattle.std.proofs.Common.{◌≡◌, ℕ, ◌+◌, ◌<◌, ◌≤◌, Bool, true, false, List, [], ◌∷◌, length, drop, get_or, Option, Some, None, Result, Err, map}
 use Rattle.std.proofs.Common.{String, string_bytes, refl, sym, ap, ◌∙◌}
 use Rattle.std.specs.Prelude.{◌||◌, bytes_eq, if◌then◌else◌}
 use Rattle.std.specs.List.{list_any}
 use Rattle.std.specs.Option.{option_and_then}
 use Rattle.std.specs.declared.alloc.Global.{Global}
 use Rattle.grammar.specs.declared.tree.Argument.{Argument}
-use Rattle.grammar.specs.ExpressionTree.{NoArgument, MoreArguments, arguments, argument_of, argument_trees}
+use Rattle.grammar.specs.ExpressionTree.{ArgumentTree, NoArgument, MoreArguments, arguments, argument_of, argument_trees}
 use Rattle.option_values.specs.View.{strings_in}
-use Rattle.basics.specs.declared.faults.refusal.Refusal.TheVariants as refusals
 use Rattle.option_file.specs.Calls.{stands_key, with_key, gives_twice, is_left_out_key, gives_left_out, with_argument, keywords_from}
-use Rattle.option_file.specs.Calls.{option_of, or_fault, call_declares}
+use Rattle.option_file.specs.Calls.{first_left_out, first_twice, option_of, or_fault, call_declares, unfit}
 use Rattle.option_file.specs.Declarations.{Declaration}
 use Rattle.option_file.specs.Keywords.{Keywords, nothing_given}
+use Rattle.option_file.specs.Misfits.{LeftOut, RefusedData, Twice, refused_as}
+use Rattle.option_file.specs.Unfit.{listed}
 use Rattle.basics.specs.Among.{is_among}
 use Rattle.option_file.proofs.Walks.{next_is, none_is}
 
@@ -93,29 +94,45 @@ keywords_end xs k i h le = sym (h ∙ ap (keywords_from k) (trees_end xs i le))
 
 -- ---- a call as a whole
 
+listed_trees : (xs : List Argument) → listed (argument_trees xs) ≡ map argument_of xs
+listed_trees [] = refl
+listed_trees (x ∷ xs) = ap (λ (ts : List ArgumentTree). argument_of x ∷ ts) (listed_trees xs)
+
+abbrev told_twice : List ArgumentTree → Result Declaration RefusedData
+told_twice ts = Err (refused_as (Twice (first_twice [] ts)))
+
+abbrev told_left_out : List ArgumentTree → Result Declaration RefusedData
+told_left_out ts = Err (refused_as (LeftOut (first_left_out ts)))
+
+abbrev other : ℕ → List Argument → Result Declaration RefusedData
+other line xs = or_fault (unfit (listed (argument_trees xs))) (option_of line (argument_trees xs))
+
+abbrev unless_left_out : ℕ → List Argument → Bool → Result Declaration RefusedData
+unless_left_out line xs l = if l then told_left_out (listed (argument_trees xs)) else other line xs
+
+abbrev unless_twice : ℕ → List Argument → Bool → Result Declaration RefusedData
+unless_twice line xs b =
+    if b then told_twice (listed (argument_trees xs)) else unless_left_out line xs (gives_left_out (argument_trees xs))
+
 pub call_twice : (line : ℕ) (xs : List Argument) (b : Bool) → b ≡ gives_twice [] (argument_trees xs) → b ≡ true
-    → Err refusals.OptionValue ≡ call_declares line (argument_trees xs)
-call_twice line xs b e t =
-    ap (λ (v : Bool). if v then Err refusals.OptionValue else (if gives_left_out (argument_trees xs) then Err refusals.LeftOut
-    else or_fault (option_of line (argument_trees xs)))) (sym t ∙ e)
+    → Err (refused_as (Twice (first_twice [] (map argument_of xs)))) ≡ call_declares line (argument_trees xs)
+call_twice line xs b e t = ap told_twice (sym (listed_trees xs)) ∙ ap (unless_twice line xs) (sym t ∙ e)
 
 once : (line : ℕ) (xs : List Argument) (b : Bool) → b ≡ gives_twice [] (argument_trees xs) → b ≡ false
-    → (if gives_left_out (argument_trees xs) then Err refusals.LeftOut else or_fault (option_of line (argument_trees xs)))
-    ≡ call_declares line (argument_trees xs)
-once line xs b e f =
-    ap (λ (v : Bool). if v then Err refusals.OptionValue else (if gives_left_out (argument_trees xs) then Err refusals.LeftOut
-    else or_fault (option_of line (argument_trees xs)))) (sym f ∙ e)
+    → unless_left_out line xs (gives_left_out (argument_trees xs)) ≡ call_declares line (argument_trees xs)
+once line xs b e f = ap (unless_twice line xs) (sym f ∙ e)
 
 pub call_left_out : (line : ℕ) (xs : List Argument) (b l : Bool) → b ≡ gives_twice [] (argument_trees xs) → b ≡ false
-    → l ≡ list_any (λ a. is_left_out_key (argument_of a).0) xs → l ≡ true → Err refusals.LeftOut ≡ call_declares line (argument_trees xs)
+    → l ≡ list_any (λ a. is_left_out_key (argument_of a).0) xs → l ≡ true
+    → Err (refused_as (LeftOut (first_left_out (map argument_of xs)))) ≡ call_declares line (argument_trees xs)
 call_left_out line xs b l e f g t =
-    ap (λ (v : Bool). if v then Err refusals.LeftOut else or_fault (option_of line (argument_trees xs))) (sym t ∙ g ∙ left_out_any xs)
-    ∙ once line xs b e f
+    ap told_left_out (sym (listed_trees xs)) ∙ ap (unless_left_out line xs) (sym t ∙ g ∙ left_out_any xs) ∙ once line xs b e f
 
 pub call_else : (line : ℕ) (xs : List Argument) (b l : Bool) (o : Option Declaration) → b ≡ gives_twice [] (argument_trees xs) → b ≡ false
     → l ≡ list_any (λ a. is_left_out_key (argument_of a).0) xs → l ≡ false → o ≡ option_of line (argument_trees xs)
-    → or_fault o ≡ call_declares line (argument_trees xs)
+    → or_fault (unfit (map argument_of xs)) o ≡ call_declares line (argument_trees xs)
 call_else line xs b l o e f g n is =
-    ap or_fault is
-    ∙ ap (λ (v : Bool). if v then Err refusals.LeftOut else or_fault (option_of line (argument_trees xs))) (sym n ∙ g ∙ left_out_any xs)
+    ap (λ (ts : List ArgumentTree). or_fault (unfit ts) o) (sym (listed_trees xs))
+    ∙ ap (or_fault (unfit (listed (argument_trees xs)))) is
+    ∙ ap (unless_left_out line xs) (sym n ∙ g ∙ left_out_any xs)
     ∙ once line xs b e f

@@ -4,7 +4,7 @@ use Rattle.std.proofs.Common.{refl, sym, ap, ◌∙◌, append_assoc}
 use Rattle.std.specs.Prelude.{◌||◌, ◌&&◌, not, bytes_eq, codes, if◌then◌else◌, slice_get}
 use Rattle.std.proofs.lemmas.Slice.Eq.{bytes_eq-Decides}
 use Rattle.std.specs.Option.{option_map, option_and_then}
-use Rattle.basics.specs.declared.faults.refusal.Refusal.TheVariants as refusals
+use Rattle.option_file.specs.Misfits.{RefusedData, NoCall, refused_as}
 use Rattle.grammar.specs.ExpressionTree.{ExpressionTree, ArgumentTrees, NoArgument, MoreArguments, FunctionTree}
 use Rattle.grammar.specs.Tree.{StatementTree, ValueTree}
 use Rattle.option_values.specs.BuiltIns.{is_built_in}
@@ -83,20 +83,20 @@ option_new line (MoreArguments None a more) d e = of_name line (name_in (given a
     (free_name (given a)) e
 option_new line (MoreArguments (Some key) a more) d e = absurd cc
 
-taken : (o : Option Declaration) (d : Declaration) → or_fault o ≡ Ok d → o ≡ Some d
-taken None d e = absurd cc
-taken (Some x) d e = cc
+taken : (r : RefusedData) (o : Option Declaration) (d : Declaration) → or_fault r o ≡ Ok d → o ≡ Some d
+taken r None d e = absurd cc
+taken r (Some x) d e = cc
 
-call_cases : (line : ℕ) (arguments : ArgumentTrees) (d : Declaration) (a b : Bool)
-    → (if a then Err refusals.OptionValue else (if b then Err refusals.LeftOut else or_fault (option_of line arguments))) ≡ Ok d
+call_cases : (line : ℕ) (arguments : ArgumentTrees) (d : Declaration) (a b : Bool) (q r s : RefusedData)
+    → (if a then Err q else (if b then Err r else or_fault s (option_of line arguments))) ≡ Ok d
     → is_built_in d.name ≡ false
-call_cases line arguments d true b e = absurd cc
-call_cases line arguments d false true e = absurd cc
-call_cases line arguments d false false e = option_new line arguments d (taken (option_of line arguments) d e)
+call_cases line arguments d true b q r s e = absurd cc
+call_cases line arguments d false true q r s e = absurd cc
+call_cases line arguments d false false q r s e = option_new line arguments d (taken s (option_of line arguments) d e)
 
 function_cases : (line : ℕ) (arguments : ArgumentTrees) (d : Declaration) (b : Bool)
-    → (if b then call_declares line arguments else Err refusals.OptionValue) ≡ Ok d → is_built_in d.name ≡ false
-function_cases line arguments d true e = call_cases line arguments d (gives_twice [] arguments) (gives_left_out arguments) e
+    → (if b then call_declares line arguments else Err (refused_as NoCall)) ≡ Ok d → is_built_in d.name ≡ false
+function_cases line arguments d true e = call_cases line arguments d (gives_twice [] arguments) (gives_left_out arguments) _ _ _ e
 function_cases line arguments d false e = absurd cc
 
 expression_new : (line : ℕ) (x : ExpressionTree) (d : Declaration) → expression_declares line x ≡ Ok d → is_built_in d.name ≡ false

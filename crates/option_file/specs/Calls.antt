@@ -1,16 +1,16 @@
 -- What a call of `option` declares.
 use Rattle.std.specs.Prelude.{ℕ, Bool, false, not, ◌||◌, ◌&&◌, List, [], ◌∷◌, ◌++◌, Option, Some, None, Result, Ok, Err, if◌then◌else◌}
 use Rattle.std.specs.Option.{option_map, option_and_then}
-use Rattle.grammar.specs.ExpressionTree.{ArgumentTree, ArgumentTrees, NoArgument, MoreArguments}
-use Rattle.basics.specs.declared.faults.refusal.Refusal.{Refusal}
-use Rattle.basics.specs.declared.faults.refusal.Refusal.TheVariants as refusals
+use Rattle.grammar.specs.ExpressionTree.{ArgumentTree, ArgumentTrees, NoArgument, MoreArguments, arguments}
 use Rattle.basics.specs.Among.{is_among}
 use Rattle.option_values.specs.BuiltIns.{is_built_in}
 use Rattle.option_file.specs.declared.keyword.Keyword.{Keyword}
 use Rattle.option_file.specs.Declarations.{Declaration}
 use Rattle.option_file.specs.Given.{Given, Text, given}
 use Rattle.option_file.specs.Keywords.{Keywords, nothing_given, keyword_named, is_left_out, noted, asked_by}
+use Rattle.option_file.specs.Misfits.{RefusedData, LeftOut, Nameless, Twice, refused_as}
 use Rattle.option_file.specs.Names.{is_name}
+use Rattle.option_file.specs.Unfit.{first_refused, given_refused, lacking, listed, or_last}
 
 -- whether an argument's keyword, if it has one, stands among these
 abbrev pub stands_key : List (List ℕ) → Option (List ℕ) → Bool
@@ -70,14 +70,43 @@ option_of line (MoreArguments None e more) =
 option_of line (MoreArguments (Some key) e more) = None
 option_of line NoArgument = None
 
-abbrev pub or_fault : Option Declaration → Result Declaration Refusal
-or_fault (Some d) = Ok d
-or_fault None = Err refusals.OptionValue
+-- ---- what is wrong with the arguments
+
+abbrev pub key_said : Option (List ℕ) → List ℕ
+key_said None = []
+key_said (Some key) = key
+
+-- the first keyword that stands among these, or that came before
+abbrev pub first_twice : List (List ℕ) → List ArgumentTree → List ℕ
+first_twice keys [] = []
+first_twice keys (a ∷ others) = if stands_key keys a.0 then key_said a.0 else first_twice (with_key keys a.0) others
+
+-- the first keyword of those that are left out
+abbrev pub first_left_out : List ArgumentTree → List ℕ
+first_left_out [] = []
+first_left_out (a ∷ others) = if is_left_out_key a.0 then key_said a.0 else first_left_out others
+
+-- the first argument behind the name that is none, or else a keyword that is missing
+abbrev pub others_unfit : List ArgumentTree → RefusedData
+others_unfit others = or_last (first_refused others) (lacking (keywords_from nothing_given (arguments others)))
+
+abbrev pub first_unfit : ArgumentTree → List ArgumentTree → RefusedData
+first_unfit (Some key, e) others = refused_as Nameless
+first_unfit (None, e) others = or_last (given_refused (given e)) (others_unfit others)
+
+-- the name, or else the others
+abbrev pub unfit : List ArgumentTree → RefusedData
+unfit [] = refused_as Nameless
+unfit (a ∷ others) = first_unfit a others
+
+abbrev pub or_fault : RefusedData → Option Declaration → Result Declaration RefusedData
+or_fault refused (Some d) = Ok d
+or_fault refused None = Err refused
 
 -- The option that a call on this line declares, or what is wrong with it: a keyword that comes twice is found first, then one
 -- that is left out, and then all else.
-abbrev pub call_declares : ℕ → ArgumentTrees → Result Declaration Refusal
-call_declares line arguments =
-    if gives_twice [] arguments then Err refusals.OptionValue
-    else (if gives_left_out arguments then Err refusals.LeftOut
-    else or_fault (option_of line arguments))
+abbrev pub call_declares : ℕ → ArgumentTrees → Result Declaration RefusedData
+call_declares line given_arguments =
+    if gives_twice [] given_arguments then Err (refused_as (Twice (first_twice [] (listed given_arguments))))
+    else (if gives_left_out given_arguments then Err (refused_as (LeftOut (first_left_out (listed given_arguments))))
+    else or_fault (unfit (listed given_arguments)) (option_of line given_arguments))

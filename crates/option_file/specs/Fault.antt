@@ -1,7 +1,13 @@
 -- A fault of an option file, as a run tells it.
 use Rattle.std.specs.Prelude.{ℕ, List}
-use Rattle.basics.specs.Faults.{FaultData, plain_fault}
-use Rattle.option_file.specs.declared.fault.DeclareFault.{DeclareFault}
+use Rattle.basics.specs.Faults.{FaultData}
+use Rattle.basics.specs.declared.faults.refusal.Refusal.{Refusal}
 
-abbrev pub told_in : List ℕ → DeclareFault → FaultData
-told_in path f = plain_fault path f.line f.refusal
+-- what is refused in a line, and what that is about
+pub record DeclareFaultData : Type 0 where
+  pub refusal : Refusal
+  pub line : ℕ
+  pub detail : List ℕ
+
+abbrev pub told_in : List ℕ → DeclareFaultData → FaultData
+told_in path f = record { file = path; line = f.line; refusal = f.refusal; detail = f.detail }

@@ -30,8 +30,9 @@ keyword_named name =
     else (if bytes_eq name (codes "choices") then Some words.Choices
     else (if bytes_eq name (codes "min") then Some words.Min
     else (if bytes_eq name (codes "max") then Some words.Max
-    else (if is_among (codes "description" ∷ codes "yield" ∷ []) name then Some words.NoEffect
-    else None)))))
+    else (if bytes_eq name (codes "description") then Some words.NoEffect
+    else (if bytes_eq name (codes "yield") then Some words.NoEffect
+    else None))))))
 
 -- the keywords of functions that are left out
 abbrev pub is_left_out : List ℕ → Bool

@@ -1,3 +1,7 @@
+pub mod Misfits
+pub mod MisfitView
+pub mod FaultView
+pub mod Unfit
 pub mod Calls
 pub mod Declarations
 pub mod Declares

@@ -2,27 +2,31 @@
 pub use Rattle.option_file.specs.Entries.{given_in, option_in, entry_in, shown_in, entries_in}
 use Rattle.std.specs.Prelude.{List, Result, Ok, Err, String}
 use Rattle.std.specs.declared.alloc.Global.{Global}
-use Rattle.basics.specs.declared.faults.refusal.Refusal.{Refusal}
+use Rattle.option_file.specs.Fault.{DeclareFaultData}
+use Rattle.option_file.specs.FaultView.{fault_in}
+use Rattle.option_file.specs.MisfitView.{refused_in}
+use Rattle.option_file.specs.Misfits.{RefusedData}
+use Rattle.option_file.specs.declared.misfit.Refused.{Refused}
 use Rattle.option_file.specs.declared.declaration.Declaration.{Declaration}
 use Rattle.option_file.specs.declared.declaration.Declared.{Declared}
 use Rattle.option_file.specs.declared.fault.DeclareFault.{DeclareFault}
 use Rattle.option_file.specs.Declarations as plain
 
 -- the option that a call declares, or what is wrong with it
-abbrev pub call_in : Result (String Global × Declaration) Refusal → Result plain.Declaration Refusal
+abbrev pub call_in : Result (String Global × Declaration) Refused → Result plain.Declaration RefusedData
 call_in (Ok e) = Ok (entry_in e)
-call_in (Err refusal) = Err refusal
+call_in (Err refused) = Err (refused_in refused)
 
 -- the options, in the order of their calls
 abbrev pub options_in : Declared → List plain.Declaration
 options_in declared = entries_in declared.options.entries
 
 -- the options after a statement, or what is wrong with it
-abbrev pub after_in : Result Declared Refusal → Result (List plain.Declaration) Refusal
+abbrev pub after_in : Result Declared Refused → Result (List plain.Declaration) RefusedData
 after_in (Ok declared) = Ok (options_in declared)
-after_in (Err refusal) = Err refusal
+after_in (Err refused) = Err (refused_in refused)
 
 -- what is declared, or the fault
-abbrev pub declared_in : Result Declared DeclareFault → Result (List plain.Declaration) DeclareFault
+abbrev pub declared_in : Result Declared DeclareFault → Result (List plain.Declaration) DeclareFaultData
 declared_in (Ok declared) = Ok (options_in declared)
-declared_in (Err fault) = Err fault
+declared_in (Err fault) = Err (fault_in fault)

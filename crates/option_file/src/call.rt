@@ -1,13 +1,13 @@
 //! Calls of `option`.
 
-ghost use Rattle.std.specs.Prelude.{◌≡◌, ◌++◌, [], ◌∷◌, IfOk, IsTrue, false, not, string_bytes};
+ghost use Rattle.std.specs.Prelude.{◌≡◌, ◌++◌, [], ◌∷◌, IfOk, IsTrue, false, map, not, string_bytes};
 ghost use Rattle.std.specs.List.{list_any};
 ghost use Rattle.std.specs.Option.{option_map};
 ghost use Rattle.grammar.specs.ExpressionTree.{argument_of, argument_trees};
 ghost use Rattle.basics.specs.Among.{is_among};
 ghost use Rattle.option_values.specs.View.{strings_in};
 ghost use Rattle.option_file.specs.Calls.{stands_key, with_key, gives_twice, is_left_out_key, is_free_name, name_in, with_argument};
-ghost use Rattle.option_file.specs.Calls.{keywords_from, option_of, call_declares};
+ghost use Rattle.option_file.specs.Calls.{first_left_out, first_twice, key_said, keywords_from, option_of, call_declares};
 ghost use Rattle.option_file.specs.Keywords.{nothing_given};
 ghost use Rattle.option_file.specs.KeywordsView.{keywords_in};
 ghost use Rattle.option_file.specs.View.{given_in, entry_in, call_in};
@@ -15,8 +15,9 @@ ghost use Rattle.option_file.specs.View.{given_in, entry_in, call_in};
 use crate::declaration::{Declaration, Given};
 use crate::given::given;
 use crate::keyword::{Keyword, Keywords, is_left_out};
+use crate::misfit::{Misfit, Refused};
 use crate::names::is_name;
-use basics::faults::Refusal;
+use crate::unfit::unfit;
 use basics::tables::{SipSet, new_set};
 use grammar::tree::Argument;
 use option_values::is_built_in;
@@ -62,6 +63,28 @@ fn gives_twice(alloc: Global, arguments: &[Argument<'_>]) -> Result<bool, AllocE
     Ok(false)
 }
 
+fn key_said<'a>(argument: &Argument<'a>) -> &'a str
+    ensures { result.now ≡ key_said (argument_of argument.now).0 }
+{
+    match argument.name {
+        Some(key) => key,
+        None => "",
+    }
+}
+
+// The first keyword that comes twice.
+fn first_twice<'a>(alloc: Global, arguments: &[Argument<'a>]) -> Result<&'a str, AllocError>
+    ensures { IfOk result (λ key. key.now ≡ first_twice [] (map argument_of arguments.now)) }
+{
+    let mut keys = new_set(alloc);
+    for argument in arguments {
+        if comes_again(alloc, &mut keys, argument)? {
+            return Ok(key_said(argument));
+        }
+    }
+    Ok("")
+}
+
 fn is_left_out_key(argument: &Argument<'_>) -> bool
     ensures { result ≡ is_left_out_key (argument_of argument.now).0 }
 {
@@ -76,6 +99,18 @@ fn gives_left_out(arguments: &[Argument<'_>]) -> bool
     ensures { result ≡ list_any (λ a. is_left_out_key (argument_of a).0) arguments.now }
 {
     arguments.iter().any(|argument| is_left_out_key(argument))
+}
+
+// The first keyword of those that are left out.
+fn first_left_out<'a>(arguments: &[Argument<'a>]) -> &'a str
+    ensures { result.now ≡ first_left_out (map argument_of arguments.now) }
+{
+    for argument in arguments {
+        if is_left_out_key(argument) {
+            return key_said(argument);
+        }
+    }
+    ""
 }
 
 // Whether a project may give an option this name.
@@ -119,8 +154,8 @@ fn with_argument(
     keywords.noted(alloc, keyword, given)
 }
 
-// What these arguments give, where keywords give them all.
-fn keywords_from(alloc: Global, arguments: &[Argument<'_>]) -> Result<Option<Keywords>, AllocError>
+/// What these arguments give, where keywords give them all.
+pub(crate) fn keywords_from(alloc: Global, arguments: &[Argument<'_>]) -> Result<Option<Keywords>, AllocError>
     ensures { IfOk result (λ k. option_map keywords_in k ≡ keywords_from nothing_given (argument_trees arguments.now)) }
 {
     let mut keywords = Keywords::new();
@@ -165,17 +200,24 @@ pub fn call_declares(
     alloc: Global,
     line: usize,
     arguments: &[Argument<'_>],
-) -> Result<Result<(String, Declaration), Refusal>, AllocError>
+) -> Result<Result<(String, Declaration), Refused>, AllocError>
     ensures { IfOk result (λ option. call_in option ≡ call_declares line (argument_trees arguments.now)) }
 {
     if gives_twice(alloc, arguments)? {
-        return Ok(Err(Refusal::OptionValue));
+        let key = first_twice(alloc, arguments)?;
+        let refused = Misfit::Twice(key).refused(alloc)?;
+        return Ok(Err(refused));
     }
     if gives_left_out(arguments) {
-        return Ok(Err(Refusal::LeftOut));
+        let key = first_left_out(arguments);
+        let refused = Misfit::LeftOut(key).refused(alloc)?;
+        return Ok(Err(refused));
     }
     match option_of(alloc, line, arguments)? {
         Some(option) => Ok(Ok(option)),
-        None => Ok(Err(Refusal::OptionValue)),
+        None => {
+            let refused = unfit(alloc, arguments)?;
+            Ok(Err(refused))
+        }
     }
 }

@@ -9,7 +9,7 @@ ghost use Rattle.option_file.specs.View.{call_in, after_in, options_in, declared
 use crate::call::call_declares;
 use crate::declaration::{Declaration, Declared};
 use crate::fault::DeclareFault;
-use basics::faults::Refusal;
+use crate::misfit::{Misfit, Refused};
 use grammar::tree::{Argument, Expression, File, Statement};
 use std::alloc::{AllocError, Global};
 
@@ -33,13 +33,13 @@ fn function_declares(
     line: usize,
     name: &str,
     arguments: &[Argument<'_>],
-) -> Result<Result<(String, Declaration), Refusal>, AllocError>
+) -> Result<Result<(String, Declaration), Refused>, AllocError>
     ensures { IfOk result (λ option. call_in option ≡ function_declares line name.now (argument_trees arguments.now)) }
 {
     if name == "option" {
         call_declares(alloc, line, arguments)
     } else {
-        Ok(Err(Refusal::OptionValue))
+        Ok(Err(Misfit::NoCall.refused(alloc)?))
     }
 }
 
@@ -47,7 +47,7 @@ fn expression_declares(
     alloc: Global,
     line: usize,
     expression: &Expression<'_>,
-) -> Result<Result<(String, Declaration), Refusal>, AllocError>
+) -> Result<Result<(String, Declaration), Refused>, AllocError>
     ensures { IfOk result (λ option. call_in option ≡ expression_declares line (expression_of expression.now)) }
 {
     match expression {
@@ -56,14 +56,14 @@ fn expression_declares(
             arguments,
             ..
         } => function_declares(alloc, line, name, arguments),
-        Expression::Name { .. } => Ok(Err(Refusal::OptionValue)),
-        Expression::Literal { .. } => Ok(Err(Refusal::OptionValue)),
-        Expression::List { .. } => Ok(Err(Refusal::OptionValue)),
-        Expression::Dictionary { .. } => Ok(Err(Refusal::OptionValue)),
-        Expression::Postfix { .. } => Ok(Err(Refusal::OptionValue)),
-        Expression::Prefix { .. } => Ok(Err(Refusal::OptionValue)),
-        Expression::Chain { .. } => Ok(Err(Refusal::OptionValue)),
-        Expression::Ternary { .. } => Ok(Err(Refusal::OptionValue)),
+        Expression::Name { .. } => Ok(Err(Misfit::NoCall.refused(alloc)?)),
+        Expression::Literal { .. } => Ok(Err(Misfit::NoCall.refused(alloc)?)),
+        Expression::List { .. } => Ok(Err(Misfit::NoCall.refused(alloc)?)),
+        Expression::Dictionary { .. } => Ok(Err(Misfit::NoCall.refused(alloc)?)),
+        Expression::Postfix { .. } => Ok(Err(Misfit::NoCall.refused(alloc)?)),
+        Expression::Prefix { .. } => Ok(Err(Misfit::NoCall.refused(alloc)?)),
+        Expression::Chain { .. } => Ok(Err(Misfit::NoCall.refused(alloc)?)),
+        Expression::Ternary { .. } => Ok(Err(Misfit::NoCall.refused(alloc)?)),
     }
 }
 
@@ -71,17 +71,17 @@ fn expression_declares(
 fn statement_declares(
     alloc: Global,
     statement: &Statement<'_>,
-) -> Result<Result<(String, Declaration), Refusal>, AllocError>
+) -> Result<Result<(String, Declaration), Refused>, AllocError>
     ensures { IfOk result (λ option. call_in option ≡ statement_declares (statement_of statement.now)) }
 {
     match statement {
         Statement::Expression { value, line } => expression_declares(alloc, *line, value),
-        Statement::Assign { .. } => Ok(Err(Refusal::OptionValue)),
-        Statement::Append { .. } => Ok(Err(Refusal::OptionValue)),
-        Statement::Break { .. } => Ok(Err(Refusal::OptionValue)),
-        Statement::Continue { .. } => Ok(Err(Refusal::OptionValue)),
-        Statement::If { .. } => Ok(Err(Refusal::OptionValue)),
-        Statement::Foreach { .. } => Ok(Err(Refusal::OptionValue)),
+        Statement::Assign { .. } => Ok(Err(Misfit::NoCall.refused(alloc)?)),
+        Statement::Append { .. } => Ok(Err(Misfit::NoCall.refused(alloc)?)),
+        Statement::Break { .. } => Ok(Err(Misfit::NoCall.refused(alloc)?)),
+        Statement::Continue { .. } => Ok(Err(Misfit::NoCall.refused(alloc)?)),
+        Statement::If { .. } => Ok(Err(Misfit::NoCall.refused(alloc)?)),
+        Statement::Foreach { .. } => Ok(Err(Misfit::NoCall.refused(alloc)?)),
     }
 }
 
@@ -91,15 +91,16 @@ fn after(
     alloc: Global,
     declared: Declared,
     statement: &Statement<'_>,
-) -> Result<Result<Declared, Refusal>, AllocError>
+) -> Result<Result<Declared, Refused>, AllocError>
     ensures { IfOk result (λ more. after_in more ≡ after (options_in declared) (statement_of statement.now)) }
 {
     let (name, declaration) = match statement_declares(alloc, statement)? {
         Ok(option) => option,
-        Err(refusal) => return Ok(Err(refusal)),
+        Err(refused) => return Ok(Err(refused)),
     };
     if declared.has(name.as_str()) {
-        return Ok(Err(Refusal::OptionValue));
+        let refused = Misfit::Again(name.as_str()).refused(alloc)?;
+        return Ok(Err(refused));
     }
     let more = declared.with(name, declaration)?;
     Ok(Ok(more))
@@ -114,9 +115,14 @@ pub fn declare(alloc: Global, file: &File<'_>) -> Result<Result<Declared, Declar
     for statement in &file.statements {
         match after(alloc, declared, statement)? {
             Ok(more) => declared = more,
-            Err(refusal) => {
+            Err(refused) => {
                 let line = line_of(statement);
-                return Ok(Err(DeclareFault { refusal, line }));
+                let Refused { refusal, detail } = refused;
+                return Ok(Err(DeclareFault {
+                    refusal,
+                    line,
+                    detail,
+                }));
             }
         }
     }

@@ -3,7 +3,7 @@
 ghost use Rattle.std.specs.Prelude.{◌≡◌, IfOk, Some};
 ghost use Rattle.std.specs.Option.{option_map};
 ghost use Rattle.option_file.specs.Keywords.{nothing_given, keyword_named, is_left_out, type_in, choices_in, bound_in, noted, combo_of};
-ghost use Rattle.option_file.specs.Keywords.{asked_by};
+ghost use Rattle.option_file.specs.Keywords.{asked_by, kind_of_type};
 ghost use Rattle.option_file.specs.KeywordsView.{asked_in, keywords_in};
 ghost use Rattle.option_file.specs.View.{given_in};
 ghost use Rattle.option_values.specs.View.{kind_in, texts_of};
@@ -53,20 +53,14 @@ impl Keyword {
     pub fn named(name: &str) -> Option<Keyword>
         ensures { result ≡ keyword_named name.now }
     {
-        if name == "type" {
-            Some(Keyword::Kind)
-        } else if name == "value" {
-            Some(Keyword::Value)
-        } else if name == "choices" {
-            Some(Keyword::Choices)
-        } else if name == "min" {
-            Some(Keyword::Min)
-        } else if name == "max" {
-            Some(Keyword::Max)
-        } else if is_among(&["description", "yield"], name) {
-            Some(Keyword::NoEffect)
-        } else {
-            None
+        match name {
+            "type" => Some(Keyword::Kind),
+            "value" => Some(Keyword::Value),
+            "choices" => Some(Keyword::Choices),
+            "min" => Some(Keyword::Min),
+            "max" => Some(Keyword::Max),
+            "description" | "yield" => Some(Keyword::NoEffect),
+            _ => None,
         }
     }
 }
@@ -78,8 +72,8 @@ pub fn is_left_out(name: &str) -> bool
     is_among(&["kwargs", "fallback", "deprecated"], name)
 }
 
-// The type that is given by its name.
-fn type_in(given: &Given) -> Option<OptionType>
+/// The type that is given by its name.
+pub(crate) fn type_in(given: &Given) -> Option<OptionType>
     ensures { result ≡ type_in (given_in given.now) }
 {
     match given {
@@ -104,8 +98,8 @@ fn choices_in(alloc: Global, given: Given) -> Result<Option<Choices>, AllocError
     }
 }
 
-// A bound is an integer of 64 bits.
-fn bound_in(given: &Given) -> Option<i64>
+/// A bound is an integer of 64 bits.
+pub(crate) fn bound_in(given: &Given) -> Option<i64>
     ensures { result ≡ bound_in (given_in given.now) }
 {
     match given {
@@ -205,31 +199,41 @@ impl Keywords {
         }
     }
 
+    // What an option of this type takes, with the choices and the bounds that are given.
+    fn kind_of(&mut self, named: OptionType) -> Option<OptionKind>
+        ensures kind { option_map kind_in result ≡ kind_of_type (keywords_in self.old) named }
+        ensures value { self.new.value ≡ self.old.value }
+    {
+        match named {
+            OptionType::Text => Some(OptionKind::Text),
+            OptionType::Boolean => Some(OptionKind::Boolean),
+            OptionType::Combo => combo_of(self.choices.take()),
+            OptionType::Integer => self.integer_kind(),
+            OptionType::Array => Some(OptionKind::Array(self.choices.take())),
+            OptionType::Feature => Some(OptionKind::Feature),
+        }
+    }
+
+    // An integer has a value of its own.
+    fn integer_kind(&self) -> Option<OptionKind>
+        ensures { option_map kind_in result ≡ kind_of_type (keywords_in self.now) OptionType.Integer }
+    {
+        if self.value.is_none() {
+            return None;
+        }
+        Some(OptionKind::Integer {
+            min: self.min,
+            max: self.max,
+        })
+    }
+
     /// What an option with these keywords takes, and the default that it is given; nothing where a keyword is missing that it
     /// needs.
-    pub fn finished(self) -> Option<(OptionKind, Option<Given>)>
+    pub fn finished(mut self) -> Option<(OptionKind, Option<Given>)>
         ensures { option_map asked_in result ≡ asked_by (keywords_in self) }
     {
-        let Keywords {
-            kind,
-            value,
-            choices,
-            min,
-            max,
-        } = self;
-        let kind = match kind? {
-            OptionType::Text => OptionKind::Text,
-            OptionType::Boolean => OptionKind::Boolean,
-            OptionType::Combo => combo_of(choices)?,
-            OptionType::Integer => {
-                if value.is_none() {
-                    return None;
-                }
-                OptionKind::Integer { min, max }
-            }
-            OptionType::Array => OptionKind::Array(choices),
-            OptionType::Feature => OptionKind::Feature,
-        };
-        Some((kind, value))
+        let named = self.kind?;
+        let kind = self.kind_of(named)?;
+        Some((kind, self.value.take()))
     }
 }

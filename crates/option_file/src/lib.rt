@@ -18,8 +18,10 @@ pub mod fault;
 mod file;
 mod given;
 mod keyword;
+mod misfit;
 mod names;
 mod number;
+mod unfit;
 
 pub use declaration::{Declaration, Declared, Given};
 pub use file::declare;

@@ -8,6 +8,7 @@ pub mod Words
 pub mod Lists
 pub mod Texts
 pub mod Given
+pub mod Takes
 pub mod WordsView
 pub mod Shell
 pub mod Laws

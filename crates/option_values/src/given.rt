@@ -1,9 +1,9 @@
 //! Which value of an option a list is, and a value of a machine file.
 
-ghost use Rattle.std.specs.Prelude.{◌≡◌, IfOk, string_bytes};
+ghost use Rattle.std.specs.Prelude.{◌≡◌, ◌++◌, [], IfOk, OnOk, string_bytes};
 ghost use Rattle.std.specs.Option.{option_map};
 ghost use Rattle.machine_file.specs.View.{value_in as machine_value_in};
-ghost use Rattle.option_values.specs.Given.{printed, boolean_text, value_of_given, value_of_items};
+ghost use Rattle.option_values.specs.Given.{printed, quoted, boolean_text, value_of_given, value_of_items};
 ghost use Rattle.option_values.specs.Texts.{value_of};
 ghost use Rattle.option_values.specs.View.{kind_in, strings_in, value_in};
 
@@ -14,11 +14,10 @@ use itoa::Buffer;
 use machine_file::MachineValue;
 use std::alloc::{AllocError, Global};
 
-// A list as it is printed: texts in single quotes, in which nothing is escaped, with a comma and a space between each two.
-fn printed(alloc: Global, items: &[String]) -> Result<String, AllocError>
-    ensures { IfOk result (λ text. string_bytes text ≡ printed (strings_in items.now)) }
+/// Puts texts in single quotes behind a text, with a comma and a space between each two; nothing in them is escaped.
+pub fn push_quoted(text: &mut String, items: &[String]) -> Result<(), AllocError>
+    ensures { OnOk result (string_bytes text.new ≡ string_bytes text.old ++ quoted [] (strings_in items.now)) }
 {
-    let mut text = String::from_str(alloc, "[")?;
     let mut separator = "";
     for item in items {
         text.push_str(separator)?;
@@ -27,6 +26,15 @@ fn printed(alloc: Global, items: &[String]) -> Result<String, AllocError>
         text.push_str("'")?;
         separator = ", ";
     }
+    Ok(())
+}
+
+// A list as it is printed.
+fn printed(alloc: Global, items: &[String]) -> Result<String, AllocError>
+    ensures { IfOk result (λ text. string_bytes text ≡ printed (strings_in items.now)) }
+{
+    let mut text = String::from_str(alloc, "[")?;
+    push_quoted(&mut text, items)?;
     text.push_str("]")?;
     Ok(text)
 }

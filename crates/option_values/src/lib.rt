@@ -28,6 +28,7 @@ mod integer;
 mod kind;
 mod law;
 mod list;
+mod takes;
 mod text;
 mod words;
 
@@ -37,5 +38,6 @@ pub use given::{value_of_given, value_of_items};
 pub use integer::is_within;
 pub use kind::{FeatureState, OptionKind, OptionType, OptionValue};
 pub use law::texts_are_cut;
+pub use takes::kind_words;
 pub use text::value_of_text;
 pub use words::words_of;

@@ -15,7 +15,7 @@ use Rattle.option_values.specs.Kinds as kind
 use Rattle.option_values.specs.Values as value
 use Rattle.option_file.specs.Declarations.{Declaration}
 use Rattle.option_file.specs.Lookups.{is_new, are_new_after, are_new}
-use Rattle.options.specs.declared.fault.OptionFault.{OptionFault}
+use Rattle.options.specs.Faults.{OptionFaultData}
 use Rattle.options.specs.Defaults.{default_of}
 use Rattle.options.specs.FillIns as filling
 use Rattle.options.specs.FillIns.{build_types, type_among, with_type, by_buildtype, by_prefix, by_auto_features, decided, decided_value}
@@ -46,7 +46,7 @@ put_fits : (ds : List Declaration) (s : Setting) (ss : List Setting) → has_fit
 put_fits ds s [] h all = both (has_fitting ds s) true h refl
 put_fits ds s (t ∷ ts) h all = put_here ds s t ts (bytes_eq s.name t.name) refl h all (put_fits ds s ts h (second (has_fitting ds t) _ all))
 
-next_fits : (ds : List Declaration) (s : State) (v : Verdict) (o : Option OptionFault) → verdict_fits ds v ≡ true
+next_fits : (ds : List Declaration) (s : State) (v : Verdict) (o : Option OptionFaultData) → verdict_fits ds v ≡ true
     → all_fit ds s.settings ≡ true
     → all_fit ds (unless_fault o s v).settings ≡ true
 next_fits ds s v (Some fault) h all = all
@@ -187,7 +187,7 @@ unfolding by_auto_features
 auto_features_fit ds ss all = state_cases ds (state_at (codes "auto_features") ss) ss all
 
 -- what there is in the end, where there is no fault
-pub ended : (o : Option OptionFault) (before ss : List Setting) → outcome_of o before ≡ Ok ss → (o ≡ None) × (filled_in before ≡ ss)
+pub ended : (o : Option OptionFaultData) (before ss : List Setting) → outcome_of o before ≡ Ok ss → (o ≡ None) × (filled_in before ≡ ss)
 ended None before ss e = (refl, cc)
 ended (Some fault) before ss e = absurd cc
 
@@ -224,7 +224,7 @@ put_new s [] e = refl
 put_new s (t ∷ ts) e = put_behind s t ts (bytes_eq s.name t.name) e (put_new s ts)
 
 -- a fault stays
-pub no_fault : (s : State) (vs : List Verdict) (o : Option OptionFault) → s.fault ≡ o → (fold next s vs).fault ≡ None → o ≡ None
+pub no_fault : (s : State) (vs : List Verdict) (o : Option OptionFaultData) → s.fault ≡ o → (fold next s vs).fault ≡ None → o ≡ None
 no_fault s vs None e h = refl
 no_fault s vs (Some fault) e h = absurd (let same : (fold next s vs).fault
     ≡ Some fault = ap (λ (t : State). t.fault) (stays_at fault s vs e) ∙ e in cc)
@@ -255,7 +255,7 @@ after_declarations before [] s new names h = names
 after_declarations before (d ∷ ds) s new names h =
     let here = no_fault s (map of_declaration (d ∷ ds)) s.fault refl h in
     let one : unless_fault s.fault s (of_default d (default_of d)) ≡ after_verdict s (of_default d (default_of d)) =
-    ap (λ (o : Option OptionFault). unless_fault o s (of_default d (default_of d))) here in
+    ap (λ (o : Option OptionFaultData). unless_fault o s (of_default d (default_of d))) here in
     let t = after_verdict s (of_default d (default_of d)) in
     let ended_well : (fold next t (map of_declaration ds)).fault
     ≡ None = sym (ap (λ (x : State). (fold next x (map of_declaration ds)).fault) one) ∙ h in
@@ -264,7 +264,7 @@ after_declarations before (d ∷ ds) s new names h =
     (declared_here before ds d s (default_of d) (first (is_new d.name before) _ new) names ended_well) ended_well
     ∙ ap (λ (xs : List Declaration). built_in_names ++ declared_names xs) (append_assoc before (d ∷ []) ds)
 
-next_named : (ds : List Declaration) (s : State) (v : Verdict) (o : Option OptionFault) → verdict_fits ds v ≡ true
+next_named : (ds : List Declaration) (s : State) (v : Verdict) (o : Option OptionFaultData) → verdict_fits ds v ≡ true
     → names_in s.settings ≡ built_in_names ++ declared_names ds
     → names_in (unless_fault o s v).settings ≡ built_in_names ++ declared_names ds
 next_named ds s v (Some fault) h names = names

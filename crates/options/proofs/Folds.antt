@@ -9,7 +9,7 @@ use Rattle.std.proofs.lemmas.Option.{get_or_from_slice_get, slice_get_within, sl
 use Rattle.std.specs.declared.alloc.Global.{Global}
 use Rattle.option_values.specs.View.{strings_in}
 use Rattle.option_file.specs.Declarations.{Declaration}
-use Rattle.options.specs.declared.fault.OptionFault.{OptionFault}
+use Rattle.options.specs.Faults.{OptionFaultData}
 use Rattle.options.specs.Resolves.{State, next, unless_fault}
 use Rattle.options.specs.declared.fault.Place.TheVariants.{CommandLine}
 use Rattle.options.specs.Verdicts.{Verdict, of_assignment, of_words}
@@ -111,15 +111,15 @@ in_turn s a b c d =
 
 -- ---- nothing comes after a fault
 
-pub stays_at : (fault : OptionFault) (s : State) (vs : List Verdict) → s.fault ≡ Some fault → fold next s vs ≡ s
+pub stays_at : (fault : OptionFaultData) (s : State) (vs : List Verdict) → s.fault ≡ Some fault → fold next s vs ≡ s
 unfolding next
 stays_at fault s [] is = refl
-stays_at fault s (v ∷ vs) is = ap (λ (o : Option OptionFault). fold next (unless_fault o s v) vs) is ∙ stays_at fault s vs is
+stays_at fault s (v ∷ vs) is = ap (λ (o : Option OptionFaultData). fold next (unless_fault o s v) vs) is ∙ stays_at fault s vs is
 
 stays : (s : State) (vs : List Verdict) → is_some s.fault ≡ true → fold next s vs ≡ s
 stays s vs e = by s.fault refl e
   where
-    by : (o : Option OptionFault) → s.fault ≡ o → is_some o ≡ true → fold next s vs ≡ s
+    by : (o : Option OptionFaultData) → s.fault ≡ o → is_some o ≡ true → fold next s vs ≡ s
     by (Some fault) is e = stays_at fault s vs is
     by None is e = absurd cc
 

@@ -8,7 +8,7 @@ use Rattle.option_values.specs.declared.kind.FeatureState.{FeatureState}
 use Rattle.option_values.specs.declared.kind.FeatureState.TheVariants as feature
 use Rattle.option_values.specs.Values as value
 use Rattle.option_file.specs.Declarations.{Declaration}
-use Rattle.options.specs.declared.fault.OptionFault.{OptionFault}
+use Rattle.options.specs.Faults.{OptionFaultData}
 use Rattle.options.specs.FillIns as filling
 use Rattle.options.specs.FillIns.{build_types, type_among, with_type, by_buildtype, by_prefix, by_auto_features, decided, decided_value}
 use Rattle.options.specs.FillIns.{with_state, state_at, text_at, is_usr, filled_in}
@@ -95,7 +95,7 @@ unfolding next
 all_held name s [] h = refl
 all_held name s (v ∷ vs) h =
     let here = no_fault s (v ∷ vs) s.fault refl h in
-    let one : unless_fault s.fault s v ≡ after_verdict s v = ap (λ (o : Option OptionFault). unless_fault o s v) here in
+    let one : unless_fault s.fault s v ≡ after_verdict s v = ap (λ (o : Option OptionFaultData). unless_fault o s v) here in
     let well : (fold next (after_verdict s v) vs).fault ≡ None = sym (ap (λ (x : State). (fold next x vs).fault) one) ∙ h in
     ap (λ (x : State). held (fold next x vs).settings name) one
     ∙ all_held name (after_verdict s v) vs well

@@ -13,16 +13,16 @@ use Rattle.option_values.specs.Kinds.{Kind}
 use Rattle.option_values.specs.Values.{Value}
 use Rattle.option_file.specs.Declarations.{Declaration}
 use Rattle.option_file.specs.Lookups.{is_new, are_new_after, are_new}
-use Rattle.basics.specs.declared.faults.refusal.Refusal.{Refusal}
 use Rattle.options.specs.declared.fault.Place.{Place}
 use Rattle.options.specs.declared.fault.Place.TheVariants.{Declared, Project, MachineFile, CommandLine}
 use Rattle.options.specs.declared.known.Scope.{Scope}
 use Rattle.options.specs.declared.known.Scope.TheVariants.{BuiltIn, OfProject}
 use Rattle.options.specs.Defaults.{default_of}
+use Rattle.options.specs.Misfits.{MisfitData}
 use Rattle.options.specs.Laws.{fits, fits_known, has_fitting}
 use Rattle.options.specs.Resolves.{verdicts}
 use Rattle.options.specs.Verdicts.{Verdict, Sets, Warns, Refuses, Default, Assignment, Entry, of_declaration, of_default, of_named, of_kind}
-use Rattle.options.specs.Verdicts.{of_value, refusal_of, unknown_at, of_parts, of_assignment, of_project_default, of_words, kind_in_scope}
+use Rattle.options.specs.Verdicts.{of_value, misfit_of, unknown_at, of_parts, of_assignment, of_project_default, of_words, kind_in_scope}
 use Rattle.options.specs.Verdicts.{scope_of, of_entry, of_entries, of_section, kind_named, declared_kind}
 use Rattle.options.proofs.Bools.{both, first, second, all_append, all_map, all_flat_map}
 use Rattle.options.proofs.Fitting.{maybe_fits, given_fits, default_fits}
@@ -57,7 +57,7 @@ declarations_fit before (d ∷ ds) e =
 
 -- ---- what a place gives
 
-value_cases : (ds : List Declaration) (place : Place) (name : List ℕ) (r : Refusal) (k : Kind) (o : Option Value)
+value_cases : (ds : List Declaration) (place : Place) (name : List ℕ) (r : MisfitData) (k : Kind) (o : Option Value)
     → kind_named ds name ≡ Some k
     → maybe_fits k o ≡ true → verdict_fits ds (of_value place name r o) ≡ true
 value_cases ds place name r k None known e = refl
@@ -66,7 +66,7 @@ value_cases ds place name r k (Some v) known e = ap (λ (x : Option Kind). fits_
 kind_given : (ds : List Declaration) (place : Place) (name : List ℕ) (what : written.Value) (k : Kind) → kind_named ds name ≡ Some k
     → verdict_fits ds (of_kind place name what k) ≡ true
 unfolding of_kind
-kind_given ds place name what k known = value_cases ds place name (refusal_of name what) k (value_of_given k what) known (given_fits k what)
+kind_given ds place name what k known = value_cases ds place name (misfit_of name k what) k (value_of_given k what) known (given_fits k what)
 
 unknown_fits : (ds : List Declaration) (place : Place) (name : List ℕ) → verdict_fits ds (unknown_at place name) ≡ true
 unknown_fits ds (Declared line) name = refl
@@ -79,13 +79,13 @@ named_fits : (ds : List Declaration) (place : Place) (name : List ℕ) (what : w
 named_fits ds place name what None h = unknown_fits ds place name
 named_fits ds place name what (Some k) h = kind_given ds place name what k (h k refl)
 
-parts_fit : (ds : List Declaration) (place : Place) (o : Option Parts) → verdict_fits ds (of_parts ds place o) ≡ true
-parts_fit ds place None = refl
-parts_fit ds place (Some parts) = named_fits ds place parts.0 (written.Text parts.1) (kind_named ds parts.0) (λ k e. e)
+parts_fit : (ds : List Declaration) (place : Place) (text : List ℕ) (o : Option Parts) → verdict_fits ds (of_parts ds place text o) ≡ true
+parts_fit ds place text None = refl
+parts_fit ds place text (Some parts) = named_fits ds place parts.0 (written.Text parts.1) (kind_named ds parts.0) (λ k e. e)
 
 assignment_fits : (ds : List Declaration) (place : Place) (text : List ℕ) → verdict_fits ds (of_assignment ds place text) ≡ true
 unfolding of_assignment
-assignment_fits ds place text = parts_fit ds place (cut_first equals text)
+assignment_fits ds place text = parts_fit ds place text (cut_first equals text)
 
 project_default_fits : (ds : List Declaration) (d : Default) → verdict_fits ds (of_project_default ds d) ≡ true
 unfolding of_project_default

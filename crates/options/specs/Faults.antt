@@ -1,9 +1,15 @@
 -- A fault of an option's value, as a run tells it.
 use Rattle.std.specs.Prelude.{ℕ, List, codes}
-use Rattle.basics.specs.Faults.{FaultData, plain_fault}
+use Rattle.basics.specs.Faults.{FaultData}
+use Rattle.basics.specs.declared.faults.refusal.Refusal.{Refusal}
 use Rattle.options.specs.declared.fault.Place.{Place}
 use Rattle.options.specs.declared.fault.Place.TheVariants.{Declared, Project, MachineFile, CommandLine}
-use Rattle.options.specs.declared.fault.OptionFault.{OptionFault}
+
+-- a place, what is refused there, and what that is about
+pub record OptionFaultData : Type 0 where
+  pub place : Place
+  pub refusal : Refusal
+  pub detail : List ℕ
 
 -- the file of a place, where the option file has this path
 abbrev pub file_of : List ℕ → Place → List ℕ
@@ -19,5 +25,6 @@ line_of call Project = call
 line_of call (MachineFile line) = line
 line_of call (CommandLine number) = number
 
-abbrev pub told_in : List ℕ → ℕ → OptionFault → FaultData
-told_in path call f = plain_fault (file_of path f.place) (line_of call f.place) f.refusal
+abbrev pub told_in : List ℕ → ℕ → OptionFaultData → FaultData
+told_in path call f =
+    record { file = file_of path f.place; line = line_of call f.place; refusal = f.refusal; detail = f.detail }

@@ -1,8 +1,10 @@
 pub mod Settings
 pub mod Defaults
+pub mod Misfits
+pub mod MisfitView
+pub mod Faults
 pub mod Verdicts
 pub mod FillIns
 pub mod Resolves
 pub mod Laws
-pub mod Faults
 pub mod View

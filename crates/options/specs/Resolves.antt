@@ -5,7 +5,7 @@ use Rattle.std.specs.Option.{option_map}
 use Rattle.machine_file.specs.Files as machine
 use Rattle.option_values.specs.Values.{Value}
 use Rattle.option_file.specs.Declarations.{Declaration}
-use Rattle.options.specs.declared.fault.OptionFault.{OptionFault}
+use Rattle.options.specs.Faults.{OptionFaultData}
 use Rattle.options.specs.Settings.{Setting, put, setting_named, built_in_settings}
 use Rattle.options.specs.Verdicts.{Verdict, Sets, Warns, Refuses, Default, of_declaration, of_project_default, of_section, of_words}
 use Rattle.options.specs.FillIns.{filled_in}
@@ -14,14 +14,14 @@ use Rattle.options.specs.FillIns.{filled_in}
 pub record State : Type 0 where
   pub unknown : List (List ℕ)
   pub settings : List Setting
-  pub fault : Option OptionFault
+  pub fault : Option OptionFaultData
 
 abbrev pub after_verdict : State → Verdict → State
 after_verdict s (Sets setting) = record s { settings = put setting s.settings }
 after_verdict s (Warns name) = record s { unknown = s.unknown ++ name ∷ [] }
 after_verdict s (Refuses fault) = record s { fault = Some fault }
 
-abbrev pub unless_fault : Option OptionFault → State → Verdict → State
+abbrev pub unless_fault : Option OptionFaultData → State → Verdict → State
 unless_fault None s v = after_verdict s v
 unless_fault (Some fault) s v = s
 
@@ -40,14 +40,14 @@ verdicts ds defaults sections words =
 unfoldable pub at_first : State
 at_first = record { unknown = []; settings = built_in_settings; fault = None }
 
-abbrev pub outcome_of : Option OptionFault → List Setting → Result (List Setting) OptionFault
+abbrev pub outcome_of : Option OptionFaultData → List Setting → Result (List Setting) OptionFaultData
 outcome_of (Some fault) ss = Err fault
 outcome_of None ss = Ok (filled_in ss)
 
 -- the names of unknown options in `default_options`, in order and up to the first fault; and the options or this fault
 pub record Resolution : Type 0 where
   pub unknown : List (List ℕ)
-  pub outcome : Result (List Setting) OptionFault
+  pub outcome : Result (List Setting) OptionFaultData
 
 abbrev pub resolution_of : State → Resolution
 resolution_of s = record { unknown = s.unknown; outcome = outcome_of s.fault s.settings }

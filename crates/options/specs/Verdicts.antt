@@ -13,11 +13,10 @@ use Rattle.option_file.specs.Declarations.{Declaration}
 use Rattle.option_file.specs.Lookups.{option_named}
 use Rattle.options.specs.declared.fault.Place.{Place}
 use Rattle.options.specs.declared.fault.Place.TheVariants.{Declared, Project, MachineFile, CommandLine}
-use Rattle.basics.specs.declared.faults.refusal.Refusal.{Refusal}
-use Rattle.basics.specs.declared.faults.refusal.Refusal.TheVariants as refusals
-use Rattle.options.specs.declared.fault.OptionFault.{OptionFault}
 use Rattle.options.specs.declared.known.Scope.{Scope}
 use Rattle.options.specs.declared.known.Scope.TheVariants.{BuiltIn, OfProject}
+use Rattle.options.specs.Faults.{OptionFaultData}
+use Rattle.options.specs.Misfits.{MisfitData, NoOption, NoSign, Both, NoValue, NoDefault, refusal_of, words_of}
 use Rattle.options.specs.Settings.{Setting}
 use Rattle.options.specs.Defaults.{default_of}
 
@@ -25,15 +24,15 @@ use Rattle.options.specs.Defaults.{default_of}
 pub data Verdict : Type 0 where
   Sets : (setting : Setting) → Verdict
   Warns : (name : List ℕ) → Verdict
-  Refuses : (fault : OptionFault) → Verdict
+  Refuses : (fault : OptionFaultData) → Verdict
 
-abbrev pub refused : Place → Refusal → Verdict
-refused place refusal = Refuses (record { place = place; refusal = refusal })
+abbrev pub refused : Place → MisfitData → Verdict
+refused place m = Refuses (record { place = place; refusal = refusal_of m; detail = words_of m })
 
 -- ---- the declarations
 
 abbrev pub of_default : Declaration → Option Value → Verdict
-of_default d None = refused (Declared d.line) refusals.OptionValue
+of_default d None = refused (Declared d.line) (NoDefault d.name d.kind d.value)
 of_default d (Some v) = Sets (record { name = d.name; value = v; given = false })
 
 -- a declaration sets its option to its default
@@ -61,37 +60,38 @@ abbrev pub is_both : List ℕ → written.Value → Bool
 is_both name (written.Text text) = bytes_eq name (codes "default_library") && bytes_eq text (codes "both")
 is_both name _ = false
 
-abbrev pub refusal_of : List ℕ → written.Value → Refusal
-refusal_of name what = if is_both name what then refusals.LeftOut else refusals.OptionValue
+-- what is wrong with what is written, where it is no value of the option
+abbrev pub misfit_of : List ℕ → Kind → written.Value → MisfitData
+misfit_of name kind what = if is_both name what then Both else NoValue name kind what
 
 -- a place gives an option a value, or something that is none
-abbrev pub of_value : Place → List ℕ → Refusal → Option Value → Verdict
+abbrev pub of_value : Place → List ℕ → MisfitData → Option Value → Verdict
 of_value place name otherwise None = refused place otherwise
 of_value place name otherwise (Some v) = Sets (record { name = name; value = v; given = true })
 
 -- a place gives an option of this kind what is written there
 unfoldable pub of_kind : Place → List ℕ → written.Value → Kind → Verdict
-of_kind place name what kind = of_value place name (refusal_of name what) (value_of_given kind what)
+of_kind place name what kind = of_value place name (misfit_of name kind what) (value_of_given kind what)
 
 -- a place gives a value to a name that no option has: `default_options` alone may do so
 abbrev pub unknown_at : Place → List ℕ → Verdict
-unknown_at (Declared line) name = refused (Declared line) refusals.OptionValue
+unknown_at (Declared line) name = refused (Declared line) (NoOption name)
 unknown_at Project name = Warns name
-unknown_at (MachineFile line) name = refused (MachineFile line) refusals.OptionValue
-unknown_at (CommandLine number) name = refused (CommandLine number) refusals.OptionValue
+unknown_at (MachineFile line) name = refused (MachineFile line) (NoOption name)
+unknown_at (CommandLine number) name = refused (CommandLine number) (NoOption name)
 
 -- a place gives the option of a name a value, if there is such an option
 abbrev pub of_named : Place → List ℕ → written.Value → Option Kind → Verdict
 of_named place name what None = unknown_at place name
 of_named place name what (Some kind) = of_kind place name what kind
 
-abbrev pub of_parts : List Declaration → Place → Option Parts → Verdict
-of_parts ds place None = refused place refusals.OptionValue
-of_parts ds place (Some parts) = of_named place parts.0 (written.Text parts.1) (kind_named ds parts.0)
+abbrev pub of_parts : List Declaration → Place → List ℕ → Option Parts → Verdict
+of_parts ds place text None = refused place (NoSign text)
+of_parts ds place text (Some parts) = of_named place parts.0 (written.Text parts.1) (kind_named ds parts.0)
 
 -- a text of `default_options` and a word of the command line are a name and a value behind the first `=`
 unfoldable pub of_assignment : List Declaration → Place → List ℕ → Verdict
-of_assignment ds place text = of_parts ds place (cut_first equals text)
+of_assignment ds place text = of_parts ds place text (cut_first equals text)
 
 -- What the keyword `default_options` holds: a text of its list, or an entry of its dictionary, whose name may have an `=` in it.
 pub data Default : Type 0 where

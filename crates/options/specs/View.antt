@@ -1,6 +1,7 @@
 -- What the code's own types stand for.
 use Rattle.std.specs.Prelude.{◌≡◌, ℕ, List, [], map, Result, Ok, Err, string_bytes, String}
 use Rattle.std.specs.declared.alloc.Global.{Global}
+use Rattle.std.specs.Option.{option_map}
 use denote.Ref.{Bor}
 use Rattle.option_values.specs.View.{value_in, strings_in}
 use Rattle.option_values.specs.Values.{Value}
@@ -21,10 +22,8 @@ use Rattle.option_file.specs.View.{options_in as declared_in}
 use Rattle.options.specs.declared.known.Known.{Known}
 use Rattle.options.specs.declared.place.ProjectDefault.{ProjectDefault}
 use Rattle.options.specs.declared.place.ProjectDefault.TheVariants as given
-use Rattle.options.specs.declared.verdict.Written.{Written}
-use Rattle.options.specs.declared.verdict.Written.TheVariants as written
-use Rattle.machine_file.specs.Values as machine_values
 use Rattle.options.specs.FillIns as filling
+use Rattle.options.specs.Faults.{OptionFaultData}
 use Rattle.options.specs.Settings as plain
 use Rattle.options.specs.Resolves as resolving
 use Rattle.options.specs.Verdicts as judged
@@ -51,17 +50,20 @@ options_in options = settings_in options.settings.entries
 abbrev pub shown_in : Bor (List ℕ) × Bor OptionValue → List ℕ × Value
 shown_in e = (e.0.now, value_in e.1.now)
 
+abbrev pub fault_in : OptionFault → OptionFaultData
+fault_in f = record { place = f.place; refusal = f.refusal; detail = string_bytes f.detail }
+
 abbrev pub verdict_in : Verdict → judged.Verdict
 verdict_in (verdict.Sets name setting) = judged.Sets (setting_in name.now setting)
 verdict_in (verdict.Warns name) = judged.Warns name.now
-verdict_in (verdict.Refuses fault) = judged.Refuses fault
+verdict_in (verdict.Refuses fault) = judged.Refuses (fault_in fault)
 
 abbrev pub state_in : State → resolving.State
-state_in s = record { unknown = strings_in s.unknown.items; settings = settings_in s.settings.entries; fault = s.fault }
+state_in s = record { unknown = strings_in s.unknown.items; settings = settings_in s.settings.entries; fault = option_map fault_in s.fault }
 
-abbrev pub outcome_in : Result Options OptionFault → Result (List plain.Setting) OptionFault
+abbrev pub outcome_in : Result Options OptionFault → Result (List plain.Setting) OptionFaultData
 outcome_in (Ok options) = Ok (options_in options)
-outcome_in (Err fault) = Err fault
+outcome_in (Err fault) = Err (fault_in fault)
 
 abbrev pub resolved_in : Resolved → resolving.Resolution
 resolved_in r = record { unknown = strings_in r.unknown.items; outcome = outcome_in r.outcome }
@@ -82,10 +84,6 @@ default_in (given.Entry name value) = judged.Entry name.now value.now
 
 abbrev pub defaults_in : List ProjectDefault → List judged.Default
 defaults_in defaults = map default_in defaults
-
-abbrev pub written_in : Written → machine_values.Value
-written_in (written.Text text) = machine_values.Text text.now
-written_in (written.Value value) = machine_value_in value.now
 
 -- what a type of build of this name says
 abbrev pub type_in : List ℕ → BuildType → filling.BuildType

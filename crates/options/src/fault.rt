@@ -3,6 +3,7 @@
 ghost use Rattle.std.specs.Prelude.{◌≡◌, IfOk};
 ghost use Rattle.basics.specs.View.{fault_view};
 ghost use Rattle.options.specs.Faults.{told_in};
+ghost use Rattle.options.specs.View.{fault_in};
 
 use basics::faults::{Fault, Refusal};
 use std::alloc::{AllocError, Global};
@@ -22,10 +23,12 @@ pub enum Place {
 
 /// What is wrong with a value, and its place: E15, where it is no value of its option, there is no such option, or it is no name
 /// with a value; or E23, where it is a value that is left out.
-#[derive(Clone, Copy)]
+#[derive(Drop)]
 pub struct OptionFault {
     pub place: Place,
     pub refusal: Refusal,
+    /// What it is about, in words.
+    pub detail: String,
 }
 
 impl OptionFault {
@@ -36,7 +39,7 @@ impl OptionFault {
         option_file: &str,
         project_line: usize,
     ) -> Result<Fault, AllocError>
-        ensures { IfOk result (λ fault. fault_view fault ≡ told_in option_file.now project_line self) }
+        ensures { IfOk result (λ fault. fault_view fault ≡ told_in option_file.now project_line (fault_in self)) }
     {
         let (file, line) = match self.place {
             Place::Declared(line) => (option_file, line),
@@ -44,6 +47,6 @@ impl OptionFault {
             Place::MachineFile(line) => ("<machine file>", line),
             Place::CommandLine(number) => ("<command line>", number),
         };
-        Fault::plain(alloc, file, line, self.refusal)
+        Fault::new(alloc, file, line, self.refusal, &self.detail)
     }
 }

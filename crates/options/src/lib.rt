@@ -23,6 +23,7 @@ mod fault;
 mod fill_in;
 mod known;
 pub mod laws;
+mod misfit;
 mod place;
 mod resolution;
 mod settings;

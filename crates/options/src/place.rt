@@ -14,10 +14,10 @@ ghost use Rattle.options.specs.declared.fault.Place.TheVariants.{MachineFile};
 use crate::default::default_of;
 use crate::fault::Place;
 use crate::known::{Known, Scope, scope_of};
+use crate::misfit::{Misfit, Written};
 use crate::settings::Setting;
 use crate::state::State;
-use crate::verdict::{Verdict, Written, of_named, refused};
-use basics::faults::Refusal;
+use crate::verdict::{Verdict, of_named, refused};
 use machine_file::{Entry, Machine, Section, cut_first};
 use option_file::{Declaration, Declared};
 use option_values::OptionKind;
@@ -49,7 +49,11 @@ fn of_declaration<'a>(
                 given: false,
             },
         )),
-        None => Ok(refused(Place::Declared(declaration.line), Refusal::OptionValue)),
+        None => {
+            let misfit = Misfit::NoDefault(name, &declaration.kind, &declaration.value);
+            let verdict = refused(alloc, Place::Declared(declaration.line), misfit)?;
+            Ok(verdict)
+        }
     }
 }
 
@@ -86,7 +90,8 @@ fn of_assignment<'a>(
     ensures { IfOk result (λ v. verdict_in v ≡ of_assignment (declared_of known.now) place text.now) }
 {
     let Some((name, value)) = cut_first(text, '=') else {
-        return Ok(refused(place, Refusal::OptionValue));
+        let verdict = refused(alloc, place, Misfit::NoSign(text))?;
+        return Ok(verdict);
     };
     let kind = known.kind_named(state.number_of(name), name);
     let verdict = of_named(alloc, place, name, kind, Written::Text(value))?;

@@ -5,13 +5,13 @@ ghost use Rattle.machine_file.specs.Readers.{text_said};
 ghost use Rattle.option_values.specs.View.{kind_in, value_in};
 ghost use Rattle.option_values.specs.Given.{value_of_given};
 ghost use Rattle.std.specs.Option.{option_map};
-ghost use Rattle.options.specs.Verdicts.{refused, unknown_at, is_both, refusal_of, of_value, of_named};
-ghost use Rattle.options.specs.View.{verdict_in, written_in};
+ghost use Rattle.options.specs.Verdicts.{refused, unknown_at, is_both, misfit_of, of_value, of_named};
+ghost use Rattle.options.specs.MisfitView.{misfit_in, written_in};
+ghost use Rattle.options.specs.View.{verdict_in};
 
 use crate::fault::{OptionFault, Place};
+use crate::misfit::{Misfit, Written};
 use crate::settings::Setting;
-use basics::faults::Refusal;
-use machine_file::MachineValue;
 use option_values::{OptionKind, OptionValue, value_of_given, value_of_text};
 use std::alloc::{AllocError, Global};
 
@@ -26,29 +26,31 @@ pub enum Verdict<'a> {
     Refuses(OptionFault),
 }
 
-/// What is written at a place.
-#[derive(Clone, Copy)]
-pub enum Written<'a> {
-    Text(&'a str),
-    /// A value of the machine file.
-    Value(&'a MachineValue),
-}
-
-/// The value at this place is refused.
-pub fn refused<'a>(place: Place, refusal: Refusal) -> Verdict<'a>
-    ensures { verdict_in result ≡ refused place refusal }
+/// What is written at this place is refused.
+pub fn refused<'a>(
+    alloc: Global,
+    place: Place,
+    misfit: Misfit<'_>,
+) -> Result<Verdict<'a>, AllocError>
+    ensures { IfOk result (λ v. verdict_in v ≡ refused place (misfit_in misfit.entry)) }
 {
-    Verdict::Refuses(OptionFault { place, refusal })
+    let refusal = misfit.refusal();
+    let detail = misfit.words(alloc)?;
+    Ok(Verdict::Refuses(OptionFault {
+        place,
+        refusal,
+        detail,
+    }))
 }
 
 /// A place gives a value to a name that no option has: `default_options` alone may do so.
-fn unknown<'a>(place: Place, name: &'a str) -> Verdict<'a>
-    ensures { verdict_in result ≡ unknown_at place name.now }
+fn unknown<'a>(alloc: Global, place: Place, name: &'a str) -> Result<Verdict<'a>, AllocError>
+    ensures { IfOk result (λ v. verdict_in v ≡ unknown_at place name.now) }
 {
     match place {
-        Place::Project => Verdict::Warns(name),
+        Place::Project => Ok(Verdict::Warns(name)),
         Place::Declared(_) | Place::MachineFile(_) | Place::CommandLine(_) => {
-            refused(place, Refusal::OptionValue)
+            refused(alloc, place, Misfit::NoOption(name))
         }
     }
 }
@@ -84,30 +86,31 @@ impl Written<'_> {
         }
     }
 
-    // Why it is refused, where it is no value of the option of this name.
-    fn refusal(&self, name: &str) -> Refusal
-        ensures { result ≡ refusal_of name.now (written_in self.now) }
+    // What is wrong with it, where it is no value of the option of this name and kind.
+    fn misfit<'m>(&'m self, name: &'m str, kind: &'m OptionKind) -> Misfit<'m>
+        ensures { misfit_in result ≡ misfit_of name.now (kind_in kind.now) (written_in self.now) }
     {
         if self.is_both(name) {
-            Refusal::LeftOut
+            Misfit::Both
         } else {
-            Refusal::OptionValue
+            Misfit::NoValue(name, kind, *self)
         }
     }
 }
 
 // A place gives an option a value, or something that is none.
 fn of_value<'a>(
+    alloc: Global,
     place: Place,
     name: &'a str,
-    otherwise: Refusal,
+    otherwise: Misfit<'_>,
     value: Option<OptionValue>,
-) -> Verdict<'a>
-    ensures { verdict_in result ≡ of_value place name.now otherwise (option_map value_in value) }
+) -> Result<Verdict<'a>, AllocError>
+    ensures { IfOk result (λ v. verdict_in v ≡ of_value place name.now (misfit_in otherwise.entry) (option_map value_in value)) }
 {
     match value {
-        Some(value) => Verdict::Sets(name, Setting { value, given: true }),
-        None => refused(place, otherwise),
+        Some(value) => Ok(Verdict::Sets(name, Setting { value, given: true })),
+        None => refused(alloc, place, otherwise),
     }
 }
 
@@ -124,8 +127,8 @@ pub fn of_named<'a>(
         ≡ of_named place name.now (written_in written.entry) (option_map (λ k. kind_in k.now) kind.entry)) }
 {
     let Some(kind) = kind else {
-        return Ok(unknown(place, name));
+        return unknown(alloc, place, name);
     };
     let value = written.value(alloc, kind)?;
-    Ok(of_value(place, name, written.refusal(name), value))
+    of_value(alloc, place, name, written.misfit(name, kind), value)
 }

@@ -3,6 +3,7 @@ use Rattle.std.proofs.Common.{◌≡◌, ℕ, Bool, true, false, List, [], ◌�
 use Rattle.std.specs.Str.{IsUtf8, is_utf8}
 use Rattle.std.specs.Str.Lossy.{utf8_valid_len}
 use Rattle.std.proofs.lemmas.Str.{IsUtf8-from_is_utf8, is_utf8-from_IsUtf8}
+use Rattle.definition_files.specs.Details.{refuse_line_about}
 use Rattle.definition_files.specs.Files.{line_at, refusal_of, refuse_line, spelled_by, tree_or_fault}
 use Rattle.basics.specs.declared.faults.refusal.Refusal.{Refusal}
 use Rattle.basics.specs.declared.faults.refusal.Refusal.TheVariants as refusals
@@ -27,6 +28,13 @@ pub carries_line : {A B : Type 0} {view : B → A} (line : ℕ) (refusal : Refus
     → Carries view (refuse_line line refusal) (record { world = w; names = names; tree = tree; out = out; lent = lent }) result (record { world = w1; names = names1; tree = tree; out = out; lent = lent })
 unfolding refuse_line
 carries_line line refusal result moved named is = carries_then {x = tt {0}} (carries_change {view = λ (u : Unit {0}). u} moved named) (carries_refuse is)
+
+-- and what that is about
+pub carries_line_about : {A B : Type 0} {view : B → A} (line : ℕ) (refusal : Refusal) (detail : List ℕ) {w w1 : World} {names names1 : List (List ℕ)} {tree : TreeState} {out : OutputState} {lent : ℕ × ℕ × ℕ} (result : Result B Stop)
+    → w1 ≡ changing (with_line line) w → names1 ≡ names → Refuses (fault_here w1 refusal detail) result
+    → Carries view (refuse_line_about line refusal detail) (record { world = w; names = names; tree = tree; out = out; lent = lent }) result (record { world = w1; names = names1; tree = tree; out = out; lent = lent })
+unfolding refuse_line_about
+carries_line_about line refusal detail result moved named is = carries_then {x = tt {0}} (carries_change {view = λ (u : Unit {0}). u} moved named) (carries_refuse is)
 
 -- the same, and what was to follow never comes
 pub carries_line_first : {A B C : Type 0} {view : C → B} (line : ℕ) (refusal : Refusal) {next : A → Deed B} {w w1 : World} {names names1 : List (List ℕ)} {tree : TreeState} {out : OutputState} {lent : ℕ × ℕ × ℕ} (result : Result C Stop)

@@ -6,8 +6,9 @@ use Rattle.grammar.specs.Tree.{FileTree, Statements, NoStatement, MoreStatements
 use Rattle.basics.specs.declared.faults.refusal.Refusal.TheVariants as refusals
 use Rattle.option_file.specs.Declarations.{Declaration}
 use Rattle.option_file.specs.Declares.{file_declares}
-use Rattle.option_file.specs.declared.fault.DeclareFault.{DeclareFault}
-use Rattle.definition_files.specs.Files.{refuse_line, spelled_by, tree_or_fault}
+use Rattle.option_file.specs.Fault.{DeclareFaultData}
+use Rattle.definition_files.specs.Details.{refuse_line_about}
+use Rattle.definition_files.specs.Files.{spelled_by, tree_or_fault}
 use Rattle.definition_files.specs.Finding.{FoundData, nothing, too_long, bytes, find}
 use Rattle.world.specs.World.{with_place}
 use Rattle.world.specs.Deed.{Deed, give, refuse, read, change, ◌>>=◌}
@@ -23,9 +24,9 @@ listed NoStatement = []
 listed (MoreStatements s ss) = s ∷ listed ss
 
 -- the options that statements of the present file declare, or the first fault of one, at its line
-unfoldable pub declared_or_fault : Result (List Declaration) DeclareFault → Deed (List Declaration)
+unfoldable pub declared_or_fault : Result (List Declaration) DeclareFaultData → Deed (List Declaration)
 declared_or_fault (Ok options) = give options
-declared_or_fault (Err fault) = refuse_line fault.line fault.refusal
+declared_or_fault (Err fault) = refuse_line_about fault.line fault.refusal fault.detail
 
 -- the options that a text of the present file declares
 unfoldable pub text_declares : List ℕ → Deed (List Declaration)

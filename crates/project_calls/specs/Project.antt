@@ -8,11 +8,10 @@ use Rattle.basics.specs.declared.faults.refusal.Refusal.{Refusal}
 use Rattle.basics.specs.declared.faults.refusal.Refusal.TheVariants as refusals
 use Rattle.arguments.specs.Arguments.{ArgumentsData}
 use Rattle.arguments.specs.Given.{keyword, text_at, texts, texts_from}
-use Rattle.definition_files.specs.Places.{refuse_at}
-use Rattle.options.specs.Faults.{file_of, line_of}
+use Rattle.definition_files.specs.Details.{refuse_about}
+use Rattle.options.specs.Faults.{OptionFaultData, file_of, line_of}
 use Rattle.options.specs.Resolves.{Resolution}
 use Rattle.options.specs.Settings.{Setting}
-use Rattle.options.specs.declared.fault.OptionFault.{OptionFault}
 use Rattle.project_calls.specs.Defaults.{printed_values}
 use Rattle.project_calls.specs.OptionFile.{option_file}
 use Rattle.project_calls.specs.Entries.{entries_in}
@@ -42,9 +41,9 @@ warned (name ∷ names) = do
   warned names
 
 -- the options with their values, or the first fault of a value, at its place, where the option file has this path
-unfoldable pub settled : List ℕ → Result (List Setting) OptionFault → ℕ → Deed (List Setting)
+unfoldable pub settled : List ℕ → Result (List Setting) OptionFaultData → ℕ → Deed (List Setting)
 settled path (Ok settings) call = give settings
-settled path (Err fault) call = refuse_at (file_of path fault.place) (line_of call fault.place) fault.refusal
+settled path (Err fault) call = refuse_about (file_of path fault.place) (line_of call fault.place) fault.refusal fault.detail
 
 -- ---- what `project` says
 

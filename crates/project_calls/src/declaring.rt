@@ -41,7 +41,7 @@ fn declared_in_file<T: Tree, O: Outputs>(
         Ok(declared) => Ok(declared),
         Err(fault) => {
             caller.store.at(fault.line);
-            caller.refuse(fault.refusal, "")
+            caller.refuse(fault.refusal, fault.detail.as_str())
         }
     }
 }

@@ -1,12 +1,13 @@
 -- `declare_dependency`: lists that a target takes over.
-use Rattle.std.specs.Prelude.{Option, Some, ok_or}
+use Rattle.std.specs.Prelude.{Option, Some}
 use Rattle.arguments.specs.Arguments.{ArgumentsData}
 use Rattle.data.specs.Data.{Data, object}
 use Rattle.data.specs.declared.object.Dependency.{Dependency}
 use Rattle.data.specs.declared.object.Object.TheVariants as objects
-use Rattle.basics.specs.declared.faults.refusal.Refusal.TheVariants as refusals
 use Rattle.targets.specs.Libraries.{linked_of}
-use Rattle.world.specs.Deed.{Deed, give, read, ◌>>=◌, answered, fitting}
+use Rattle.world.specs.Deed.{Deed, give, read, ◌>>=◌, answered}
+use Rattle.world.specs.Ruled.{ruled}
+use Rattle.resource_calls.specs.Breaches.{lists_breach}
 use Rattle.resource_calls.specs.JoinedLists.{joined_dependency}
 use Rattle.resource_calls.specs.NamedFiles.{files_required}
 use Rattle.resource_calls.specs.OwnLists.{OwnData, own_lists}
@@ -16,7 +17,7 @@ use Rattle.resource_calls.specs.Place.{place_of}
 unfoldable pub said_lists : ArgumentsData → Deed OwnData
 said_lists a = do
   facts ← read
-  fitting (ok_or (own_lists (place_of facts) a) refusals.Arguments)
+  ruled (own_lists (place_of facts) a) (lists_breach (place_of facts) a).0 (lists_breach (place_of facts) a).1
 
 -- the dependency of these lists and those of its dependencies: E22 where one of them is too long
 unfoldable pub joined_given : ArgumentsData → OwnData → Deed Dependency

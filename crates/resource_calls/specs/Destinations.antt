@@ -7,7 +7,7 @@ use Rattle.arguments.specs.Maybe.{◌>>=◌}
 use Rattle.edge.specs.Texts.{Path, Text}
 use Rattle.operators.specs.Texts.{path_below}
 use Rattle.project.specs.World.{InstallData}
-use Rattle.placeholders.specs.Names.{plain_name}
+use Rattle.named_sources.specs.Names.{plain_name}
 use Rattle.resources.specs.Installs.{destination, headers_folder, man_folder}
 use Rattle.named_sources.specs.Each.{each_or_none}
 use Rattle.named_sources.specs.Sources.{NamedData, tree, built, sources_of}

@@ -1,11 +1,12 @@
 -- `install_headers`, `install_data` and `install_man`: files that are installed.
-use Rattle.std.specs.Prelude.{List, [], ◌∷◌, Option, None, ok_or}
+use Rattle.std.specs.Prelude.{List, [], ◌∷◌, Option, None}
 use Rattle.arguments.specs.Arguments.{ArgumentsData}
 use Rattle.data.specs.Data.{Data}
-use Rattle.basics.specs.declared.faults.refusal.Refusal.TheVariants as refusals
 use Rattle.project.specs.World.{InstallData}
 use Rattle.world.specs.Declaring.{add_install}
-use Rattle.world.specs.Deed.{Deed, give, read, ◌>>=◌, fitting}
+use Rattle.world.specs.Deed.{Deed, give, read, ◌>>=◌}
+use Rattle.world.specs.Ruled.{ruled}
+use Rattle.resource_calls.specs.Breaches.{install_breach}
 use Rattle.resource_calls.specs.Destinations.{SaidData, folders_in, said_of}
 use Rattle.resource_calls.specs.NamedFiles.{files_required}
 use Rattle.resource_calls.specs.declared.destinations.Sort.{Sort}
@@ -14,7 +15,7 @@ use Rattle.resource_calls.specs.declared.destinations.Sort.{Sort}
 unfoldable pub said_installs : Sort → ArgumentsData → Deed SaidData
 said_installs sort a = do
   facts ← read
-  fitting (ok_or (said_of (folders_in facts) sort a) refusals.Arguments)
+  ruled (said_of (folders_in facts) sort a) (install_breach (folders_in facts) sort a).0 (install_breach (folders_in facts) sort a).1
 
 -- the project takes note of each
 unfoldable pub all_installed : List InstallData → Deed (Unit {0})

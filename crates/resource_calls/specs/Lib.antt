@@ -1,3 +1,4 @@
+pub mod Breaches
 pub mod DeclareDependency
 pub mod Dependency
 pub mod Destinations

@@ -1,7 +1,8 @@
 -- `find_program`: a program of the machine file, or a file of the tree.
-use Rattle.std.specs.Prelude.{Bool, true, false, List, [], ◌∷◌, Option, Some, None, codes, option_map, ok_or, Result}
+use Rattle.std.specs.Prelude.{Bool, true, false, List, [], ◌∷◌, Option, Some, None, codes, option_map, Result}
 use Rattle.arguments.specs.Arguments.{ArgumentsData}
 use Rattle.data.specs.Flat.{flat_all}
+use Rattle.arguments.specs.declared.rule.Rule.TheVariants as rules
 use Rattle.arguments.specs.Given.{text_at}
 use Rattle.arguments.specs.declared.given.Requirement.{Requirement}
 use Rattle.arguments.specs.declared.given.Requirement.TheVariants as requirements
@@ -17,7 +18,8 @@ use Rattle.paths.specs.Paths.{tree_path}
 use Rattle.machine_file.specs.Questions.{Key, plain}
 use Rattle.resources.specs.Fitting.{program_words}
 use Rattle.resources.specs.Found.{within_texts}
-use Rattle.world.specs.Deed.{Deed, give, refuse, read, consult, ◌>>=◌, answered, fitting, there}
+use Rattle.world.specs.Deed.{Deed, give, refuse, read, consult, ◌>>=◌, answered, there}
+use Rattle.world.specs.Ruled.{ruled}
 use Rattle.resource_calls.specs.Required.{missing_object, required_by}
 
 -- the words that `[binaries]` of the machine file has
@@ -41,7 +43,7 @@ program_at path true = file_program path
 unfoldable pub named_path : Text → Deed Path
 named_path name = do
   facts ← read
-  fitting (ok_or (tree_path facts.settings.source_root facts.folder name) refusals.Arguments)
+  ruled (tree_path facts.settings.source_root facts.folder name) rules.NamesFile name
 
 -- that file, which is looked at
 unfoldable pub file_named : Text → Deed (Option Program)

@@ -7,12 +7,12 @@ ghost use Rattle.world.specs.Caller.{state_of};
 ghost use Rattle.resource_calls.specs.DeclareDependency.{declare_dependency, joined_given, said_lists};
 ghost use Rattle.resource_calls.specs.OwnListsView.{own_view};
 
+use crate::breaches::lists_breach;
 use crate::joined_lists::joined_dependency;
 use crate::named_files::require_files;
 use crate::own_lists::{Own, own_lists};
 use crate::place::place_of;
 use arguments::Arguments;
-use basics::faults::Refusal;
 use data::{Dependency, Object, Value};
 use ports::{Outputs, Tree};
 use world::{Caller, Stop};
@@ -27,7 +27,13 @@ fn said_lists<T: Tree, O: Outputs>(
 {
     let place = place_of(caller);
     let found = own_lists(&place, arguments)?;
-    caller.fitting(found.ok_or(Refusal::Arguments))
+    match found {
+        Some(own) => Ok(own),
+        None => {
+            let (rule, text) = lists_breach(&place, arguments)?;
+            caller.refuse_by(rule, text)
+        }
+    }
 }
 
 // The dependency with these lists, or the refusal of lists that are too long.

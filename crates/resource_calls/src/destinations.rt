@@ -11,9 +11,8 @@ ghost use Rattle.resource_calls.specs.Destinations.{usual_folder};
 ghost use Rattle.resource_calls.specs.DestinationsView.{folders_view, said_view};
 
 use arguments::Arguments;
-use named_sources::{NamedSource, sources_of};
+use named_sources::{NamedSource, plain_name, sources_of};
 use operators::path_below;
-use placeholders::plain_name;
 use ports::{Outputs, Tree};
 use project::Install;
 use resources::{destination, headers_folder, man_folder};
@@ -147,7 +146,8 @@ fn install_at(
     }
 }
 
-fn install_of(
+/// What is installed of a file that is named: a target can't be installed so.
+pub(crate) fn install_of(
     folders: &Folders<'_>,
     sort: Sort,
     arguments: &Arguments,

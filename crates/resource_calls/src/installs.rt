@@ -9,10 +9,10 @@ ghost use Rattle.world.specs.Caller.{state_of};
 ghost use Rattle.resource_calls.specs.DestinationsView.{said_view};
 ghost use Rattle.resource_calls.specs.Installs.{all_installed, install, said_installs};
 
+use crate::breaches::install_breach;
 use crate::destinations::{Said, Sort, folders_in, said_of};
 use crate::named_files::require_files;
 use arguments::Arguments;
-use basics::faults::Refusal;
 use data::Value;
 use ports::{Outputs, Tree};
 use project::Install;
@@ -30,7 +30,13 @@ fn said_installs<T: Tree, O: Outputs>(
 {
     let folders = folders_in(caller);
     let found = said_of(&folders, sort, arguments)?;
-    caller.fitting(found.ok_or(Refusal::Arguments))
+    match found {
+        Some(said) => Ok(said),
+        None => {
+            let (rule, text) = install_breach(&folders, sort, arguments)?;
+            caller.refuse_by(rule, text.as_str())
+        }
+    }
 }
 
 fn copy_of(alloc: Global, install: &Install) -> Result<Install, AllocError>

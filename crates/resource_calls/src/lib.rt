@@ -4,6 +4,7 @@
 //! What a function does is a deed of `specs/`, and its code carries it out on a [`world::Caller`].
 #![tactic(auto)]
 
+mod breaches;
 mod commands;
 mod declaring;
 mod dependencies;

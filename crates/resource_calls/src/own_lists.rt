@@ -34,8 +34,8 @@ fn if_libraries(earlier: &[Linked], numbers: Vec<usize>) -> Option<Vec<usize>>
     }
 }
 
-// The libraries that values are.
-fn libraries_of(
+/// The libraries that values are.
+pub(crate) fn libraries_of(
     alloc: Global,
     earlier: &[Linked],
     values: &[&Value],

@@ -11,7 +11,7 @@ ghost use Rattle.resource_calls.specs.Programs.{program_at, program_named, progr
 ghost use Rattle.resource_calls.specs.Required.{required_by};
 
 use crate::required::{missing_object, required_by};
-use arguments::{Arguments, Requirement};
+use arguments::{Arguments, Requirement, Rule};
 use basics::faults::Refusal;
 use data::{Object, Program, Text, Texts, Value};
 use paths::tree_path;
@@ -68,7 +68,10 @@ fn named_path<T: Tree, O: Outputs>(caller: &Caller<'_, T, O>, name: &str) -> Res
 {
     let source_root = caller.store.settings().source_root.as_str();
     let path = tree_path(caller.alloc, source_root, caller.store.folder(), name)?;
-    caller.fitting(path.ok_or(Refusal::Arguments))
+    match path {
+        Some(path) => Ok(path),
+        None => caller.refuse_by(Rule::NamesFile, name),
+    }
 }
 
 // The file of the tree that a name means, if it is there; it is looked at.

@@ -1,10 +1,11 @@
 -- `custom_target`.
-use Rattle.std.specs.Prelude.{[], Option, Some, codes, ok_or}
+use Rattle.std.specs.Prelude.{[], Option, Some, codes}
 use Rattle.arguments.specs.Arguments.{ArgumentsData}
 use Rattle.data.specs.Data.{Data, object}
 use Rattle.data.specs.declared.object.Object.TheVariants as objects
-use Rattle.basics.specs.declared.faults.refusal.Refusal.TheVariants as refusals
-use Rattle.world.specs.Deed.{Deed, give, read, ◌>>=◌, fitting}
+use Rattle.world.specs.Deed.{Deed, give, read, ◌>>=◌}
+use Rattle.world.specs.Ruled.{ruled}
+use Rattle.target_calls.specs.Breaches.{custom_breach}
 use Rattle.target_calls.specs.BuildTargets.{NamedTargetData}
 use Rattle.target_calls.specs.CustomInstalls.{add_custom}
 use Rattle.target_calls.specs.CustomTargets.{count_named, declared_custom}
@@ -16,7 +17,7 @@ use Rattle.target_calls.specs.Targets.{required_fit}
 unfoldable pub said_custom : ArgumentsData → Deed NamedTargetData
 said_custom a = do
   facts ← read
-  fitting (ok_or (declared_custom (here_of facts) a) refusals.Arguments)
+  ruled (declared_custom (here_of facts) a) (custom_breach (here_of facts) a).0 (custom_breach (here_of facts) a).1
 
 -- `custom_target(name)`: E9; E14 of the first missing file in the order in which the keywords are written; E21, E11, E22
 unfoldable pub custom_target : ArgumentsData → Deed (Option Data)

@@ -8,8 +8,8 @@ use Rattle.arguments.specs.Maybe.{◌>>=◌}
 use Rattle.data.specs.Data.{Data}
 use Rattle.edge.specs.Paths.{source_path, source_root}
 use Rattle.edge.specs.Texts.{Path, Text}
-use Rattle.placeholders.specs.Holes.{PlaceData, filled, first_of}
-use Rattle.placeholders.specs.declared.holes.Scope.TheVariants.{FileName}
+use Rattle.named_sources.specs.Holes.{PlaceData, filled, first_of}
+use Rattle.named_sources.specs.declared.holes.Scope.TheVariants.{FileName}
 use Rattle.targets.specs.Data.{Custom, CustomData, SourceData}
 use Rattle.targets.specs.Files.{path_in}
 use Rattle.targets.specs.Sources.{source_paths}

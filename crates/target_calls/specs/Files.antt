@@ -1,24 +1,28 @@
 -- `files` and `include_directories`: paths of the tree as values.
-use Rattle.std.specs.Prelude.{ℕ, List, [], ◌∷◌, Option, Some, ok_or}
+use Rattle.std.specs.Prelude.{ℕ, List, [], ◌∷◌, Option, Some}
 use Rattle.data.specs.Data.{Data}
-use Rattle.basics.specs.declared.faults.refusal.Refusal.TheVariants as refusals
+use Rattle.arguments.specs.declared.rule.Rule.TheVariants as rules
 use Rattle.arguments.specs.Arguments.{ArgumentsData}
 use Rattle.data.specs.Flat.{flat_all}
 use Rattle.paths.specs.Paths.{folder_paths, tree_paths}
-use Rattle.world.specs.Deed.{Deed, give, read, ◌>>=◌, answered, fitting, required}
+use Rattle.world.specs.Deed.{Deed, give, read, ◌>>=◌, answered, required}
+use Rattle.world.specs.Ruled.{ruled}
 use Rattle.named_sources.specs.Values.{directories_at, files_at}
+use Rattle.target_calls.specs.Breaches.{lost_file, lost_folder}
 
 -- the files of the tree that texts of the present definition file name: E9 where one names none
 unfoldable pub named_files : List (List ℕ) → Deed (List (List ℕ))
 named_files texts = do
   facts ← read
-  fitting (ok_or (tree_paths facts.settings.source_root facts.folder texts) refusals.Arguments)
+  ruled (tree_paths facts.settings.source_root facts.folder texts) rules.NamesFile
+      (lost_file facts.settings.source_root facts.folder texts)
 
 -- the same of folders, of which the root is one
 unfoldable pub named_folders : List (List ℕ) → Deed (List (List ℕ))
 named_folders texts = do
   facts ← read
-  fitting (ok_or (folder_paths facts.settings.source_root facts.folder texts) refusals.Arguments)
+  ruled (folder_paths facts.settings.source_root facts.folder texts) rules.NamesFolder
+      (lost_folder facts.settings.source_root facts.folder texts)
 
 -- each of these files is there: they are looked at one after another, up to the first missing one (E14)
 unfoldable pub all_required : List (List ℕ) → Deed (Unit {0})

@@ -1,3 +1,4 @@
+pub mod Breaches
 pub mod BuildTargets
 pub mod BuildTargetsView
 pub mod Commands
@@ -9,6 +10,7 @@ pub mod CustomTargets
 pub mod CustomTargetsView
 pub mod Dependencies
 pub mod Files
+pub mod FitBreaches
 pub mod Here
 pub mod HereView
 pub mod Installs

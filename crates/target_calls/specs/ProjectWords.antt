@@ -6,9 +6,10 @@ use Rattle.data.specs.Flat.{flat_all}
 use Rattle.arguments.specs.Given.{texts}
 use Rattle.data.specs.Data.{Data}
 use Rattle.edge.specs.Texts.{Text}
-use Rattle.basics.specs.declared.faults.refusal.Refusal.TheVariants as refusals
+use Rattle.arguments.specs.declared.rule.Rule.TheVariants as rules
 use Rattle.world.specs.Declaring.{add_arguments, add_link_arguments}
-use Rattle.world.specs.Deed.{Deed, give, ◌>>=◌, need}
+use Rattle.world.specs.Deed.{Deed, give, ◌>>=◌}
+use Rattle.world.specs.Ruled.{obeyed}
 
 abbrev pub is_c : Text → Bool
 is_c language = bytes_eq language (codes "c")
@@ -20,7 +21,7 @@ are_c (l ∷ ls) = list_all is_c (l ∷ ls)
 
 -- the words are for C (E9)
 unfoldable pub required_c : ArgumentsData → Deed (Unit {0})
-required_c a = need (are_c (texts (codes "language") a)) refusals.Arguments []
+required_c a = obeyed (are_c (texts (codes "language") a)) rules.TakesC (codes "language")
 
 -- `add_project_arguments(flat texts..)`: E9, E21, E24 in this order
 unfoldable pub add_project_arguments : ArgumentsData → Deed (Option Data)

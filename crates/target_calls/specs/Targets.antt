@@ -1,9 +1,8 @@
 -- Functions that declare an executable or a library.
-use Rattle.std.specs.Prelude.{ℕ, [], Option, Some, bytes_eq, codes, ok_or, if◌then◌else◌}
+use Rattle.std.specs.Prelude.{ℕ, Option, Some, bytes_eq, codes, if◌then◌else◌}
 use Rattle.arguments.specs.Arguments.{ArgumentsData}
 use Rattle.data.specs.Data.{Data, object}
 use Rattle.data.specs.declared.object.Object.TheVariants as objects
-use Rattle.basics.specs.declared.faults.refusal.Refusal.TheVariants as refusals
 use Rattle.option_values.specs.Values as option
 use Rattle.options.specs.Resolves.{value_named}
 use Rattle.project.specs.Adding.{is_fit}
@@ -11,7 +10,10 @@ use Rattle.targets.specs.Data.{TargetData}
 use Rattle.targets.specs.declared.target.Kind.{Kind}
 use Rattle.targets.specs.declared.target.Kind.TheVariants as kinds
 use Rattle.world.specs.Declaring.{add_target}
-use Rattle.world.specs.Deed.{Deed, give, read, ◌>>=◌, fitting, need}
+use Rattle.world.specs.Deed.{Deed, give, read, ◌>>=◌}
+use Rattle.world.specs.Ruled.{obeyed, ruled}
+use Rattle.target_calls.specs.Breaches.{build_breach}
+use Rattle.target_calls.specs.FitBreaches.{fit_breach}
 use Rattle.target_calls.specs.BuildTargets.{NamedTargetData, declared}
 use Rattle.target_calls.specs.Files.{all_required}
 use Rattle.target_calls.specs.Here.{here_of}
@@ -21,13 +23,13 @@ use Rattle.target_calls.specs.Installs.{folders_in, install_of, noted}
 unfoldable pub said : Kind → ArgumentsData → Deed NamedTargetData
 said kind a = do
   facts ← read
-  fitting (ok_or (declared (here_of facts) kind a) refusals.Arguments)
+  ruled (declared (here_of facts) kind a) (build_breach (here_of facts) a).0 (build_breach (here_of facts) a).1
 
 -- the project can have the target, by its names, sources and libraries (E9)
 unfoldable pub required_fit : TargetData → Deed (Unit {0})
 required_fit t = do
   facts ← read
-  need (is_fit facts.project t) refusals.Arguments []
+  obeyed (is_fit facts.project t) (fit_breach facts.project t).0 (fit_breach facts.project t).1
 
 -- the target is declared, and where its file goes is noted
 unfoldable pub add_installed : ArgumentsData → TargetData → Deed ℕ

@@ -39,8 +39,8 @@ fn version_of(alloc: Global, arguments: &Arguments) -> Result<Option<String>, Al
     }
 }
 
-// One to three numbers with dots, where it is given.
-fn version_fits(alloc: Global, arguments: &Arguments) -> Result<bool, AllocError>
+/// One to three numbers with dots, where it is given.
+pub(crate) fn version_fits(alloc: Global, arguments: &Arguments) -> Result<bool, AllocError>
     ensures { IfOk result (λ fits. fits ≡ version_fits (text_given (codes "version") (arguments_data arguments.now))) }
 {
     match arguments.text_given("version") {
@@ -74,8 +74,11 @@ fn soversion_of(alloc: Global, arguments: &Arguments) -> Result<Option<String>, 
 
 // ---- lists
 
-// What the sources are said to be: behind the name of the target, then by keyword.
-fn source_values<'v>(alloc: Global, arguments: &'v Arguments) -> Result<Vec<&'v Value>, AllocError>
+/// What the sources are said to be: behind the name of the target, then by keyword.
+pub(crate) fn source_values<'v>(
+    alloc: Global,
+    arguments: &'v Arguments,
+) -> Result<Vec<&'v Value>, AllocError>
     ensures { IfOk result (λ vs. map (λ v. data_of v.now) vs.items ≡ source_values (arguments_data arguments.now)) }
 {
     let mut values = arguments.leaves_behind(alloc, 1)?;
@@ -84,8 +87,8 @@ fn source_values<'v>(alloc: Global, arguments: &'v Arguments) -> Result<Vec<&'v 
     Ok(values)
 }
 
-// The sources that the call names.
-fn named_sources(
+/// The sources that the call names.
+pub(crate) fn named_sources(
     here: &Here<'_>,
     arguments: &Arguments,
 ) -> Result<Option<Vec<NamedSource>>, AllocError>

@@ -2,7 +2,7 @@
 ghost use Rattle.std.specs.Prelude.{◌≡◌, IfOk, map, option_map, string_bytes};
 ghost use Rattle.data.specs.View.{data_of};
 ghost use Rattle.edge.specs.Texts.{texts};
-ghost use Rattle.placeholders.specs.View.{place_view};
+ghost use Rattle.named_sources.specs.HolesView.{place_view};
 ghost use Rattle.targets.specs.View.{build_view, source_view};
 ghost use Rattle.target_calls.specs.Commands.{build_target_at, called, command_of, is_executable, joined, of_build_target, of_file};
 ghost use Rattle.target_calls.specs.Commands.{of_object, of_output, of_outputs, of_program, one_path, output_named, outputs_named};
@@ -14,8 +14,7 @@ use crate::here::Here;
 use crate::sources::{made_of, one_made_of};
 use data::{Object, Program, Value};
 use edge::{copies, source_path};
-use named_sources::{output_at, outputs_at, strings};
-use placeholders::{Place, words_of};
+use named_sources::{Place, output_at, outputs_at, strings, words_of};
 use project::has_slash;
 use std::alloc::{AllocError, Global};
 use targets::{BuildTarget, Kind, Source, build_target_at, file_path};

@@ -3,8 +3,8 @@ ghost use Rattle.std.specs.Prelude.{◌≡◌, ◌++◌, IfOk, flat_map, map, op
 ghost use Rattle.arguments.specs.Arguments.{arguments_data, named_data};
 ghost use Rattle.data.specs.View.{data_of};
 ghost use Rattle.edge.specs.Texts.{texts};
-ghost use Rattle.placeholders.specs.Holes.{first_of};
-ghost use Rattle.placeholders.specs.View.{place_view};
+ghost use Rattle.named_sources.specs.Holes.{first_of};
+ghost use Rattle.named_sources.specs.HolesView.{place_view};
 ghost use Rattle.targets.specs.Files.{path_in as path_of_file};
 ghost use Rattle.targets.specs.View.{custom_view, source_view};
 ghost use Rattle.named_sources.specs.SourcesView.{named_view};
@@ -24,8 +24,7 @@ use crate::sources::{files_among, sources_in};
 use arguments::{Arguments, Named};
 use data::{Value, opened};
 use edge::{copies, source_path, source_root};
-use named_sources::sources_of;
-use placeholders::{Place, Scope, filled};
+use named_sources::{Place, Scope, filled, sources_of};
 use std::alloc::{AllocError, Global};
 use targets::{CustomTarget, Source, Target, path_in, source_paths};
 
@@ -58,16 +57,16 @@ fn longest(alloc: Global, arguments: &Arguments) -> Result<usize, AllocError>
     Ok(outputs.max(words.max(inputs.max(files.max(targets)))))
 }
 
-// What is printed goes to one output.
-fn captures_one(alloc: Global, arguments: &Arguments) -> Result<bool, AllocError>
+/// What is printed goes to one output.
+pub(crate) fn captures_one(alloc: Global, arguments: &Arguments) -> Result<bool, AllocError>
     ensures { IfOk result (λ b. b ≡ captures_one (arguments_data arguments.now)) }
 {
     let outputs = count_named(alloc, arguments, "output")?;
     Ok(!arguments.flag("capture", false) || outputs == 1)
 }
 
-// What is installed goes to a folder.
-fn has_place(arguments: &Arguments) -> bool
+/// What is installed goes to a folder.
+pub(crate) fn has_place(arguments: &Arguments) -> bool
     ensures { result ≡ has_place (arguments_data arguments.now) }
 {
     !arguments.flag("install", false) || arguments.text_given("install_dir").is_some()
@@ -113,8 +112,8 @@ fn push_written<'v>(
     Ok(())
 }
 
-// What the call says of sources, in the order in which its keywords are written.
-fn written(alloc: Global, arguments: &Arguments) -> Result<Vec<&Value>, AllocError>
+/// What the call says of sources, in the order in which its keywords are written.
+pub(crate) fn written(alloc: Global, arguments: &Arguments) -> Result<Vec<&Value>, AllocError>
     ensures { IfOk result (λ vs. map (λ v. data_of v.now) vs.items ≡ written (arguments_data arguments.now)) }
 {
     let mut values = Vec::new(alloc);
@@ -124,8 +123,11 @@ fn written(alloc: Global, arguments: &Arguments) -> Result<Vec<&Value>, AllocErr
     Ok(values)
 }
 
-// The files of the tree among the sources.
-fn written_files(here: &Here<'_>, arguments: &Arguments) -> Result<Option<Vec<String>>, AllocError>
+/// The files of the tree among the sources.
+pub(crate) fn written_files(
+    here: &Here<'_>,
+    arguments: &Arguments,
+) -> Result<Option<Vec<String>>, AllocError>
     ensures { IfOk result (λ fs. option_map (λ v. texts v.items) fs ≡ written_files (here_view here.now) (arguments_data arguments.now)) }
 {
     let values = written(here.alloc, arguments)?;
@@ -135,8 +137,8 @@ fn written_files(here: &Here<'_>, arguments: &Arguments) -> Result<Option<Vec<St
     }
 }
 
-// The sources that a keyword names.
-fn sources_by(
+/// The sources that a keyword names.
+pub(crate) fn sources_by(
     here: &Here<'_>,
     arguments: &Arguments,
     name: &str,
@@ -173,8 +175,8 @@ fn source_folder(alloc: Global, depth: usize, folder: &str) -> Result<String, Al
     }
 }
 
-// What the placeholders of the call are seen from.
-fn place_with(
+/// What the placeholders of the call are seen from.
+pub(crate) fn place_with(
     here: &Here<'_>,
     inputs: &[String],
     outputs: Vec<String>,
@@ -221,8 +223,8 @@ fn first_of(names: &[String]) -> Result<Option<String>, AllocError>
     }
 }
 
-// The outputs and the depfile, which see the inputs alone.
-fn names_of(
+/// The outputs and the depfile, which see the inputs alone.
+pub(crate) fn names_of(
     alloc: Global,
     place: &Place,
     arguments: &Arguments,

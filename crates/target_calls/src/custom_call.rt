@@ -7,6 +7,7 @@ ghost use Rattle.world.specs.Caller.{state_of};
 ghost use Rattle.target_calls.specs.BuildTargetsView.{named_target_view};
 ghost use Rattle.target_calls.specs.CustomCalls.{custom_target, said_custom};
 
+use crate::breaches::custom_breach;
 use crate::build_target::NamedTarget;
 use crate::custom::{count_named, declared_custom};
 use crate::custom_installs::add_custom;
@@ -14,7 +15,6 @@ use crate::declaring::require_fit;
 use crate::here::here_of;
 use crate::tree::require_all;
 use arguments::Arguments;
-use basics::faults::Refusal;
 use data::{Object, Value};
 use ports::{Outputs, Tree};
 use world::{Caller, Stop};
@@ -29,7 +29,13 @@ fn said_custom<T: Tree, O: Outputs>(
 {
     let here = here_of(caller);
     let found = declared_custom(&here, arguments)?;
-    caller.fitting(found.ok_or(Refusal::Arguments))
+    match found {
+        Some(named) => Ok(named),
+        None => {
+            let (rule, text) = custom_breach(&here, arguments)?;
+            caller.refuse_by(rule, text)
+        }
+    }
 }
 
 /// `custom_target(name)`: E9, E14, E21, E11, E22 in this order.

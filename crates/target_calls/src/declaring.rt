@@ -9,12 +9,13 @@ ghost use Rattle.world.specs.Caller.{state_of};
 ghost use Rattle.target_calls.specs.BuildTargetsView.{named_target_view};
 ghost use Rattle.target_calls.specs.Targets.{add_installed, declare, library, library_kind, required_fit, said};
 
+use crate::breaches::build_breach;
 use crate::build_target::{NamedTarget, declared};
+use crate::fit_breaches::fit_breach;
 use crate::here::here_of;
 use crate::installs::{folders_in, install_of, note};
 use crate::tree::require_all;
 use arguments::Arguments;
-use basics::faults::Refusal;
 use data::{Object, Value};
 use options::OptionValue;
 use ports::{Outputs, Tree};
@@ -32,7 +33,13 @@ fn said<T: Tree, O: Outputs>(
 {
     let here = here_of(caller);
     let found = declared(&here, kind, arguments)?;
-    caller.fitting(found.ok_or(Refusal::Arguments))
+    match found {
+        Some(named) => Ok(named),
+        None => {
+            let (rule, text) = build_breach(&here, arguments)?;
+            caller.refuse_by(rule, text)
+        }
+    }
 }
 
 /// Refuses a target that the project can't have.
@@ -43,8 +50,14 @@ pub fn require_fit<T: Tree, O: Outputs>(
     ensures { Carries (λ u. u) (required_fit (target_view target.now)) (state_of T.seen O.seen caller.now) result
         (state_of T.seen O.seen caller.now) }
 {
-    let fits = caller.store.project().fits(target)?;
-    caller.need(fits, Refusal::Arguments, "")
+    let project = caller.store.project();
+    let fits = project.fits(target)?;
+    if fits {
+        Ok(())
+    } else {
+        let (rule, text) = fit_breach(caller.alloc, project, target)?;
+        caller.refuse_by(rule, text.as_str())
+    }
 }
 
 // Declares a target, and notes where its file goes.

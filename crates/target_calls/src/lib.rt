@@ -1,6 +1,7 @@
 //! The functions of the page "Reference manual" that declare targets, and those that name what targets are made of.
 #![tactic(auto)]
 
+mod breaches;
 mod build_target;
 mod command;
 mod custom;
@@ -8,6 +9,7 @@ mod custom_call;
 mod custom_installs;
 mod declaring;
 mod dependencies;
+mod fit_breaches;
 mod here;
 mod installs;
 mod project_words;

@@ -9,8 +9,7 @@ ghost use Rattle.world.specs.Answering.{Carries};
 ghost use Rattle.world.specs.Caller.{state_of};
 ghost use Rattle.target_calls.specs.ProjectWords.{add_project_arguments, add_project_link_arguments, are_c, is_c, required_c};
 
-use arguments::Arguments;
-use basics::faults::Refusal;
+use arguments::{Arguments, Rule};
 use data::Value;
 use edge::strings;
 use ports::{Outputs, Tree};
@@ -56,7 +55,7 @@ fn require_c<T: Tree, O: Outputs>(
 {
     let languages = arguments.texts(caller.alloc, "language")?;
     let is_so = are_c(&languages);
-    caller.need(is_so, Refusal::Arguments, "")
+    caller.obey(is_so, Rule::TakesC, "language")
 }
 
 /// `add_project_arguments(texts..)`: E9, E21, E24 in this order.

@@ -7,8 +7,8 @@ ghost use Rattle.world.specs.Answering.{Carries, HasRoom};
 ghost use Rattle.world.specs.Caller.{state_of};
 ghost use Rattle.target_calls.specs.Files.{all_required, files, include_directories, named_files, named_folders};
 
-use arguments::Arguments;
-use basics::faults::Refusal;
+use crate::breaches::{lost_file, lost_folder};
+use arguments::{Arguments, Rule};
 use data::Value;
 use named_sources::{directories_at, files_at};
 use paths::{folder_paths, tree_paths};
@@ -24,8 +24,15 @@ pub(crate) fn named_files<T: Tree, O: Outputs>(
         (state_of T.seen O.seen caller.now) result (state_of T.seen O.seen caller.now) }
 {
     let source_root = caller.store.settings().source_root.as_str();
-    let paths = tree_paths(caller.alloc, source_root, caller.store.folder(), texts)?;
-    caller.fitting(paths.ok_or(Refusal::Arguments))
+    let folder = caller.store.folder();
+    let paths = tree_paths(caller.alloc, source_root, folder, texts)?;
+    match paths {
+        Some(paths) => Ok(paths),
+        None => {
+            let text = lost_file(caller.alloc, source_root, folder, texts)?;
+            caller.refuse_by(Rule::NamesFile, text)
+        }
+    }
 }
 
 // The paths of the folders that texts name.
@@ -37,8 +44,15 @@ fn named_folders<T: Tree, O: Outputs>(
         (state_of T.seen O.seen caller.now) result (state_of T.seen O.seen caller.now) }
 {
     let source_root = caller.store.settings().source_root.as_str();
-    let paths = folder_paths(caller.alloc, source_root, caller.store.folder(), texts)?;
-    caller.fitting(paths.ok_or(Refusal::Arguments))
+    let folder = caller.store.folder();
+    let paths = folder_paths(caller.alloc, source_root, folder, texts)?;
+    match paths {
+        Some(paths) => Ok(paths),
+        None => {
+            let text = lost_folder(caller.alloc, source_root, folder, texts)?;
+            caller.refuse_by(Rule::NamesFolder, text)
+        }
+    }
 }
 
 // Refuses the call unless each of the files is there.

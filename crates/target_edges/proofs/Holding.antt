@@ -16,7 +16,7 @@ some_behind : (ws : List Text) (v : Text) (vs : List Text) → is_some_list (ws 
 some_behind [] v vs = refl
 some_behind (w ∷ ws) v vs = refl
 
-and_true : (b : Bool) → (b && true) ≡ b
+pub and_true : (b : Bool) → (b && true) ≡ b
 and_true true = refl
 and_true false = refl
 

@@ -1,12 +1,13 @@
--- The compile edges of a target in parts: what they share, and what each has of its own.
-use Rattle.std.specs.Prelude.{Bool, true, false, ◌&&◌, List, [], ◌∷◌, ◌++◌, codes}
+-- The compile edges of a target in parts: what they share, and what each has of its own. And what is asked of the parts of edges.
+use Rattle.std.specs.Prelude.{Bool, true, false, ◌&&◌, List, [], ◌∷◌, ◌++◌, codes, Option, Some, None}
 use Rattle.std.specs.List.{list_all}
 use Rattle.edge.specs.Texts.{Path, Text}
 use Rattle.edge.specs.Paths.{object_path}
 use Rattle.edge.specs.Data.{EdgeData}
-use Rattle.edge.specs.Holding.{is_path, value_held}
+use Rattle.edge.specs.Holding.{is_path, path_held, value_held, is_some_list}
 use Rattle.edge.specs.Parts.{SharedData, OwnData, joined}
 use Rattle.edge.specs.declared.rule.Rule.TheVariants as rule
+use Rattle.targets.specs.Data.{SourceData, Tree, Built, Made, CustomData}
 use Rattle.targets.specs.Sources.{InputData}
 
 -- the words up to the first that names the object
@@ -46,3 +47,24 @@ is_none (x ∷ xs) = false
 -- `build.ninja` can hold what the edges share
 abbrev pub shared_held : (front : List Text) (generated : List Path) → Bool
 shared_held front generated = list_all is_path generated && list_all value_held front
+
+-- `build.ninja` can hold the paths that a source is
+abbrev pub source_held : SourceData → Bool
+source_held (Tree path) = path_held path
+source_held (Built path) = is_path path
+source_held (Made paths) = list_all is_path paths
+
+-- and the path of a depfile of the folder
+abbrev pub depfile_held : Path → Option Text → Bool
+depfile_held folder None = true
+depfile_held folder (Some name) = value_held folder && value_held name
+
+-- and a command that has a word
+abbrev pub command_held : CustomData → Bool
+command_held t = is_some_list t.words && (list_all value_held t.words && depfile_held t.folder t.depfile)
+
+-- and all of a custom target that makes these outputs
+abbrev pub custom_held : CustomData → (outputs : List Path) → Bool
+custom_held t outputs =
+    is_some_list outputs
+    && (list_all is_path outputs && (list_all source_held t.inputs && (list_all source_held t.needs && command_held t)))

@@ -50,7 +50,8 @@ fn file_edges(
     Ok(edges)
 }
 
-fn build_parts(context: &Context, target: &BuildTarget) -> Result<TargetParts, AllocError>
+/// The edges of a build target: those that compile its sources, the one that makes its file and those that make symbolic links to it.
+pub fn build_parts(context: &Context, target: &BuildTarget) -> Result<TargetParts, AllocError>
     ensures { IfOk result (λ p. parts_edges p
         ≡ build_edges (surroundings_view context.now.surroundings.now)
         (map linked_view context.now.earlier.now) context.now.libraries.now (build_view target.now)) }

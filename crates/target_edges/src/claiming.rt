@@ -1,22 +1,25 @@
-//! What a project asks of a target's edges before it takes the target. Those that compile are not made for it.
-ghost use Rattle.std.specs.Prelude.{◌≡◌, ◌++◌, ◌&&◌, ◌||◌, map, flat_map, IfOk, string_bytes};
+//! What a project asks of a target's edges before it takes the target. Those that compile and those of custom targets are not made for it.
+ghost use Rattle.std.specs.Prelude.{◌≡◌, ◌∷◌, [], ◌++◌, ◌&&◌, ◌||◌, map, flat_map, IfOk, option_map, string_bytes};
 ghost use Rattle.std.specs.List.{list_all};
 ghost use Rattle.edge.specs.Holding.{is_path as is_path_of, is_writable, are_writable as are_writable_of};
 ghost use Rattle.edge.specs.Paths.{object_path};
 ghost use Rattle.edge.specs.Texts.{texts};
 ghost use Rattle.edge.specs.View.{edge_view};
 ghost use Rattle.targets.specs.Inputs.{input_view};
-ghost use Rattle.targets.specs.View.{linked_view, surroundings_view, target_view};
-ghost use Rattle.target_edges.specs.Edges.{target_edges};
-ghost use Rattle.target_edges.specs.Parts.{is_none, joined_edge, shared_held};
+ghost use Rattle.targets.specs.View.{build_view, custom_view, linked_view, source_view, surroundings_view, target_view};
+ghost use Rattle.target_edges.specs.Edges.{build_edges, custom_edge, target_edges};
+ghost use Rattle.target_edges.specs.Parts.{command_held, custom_held, depfile_held, is_none, joined_edge, shared_held, source_held};
 ghost use Rattle.target_edges.specs.PartsView.{parts_edges};
 
-use crate::building::target_parts;
+use crate::building::build_parts;
 use crate::linking::Context;
 use crate::parts::TargetParts;
-use edge::{Edge, are_paths, are_writable, can_hold_values, is_path, push_copies};
+use edge::{
+    Edge, are_paths, are_writable, can_hold_path, can_hold_value, can_hold_values, is_path,
+    is_some_list, push_copies,
+};
 use std::alloc::AllocError;
-use targets::{Input, Target, objects};
+use targets::{BuildTarget, CustomTarget, Input, Source, Target, objects, output_paths};
 
 /// What a project has to know of a target's edges.
 #[derive(Drop)]
@@ -93,6 +96,85 @@ fn push_outputs(paths: &mut Vec<String>, edges: &[Edge]) -> Result<(), AllocErro
     Ok(())
 }
 
+fn build_claims(context: &Context, target: &BuildTarget) -> Result<Claims, AllocError>
+    ensures writable { IfOk result (λ c. c.writable
+        ≡ are_writable_of (build_edges (surroundings_view context.now.surroundings.now)
+        (map linked_view context.now.earlier.now) context.now.libraries.now (build_view target.now))) }
+    ensures paths { IfOk result (λ c. texts c.paths.items
+        ≡ flat_map (λ e. e.outputs) (build_edges (surroundings_view context.now.surroundings.now)
+        (map linked_view context.now.earlier.now) context.now.libraries.now (build_view target.now))) }
+{
+    let parts = build_parts(context, target)?;
+    let mut paths = objects(context.alloc, &parts.file, &parts.inputs)?;
+    let writable = are_held(&parts, &paths);
+    push_outputs(&mut paths, &parts.rest)?;
+    Ok(Claims { writable, paths })
+}
+
+// ---- custom targets, whose edge is not made
+
+fn source_is_held(source: &Source) -> bool
+    ensures { result ≡ source_held (source_view source.now) }
+{
+    match source {
+        Source::Tree(path) => can_hold_path(path),
+        Source::Built(path) => is_path(path),
+        Source::Made(paths) => are_paths(paths),
+    }
+}
+
+fn each_is_held(sources: &[Source]) -> bool
+    ensures { result ≡ list_all (λ s. source_held (source_view s)) sources.now }
+{
+    sources.iter().all(|source| source_is_held(source))
+}
+
+fn sources_are_held(sources: &[Source]) -> bool
+    ensures { result ≡ list_all source_held (map source_view sources.now) }
+{
+    each_is_held(sources)
+}
+
+fn depfile_is_held(folder: &str, depfile: &Option<String>) -> bool
+    ensures { result ≡ depfile_held folder.now (option_map string_bytes depfile.now) }
+{
+    match depfile {
+        None => true,
+        Some(name) => can_hold_value(folder) && can_hold_value(name),
+    }
+}
+
+fn command_is_held(target: &CustomTarget) -> bool
+    ensures { result ≡ command_held (custom_view target.now) }
+{
+    is_some_list(&target.words)
+        && can_hold_values(&target.words)
+        && depfile_is_held(&target.folder, &target.depfile)
+}
+
+// Whether `build.ninja` can hold the edge of a custom target that makes these outputs.
+fn custom_is_held(target: &CustomTarget, outputs: &[String]) -> bool
+    ensures { result ≡ custom_held (custom_view target.now) (texts outputs.now) }
+{
+    is_some_list(outputs)
+        && are_paths(outputs)
+        && sources_are_held(&target.inputs)
+        && sources_are_held(&target.needs)
+        && command_is_held(target)
+}
+
+fn custom_claims(context: &Context, target: &CustomTarget) -> Result<Claims, AllocError>
+    ensures writable { IfOk result (λ c. c.writable
+        ≡ are_writable_of (custom_edge (surroundings_view context.now.surroundings.now).facts.depth (custom_view target.now) ∷ [])) }
+    ensures paths { IfOk result (λ c. texts c.paths.items
+        ≡ flat_map (λ e. e.outputs)
+        (custom_edge (surroundings_view context.now.surroundings.now).facts.depth (custom_view target.now) ∷ [])) }
+{
+    let paths = output_paths(context.alloc, target)?;
+    let writable = custom_is_held(target, &paths);
+    Ok(Claims { writable, paths })
+}
+
 /// What a project has to know of the target's edges.
 pub fn claims_of(context: &Context, target: &Target) -> Result<Claims, AllocError>
     ensures writable { IfOk result (λ c. c.writable
@@ -102,9 +184,8 @@ pub fn claims_of(context: &Context, target: &Target) -> Result<Claims, AllocErro
         ≡ flat_map (λ e. e.outputs) (target_edges (surroundings_view context.now.surroundings.now)
         (map linked_view context.now.earlier.now) context.now.libraries.now (target_view target.now))) }
 {
-    let parts = target_parts(context, target)?;
-    let mut paths = objects(context.alloc, &parts.file, &parts.inputs)?;
-    let writable = are_held(&parts, &paths);
-    push_outputs(&mut paths, &parts.rest)?;
-    Ok(Claims { writable, paths })
+    match target {
+        Target::Build(target) => build_claims(context, target),
+        Target::Custom(target) => custom_claims(context, target),
+    }
 }

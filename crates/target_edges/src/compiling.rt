@@ -6,8 +6,8 @@ ghost use Rattle.target_edges.specs.Words.{build_folder, source_folder, include_
 ghost use Rattle.target_edges.specs.Words.{optimization_words, option_words, argument_words, compile_words};
 ghost use Rattle.target_edges.specs.Parts.{front_words};
 
-use crate::words::{push_brought_compile_args, push_if};
-use edge::{first_kept, push_all, push_copies, source_path, source_root};
+use crate::words::{joined, push_brought_compile_args, push_if};
+use edge::{copies, first_kept, push_all, push_copies, source_path, source_root};
 use std::alloc::{AllocError, Global};
 use targets::{BuildTarget, Flags, Surroundings};
 
@@ -42,8 +42,8 @@ fn push_include(
 {
     let built = build_folder(folder);
     let source = source_folder(alloc, depth, folder)?;
-    words.push(format!(in alloc; "-I{built}")?)?;
-    words.push(format!(in alloc; "-I{source}")?)?;
+    words.push(joined(alloc, "-I", built)?)?;
+    words.push(joined(alloc, "-I", &source)?)?;
     Ok(())
 }
 
@@ -104,7 +104,7 @@ fn push_standard(words: &mut Vec<String>, alloc: Global, standard: &str) -> Resu
     if standard == "none" {
         return Ok(());
     }
-    words.push(format!(in alloc; "-std={standard}")?)?;
+    words.push(joined(alloc, "-std=", standard)?)?;
     Ok(())
 }
 
@@ -114,7 +114,7 @@ fn push_optimization(words: &mut Vec<String>, alloc: Global, level: &str) -> Res
     if level == "plain" {
         return Ok(());
     }
-    words.push(format!(in alloc; "-O{level}")?)?;
+    words.push(joined(alloc, "-O", level)?)?;
     Ok(())
 }
 
@@ -151,9 +151,9 @@ fn compile_words(
     ensures { IfOk result (λ v. texts v.items ≡ compile_words (surroundings_view surroundings.now) (build_view target.now)) }
 {
     let facts = &surroundings.facts;
-    let mut words = Vec::new(alloc);
-    push_copies(&mut words, &facts.compiler)?;
-    push_copies(&mut words, &includes(alloc, facts.depth, target)?)?;
+    let mut words = copies(alloc, &facts.compiler)?;
+    let mut folders = includes(alloc, facts.depth, target)?;
+    words.append(&mut folders)?;
     push_options(&mut words, alloc, &facts.flags)?;
     push_if(&mut words, alloc, target.kind.is_library(), "-fPIC")?;
     push_arguments(&mut words, surroundings, target)?;

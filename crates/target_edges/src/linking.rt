@@ -10,7 +10,7 @@ ghost use Rattle.target_edges.specs.Words.{shared_library_words, link_arguments,
 ghost use Rattle.target_edges.specs.Edges.{archiving, linking, file_edge, naming};
 
 use crate::way::push_way;
-use crate::words::push_brought_link_args;
+use crate::words::{joined, push_brought_link_args};
 use edge::{Edge, Rule, copies, first_kept, push_all, push_copies, strings};
 use std::alloc::{AllocError, Global};
 use targets::{BuildTarget, Kind, Linked, Surroundings, build_target_at, file_path, so_name};
@@ -176,7 +176,7 @@ fn name_word(alloc: Global, target: &BuildTarget) -> Result<String, AllocError>
     ensures { IfOk result (λ s. string_bytes s ≡ codes "-Wl,-soname," ++ so_name_of (build_view target.now)) }
 {
     let name = so_name(alloc, target)?;
-    format!(in alloc; "-Wl,-soname,{name}")
+    joined(alloc, "-Wl,-soname,", &name)
 }
 
 fn push_if_linked_shared(
@@ -230,8 +230,8 @@ fn push_libraries(
         ≡ texts words.old.items ++ library_words (surroundings_view context.now.surroundings.now)
         (map linked_view context.now.earlier.now) context.now.libraries.now (build_view target.now)) }
 {
-    let files = library_files(context.alloc, context.earlier, context.libraries)?;
-    push_copies(words, &files)?;
+    let mut files = library_files(context.alloc, context.earlier, context.libraries)?;
+    words.append(&mut files)?;
     push_search_words(
         words,
         context.alloc,
@@ -282,7 +282,7 @@ fn archive_edge(
         order_only: Vec::new(alloc),
         words,
         redirect: None,
-        description: format!(in alloc; "Archiving {file}")?,
+        description: joined(alloc, "Archiving ", file)?,
         depfile: None,
     })
 }
@@ -309,7 +309,7 @@ fn link_edge(
         order_only: Vec::new(alloc),
         words,
         redirect: None,
-        description: format!(in alloc; "Linking target {file}")?,
+        description: joined(alloc, "Linking target ", file)?,
         depfile: None,
     })
 }
@@ -350,7 +350,7 @@ fn naming_edge(alloc: Global, file: &str, name: &str, link: &str) -> Result<Edge
         order_only: Vec::new(alloc),
         words: strings(alloc, &["ln", "-f", "-s", name, link])?,
         redirect: None,
-        description: format!(in alloc; "Linking name {link}")?,
+        description: joined(alloc, "Linking name ", link)?,
         depfile: None,
     })
 }

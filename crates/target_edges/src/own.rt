@@ -4,6 +4,7 @@ ghost use Rattle.edge.specs.Own.{own_view};
 ghost use Rattle.edge.specs.Paths.{object_path};
 ghost use Rattle.target_edges.specs.Parts.{last_words};
 
+use crate::words::joined;
 use edge::{OwnParts, object_path};
 use std::alloc::{AllocError, Global};
 use targets::Input;
@@ -24,8 +25,8 @@ pub fn source_texts(alloc: Global, file: &str, input: &Input) -> Result<SourceTe
         ≡ codes "Compiling C object " ++ object_path file.now (string_bytes input.now.name)) }
 {
     let object = object_path(alloc, file, &input.name)?;
-    let depfile = format!(in alloc; "{object}.d")?;
-    let description = format!(in alloc; "Compiling C object {object}")?;
+    let depfile = joined(alloc, &object, ".d")?;
+    let description = joined(alloc, "Compiling C object ", &object)?;
     Ok(SourceTexts {
         object,
         depfile,

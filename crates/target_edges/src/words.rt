@@ -10,6 +10,16 @@ use edge::push_copies;
 use std::alloc::{AllocError, Global};
 use targets::BuildTarget;
 
+/// One text behind another.
+pub fn joined(alloc: Global, front: &str, end: &str) -> Result<String, AllocError>
+    ensures { IfOk result (λ s. string_bytes s ≡ front.now ++ end.now) }
+{
+    let mut whole = String::with_capacity(alloc, front.len().saturating_add(end.len()))?;
+    whole.push_str(front)?;
+    whole.push_str(end)?;
+    Ok(whole)
+}
+
 /// Appends the word where the test holds.
 pub fn push_if(
     words: &mut Vec<String>,

@@ -1,5 +1,5 @@
 -- Of inputs with equal paths the first is kept.
-use Rattle.std.proofs.Common.{◌≡◌, Bool, true, false, List, [], ◌∷◌, ◌++◌, map, string_bytes, String, refl, sym, ap, ◌∙◌}
+use Rattle.std.proofs.Common.{◌≡◌, ◌<◌, Bool, true, false, List, [], ◌∷◌, ◌++◌, length, map, string_bytes, String, refl, sym, ap, ◌∙◌, arith}
 use Rattle.std.specs.Prelude.{not, if◌then◌else◌, string_eq}
 use Rattle.std.specs.List.{list_any}
 use Rattle.std.specs.Global.{Global}
@@ -10,6 +10,12 @@ use Rattle.edge.proofs.TextLists.{holds-texts, texts-insert_key}
 use Rattle.targets.specs.Sources.{InputData, put_input, put_inputs}
 use Rattle.targets.specs.Inputs.{input_view}
 use Rattle.targets.specs.declared.sources.Input.{Input}
+
+-- of less than two inputs each is kept
+pub few_inputs : (xs : List Input) → length xs < 2 → map input_view xs ≡ put_inputs [] (map input_view xs)
+few_inputs [] h = refl
+few_inputs (x ∷ []) h = refl
+few_inputs (x ∷ y ∷ xs) h = absurd (omega arith)
 
 put_inputs-push : (kept is : List InputData) (i : InputData) → put_inputs kept (is ++ i ∷ []) ≡ put_input (put_inputs kept is) i
 put_inputs-push kept [] i = refl

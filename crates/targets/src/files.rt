@@ -12,6 +12,18 @@ use crate::target::{BuildTarget, CustomTarget, Kind, Target};
 use edge::{object_path, push_copies};
 use std::alloc::{AllocError, Global};
 
+// A name with something before it and something behind it.
+fn between(alloc: Global, front: &str, name: &str, end: &str) -> Result<String, AllocError>
+    ensures { IfOk result (λ s. string_bytes s ≡ front.now ++ (name.now ++ end.now)) }
+{
+    let ends = front.len().saturating_add(end.len());
+    let mut whole = String::with_capacity(alloc, ends.saturating_add(name.len()))?;
+    whole.push_str(front)?;
+    whole.push_str(name)?;
+    whole.push_str(end)?;
+    Ok(whole)
+}
+
 /// The path of a file of the folder.
 pub fn path_in(alloc: Global, folder: &str, name: &str) -> Result<String, AllocError>
     ensures { IfOk result (λ s. string_bytes s ≡ path_in folder.now name.now) }
@@ -19,7 +31,7 @@ pub fn path_in(alloc: Global, folder: &str, name: &str) -> Result<String, AllocE
     if folder.is_empty() {
         String::from_str(alloc, name)
     } else {
-        format!(in alloc; "{folder}/{name}")
+        between(alloc, folder, "/", name)
     }
 }
 
@@ -66,7 +78,7 @@ fn numbered(alloc: Global, name: &str, number: Option<&str>) -> Result<String, A
     ensures { IfOk result (λ s. string_bytes s ≡ numbered_so name.now (option_map (λ n. n.now) number.entry)) }
 {
     match number {
-        None => format!(in alloc; "lib{name}.so"),
+        None => between(alloc, "lib", name, ".so"),
         Some(number) => format!(in alloc; "lib{name}.so.{number}"),
     }
 }
@@ -85,7 +97,7 @@ pub fn file_name(alloc: Global, target: &BuildTarget) -> Result<String, AllocErr
     let name = target.name.as_str();
     match target.kind {
         Kind::Executable => String::from_str(alloc, name),
-        Kind::StaticLibrary => format!(in alloc; "lib{name}.a"),
+        Kind::StaticLibrary => between(alloc, "lib", name, ".a"),
         Kind::SharedLibrary => numbered(alloc, name, file_number(target)),
     }
 }

@@ -1,10 +1,10 @@
 //! The libraries that a target links.
-ghost use Rattle.std.specs.Prelude.{◌≡◌, ◌∷◌, [], map, flat_map, ◌++◌, IfOk, ◌<◌, false};
+ghost use Rattle.std.specs.Prelude.{◌≡◌, ◌∷◌, [], map, flat_map, ◌++◌, IfOk, ◌<◌, ◌≤◌, drop, false};
 ghost use Rattle.std.specs.Prelude.{true, length, nat_eq, slice_get, slice_index_or, slice_set, option_map, ◌&&◌};
 ghost use Rattle.std.specs.List.{list_all, list_any};
 ghost use Rattle.indexmap.specs.IndexSet.{insert_key};
-ghost use Rattle.targets.specs.Libraries.{last_kept, with_its_own, libraries_of, libraries_in, build_of, build_at, is_library_at};
-ghost use Rattle.targets.specs.Libraries.{is_static_target, links_libraries};
+ghost use Rattle.targets.specs.Libraries.{before_all, last_kept, with_its_own, libraries_of, libraries_in, build_of, build_at};
+ghost use Rattle.targets.specs.Libraries.{is_library_at, is_static_target, links_libraries};
 ghost use Rattle.targets.specs.Marks.{AreMarks};
 ghost use Rattle.targets.specs.View.{linked_view, target_view, build_view};
 
@@ -87,47 +87,92 @@ fn is_among(numbers: &[usize], number: usize) -> bool
     numbers.iter().any(|other| number == *other)
 }
 
-// Whether the number was met before. From now on it was.
-fn was_met(marks: &mut Vec<bool>, met: &[usize], number: usize) -> bool
-    requires { AreMarks marks.old.items met.now }
-    ensures tested { result ≡ list_any (nat_eq number) met.now }
-    ensures marks { AreMarks marks.new.items (insert_key nat_eq met.now number) }
+fn is_in_either(last: &[usize], kept: &[usize], number: usize) -> bool
+    ensures { result ≡ list_any (nat_eq number) (last.now ++ kept.now) }
+{
+    is_among(last, number) || is_among(kept, number)
+}
+
+// Whether the number was met before, in one of these lists. From now on it was.
+fn was_met(marks: &mut Vec<bool>, last: &[usize], kept: &[usize], number: usize) -> bool
+    requires { AreMarks marks.old.items (last.now ++ kept.now) }
+    ensures tested { result ≡ list_any (nat_eq number) (last.now ++ kept.now) }
+    ensures marks { AreMarks marks.new.items (insert_key nat_eq (last.now ++ kept.now) number) }
 {
     if number < marks.len() {
         mark(marks, number)
     } else {
-        is_among(met, number)
+        is_in_either(last, kept, number)
     }
 }
 
 // Appends the number, unless it was met.
-fn keep_new(kept: &mut Vec<usize>, marks: &mut Vec<bool>, number: usize) -> Result<(), AllocError>
-    requires { AreMarks marks.old.items kept.old.items }
-    ensures kept { IfOk result (λ _. kept.new.items ≡ insert_key nat_eq kept.old.items number) }
-    ensures marks { IfOk result (λ _. AreMarks marks.new.items kept.new.items) }
+fn keep_new(
+    kept: &mut Vec<usize>,
+    marks: &mut Vec<bool>,
+    last: &[usize],
+    number: usize,
+) -> Result<(), AllocError>
+    requires { AreMarks marks.old.items (last.now ++ kept.old.items) }
+    ensures kept { IfOk result (λ _. last.now ++ kept.new.items ≡ insert_key nat_eq (last.now ++ kept.old.items) number) }
+    ensures marks { IfOk result (λ _. AreMarks marks.new.items (last.now ++ kept.new.items)) }
 {
-    if was_met(marks, kept, number) {
+    if was_met(marks, last, kept, number) {
         return Ok(());
     }
     kept.push(number)?;
     Ok(())
 }
 
-// Of equal numbers the last is kept. Those below a count have marks, so that one of them is found at once.
-fn last_by_marks(
+// The numbers that stand before those that are all new, of equal ones the last, and then these.
+fn kept_before(
     alloc: Global,
-    count: usize,
-    mut numbers: Vec<usize>,
+    marks: &mut Vec<bool>,
+    front: &[usize],
+    last: &[usize],
 ) -> Result<Vec<usize>, AllocError>
+    requires { AreMarks marks.old.items last.now }
+    ensures { IfOk result (λ v. v.items ≡ before_all front.now last.now) }
+{
+    let mut kept = Vec::new(alloc);
+    let mut at = front.len();
+    while 0 < at {
+        at -= 1;
+        keep_new(&mut kept, marks, last, front[at])?;
+    }
+    kept.reverse();
+    kept.extend_from_slice(last)?;
+    Ok(kept)
+}
+
+// The place from which on no number stands twice. These are marked from now on.
+fn mark_new(marks: &mut Vec<bool>, numbers: &[usize]) -> usize
+    requires { AreMarks marks.old.items [] }
+    ensures within { result ≤ length numbers.now }
+    ensures kept { last_kept (drop result numbers.now) ≡ drop result numbers.now }
+    ensures marks { AreMarks marks.new.items (drop result numbers.now) }
+{
+    let mut place = numbers.len();
+    while 0 < place {
+        if was_met(marks, &numbers[place..], &[], numbers[place - 1]) {
+            return place;
+        }
+        place -= 1;
+    }
+    place
+}
+
+// Of equal numbers the last is kept. Those below a count have marks, so that one of them is found at once. Most lists end in numbers that
+// are all new, and these stay as they are.
+fn last_by_marks(alloc: Global, count: usize, numbers: Vec<usize>) -> Result<Vec<usize>, AllocError>
     ensures { IfOk result (λ v. v.items ≡ last_kept numbers.items) }
 {
     let mut marks = vec![in alloc; false; count]?;
-    let mut kept = Vec::new(alloc);
-    while let Some(number) = numbers.pop() {
-        keep_new(&mut kept, &mut marks, number)?;
+    let place = mark_new(&mut marks, &numbers);
+    if place == 0 {
+        return Ok(numbers);
     }
-    kept.reverse();
-    Ok(kept)
+    kept_before(alloc, &mut marks, &numbers[..place], &numbers[place..])
 }
 
 // The same by a set.

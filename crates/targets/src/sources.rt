@@ -93,6 +93,9 @@ fn push_sources(
 fn first_inputs(alloc: Global, inputs: Vec<Input>) -> Result<Vec<Input>, AllocError>
     ensures { IfOk result (λ v. map input_view v.items ≡ put_inputs [] (map input_view inputs.items)) }
 {
+    if inputs.len() < 2 {
+        return Ok(inputs);
+    }
     let mut seen = new_set(alloc);
     let mut kept = Vec::new(alloc);
     for input in inputs {

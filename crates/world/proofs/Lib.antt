@@ -13,6 +13,7 @@ pub mod Look
 pub mod Marks
 pub mod Noting
 pub mod Numbers
+pub mod Ruling
 pub mod Running
 pub mod Setting
 pub mod Tells

@@ -14,6 +14,7 @@ pub mod Noted
 pub mod Options
 pub mod Plan
 pub mod Operation
+pub mod Ruled
 pub mod Run
 pub mod Settings
 pub mod SettingsView

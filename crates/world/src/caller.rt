@@ -11,6 +11,7 @@ ghost use Rattle.world.specs.World.{fault_here};
 mod configuring;
 mod declaring;
 mod fitting;
+mod ruling;
 
 use crate::operation::of_operation;
 use crate::stop::Stop;

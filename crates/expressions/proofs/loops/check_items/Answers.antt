@@ -4,4 +4,4 @@ use Rattle.expressions.proofs.Walking.{loops_list}
 use Rattle.expressions.proofs.loops.check_items.Goals as goal
 
 pub returns-in-Some : goal.returns-in-Some
-returns-in-Some c = loops_list (data_of c.args.whole.now) _ (sym c.in-Some.ensures) c.requires
+returns-in-Some c = loops_list (data_of c.args.whole.now) _ (sym c.in-Some.ensures)

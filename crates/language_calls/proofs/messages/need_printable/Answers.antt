@@ -1,4 +1,4 @@
-use Rattle.std.proofs.Common.{[], ap, ◌∙◌}
+use Rattle.std.proofs.Common.{ap, ◌∙◌, codes}
 use Rattle.basics.specs.declared.faults.refusal.Refusal.TheVariants as refusals
 use Rattle.printing.specs.Printed.{is_printable}
 use Rattle.world.specs.Deed.{need}
@@ -9,4 +9,4 @@ use Rattle.language_calls.proofs.messages.need_printable.Goals as goal
 
 pub returns : goal.returns
 unfolding need_printable
-returns g c = carries_as (ap (λ b. need b refusals.Arguments []) (c.are_printable.ensures ∙ all_of is_printable c.args.values.now)) c.need.ensures
+returns g c = carries_as (ap (λ b. need b refusals.Arguments (codes "arguments: one can't be printed")) (c.are_printable.ensures ∙ all_of is_printable c.args.values.now)) c.need.ensures

@@ -2,6 +2,7 @@ use Rattle.std.proofs.Common.{◌∙◌, List, [], map, sym, ap}
 use Rattle.grammar.specs.declared.tree.Statement.{Statement}
 use Rattle.grammar.specs.Tree.{statement_of}
 use Rattle.option_file.specs.Declares.{declares_from}
+use Rattle.option_file.specs.MisfitView.{refused_in}
 use Rattle.option_file.specs.View.{after_in, options_in}
 use Rattle.option_file.proofs.Statements.{declares_first, declares_fault, declares_more, declares_end}
 use Rattle.option_file.proofs.file.declare.Goals as goal
@@ -11,7 +12,7 @@ loop-statement-init c = declares_first c.deref-statement-items.result.now (optio
 
 pub returns-in-Err : goal.returns-in-Err
 returns-in-Err c = declares_fault c.deref-statement-items.result.now c.loop-statement.statement-index c.statement-item.result
-    (options_in c.loop-statement.declared) c.in-Err.refusal c.line_of-line.result
+    (options_in c.loop-statement.declared) (refused_in c.in-Err.refused) c.line_of-line.result
     c.loop-statement.invariant c.loop-statement-test.true c.statement-item.is (ap after_in (sym c.in-Err.is)
     ∙ c.in_ok-more.ensures) c.line_of-line.ensures
     ∙ ap (λ (xs : List Statement). declares_from (map statement_of xs) []) c.deref-statement-items.ensures.value

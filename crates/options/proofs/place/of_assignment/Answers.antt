@@ -6,10 +6,10 @@ use Rattle.options.proofs.place.of_assignment.Goals as goal
 
 pub returns-in_default : goal.returns-in_default
 unfolding of_assignment
-returns-in_default c = c.refused.ensures ∙ ap (of_parts (options_in c.args.known.now.declared.now) c.args.place) c.in_default.ensures
+returns-in_default c = c.in_ok-verdict.ensures ∙ ap (of_parts (options_in c.args.known.now.declared.now) c.args.place c.args.text.now) c.in_default.ensures
 
 pub returns : goal.returns
 unfolding of_assignment
-returns c = c.in_ok-verdict.ensures
+returns c = c.in_ok-verdict-2.ensures
     ∙ ap (of_named c.args.place c.in-Some.name.now (written.Text c.in-Some.value.now)) c.kind_named-kind.ensures
-    ∙ ap (of_parts (options_in c.args.known.now.declared.now) c.args.place) c.in-Some.ensures
+    ∙ ap (of_parts (options_in c.args.known.now.declared.now) c.args.place c.args.text.now) c.in-Some.ensures

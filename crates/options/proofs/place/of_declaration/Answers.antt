@@ -10,8 +10,8 @@ unfolding of_declaration
 returns-in-Some c = ap (of_default (option_in c.args.name.now c.args.declaration.now)) (ap (option_map value_in) (sym c.in-Some.is)
     ∙ c.in_ok-value.ensures c.args.name.now)
 
-pub returns-in-None : goal.returns-in-None
+pub returns-in_ok-verdict-in-None : goal.returns-in_ok-verdict-in-None
 unfolding of_declaration
-returns-in-None c = c.refused.ensures
+returns-in_ok-verdict-in-None c = c.in_ok-verdict-in-None.ensures
     ∙ ap (of_default (option_in c.args.name.now c.args.declaration.now)) (ap (option_map value_in) (sym c.in-None.is)
     ∙ c.in_ok-value.ensures c.args.name.now)

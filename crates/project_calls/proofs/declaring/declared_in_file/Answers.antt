@@ -2,7 +2,8 @@ use Rattle.std.proofs.Common.{ap, refl, sym, ◌∙◌}
 use Rattle.option_file.specs.View.{declared_in}
 use Rattle.world.proofs.Answering.{carries_as, carries_give, carries_none}
 use Rattle.project_calls.specs.OptionFile.{declared_or_fault}
-use Rattle.project_calls.proofs.SpelledOptions.{carries_line}
+use Rattle.definition_files.specs.Details.{refuse_line_about}
+use Rattle.project_calls.proofs.SpelledOptions.{carries_line_about}
 use Rattle.project_calls.proofs.declaring.declared_in_file.Goals as goal
 
 pub returns-in_err-declared : goal.returns-in_err-declared
@@ -15,4 +16,5 @@ returns-in-Ok g c = carries_as (ap declared_or_fault (ap declared_in (sym c.in-O
 pub returns-in-Err : goal.returns-in-Err
 unfolding declared_or_fault
 returns-in-Err g c =
-    carries_as (ap declared_or_fault (ap declared_in (sym c.in-Err.is) ∙ c.in_ok-declared.ensures)) (carries_line c.in-Err.fault.line c.in-Err.fault.refusal c.refuse.result c.at.ensures.world c.at.ensures.names c.refuse.ensures)
+    carries_as (ap declared_or_fault (ap declared_in (sym c.in-Err.is) ∙ c.in_ok-declared.ensures)) (carries_as (ap (refuse_line_about c.in-Err.fault.line c.in-Err.fault.refusal) c.as_str.ensures.value)
+      (carries_line_about c.in-Err.fault.line c.in-Err.fault.refusal _ c.refuse.result c.at.ensures.world c.at.ensures.names c.refuse.ensures))

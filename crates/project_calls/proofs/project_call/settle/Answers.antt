@@ -1,7 +1,7 @@
 use Rattle.std.proofs.Common.{ap, refl, sym, ◌∙◌}
-use Rattle.definition_files.proofs.Refused.{carries_refused_at}
+use Rattle.definition_files.proofs.Detailed.{carries_refused_about}
 use Rattle.options.specs.Faults.{file_of, line_of, told_in}
-use Rattle.options.specs.View.{outcome_in}
+use Rattle.options.specs.View.{fault_in, outcome_in}
 use Rattle.world.proofs.Answering.{carries_as, carries_give, carries_none}
 use Rattle.project_calls.specs.Project.{settled}
 use Rattle.project_calls.proofs.project_call.settle.Goals as goal
@@ -16,9 +16,9 @@ returns-in_err-told_in-in-Err g c = carries_none c.from_residual.ensures.1
 pub returns-in_ok-told_in-in-Err : goal.returns-in_ok-told_in-in-Err
 unfolding settled
 returns-in_ok-told_in-in-Err g c =
-    let fault = c.in-Err.fault in
+    let fault = fault_in c.in-Err.fault in
     let line = c.args.caller.now.store.now.line in
     let path = c.args.path.now in
     carries_as (ap (λ o. settled path (outcome_in o) line) (sym c.in-Err.is))
-    (carries_refused_at (file_of path fault.place) (line_of line fault.place) fault.refusal c.in_ok-told_in-in-Err.field-0
+    (carries_refused_about (file_of path fault.place) (line_of line fault.place) fault.refusal fault.detail c.in_ok-told_in-in-Err.field-0
     (c.in_ok-told_in-in-Err.ensures ∙ ap (λ n. told_in path n fault) c.line-line.ensures))

@@ -1,19 +1,35 @@
-use Rattle.std.proofs.Common.{sym, ap, ◌∙◌}
+use Rattle.std.proofs.Common.{option_map, sym, ap, ◌∙◌}
 use Rattle.arguments.specs.Arguments.{arguments_data}
-use Rattle.world.proofs.Answering.{carries_none, carries_read}
+use Rattle.world.specs.Ruled.{ruled}
+use Rattle.world.specs.Store.{world_of}
+use Rattle.world.proofs.Answering.{carries_as, carries_none, carries_read}
+use Rattle.world.proofs.Ruling.{ruled_broken, ruled_found}
+use Rattle.resource_calls.specs.Breaches.{Breach, lists_breach}
 use Rattle.resource_calls.specs.DeclareDependency.{said_lists}
 use Rattle.resource_calls.specs.OwnLists.{own_lists}
 use Rattle.resource_calls.specs.OwnListsView.{own_view}
-use Rattle.resource_calls.specs.Place.{PlaceData}
-use Rattle.world.proofs.Found.{carries_found}
+use Rattle.resource_calls.specs.Place.{PlaceData, place_of}
 use Rattle.resource_calls.proofs.declaring.said_lists.Goals as goal
 
 pub returns-in_err-found : goal.returns-in_err-found
 returns-in_err-found g c = carries_none c.from_residual.ensures.1
 
-pub returns : goal.returns
+pub returns-in-Some : goal.returns-in-Some
 unfolding said_lists
-returns g c =
-    let said = ap (λ (p : PlaceData). own_lists p (arguments_data c.args.arguments.now)) (sym c.place_of-place.ensures)
-    ∙ sym c.in_ok-found.ensures in
-    carries_read (carries_found {view = own_view} c.in_ok-found.found said c.ok_or.ensures.value c.fitting.ensures)
+returns-in-Some g c =
+    let said = c.in_ok-found.ensures ∙ ap (λ (p : PlaceData). own_lists p (arguments_data c.args.arguments.now)) c.place_of-place.ensures in
+    carries_read (ruled_found {view = own_view} _ _ _ (ap (option_map own_view) (sym c.in-Some.is) ∙ said))
+
+pub returns-in_err-lists_breach-in-None : goal.returns-in_err-lists_breach-in-None
+returns-in_err-lists_breach-in-None g c = carries_none c.from_residual-in_err-lists_breach-in-None.ensures.1
+
+pub returns-in_ok-lists_breach-in-None : goal.returns-in_ok-lists_breach-in-None
+unfolding said_lists
+returns-in_ok-lists_breach-in-None g c =
+    let a = arguments_data c.args.arguments.now in
+    let place = place_of (world_of c.args.caller.now.store.now).facts in
+    let none = ap (option_map own_view) (sym c.in-None.is) ∙ c.in_ok-found.ensures
+    ∙ ap (λ (p : PlaceData). own_lists p a) c.place_of-place.ensures in
+    let breach = c.in_ok-lists_breach-in-None.ensures ∙ ap (λ (p : PlaceData). lists_breach p a) c.place_of-place.ensures in
+    carries_read (carries_as (ap (λ (b : Breach). ruled (own_lists place a) b.0 b.1) breach)
+    (ruled_broken {view = own_view} _ _ _ none c.refuse_by.ensures))

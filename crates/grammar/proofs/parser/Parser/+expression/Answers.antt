@@ -1,4 +1,5 @@
-use Rattle.std.proofs.Common.{List, Result, Ok, ap, not, refl, ◌∙◌, sym, false, ◌≡◌, map, [], ◌∷◌, ◌++◌, arith}
+use Rattle.std.proofs.Common.{List, Result, Ok, ap, not, refl, ◌∙◌, sym, false, ◌≡◌, map, [], ◌∷◌, ◌++◌, arith, ℕ, ◌<◌, ◌≤◌}
+use Rattle.std.proofs.Math.Nat.{lt_trans}
 use Rattle.std.proofs.lemmas.Result.{err_from_is_err_and}
 use Rattle.std.specs.Option.{option_map}
 use Rattle.grammar.specs.declared.stop.Stop.{Stop}
@@ -9,8 +10,9 @@ use Rattle.grammar.specs.Expressions.{is_named}
 use Rattle.grammar.specs.Form.{same_state}
 use Rattle.std.proofs.lemmas.List.{map_push}
 use Rattle.grammar.specs.Parts.{first_line, stands_for}
-use Rattle.grammar.specs.ReadingExpressions.{disjunction_at, argument_at, ternary_at, entry_at, inner_at, link_at, links_at, links_on, operand_at, operands_at, operator_of, part_at, unary_at}
-use Rattle.grammar.proofs.ExpressionTails.{list_stops, list_unclosed, list_reads, dictionary_stops, dictionary_unclosed, dictionary_reads, arguments_stops, arguments_unclosed, arguments_reads, call_reads, chain_more, chain_others_fail, entry_colon_fails, entry_key_fails, entry_reads, entry_value_fails, index_reads, method_reads, postfix_alone, postfix_base_fails, postfix_links_fail, postfix_more, prefixed_reads, prefixed_value_fails, prefixed_word_fails, ternary_asks, ternary_colon_fails, ternary_one_fails, ternary_other_fails, ternary_question_fails, ternary_test_fails, argument_label_fails, argument_reads, argument_value_fails, operand_fails, operand_reads, taken_head, taken_other}
+use Rattle.grammar.specs.ReadingExpressions.{disjunction_at, argument_at, ternary_at, entry_at, inner_at, link_at, links_at, links_on, operand_at, operands_at, operator_of, part_at, sum_at, unary_at}
+use Rattle.grammar.proofs.AtomTails.{call_arguments_fail, call_name_fails, comparison_alone, comparison_operator_fails, comparison_reads, comparison_value_fails, dot_fails, group_close_fails, group_inner_fails, group_opening_fails, group_reads, index_close_fails, index_inner_fails, index_opening_fails, method_arguments_fail, method_name_fails}
+use Rattle.grammar.proofs.ExpressionTails.{atom_dictionary, atom_list, atom_literal, atom_name, chain_alone, ternary_alone, list_stops, list_unclosed, list_reads, dictionary_stops, dictionary_unclosed, dictionary_reads, arguments_stops, arguments_unclosed, arguments_reads, call_reads, chain_more, chain_others_fail, entry_colon_fails, entry_key_fails, entry_reads, entry_value_fails, index_reads, method_reads, postfix_alone, postfix_base_fails, postfix_links_fail, postfix_more, prefixed_reads, prefixed_value_fails, prefixed_word_fails, ternary_asks, ternary_colon_fails, ternary_one_fails, ternary_other_fails, ternary_question_fails, ternary_test_fails, argument_label_fails, argument_reads, argument_value_fails, operand_fails, operand_reads, taken_head, taken_other}
 use Rattle.grammar.proofs.Loops.{pending_done, pending_fails, pending_first, pending_more, still_ends, still_fails, still_first, still_more}
 use Rattle.grammar.proofs.Tails.{length_lexemes}
 use Rattle.grammar.proofs.Views.{dictionary_seen, entries_pushed, list_seen, arguments_pushed, call_seen, chain_seen, index_seen, method_seen, operands_pushed, postfix_seen, prefix_seen, some_kept, ternary_seen}
@@ -19,6 +21,13 @@ use Rattle.grammar.proofs.parser.Parser.+expression.Goals as goal
 -- what was read, as the tree of what is returned
 returned : {A : Type 0} (read : Result (A × List Lexeme) Stop) (a b : A) (rest : List Lexeme) → read ≡ Ok (a, rest) → a ≡ b → read ≡ Ok (b, rest)
 returned {A} read a b rest e same = e ∙ ap (λ (x : A). Ok (x, rest)) same
+
+-- orders that follow one another
+le_lt : (a b c : ℕ) → a ≤ b → b < c → a < c
+le_lt a b c p q = omega arith
+
+lt_le : (a b c : ℕ) → a < b → b ≤ c → a < c
+lt_le a b c p q = omega arith
 
 pub chain-loop-operator-init : goal.chain-loop-operator-init
 unfolding operands_at
@@ -341,3 +350,177 @@ unary-returns-in-Some-clause-read t c = returned _ _ _ _
     (sym c.prefix.ensures ∙ c.in-Some.is) c.word_of.ensures (lexeme_of c.in_ok-word.word) c.in_ok-word.levels (lexemes c.enter.new.self.rest.now)
     (expression_of c.in_ok-value.value) (lexemes c.unary.new.self.rest.now) c.in_ok-word.ensures.read c.in_ok-value.ensures.read)
     (prefix_seen c.in-Some.prefix c.in_ok-value-2.value c.in_ok-word.word.line _ (ap expression_of (sym c.in_ok-value-2.ensures)))
+
+-- ---- what is left is less
+
+pub ternary-returns-clause-shorter : goal.ternary-returns-clause-shorter
+ternary-returns-clause-shorter t c = lt_trans c.in_ok-no.ensures.shorter (lt_trans c.in_ok-yes-2.ensures.shorter (lt_trans c.in_ok-yes.ensures.shorter (lt_trans c.in_ok-take.ensures.shorter c.in_ok-test.ensures.shorter)))
+
+pub ternary-returns-then-not-asks-clause-shorter : goal.ternary-returns-then-not-asks-clause-shorter
+ternary-returns-then-not-asks-clause-shorter t c = c.in_ok-test.ensures.shorter
+
+pub comparison-returns-clause-shorter : goal.comparison-returns-clause-shorter
+comparison-returns-clause-shorter t c = lt_trans c.in_ok-value.ensures.shorter (lt_trans c.in_ok-operator.ensures.shorter c.in_ok-first.ensures.shorter)
+
+pub comparison-returns-then-not-compares-clause-shorter : goal.comparison-returns-then-not-compares-clause-shorter
+comparison-returns-then-not-compares-clause-shorter t c = c.in_ok-first.ensures.shorter
+
+pub chain-returns-then-not-operates-clause-shorter : goal.chain-returns-then-not-operates-clause-shorter
+chain-returns-then-not-operates-clause-shorter t c = c.in_ok-first.ensures.shorter
+
+pub base-returns-in_ok-closed-clause-shorter : goal.base-returns-in_ok-closed-clause-shorter
+base-returns-in_ok-closed-clause-shorter t c = lt_trans c.in_ok-closed.ensures.shorter (lt_trans c.in_ok-inner.ensures.shorter c.in_ok-levels.ensures.shorter)
+
+pub base-returns-in_ok-arguments-clause-shorter : goal.base-returns-in_ok-arguments-clause-shorter
+base-returns-in_ok-arguments-clause-shorter t c = lt_trans c.in_ok-arguments.ensures.shorter c.in_ok-name.ensures.shorter
+
+pub link-returns-clause-shorter : goal.link-returns-clause-shorter
+link-returns-clause-shorter t c = lt_trans c.in_ok-index-2.ensures.shorter (lt_trans c.in_ok-index.ensures.shorter c.in_ok-levels.ensures.shorter)
+
+pub link-returns-then-begins-clause-shorter : goal.link-returns-then-begins-clause-shorter
+link-returns-then-begins-clause-shorter t c = lt_trans c.in_ok-arguments.ensures.shorter (lt_trans c.in_ok-name.ensures.shorter c.in_ok-take.ensures.shorter)
+
+pub unary-returns-in-Some-clause-shorter : goal.unary-returns-in-Some-clause-shorter
+unary-returns-in-Some-clause-shorter t c = lt_trans c.in_ok-value.ensures.shorter c.in_ok-word.ensures.shorter
+
+pub unary-returns-then-not-links_on-clause-shorter : goal.unary-returns-then-not-links_on-clause-shorter
+unary-returns-then-not-links_on-clause-shorter t c = c.in_ok-first.ensures.shorter
+
+pub unary-returns-clause-shorter : goal.unary-returns-clause-shorter
+unary-returns-clause-shorter t c = c.loop-alloc.invariant.within
+
+pub list-returns-clause-shorter : goal.list-returns-clause-shorter
+list-returns-clause-shorter t c = lt_trans c.in_ok-items.ensures.shorter c.loop-more.invariant.within
+
+pub dictionary-returns-clause-shorter : goal.dictionary-returns-clause-shorter
+dictionary-returns-clause-shorter t c = lt_trans c.in_ok-entries.ensures.shorter c.loop-more.invariant.within
+
+pub arguments-returns-clause-shorter : goal.arguments-returns-clause-shorter
+arguments-returns-clause-shorter t c = lt_trans c.in_ok-items.ensures.shorter c.loop-more.invariant.within
+
+pub list-loop-more-smaller : goal.list-loop-more-smaller
+list-loop-more-smaller t c = le_lt _ _ _ c.more-more.ensures.within c.in_ok-item.ensures.shorter
+
+pub dictionary-loop-more-smaller : goal.dictionary-loop-more-smaller
+dictionary-loop-more-smaller t c = le_lt _ _ _ c.more-more.ensures.within (lt_trans c.in_ok-value.ensures.shorter (lt_trans c.in_ok-key-2.ensures.shorter c.in_ok-key.ensures.shorter))
+
+pub arguments-loop-more-smaller : goal.arguments-loop-more-smaller
+arguments-loop-more-smaller t c = le_lt _ _ _ c.more-more.ensures.within (lt_le _ _ _ c.in_ok-value.ensures.shorter c.in_ok-name.ensures.shorter)
+
+pub unary-loop-alloc-smaller : goal.unary-loop-alloc-smaller
+unary-loop-alloc-smaller t c = c.in_ok-link.ensures.shorter
+
+pub chain-loop-operator-smaller : goal.chain-loop-operator-smaller
+chain-loop-operator-smaller t c = lt_le _ _ _ c.in_ok-value.ensures.shorter c.operator.ensures.within
+
+-- ---- what is read, or where reading stops
+
+pub chain-returns-then-not-operates-clause-read : goal.chain-returns-then-not-operates-clause-read
+chain-returns-then-not-operates-clause-read t c =
+    chain_alone (operator_of c.args.rank) (part_at c.args.rank (unary_at c.args.levels c.args.ternaries)) (lexemes c.args.self.now.rest.now) (expression_of c.in_ok-first.first) (lexemes c.part.new.self.rest.now)
+    c.in_ok-first.ensures.read (sym c.operates.ensures ∙ c.if-not-operates.true)
+
+pub ternary-returns-then-not-asks-clause-read : goal.ternary-returns-then-not-asks-clause-read
+unfolding disjunction_at
+ternary-returns-then-not-asks-clause-read t c =
+    ternary_alone (unary_at c.args.levels) c.args.ternaries (lexemes c.args.self.now.rest.now) (expression_of c.in_ok-test.test) (lexemes c.chain.new.self.rest.now)
+    c.in_ok-test.ensures.read (sym c.asks.ensures ∙ c.if-not-asks.true)
+
+pub comparison-returns-then-not-compares-clause-read : goal.comparison-returns-then-not-compares-clause-read
+unfolding sum_at
+comparison-returns-then-not-compares-clause-read t c =
+    comparison_alone (unary_at c.args.levels c.args.ternaries) (lexemes c.args.self.now.rest.now) (expression_of c.in_ok-first.first) (lexemes c.chain.new.self.rest.now) c.in_ok-first.ensures.read (sym c.compares.ensures ∙ c.if-not-compares.true)
+
+pub comparison-returns-in_err-operator-clause-read : goal.comparison-returns-in_err-operator-clause-read
+unfolding sum_at
+comparison-returns-in_err-operator-clause-read t c =
+    let p = err_from_is_err_and c.from_residual-in_err-operator.result c.from_residual-in_err-operator.ensures.1 in
+    rw (p.1, p.2) (comparison_operator_fails (unary_at c.args.levels c.args.ternaries) (lexemes c.args.self.now.rest.now) (expression_of c.in_ok-first.first) (lexemes c.chain.new.self.rest.now) c.in_ok-first.ensures.read (sym c.compares.ensures ∙ c.if-not-compares.false) c.in_err-operator.field-0.0 c.in_err-operator.ensures.read)
+
+pub comparison-returns-in_err-value-clause-read : goal.comparison-returns-in_err-value-clause-read
+unfolding sum_at
+comparison-returns-in_err-value-clause-read t c =
+    let p = err_from_is_err_and c.from_residual-in_err-value.result c.from_residual-in_err-value.ensures.1 in
+    rw (p.1, p.2) (comparison_value_fails (unary_at c.args.levels c.args.ternaries) (lexemes c.args.self.now.rest.now) (expression_of c.in_ok-first.first) (lexemes c.chain.new.self.rest.now) c.in_ok-first.ensures.read (sym c.compares.ensures ∙ c.if-not-compares.false) c.in_ok-operator.operator (lexemes c.comparison_operator.new.self.rest.now) c.in_ok-operator.ensures.read c.in_err-value.field-0.0 c.in_err-value.ensures.read)
+
+pub comparison-returns-clause-read : goal.comparison-returns-clause-read
+unfolding sum_at
+comparison-returns-clause-read t c =
+    let v = expression_of c.in_ok-value.value in
+    let e : map operand_of c.put.new.items.items ≡ (c.in_ok-operator.operator, v) ∷ [] =
+    rw (c.in_ok-put.ensures, c.in_ok-others.ensures.items) (operands_pushed [] c.in_ok-operator.operator c.in_ok-value.value) in
+    returned _ _ _ _ (comparison_reads (unary_at c.args.levels c.args.ternaries) (lexemes c.args.self.now.rest.now) (expression_of c.in_ok-first.first) (lexemes c.chain.new.self.rest.now) c.in_ok-first.ensures.read (sym c.compares.ensures ∙ c.if-not-compares.false) c.in_ok-operator.operator (lexemes c.comparison_operator.new.self.rest.now) c.in_ok-operator.ensures.read v (lexemes c.chain-2.new.self.rest.now) c.in_ok-value.ensures.read)
+    (ap (λ (os : List OperandTree). ChainTree (expression_of c.in_ok-first.first) (operands os) (first_line (lexemes c.args.self.now.rest.now))) (sym e)
+    ∙ chain_seen c.in_ok-first-2.first c.put.new.items c.first_line-line.result _ _ (ap expression_of (sym c.in_ok-first-2.ensures)) (sym c.first_line-line.ensures))
+
+pub base-returns-in_err-name-clause-read : goal.base-returns-in_err-name-clause-read
+base-returns-in_err-name-clause-read t c =
+    let p = err_from_is_err_and c.from_residual.result c.from_residual.ensures.1 in
+    rw (p.1, p.2) (call_name_fails c.args.levels c.args.ternaries (lexemes c.args.self.now.rest.now) (sym c.two_begin.ensures ∙ c.if-two_begin.true) c.in_err-name.field-0.0 c.in_err-name.ensures.read)
+
+pub base-returns-in_err-arguments-clause-read : goal.base-returns-in_err-arguments-clause-read
+base-returns-in_err-arguments-clause-read t c =
+    let p = err_from_is_err_and c.from_residual-in_err-arguments.result c.from_residual-in_err-arguments.ensures.1 in
+    rw (p.1, p.2) (call_arguments_fail c.args.levels c.args.ternaries (lexemes c.args.self.now.rest.now) (sym c.two_begin.ensures ∙ c.if-two_begin.true) (lexeme_of c.in_ok-name.name) (lexemes c.take.new.self.rest.now) c.in_err-arguments.field-0.0 c.in_ok-name.ensures.read c.in_err-arguments.ensures.read)
+
+pub base-returns-in_err-levels-clause-read : goal.base-returns-in_err-levels-clause-read
+base-returns-in_err-levels-clause-read t c =
+    let p = err_from_is_err_and c.from_residual-in_err-levels.result c.from_residual-in_err-levels.ensures.1 in
+    rw (p.1, p.2) (group_opening_fails c.args.levels c.args.ternaries (lexemes c.args.self.now.rest.now) (sym c.two_begin.ensures ∙ c.if-two_begin.false) (sym c.begins.ensures ∙ c.if-begins.false) (sym c.begins-else-begins.ensures ∙ c.if-begins-2.true) c.in_err-levels.field-0.0 c.in_err-levels.ensures.read)
+
+pub base-returns-in_err-inner-clause-read : goal.base-returns-in_err-inner-clause-read
+base-returns-in_err-inner-clause-read t c =
+    let p = err_from_is_err_and c.from_residual-in_err-inner.result c.from_residual-in_err-inner.ensures.1 in
+    rw (p.1, p.2) (group_inner_fails c.args.levels c.args.ternaries (lexemes c.args.self.now.rest.now) (sym c.two_begin.ensures ∙ c.if-two_begin.false) (sym c.begins.ensures ∙ c.if-begins.false) (sym c.begins-else-begins.ensures ∙ c.if-begins-2.true) (lexeme_of c.in_ok-levels.field-0-0) c.in_ok-levels.levels (lexemes c.enter.new.self.rest.now) c.in_ok-levels.ensures.read c.in_err-inner.field-0.0 c.in_err-inner.ensures.read)
+
+pub base-returns-in_err-closed-clause-read : goal.base-returns-in_err-closed-clause-read
+base-returns-in_err-closed-clause-read t c =
+    let p = err_from_is_err_and c.from_residual-in_err-closed.result c.from_residual-in_err-closed.ensures.1 in
+    rw (p.1, p.2) (group_close_fails c.args.levels c.args.ternaries (lexemes c.args.self.now.rest.now) (sym c.two_begin.ensures ∙ c.if-two_begin.false) (sym c.begins.ensures ∙ c.if-begins.false) (sym c.begins-else-begins.ensures ∙ c.if-begins-2.true) (lexeme_of c.in_ok-levels.field-0-0) c.in_ok-levels.levels (lexemes c.enter.new.self.rest.now) c.in_ok-levels.ensures.read (expression_of c.in_ok-inner.inner) (lexemes c.ternary.new.self.rest.now) c.in_ok-inner.ensures.read c.in_err-closed.field-0.0 c.in_err-closed.ensures.read)
+
+pub base-returns-in_ok-closed-clause-read : goal.base-returns-in_ok-closed-clause-read
+base-returns-in_ok-closed-clause-read t c = returned _ _ _ _
+    (group_reads c.args.levels c.args.ternaries (lexemes c.args.self.now.rest.now) (sym c.two_begin.ensures ∙ c.if-two_begin.false) (sym c.begins.ensures ∙ c.if-begins.false) (sym c.begins-else-begins.ensures ∙ c.if-begins-2.true) (lexeme_of c.in_ok-levels.field-0-0) c.in_ok-levels.levels (lexemes c.enter.new.self.rest.now) c.in_ok-levels.ensures.read (expression_of c.in_ok-inner.inner) (lexemes c.ternary.new.self.rest.now) c.in_ok-inner.ensures.read _ (lexemes c.closed.new.self.rest.now) c.in_ok-closed.ensures.read)
+    (ap expression_of (sym c.in_ok-closed.ensures.same))
+
+pub base-returns-then-begins-clause-read : goal.base-returns-then-begins-clause-read
+base-returns-then-begins-clause-read t c = rw (atom_name c.args.levels c.args.ternaries (lexemes c.args.self.now.rest.now) (sym c.two_begin.ensures ∙ c.if-two_begin.false) (sym c.begins.ensures ∙ c.if-begins.true)) c.name.ensures.read
+
+pub base-returns-then-begins-3-clause-read : goal.base-returns-then-begins-3-clause-read
+base-returns-then-begins-3-clause-read t c = rw (atom_list c.args.levels c.args.ternaries (lexemes c.args.self.now.rest.now) (sym c.two_begin.ensures ∙ c.if-two_begin.false) (sym c.begins.ensures ∙ c.if-begins.false) (sym c.begins-else-begins.ensures ∙ c.if-begins-2.false) (sym c.begins-else-begins-2.ensures ∙ c.if-begins-3.true)) c.list.ensures.read
+
+pub base-returns-then-begins-4-clause-read : goal.base-returns-then-begins-4-clause-read
+base-returns-then-begins-4-clause-read t c = rw (atom_dictionary c.args.levels c.args.ternaries (lexemes c.args.self.now.rest.now) (sym c.two_begin.ensures ∙ c.if-two_begin.false) (sym c.begins.ensures ∙ c.if-begins.false) (sym c.begins-else-begins.ensures ∙ c.if-begins-2.false) (sym c.begins-else-begins-2.ensures ∙ c.if-begins-3.false) (sym c.begins-else-begins-3.ensures ∙ c.if-begins-4.true)) c.dictionary.ensures.read
+
+pub base-returns-else-begins-4-clause-read : goal.base-returns-else-begins-4-clause-read
+base-returns-else-begins-4-clause-read t c = rw (atom_literal c.args.levels c.args.ternaries (lexemes c.args.self.now.rest.now) (sym c.two_begin.ensures ∙ c.if-two_begin.false) (sym c.begins.ensures ∙ c.if-begins.false) (sym c.begins-else-begins.ensures ∙ c.if-begins-2.false) (sym c.begins-else-begins-2.ensures ∙ c.if-begins-3.false) (sym c.begins-else-begins-3.ensures ∙ c.if-begins-4.false)) c.literal.ensures.read
+
+pub link-returns-in_err-take-clause-read : goal.link-returns-in_err-take-clause-read
+link-returns-in_err-take-clause-read t c =
+    let p = err_from_is_err_and c.from_residual.result c.from_residual.ensures.1 in
+    rw (p.1, p.2) (dot_fails c.args.levels c.args.ternaries (lexemes c.args.self.now.rest.now) (sym c.begins.ensures ∙ c.if-begins.true) c.in_err-take.field-0.0 c.in_err-take.ensures.read)
+
+pub link-returns-in_err-name-clause-read : goal.link-returns-in_err-name-clause-read
+link-returns-in_err-name-clause-read t c =
+    let p = err_from_is_err_and c.from_residual-in_err-name.result c.from_residual-in_err-name.ensures.1 in
+    rw (p.1, p.2) (method_name_fails c.args.levels c.args.ternaries (lexemes c.args.self.now.rest.now) (sym c.begins.ensures ∙ c.if-begins.true) (lexeme_of c.in_ok-take.field-0) (lexemes c.take.new.self.rest.now) c.in_ok-take.ensures.read c.in_err-name.field-0.0 c.in_err-name.ensures.read)
+
+pub link-returns-in_err-arguments-clause-read : goal.link-returns-in_err-arguments-clause-read
+link-returns-in_err-arguments-clause-read t c =
+    let p = err_from_is_err_and c.from_residual-in_err-arguments.result c.from_residual-in_err-arguments.ensures.1 in
+    rw (p.1, p.2) (method_arguments_fail c.args.levels c.args.ternaries (lexemes c.args.self.now.rest.now) (sym c.begins.ensures ∙ c.if-begins.true) (lexeme_of c.in_ok-take.field-0) (lexemes c.take.new.self.rest.now) c.in_ok-take.ensures.read (lexeme_of c.in_ok-name.name) (lexemes c.take-then-begins.new.self.rest.now) c.in_err-arguments.field-0.0 c.in_ok-name.ensures.read c.in_err-arguments.ensures.read)
+
+pub link-returns-in_err-levels-clause-read : goal.link-returns-in_err-levels-clause-read
+link-returns-in_err-levels-clause-read t c =
+    let p = err_from_is_err_and c.from_residual-in_err-levels.result c.from_residual-in_err-levels.ensures.1 in
+    rw (p.1, p.2) (index_opening_fails c.args.levels c.args.ternaries (lexemes c.args.self.now.rest.now) (sym c.begins.ensures ∙ c.if-begins.false) c.in_err-levels.field-0.0 c.in_err-levels.ensures.read)
+
+pub link-returns-in_err-index-clause-read : goal.link-returns-in_err-index-clause-read
+link-returns-in_err-index-clause-read t c =
+    let p = err_from_is_err_and c.from_residual-in_err-index.result c.from_residual-in_err-index.ensures.1 in
+    rw (p.1, p.2) (index_inner_fails c.args.levels c.args.ternaries (lexemes c.args.self.now.rest.now) (sym c.begins.ensures ∙ c.if-begins.false) (lexeme_of c.in_ok-levels.field-0-0) c.in_ok-levels.levels (lexemes c.enter.new.self.rest.now) c.in_ok-levels.ensures.read c.in_err-index.field-0.0 c.in_err-index.ensures.read)
+
+pub link-returns-in_err-index-2-clause-read : goal.link-returns-in_err-index-2-clause-read
+link-returns-in_err-index-2-clause-read t c =
+    let p = err_from_is_err_and c.from_residual-in_err-index-2.result c.from_residual-in_err-index-2.ensures.1 in
+    rw (p.1, p.2) (index_close_fails c.args.levels c.args.ternaries (lexemes c.args.self.now.rest.now) (sym c.begins.ensures ∙ c.if-begins.false) (lexeme_of c.in_ok-levels.field-0-0) c.in_ok-levels.levels (lexemes c.enter.new.self.rest.now) c.in_ok-levels.ensures.read (expression_of c.in_ok-index.index) (lexemes c.ternary.new.self.rest.now) c.in_err-index-2.field-0.0 c.in_ok-index.ensures.read c.in_err-index-2.ensures.read)

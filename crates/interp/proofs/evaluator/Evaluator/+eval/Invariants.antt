@@ -8,6 +8,7 @@ use Rattle.world.specs.Deed.{Files}
 use Rattle.world.specs.Gives.{Holds}
 use Rattle.world.specs.Plan.{next, ruled}
 use Rattle.expressions.specs.Contexts.{Leads, Same, stand_of}
+use Rattle.interp.specs.Bounds.{Bounds}
 use Rattle.interp.specs.Evaluates.{Reads}
 use Rattle.interp.specs.Expressions.{value_of, values_of, entries_of, arguments_of, links_of, chain_of}
 use Rattle.expressions.specs.Forms.{listed, paired}
@@ -57,7 +58,7 @@ invariant-list-loop-item g l =
       same : Same l.fn.self.context l.self.context;
       tree : (see l.self.context.tree.now).failures ≡ (see l.fn.self.context.tree.now).failures;
       out : (heard l.self.context.out.now).failures ≡ (heard l.fn.self.context.out.now).failures;
-      done : (files : Files) (left : ℕ) (ts : List ExpressionTree) → Holds (see l.fn.self.context.tree.now) files → Reads ts l.code l.fn.self.context.store.now.names
+      done : (files : Files) (left : Bounds) (ts : List ExpressionTree) → Holds (see l.fn.self.context.tree.now) files → Reads ts l.code l.fn.self.context.store.now.names
           → Leads files (value_of (folder left) (ListTree (expressions (map (tree_at ts) l.fn.items)) l.fn.line)) (stand_of see heard l.fn.self.context)
           (next (values_of (folder left) (items_of l.values.items) (expressions (map (tree_at ts) (drop l.item-index l.items)))) (listed l.line)) (stand_of see heard l.self.context);
     }
@@ -70,7 +71,7 @@ invariant-dictionary-loop-entry g l =
       same : Same l.fn.self.context l.self.context;
       tree : (see l.self.context.tree.now).failures ≡ (see l.fn.self.context.tree.now).failures;
       out : (heard l.self.context.out.now).failures ≡ (heard l.fn.self.context.out.now).failures;
-      done : (files : Files) (left : ℕ) (ts : List ExpressionTree) → Holds (see l.fn.self.context.tree.now) files → Reads ts l.code l.fn.self.context.store.now.names
+      done : (files : Files) (left : Bounds) (ts : List ExpressionTree) → Holds (see l.fn.self.context.tree.now) files → Reads ts l.code l.fn.self.context.store.now.names
           → Leads files (value_of (folder left) (DictionaryTree (entries (map (entry_at ts) l.fn.entries)) l.fn.line)) (stand_of see heard l.fn.self.context)
           (next (entries_of (folder left) (pairs_of l.pairs.items) (entries (map (entry_at ts) (drop l.entry-index l.entries)))) (paired l.line)) (stand_of see heard l.self.context);
     }
@@ -83,7 +84,7 @@ invariant-arguments-loop-argument g l =
       same : Same l.fn.self.context l.self.context;
       tree : (see l.self.context.tree.now).failures ≡ (see l.fn.self.context.tree.now).failures;
       out : (heard l.self.context.out.now).failures ≡ (heard l.fn.self.context.out.now).failures;
-      done : (files : Files) (left : ℕ) (ts : List ExpressionTree) → Holds (see l.fn.self.context.tree.now) files → Reads ts l.code l.fn.self.context.store.now.names
+      done : (files : Files) (left : Bounds) (ts : List ExpressionTree) → Holds (see l.fn.self.context.tree.now) files → Reads ts l.code l.fn.self.context.store.now.names
           → Leads files (arguments_of (folder left) no_arguments (arguments (map (argument_at ts) l.fn.arguments))) (stand_of see heard l.fn.self.context) (arguments_of (folder left) (arguments_data l.evaluated) (arguments (map (argument_at ts) (drop l.argument-index l.arguments)))) (stand_of see heard l.self.context);
     }
 
@@ -95,7 +96,7 @@ invariant-asked-loop-link g l =
       same : Same l.fn.self.context l.self.context;
       tree : (see l.self.context.tree.now).failures ≡ (see l.fn.self.context.tree.now).failures;
       out : (heard l.self.context.out.now).failures ≡ (heard l.fn.self.context.out.now).failures;
-      done : (files : Files) (left : ℕ) (ts : List ExpressionTree) → Holds (see l.fn.self.context.tree.now) files → Reads ts l.code l.fn.self.context.store.now.names
+      done : (files : Files) (left : Bounds) (ts : List ExpressionTree) → Holds (see l.fn.self.context.tree.now) files → Reads ts l.code l.fn.self.context.store.now.names
           → Leads files (next (ruled (value_of (folder left) (tree_at ts l.fn.first))) (λ d. links_of (folder left) l.fn.line (Some d) (links (map (link_at ts) l.fn.links)))) (stand_of see heard l.fn.self.context) (links_of (folder left) l.line (option_map data_of l.given) (links (map (link_at ts) (drop l.link-index l.links)))) (stand_of see heard l.self.context);
     }
 
@@ -107,6 +108,6 @@ invariant-chain-loop-operand g l =
       same : Same l.fn.self.context l.self.context;
       tree : (see l.self.context.tree.now).failures ≡ (see l.fn.self.context.tree.now).failures;
       out : (heard l.self.context.out.now).failures ≡ (heard l.fn.self.context.out.now).failures;
-      done : (files : Files) (left : ℕ) (ts : List ExpressionTree) → Holds (see l.fn.self.context.tree.now) files → Reads ts l.code l.fn.self.context.store.now.names
+      done : (files : Files) (left : Bounds) (ts : List ExpressionTree) → Holds (see l.fn.self.context.tree.now) files → Reads ts l.code l.fn.self.context.store.now.names
           → Leads files (value_of (folder left) (ChainTree (tree_at ts l.fn.first) (operands (map (operand_at ts) l.fn.others)) l.fn.line)) (stand_of see heard l.fn.self.context) (chain_of (folder left) l.line (data_of l.value) (operands (map (operand_at ts) (drop l.operand-index l.others)))) (stand_of see heard l.self.context);
     }

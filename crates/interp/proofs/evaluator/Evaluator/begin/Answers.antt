@@ -13,6 +13,7 @@ use Rattle.code.proofs.Trees.{both_true, less}
 use Rattle.data.specs.Data.{Data}
 use Rattle.grammar.specs.Tree.{StatementTree, branches}
 use Rattle.world.specs.Plan.{give, next, ruled}
+use Rattle.interp.specs.Bounds.{bounds}
 use Rattle.interp.specs.Blocks.{block_by, branch_or, expressions_by, part_of, statements_by}
 use Rattle.interp.specs.Expressions.{value_of}
 use Rattle.interp.specs.Folders.{folder}
@@ -113,144 +114,144 @@ begin_loop-requires-clause-second g c =
     (subst (λ (x : ForeachNode). IsTrue (second_within k x.second)) (sym c.deref-in-Foreach.ensures) q.0)
 
 pub returns-in-Ok-clause-gives : goal.returns-in-Ok-clause-gives
-returns-in-Ok-clause-gives g c = λ files rests table hold stacked made.
+returns-in-Ok-clause-gives g c = λ few files rests table hold stacked made.
     let code = c.args.code.now.value in
     let at = c.index.ensures ∙ ap (λ (d : Code). get_or d.statements.items c.args.number c.index.result.now) c.deref.ensures in
     let node = flat.Assign c.in-Assign.name c.in-Assign.line c.in-Assign.value in
     let tree = spelled table code c.args.number c.index.result.now node c.requires.there at c.in-Assign.is in
-    let whole = ap (λ (t : StatementTree). behind_all rests (does (folder c.args.left) t)) tree in
+    let whole = ap (λ (t : StatementTree). behind_all rests (does (folder (bounds few c.args.left)) few t)) tree in
     let parts = parts_of code c.args.number c.index.result.now node c.requires.there at c.in-Assign.is in
     let m = length code.nodes.items in
     let name = named made c.in-Assign.name (both_true (nat_lt c.in-Assign.name code.names) (nat_lt c.in-Assign.value m) parts).0 in
-    let same = ap (λ (n : List ℕ). next (ruled (value_of (folder c.args.left) (tree_at (expressions_by table code) c.in-Assign.value))) (λ (d : Data). next (own d) (λ (e : Data). next (assigned c.in-Assign.line n e) (λ _. give flows.Next)))) name.1 in
-    moves_as whole (moves_given c.args.stack.now.items rests (Ok c.in-Ok.flow) stacked (given_as same (c.in-Ok.ensures.gives name.0 files c.args.left (expressions_by table code) hold (reads_at c.deref-in-Assign.ensures made)).comes))
+    let same = ap (λ (n : List ℕ). next (ruled (value_of (folder (bounds few c.args.left)) (tree_at (expressions_by table code) c.in-Assign.value))) (λ (d : Data). next (own d) (λ (e : Data). next (assigned c.in-Assign.line n e) (λ _. give flows.Next)))) name.1 in
+    moves_as whole (moves_given c.args.stack.now.items rests (Ok c.in-Ok.flow) stacked (given_as same (c.in-Ok.ensures.gives name.0 files (bounds few c.args.left) (expressions_by table code) hold (reads_at c.deref-in-Assign.ensures made)).comes))
 
 pub returns-in-Err-Stops-clause-gives : goal.returns-in-Err-Stops-clause-gives
-returns-in-Err-Stops-clause-gives g c = λ files rests table hold stacked made.
+returns-in-Err-Stops-clause-gives g c = λ few files rests table hold stacked made.
     let code = c.args.code.now.value in
     let at = c.index.ensures ∙ ap (λ (d : Code). get_or d.statements.items c.args.number c.index.result.now) c.deref.ensures in
     let node = flat.Assign c.in-Assign.name c.in-Assign.line c.in-Assign.value in
     let tree = spelled table code c.args.number c.index.result.now node c.requires.there at c.in-Assign.is in
-    let whole = ap (λ (t : StatementTree). behind_all rests (does (folder c.args.left) t)) tree in
+    let whole = ap (λ (t : StatementTree). behind_all rests (does (folder (bounds few c.args.left)) few t)) tree in
     let parts = parts_of code c.args.number c.index.result.now node c.requires.there at c.in-Assign.is in
     let m = length code.nodes.items in
     let name = named made c.in-Assign.name (both_true (nat_lt c.in-Assign.name code.names) (nat_lt c.in-Assign.value m) parts).0 in
-    let same = ap (λ (n : List ℕ). next (ruled (value_of (folder c.args.left) (tree_at (expressions_by table code) c.in-Assign.value))) (λ (d : Data). next (own d) (λ (e : Data). next (assigned c.in-Assign.line n e) (λ _. give flows.Next)))) name.1 in
-    moves_as whole (moves_given c.args.stack.now.items rests (Err c.in-Err-Stops.stop) stacked (given_as same (halted_stops c.in-Err-Stops.field-0-is (c.in-Err-Stops.ensures.gives name.0 files c.args.left (expressions_by table code) hold (reads_at c.deref-in-Assign.ensures made)))))
+    let same = ap (λ (n : List ℕ). next (ruled (value_of (folder (bounds few c.args.left)) (tree_at (expressions_by table code) c.in-Assign.value))) (λ (d : Data). next (own d) (λ (e : Data). next (assigned c.in-Assign.line n e) (λ _. give flows.Next)))) name.1 in
+    moves_as whole (moves_given c.args.stack.now.items rests (Err c.in-Err-Stops.stop) stacked (given_as same (halted_stops c.in-Err-Stops.field-0-is (c.in-Err-Stops.ensures.gives name.0 files (bounds few c.args.left) (expressions_by table code) hold (reads_at c.deref-in-Assign.ensures made)))))
 
 pub returns-in-Err-Enters-clause-gives : goal.returns-in-Err-Enters-clause-gives
-returns-in-Err-Enters-clause-gives g c = λ files rests table hold stacked made.
+returns-in-Err-Enters-clause-gives g c = λ few files rests table hold stacked made.
     let code = c.args.code.now.value in
     let at = c.index.ensures ∙ ap (λ (d : Code). get_or d.statements.items c.args.number c.index.result.now) c.deref.ensures in
     let node = flat.Assign c.in-Assign.name c.in-Assign.line c.in-Assign.value in
     let tree = spelled table code c.args.number c.index.result.now node c.requires.there at c.in-Assign.is in
-    let whole = ap (λ (t : StatementTree). behind_all rests (does (folder c.args.left) t)) tree in
+    let whole = ap (λ (t : StatementTree). behind_all rests (does (folder (bounds few c.args.left)) few t)) tree in
     let parts = parts_of code c.args.number c.index.result.now node c.requires.there at c.in-Assign.is in
     let m = length code.nodes.items in
     let name = named made c.in-Assign.name (both_true (nat_lt c.in-Assign.name code.names) (nat_lt c.in-Assign.value m) parts).0 in
-    let same = ap (λ (n : List ℕ). next (ruled (value_of (folder c.args.left) (tree_at (expressions_by table code) c.in-Assign.value))) (λ (d : Data). next (own d) (λ (e : Data). next (assigned c.in-Assign.line n e) (λ _. give flows.Next)))) name.1 in
-    let l = leads_other same (halted_enters c.in-Err-Enters.field-0-is (c.in-Err-Enters.ensures.gives name.0 files c.args.left (expressions_by table code) hold (reads_at c.deref-in-Assign.ensures made))) in
+    let same = ap (λ (n : List ℕ). next (ruled (value_of (folder (bounds few c.args.left)) (tree_at (expressions_by table code) c.in-Assign.value))) (λ (d : Data). next (own d) (λ (e : Data). next (assigned c.in-Assign.line n e) (λ _. give flows.Next)))) name.1 in
+    let l = leads_other same (halted_enters c.in-Err-Enters.field-0-is (c.in-Err-Enters.ensures.gives name.0 files (bounds few c.args.left) (expressions_by table code) hold (reads_at c.deref-in-Assign.ensures made))) in
     moves_as whole (moves_then c.enter_inside.result (leads_under rests l)
-    (c.enter_inside.ensures.gives files rests l.holds (stacked_on c.args.stack.now.items rests l.continues.written.names stacked)))
+    (c.enter_inside.ensures.gives few files rests l.holds (stacked_on c.args.stack.now.items rests l.continues.written.names stacked)))
 
 pub returns-in-Ok-append_value-clause-gives : goal.returns-in-Ok-append_value-clause-gives
-returns-in-Ok-append_value-clause-gives g c = λ files rests table hold stacked made.
+returns-in-Ok-append_value-clause-gives g c = λ few files rests table hold stacked made.
     let code = c.args.code.now.value in
     let at = c.index.ensures ∙ ap (λ (d : Code). get_or d.statements.items c.args.number c.index.result.now) c.deref.ensures in
     let node = flat.Append c.in-Append.name c.in-Append.line c.in-Append.value in
     let tree = spelled table code c.args.number c.index.result.now node c.requires.there at c.in-Append.is in
-    let whole = ap (λ (t : StatementTree). behind_all rests (does (folder c.args.left) t)) tree in
+    let whole = ap (λ (t : StatementTree). behind_all rests (does (folder (bounds few c.args.left)) few t)) tree in
     let parts = parts_of code c.args.number c.index.result.now node c.requires.there at c.in-Append.is in
     let m = length code.nodes.items in
     let name = named made c.in-Append.name (both_true (nat_lt c.in-Append.name code.names) (nat_lt c.in-Append.value m) parts).0 in
-    let same = ap (λ (n : List ℕ). next (appended c.in-Append.line n (ruled (value_of (folder c.args.left) (tree_at (expressions_by table code) c.in-Append.value)))) (λ _. give flows.Next)) name.1 in
-    moves_as whole (moves_given c.args.stack.now.items rests (Ok c.in-Ok-append_value.flow) stacked (given_as same (c.in-Ok-append_value.ensures.gives name.0 files c.args.left (expressions_by table code) hold (reads_at c.deref-in-Append.ensures made)).comes))
+    let same = ap (λ (n : List ℕ). next (appended c.in-Append.line n (ruled (value_of (folder (bounds few c.args.left)) (tree_at (expressions_by table code) c.in-Append.value)))) (λ _. give flows.Next)) name.1 in
+    moves_as whole (moves_given c.args.stack.now.items rests (Ok c.in-Ok-append_value.flow) stacked (given_as same (c.in-Ok-append_value.ensures.gives name.0 files (bounds few c.args.left) (expressions_by table code) hold (reads_at c.deref-in-Append.ensures made)).comes))
 
 pub returns-in-Err-Stops-append_value-clause-gives : goal.returns-in-Err-Stops-append_value-clause-gives
-returns-in-Err-Stops-append_value-clause-gives g c = λ files rests table hold stacked made.
+returns-in-Err-Stops-append_value-clause-gives g c = λ few files rests table hold stacked made.
     let code = c.args.code.now.value in
     let at = c.index.ensures ∙ ap (λ (d : Code). get_or d.statements.items c.args.number c.index.result.now) c.deref.ensures in
     let node = flat.Append c.in-Append.name c.in-Append.line c.in-Append.value in
     let tree = spelled table code c.args.number c.index.result.now node c.requires.there at c.in-Append.is in
-    let whole = ap (λ (t : StatementTree). behind_all rests (does (folder c.args.left) t)) tree in
+    let whole = ap (λ (t : StatementTree). behind_all rests (does (folder (bounds few c.args.left)) few t)) tree in
     let parts = parts_of code c.args.number c.index.result.now node c.requires.there at c.in-Append.is in
     let m = length code.nodes.items in
     let name = named made c.in-Append.name (both_true (nat_lt c.in-Append.name code.names) (nat_lt c.in-Append.value m) parts).0 in
-    let same = ap (λ (n : List ℕ). next (appended c.in-Append.line n (ruled (value_of (folder c.args.left) (tree_at (expressions_by table code) c.in-Append.value)))) (λ _. give flows.Next)) name.1 in
-    moves_as whole (moves_given c.args.stack.now.items rests (Err c.in-Err-Stops-append_value.stop) stacked (given_as same (halted_stops c.in-Err-Stops-append_value.field-0-is (c.in-Err-Stops-append_value.ensures.gives name.0 files c.args.left (expressions_by table code) hold (reads_at c.deref-in-Append.ensures made)))))
+    let same = ap (λ (n : List ℕ). next (appended c.in-Append.line n (ruled (value_of (folder (bounds few c.args.left)) (tree_at (expressions_by table code) c.in-Append.value)))) (λ _. give flows.Next)) name.1 in
+    moves_as whole (moves_given c.args.stack.now.items rests (Err c.in-Err-Stops-append_value.stop) stacked (given_as same (halted_stops c.in-Err-Stops-append_value.field-0-is (c.in-Err-Stops-append_value.ensures.gives name.0 files (bounds few c.args.left) (expressions_by table code) hold (reads_at c.deref-in-Append.ensures made)))))
 
 pub returns-in-Err-Enters-append_value-clause-gives : goal.returns-in-Err-Enters-append_value-clause-gives
-returns-in-Err-Enters-append_value-clause-gives g c = λ files rests table hold stacked made.
+returns-in-Err-Enters-append_value-clause-gives g c = λ few files rests table hold stacked made.
     let code = c.args.code.now.value in
     let at = c.index.ensures ∙ ap (λ (d : Code). get_or d.statements.items c.args.number c.index.result.now) c.deref.ensures in
     let node = flat.Append c.in-Append.name c.in-Append.line c.in-Append.value in
     let tree = spelled table code c.args.number c.index.result.now node c.requires.there at c.in-Append.is in
-    let whole = ap (λ (t : StatementTree). behind_all rests (does (folder c.args.left) t)) tree in
+    let whole = ap (λ (t : StatementTree). behind_all rests (does (folder (bounds few c.args.left)) few t)) tree in
     let parts = parts_of code c.args.number c.index.result.now node c.requires.there at c.in-Append.is in
     let m = length code.nodes.items in
     let name = named made c.in-Append.name (both_true (nat_lt c.in-Append.name code.names) (nat_lt c.in-Append.value m) parts).0 in
-    let same = ap (λ (n : List ℕ). next (appended c.in-Append.line n (ruled (value_of (folder c.args.left) (tree_at (expressions_by table code) c.in-Append.value)))) (λ _. give flows.Next)) name.1 in
-    let l = leads_other same (halted_enters c.in-Err-Enters-append_value.field-0-is (c.in-Err-Enters-append_value.ensures.gives name.0 files c.args.left (expressions_by table code) hold (reads_at c.deref-in-Append.ensures made))) in
+    let same = ap (λ (n : List ℕ). next (appended c.in-Append.line n (ruled (value_of (folder (bounds few c.args.left)) (tree_at (expressions_by table code) c.in-Append.value)))) (λ _. give flows.Next)) name.1 in
+    let l = leads_other same (halted_enters c.in-Err-Enters-append_value.field-0-is (c.in-Err-Enters-append_value.ensures.gives name.0 files (bounds few c.args.left) (expressions_by table code) hold (reads_at c.deref-in-Append.ensures made))) in
     moves_as whole (moves_then c.enter_inside-in-Err-Enters-append_value.result (leads_under rests l)
-    (c.enter_inside-in-Err-Enters-append_value.ensures.gives files rests l.holds (stacked_on c.args.stack.now.items rests l.continues.written.names stacked)))
+    (c.enter_inside-in-Err-Enters-append_value.ensures.gives few files rests l.holds (stacked_on c.args.stack.now.items rests l.continues.written.names stacked)))
 
 pub returns-in-Expression-clause-gives : goal.returns-in-Expression-clause-gives
-returns-in-Expression-clause-gives g c = λ files rests table hold stacked made.
+returns-in-Expression-clause-gives g c = λ few files rests table hold stacked made.
     let code = c.args.code.now.value in
     let at = c.index.ensures ∙ ap (λ (d : Code). get_or d.statements.items c.args.number c.index.result.now) c.deref.ensures in
     let node = flat.Expression c.in-Expression.value c.in-Expression.line in
     let tree = spelled table code c.args.number c.index.result.now node c.requires.there at c.in-Expression.is in
-    let whole = ap (λ (t : StatementTree). behind_all rests (does (folder c.args.left) t)) tree in
-    moves_as (ap (λ (d : Code). behind_all rests (stated (folder c.args.left) (tree_at (expressions_by table d) c.in-Expression.value))) c.deref-in-Expression.ensures ∙ whole)
-    (c.state.ensures.gives files rests table hold stacked (made_as (sym c.deref-in-Expression.ensures) made))
+    let whole = ap (λ (t : StatementTree). behind_all rests (does (folder (bounds few c.args.left)) few t)) tree in
+    moves_as (ap (λ (d : Code). behind_all rests (stated (folder (bounds few c.args.left)) (tree_at (expressions_by table d) c.in-Expression.value))) c.deref-in-Expression.ensures ∙ whole)
+    (c.state.ensures.gives few files rests table hold stacked (made_as (sym c.deref-in-Expression.ensures) made))
 
 pub returns-in-Break-clause-gives : goal.returns-in-Break-clause-gives
-returns-in-Break-clause-gives g c = λ files rests table hold stacked made.
+returns-in-Break-clause-gives g c = λ few files rests table hold stacked made.
     let code = c.args.code.now.value in
     let at = c.index.ensures ∙ ap (λ (d : Code). get_or d.statements.items c.args.number c.index.result.now) c.deref.ensures in
     let node = flat.Break c.in-Break.line in
     let tree = spelled table code c.args.number c.index.result.now node c.requires.there at c.in-Break.is in
-    let whole = ap (λ (t : StatementTree). behind_all rests (does (folder c.args.left) t)) tree in
+    let whole = ap (λ (t : StatementTree). behind_all rests (does (folder (bounds few c.args.left)) few t)) tree in
     moves_as whole (moves_given c.args.stack.now.items rests (Ok flows.Broken) stacked (given_give hold refl))
 
 pub returns-in-Continue-clause-gives : goal.returns-in-Continue-clause-gives
-returns-in-Continue-clause-gives g c = λ files rests table hold stacked made.
+returns-in-Continue-clause-gives g c = λ few files rests table hold stacked made.
     let code = c.args.code.now.value in
     let at = c.index.ensures ∙ ap (λ (d : Code). get_or d.statements.items c.args.number c.index.result.now) c.deref.ensures in
     let node = flat.Continue c.in-Continue.line in
     let tree = spelled table code c.args.number c.index.result.now node c.requires.there at c.in-Continue.is in
-    let whole = ap (λ (t : StatementTree). behind_all rests (does (folder c.args.left) t)) tree in
+    let whole = ap (λ (t : StatementTree). behind_all rests (does (folder (bounds few c.args.left)) few t)) tree in
     moves_as whole (moves_given c.args.stack.now.items rests (Ok flows.Continued) stacked (given_give hold refl))
 
 pub returns-in-If-clause-gives : goal.returns-in-If-clause-gives
-returns-in-If-clause-gives g c = λ files rests table hold stacked made.
+returns-in-If-clause-gives g c = λ few files rests table hold stacked made.
     let code = c.args.code.now.value in
     let at = c.index.ensures ∙ ap (λ (d : Code). get_or d.statements.items c.args.number c.index.result.now) c.deref.ensures in
     let node = flat.If c.in-If.node in
     let tree = spelled table code c.args.number c.index.result.now node c.requires.there at c.in-If.is in
-    let whole = ap (λ (t : StatementTree). behind_all rests (does (folder c.args.left) t)) tree in
+    let whole = ap (λ (t : StatementTree). behind_all rests (does (folder (bounds few c.args.left)) few t)) tree in
     let is = node_is code c.args.number c.index.result.now node c.requires.there at c.in-If.is in
     let otherwise = c.in-If.node.value.otherwise.items in
     let opened = c.deref-in-If-2.ensures.value ∙ ap (λ (x : IfNode). x.branches.items) c.deref-in-If.ensures in
     let same = λ (part : ℕ). ap (λ (x : StatementNode). part_of x part) is ∙ ap (λ (bs : List BranchNode). branch_or otherwise bs part) (sym opened) in
-    moves_as (ap (λ (bs : List BranchNode). behind_all rests (branches_of (folder c.args.left) (branches (map (branch_at (expressions_by table code) (statements_by table code)) bs))
-    (do_all (folder c.args.left) (block_by table code otherwise)))) opened ∙ whole)
-    (c.begin_branch.ensures.gives otherwise same files rests table hold stacked made)
+    moves_as (ap (λ (bs : List BranchNode). behind_all rests (branches_of (folder (bounds few c.args.left)) few (branches (map (branch_at (expressions_by table code) (statements_by table code)) bs))
+    (do_all (folder (bounds few c.args.left)) few (block_by table code otherwise)))) opened ∙ whole)
+    (c.begin_branch.ensures.gives few otherwise same files rests table hold stacked made)
 
 pub returns-in-Foreach-clause-gives : goal.returns-in-Foreach-clause-gives
-returns-in-Foreach-clause-gives g c = λ files rests table hold stacked made.
+returns-in-Foreach-clause-gives g c = λ few files rests table hold stacked made.
     let code = c.args.code.now.value in
     let at = c.index.ensures ∙ ap (λ (d : Code). get_or d.statements.items c.args.number c.index.result.now) c.deref.ensures in
     let node = flat.Foreach c.in-Foreach.node in
     let tree = spelled table code c.args.number c.index.result.now node c.requires.there at c.in-Foreach.is in
-    let whole = ap (λ (t : StatementTree). behind_all rests (does (folder c.args.left) t)) tree in
+    let whole = ap (λ (t : StatementTree). behind_all rests (does (folder (bounds few c.args.left)) few t)) tree in
     let is = node_is code c.args.number c.index.result.now node c.requires.there at c.in-Foreach.is in
     let l = c.in-Foreach.node.value in
-    moves_as (ap (λ (h : LoopHead). behind_all rests (next (ruled (value_of (folder c.args.left) (tree_at (expressions_by table code) c.deref-in-Foreach.result.now.list)))
-    (λ d. walked h.line (round_by table code c.args.left h) (looped (option_map (name_at table) h.second) d)))) c.loop_head-head.ensures
-    ∙ ap (λ (x : ForeachNode). behind_all rests (next (ruled (value_of (folder c.args.left) (tree_at (expressions_by table code) x.list)))
-    (λ d. walked x.line (round_by table code c.args.left record { line = x.line; first = x.first; second = x.second; body = Part c.args.number 0 })
+    moves_as (ap (λ (h : LoopHead). behind_all rests (next (ruled (value_of (folder (bounds few c.args.left)) (tree_at (expressions_by table code) c.deref-in-Foreach.result.now.list)))
+    (λ d. walked few h.line (round_by table code (bounds few c.args.left) h) (looped (option_map (name_at table) h.second) d)))) c.loop_head-head.ensures
+    ∙ ap (λ (x : ForeachNode). behind_all rests (next (ruled (value_of (folder (bounds few c.args.left)) (tree_at (expressions_by table code) x.list)))
+    (λ d. walked few x.line (round_by table code (bounds few c.args.left) record { line = x.line; first = x.first; second = x.second; body = Part c.args.number 0 })
     (looped (option_map (name_at table) x.second) d)))) c.deref-in-Foreach.ensures
-    ∙ ap (λ (ns : List ℕ). behind_all rests (next (ruled (value_of (folder c.args.left) (tree_at (expressions_by table code) l.list)))
-    (λ d. walked l.line (one_round c.args.left l.line (name_at table l.first) (option_map (name_at table) l.second) (block_by table code ns)) (looped (option_map (name_at table) l.second) d)))) (ap (λ (x : StatementNode). part_of x 0) is) ∙ whole)
-    (c.begin_loop.ensures.gives files rests table hold stacked made)
+    ∙ ap (λ (ns : List ℕ). behind_all rests (next (ruled (value_of (folder (bounds few c.args.left)) (tree_at (expressions_by table code) l.list)))
+    (λ d. walked few l.line (one_round (bounds few c.args.left) l.line (name_at table l.first) (option_map (name_at table) l.second) (block_by table code ns)) (looped (option_map (name_at table) l.second) d)))) (ap (λ (x : StatementNode). part_of x 0) is) ∙ whole)
+    (c.begin_loop.ensures.gives few files rests table hold stacked made)

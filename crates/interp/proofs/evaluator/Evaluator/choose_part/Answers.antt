@@ -16,38 +16,38 @@ loop-part-init g c = record { same = (refl, (refl, (refl, refl))); tree = refl; 
 
 pub returns-in_err-value-clause-gives : goal.returns-in_err-value-clause-gives
 returns-in_err-value-clause-gives g c = λ files ts ss left otherwise hold reads.
-    let l = leads_as (ap (λ (x : Branches). branches_of (folder left) x (do_all (folder left) otherwise))
+    let l = leads_as (ap (λ (x : Branches). branches_of (folder left) left.few x (do_all (folder left) left.few otherwise))
     (branch_next ts ss c.args.parts.now c.loop-part.part c.index-parts-part.result c.loop-part-test.true c.index-parts-part.is)) (c.loop-part.invariant.done files ts ss left otherwise hold reads) in
-    chooses_halt (part_done (folder left) (branches (map (branch_at ts ss) c.args.parts.now)) otherwise) c.from_residual.result c.from_residual.ensures.1 l
+    chooses_halt (part_done (folder left) left.few (branches (map (branch_at ts ss) c.args.parts.now)) otherwise) c.from_residual.result c.from_residual.ensures.1 l
     (c.in_err-value.ensures.gives files left ts l.holds (reads_on reads l.continues.written.names))
 
 pub returns-in_err-choose-clause-gives : goal.returns-in_err-choose-clause-gives
 returns-in_err-choose-clause-gives g c = λ files ts ss left otherwise hold reads.
-    let l = leads_as (ap (λ (x : Branches). branches_of (folder left) x (do_all (folder left) otherwise))
+    let l = leads_as (ap (λ (x : Branches). branches_of (folder left) left.few x (do_all (folder left) left.few otherwise))
     (branch_next ts ss c.args.parts.now c.loop-part.part c.index-parts-part.result c.loop-part-test.true c.index-parts-part.is)) (c.loop-part.invariant.done files ts ss left otherwise hold reads) in
     let e = (c.in_ok-value.ensures.gives files left ts l.holds (reads_on reads l.continues.written.names)).comes in
     let m = leads_further l (leads_next e) in
-    chooses_refused left (part_done (folder left) (branches (map (branch_at ts ss) c.args.parts.now)) otherwise) c.from_residual-in_err-choose.result c.from_residual-in_err-choose.ensures.1 m
+    chooses_refused left (part_done (folder left) left.few (branches (map (branch_at ts ss) c.args.parts.now)) otherwise) c.from_residual-in_err-choose.result c.from_residual-in_err-choose.ensures.1 m
     (c.in_err-choose.ensures.gives files e.holds)
 
 pub returns-in-Body-clause-gives : goal.returns-in-Body-clause-gives
 returns-in-Body-clause-gives g c = λ files ts ss left otherwise hold reads.
-    let l = leads_as (ap (λ (x : Branches). branches_of (folder left) x (do_all (folder left) otherwise))
+    let l = leads_as (ap (λ (x : Branches). branches_of (folder left) left.few x (do_all (folder left) left.few otherwise))
     (branch_next ts ss c.args.parts.now c.loop-part.part c.index-parts-part.result c.loop-part-test.true c.index-parts-part.is)) (c.loop-part.invariant.done files ts ss left otherwise hold reads) in
     let e = (c.in_ok-value.ensures.gives files left ts l.holds (reads_on reads l.continues.written.names)).comes in
     let m = leads_further l (leads_next e) in
     let n = leads_further m (leads_next (c.in_ok-choose.ensures.gives files e.holds)) in
-    let k = leads_as (ap (λ (x : Choice). by_choice x (do_all (folder left) (statements (map (statement_at ss) c.index-parts-part.result.body.items))) (branches_of (folder left) (branches (map (branch_at ts ss) (drop (c.loop-part.part + 1) c.args.parts.now))) (do_all (folder left) otherwise))) c.in-Body.is) n in
-    leads_as (sym (part_there (folder left) ts ss otherwise c.args.parts.now c.loop-part.part c.index-parts-part.result c.loop-part-test.true)) (leads_as (ap (λ (b : BranchNode). do_all (folder left) (statements (map (statement_at ss) b.body.items))) c.index-parts-part.is) k)
+    let k = leads_as (ap (λ (x : Choice). by_choice x (do_all (folder left) left.few (statements (map (statement_at ss) c.index-parts-part.result.body.items))) (branches_of (folder left) left.few (branches (map (branch_at ts ss) (drop (c.loop-part.part + 1) c.args.parts.now))) (do_all (folder left) left.few otherwise))) c.in-Body.is) n in
+    leads_as (sym (part_there (folder left) left.few ts ss otherwise c.args.parts.now c.loop-part.part c.index-parts-part.result c.loop-part-test.true)) (leads_as (ap (λ (b : BranchNode). do_all (folder left) left.few (statements (map (statement_at ss) b.body.items))) c.index-parts-part.is) k)
 
 pub returns-in-Skip-clause-gives : goal.returns-in-Skip-clause-gives
 returns-in-Skip-clause-gives g c = λ files ts ss left otherwise hold reads.
-    let l = leads_as (ap (λ (x : Branches). branches_of (folder left) x (do_all (folder left) otherwise))
+    let l = leads_as (ap (λ (x : Branches). branches_of (folder left) left.few x (do_all (folder left) left.few otherwise))
     (branch_next ts ss c.args.parts.now c.loop-part.part c.index-parts-part.result c.loop-part-test.true c.index-parts-part.is)) (c.loop-part.invariant.done files ts ss left otherwise hold reads) in
     let e = (c.in_ok-value.ensures.gives files left ts l.holds (reads_on reads l.continues.written.names)).comes in
     let m = leads_further l (leads_next e) in
     let n = leads_further m (leads_next (c.in_ok-choose.ensures.gives files e.holds)) in
-    let k = leads_as (ap (λ (x : Choice). by_choice x (do_all (folder left) (statements (map (statement_at ss) c.index-parts-part.result.body.items))) (branches_of (folder left) (branches (map (branch_at ts ss) (drop (c.loop-part.part + 1) c.args.parts.now))) (do_all (folder left) otherwise))) c.in-Skip.is) n in
+    let k = leads_as (ap (λ (x : Choice). by_choice x (do_all (folder left) left.few (statements (map (statement_at ss) c.index-parts-part.result.body.items))) (branches_of (folder left) left.few (branches (map (branch_at ts ss) (drop (c.loop-part.part + 1) c.args.parts.now))) (do_all (folder left) left.few otherwise))) c.in-Skip.is) n in
     k
 
 pub loop-part-preserved : goal.loop-part-preserved
@@ -56,16 +56,16 @@ loop-part-preserved g c = record {
   tree = search rules;
   out = search rules;
   done = λ files ts ss left otherwise hold reads.
-      let l = leads_as (ap (λ (x : Branches). branches_of (folder left) x (do_all (folder left) otherwise))
+      let l = leads_as (ap (λ (x : Branches). branches_of (folder left) left.few x (do_all (folder left) left.few otherwise))
       (branch_next ts ss c.args.parts.now c.loop-part.part c.index-parts-part.result c.loop-part-test.true c.index-parts-part.is)) (c.loop-part.invariant.done files ts ss left otherwise hold reads) in
       let e = (c.in_ok-value.ensures.gives files left ts l.holds (reads_on reads l.continues.written.names)).comes in
       let m = leads_further l (leads_next e) in
       let n = leads_further m (leads_next (c.in_ok-choose.ensures.gives files e.holds)) in
-      let k = leads_as (ap (λ (x : Choice). by_choice x (do_all (folder left) (statements (map (statement_at ss) c.index-parts-part.result.body.items))) (branches_of (folder left) (branches (map (branch_at ts ss) (drop (c.loop-part.part + 1) c.args.parts.now))) (do_all (folder left) otherwise))) c.in-Others.is) n in
+      let k = leads_as (ap (λ (x : Choice). by_choice x (do_all (folder left) left.few (statements (map (statement_at ss) c.index-parts-part.result.body.items))) (branches_of (folder left) left.few (branches (map (branch_at ts ss) (drop (c.loop-part.part + 1) c.args.parts.now))) (do_all (folder left) left.few otherwise))) c.in-Others.is) n in
       k;
 }
 
 pub returns-clause-gives : goal.returns-clause-gives
 returns-clause-gives g c = λ files ts ss left otherwise hold reads.
-    leads_as (ap (λ (bs : List BranchNode). branches_of (folder left) (branches (map (branch_at ts ss) bs)) (do_all (folder left) otherwise)) (drop_all c.args.parts.now c.loop-part.part c.loop-part-test.false)
-    ∙ sym (part_behind (folder left) ts ss otherwise c.args.parts.now (length c.args.parts.now) (omega arith))) (c.loop-part.invariant.done files ts ss left otherwise hold reads)
+    leads_as (ap (λ (bs : List BranchNode). branches_of (folder left) left.few (branches (map (branch_at ts ss) bs)) (do_all (folder left) left.few otherwise)) (drop_all c.args.parts.now c.loop-part.part c.loop-part-test.false)
+    ∙ sym (part_behind (folder left) left.few ts ss otherwise c.args.parts.now (length c.args.parts.now) (omega arith))) (c.loop-part.invariant.done files ts ss left otherwise hold reads)

@@ -4,6 +4,7 @@ use Rattle.grammar.specs.ExpressionTree.{ExpressionTree}
 use Rattle.grammar.specs.Tree.{StatementTree, Statements, branches}
 use Rattle.world.specs.Deed.{Files}
 use Rattle.world.specs.Gives.{Holds}
+use Rattle.interp.specs.Bounds.{Bounds}
 use Rattle.interp.specs.Evaluates.{Reads}
 use Rattle.expressions.specs.Contexts.{Same, stand_of, Leads}
 use Rattle.interp.specs.Folders.{folder}
@@ -19,6 +20,6 @@ invariant-loop-part g l =
       same : Same l.fn.self.context l.self.context;
       tree : (see l.self.context.tree.now).failures ≡ (see l.fn.self.context.tree.now).failures;
       out : (heard l.self.context.out.now).failures ≡ (heard l.fn.self.context.out.now).failures;
-      done : (files : Files) (ts : List ExpressionTree) (ss : List StatementTree) (left : ℕ) (otherwise : Statements) → Holds (see l.fn.self.context.tree.now) files → Reads ts l.code l.fn.self.context.store.now.names
-          → Leads files (branches_of (folder left) (branches (map (branch_at ts ss) l.fn.parts)) (do_all (folder left) otherwise)) (stand_of see heard l.fn.self.context) (branches_of (folder left) (branches (map (branch_at ts ss) (drop l.part l.parts))) (do_all (folder left) otherwise)) (stand_of see heard l.self.context);
+      done : (files : Files) (ts : List ExpressionTree) (ss : List StatementTree) (left : Bounds) (otherwise : Statements) → Holds (see l.fn.self.context.tree.now) files → Reads ts l.code l.fn.self.context.store.now.names
+          → Leads files (branches_of (folder left) left.few (branches (map (branch_at ts ss) l.fn.parts)) (do_all (folder left) left.few otherwise)) (stand_of see heard l.fn.self.context) (branches_of (folder left) left.few (branches (map (branch_at ts ss) (drop l.part l.parts))) (do_all (folder left) left.few otherwise)) (stand_of see heard l.self.context);
     }

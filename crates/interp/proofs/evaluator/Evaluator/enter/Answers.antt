@@ -4,7 +4,7 @@ use Rattle.world.specs.Answering.{Refuses}
 use Rattle.world.specs.Plan.{next}
 use Rattle.interp.specs.Blocks.{file_by}
 use Rattle.expressions.specs.Contexts.{stand_of}
-use Rattle.interp.specs.Folders.{folder, fresh, opened}
+use Rattle.interp.specs.Folders.{folder_by, fresh, opened}
 use Rattle.interp.specs.Frames.{Rest, End, Left, behind, behind_all}
 use Rattle.interp.specs.Statements.{do_all}
 use Rattle.interp.specs.declared.frames.Frame.TheVariants as frames
@@ -14,34 +14,34 @@ use Rattle.interp.proofs.Stack.{behind_two, leads_under, left_here, made_now, mo
 use Rattle.interp.proofs.evaluator.Evaluator.enter.Goals as goal
 
 pub returns-in_err-path-clause-gives : goal.returns-in_err-path-clause-gives
-returns-in_err-path-clause-gives g c = λ files rests hold stacked.
-    moves_as (ap (behind_all rests) (folder_is c.args.left c.args.text.now))
+returns-in_err-path-clause-gives g c = λ few files rests hold stacked.
+    moves_as (ap (behind_all rests) (folder_is few c.args.left c.args.text.now))
     (moves_given c.args.stack.now.items rests c.from_residual.result stacked (given_stop (c.in_err-path.ensures.gives files hold) c.from_residual.ensures.1))
 
 pub returns-then-left-eq0-clause-gives : goal.returns-then-left-eq0-clause-gives
-returns-then-left-eq0-clause-gives g c = λ files rests hold stacked.
+returns-then-left-eq0-clause-gives g c = λ few files rests hold stacked.
     let f = c.in_ok-path.ensures.gives files hold in
-    moves_as (ap (behind_all rests) (ap (λ n. next (fresh c.args.text.now) (entered_fresh n)) (sym c.if-left-eq0.true) ∙ folder_is c.args.left c.args.text.now))
+    moves_as (ap (behind_all rests) (ap (λ n. next (fresh c.args.text.now) (entered_fresh few n)) (sym c.if-left-eq0.true) ∙ folder_is few c.args.left c.args.text.now))
     (moves_given c.args.stack.now.items rests c.refuse.result stacked
-    (given_then {others = entered_fresh 0} f (given_refused_here {s = stand_of g.T.Tree.seen g.O.Outputs.seen c.args.self.now.context} c.refuse.result f.holds
+    (given_then {others = entered_fresh few 0} f (given_refused_here {s = stand_of g.T.Tree.seen g.O.Outputs.seen c.args.self.now.context} c.refuse.result f.holds
     (subst (λ (n : ℕ). Refuses (record { file = c.args.self.now.context.store.now.file; line = n; refusal = refusals.Limit; detail = [] }) c.refuse.result) c.line-line.ensures c.refuse.ensures))))
 
 pub returns-in_err-outer-clause-gives : goal.returns-in_err-outer-clause-gives
-returns-in_err-outer-clause-gives g c = λ files rests hold stacked. moves_none c.from_residual-in_err-outer.result c.args.stack.now.items (leads_start hold) c.from_residual-in_err-outer.ensures.1
+returns-in_err-outer-clause-gives g c = λ few files rests hold stacked. moves_none c.from_residual-in_err-outer.result c.args.stack.now.items (leads_start hold) c.from_residual-in_err-outer.ensures.1
 
 pub returns-in_err-opened-clause-gives : goal.returns-in_err-opened-clause-gives
-returns-in_err-opened-clause-gives g c = λ files rests hold stacked.
+returns-in_err-opened-clause-gives g c = λ few files rests hold stacked.
     let more : suc (c.args.left - 1) ≡ c.args.left = omega arith in
-    let f = leads_fresh c.args.text.now more (c.in_ok-path.ensures.gives files hold) in
+    let f = leads_fresh few c.args.text.now more (c.in_ok-path.ensures.gives files hold) in
     let path : c.deref.result.now ≡ string_bytes c.in_ok-path.path = c.deref.ensures in
     moves_then c.from_residual-in_err-opened.result (leads_under rests f)
     (moves_given c.args.stack.now.items rests c.from_residual-in_err-opened.result stacked (given_stop (given_as (ap opened path) (c.in_err-opened.ensures.gives files f.holds)) c.from_residual-in_err-opened.ensures.1))
 
 pub returns-clause-gives : goal.returns-clause-gives
-returns-clause-gives g c = λ files rests hold stacked.
+returns-clause-gives g c = λ few files rests hold stacked.
     let k = c.args.left - 1 in
     let more : suc k ≡ c.args.left = omega arith in
-    let f = leads_fresh c.args.text.now more (c.in_ok-path.ensures.gives files hold) in
+    let f = leads_fresh few c.args.text.now more (c.in_ok-path.ensures.gives files hold) in
     let path : c.deref.result.now ≡ string_bytes c.in_ok-path.path = c.deref.ensures in
     let o = given_as (ap opened path) (c.in_ok-opened.ensures.gives files f.holds) in
     let names = c.open.new.self.context.store.now.names in
@@ -51,39 +51,39 @@ returns-clause-gives g c = λ files rests hold stacked.
     let a = stacked_top c.args.stack.now.items c.push.new.self.items rests (frames.Left c.in_ok-outer.outer) outer c.in_ok-push.ensures.items inside (sym (left_here c.in_ok-outer.ensures.file c.in_ok-outer.ensures.folder c.in_ok-outer.ensures.line)) in
     let b = stacked_top c.push.new.self.items c.push-2.new.self.items (rests ++ outer ∷ []) frames.End End c.in_ok-push-2.ensures.items a refl in
     let body = file_by names c.in_ok-opened.opened in
-    moves_block c.push-2.new.self.items c.push-3.new.self.items ((rests ++ outer ∷ []) ++ End ∷ []) _ names b c.in_ok-push-3.ensures.items
+    moves_block few c.push-2.new.self.items c.push-3.new.self.items ((rests ++ outer ∷ []) ++ End ∷ []) _ names b c.in_ok-push-3.ensures.items
     (made_now c.in_ok-code.ensures.ok c.in_ok-opened.ensures.known)
-    (leads_as (ap (λ d. behind_all rests (behind outer (behind End (do_all (folder k) (file_by names d))))) (sym c.in_ok-code.ensures.ok) ∙ sym (behind_two rests outer End _))
+    (leads_as (ap (λ d. behind_all rests (behind outer (behind End (do_all (folder_by few k) few (file_by names d))))) (sym c.in_ok-code.ensures.ok) ∙ sym (behind_two rests outer End _))
     (leads_under rests (leads_further f (leads_next o))))
 
 pub returns-in_err-code-clause-gives : goal.returns-in_err-code-clause-gives
-returns-in_err-code-clause-gives g c = λ files rests hold stacked.
+returns-in_err-code-clause-gives g c = λ few files rests hold stacked.
     let more : suc (c.args.left - 1) ≡ c.args.left = omega arith in
-    let f = leads_fresh c.args.text.now more (c.in_ok-path.ensures.gives files hold) in
+    let f = leads_fresh few c.args.text.now more (c.in_ok-path.ensures.gives files hold) in
     let path : c.deref.result.now ≡ string_bytes c.in_ok-path.path = c.deref.ensures in
     let o = given_as (ap opened path) (c.in_ok-opened.ensures.gives files f.holds) in
     moves_none c.from_residual-in_err-code.result c.args.stack.now.items (leads_under rests (leads_further f (leads_next o))) c.from_residual-in_err-code.ensures.1
 
 pub returns-in_err-push-clause-gives : goal.returns-in_err-push-clause-gives
-returns-in_err-push-clause-gives g c = λ files rests hold stacked.
+returns-in_err-push-clause-gives g c = λ few files rests hold stacked.
     let more : suc (c.args.left - 1) ≡ c.args.left = omega arith in
-    let f = leads_fresh c.args.text.now more (c.in_ok-path.ensures.gives files hold) in
+    let f = leads_fresh few c.args.text.now more (c.in_ok-path.ensures.gives files hold) in
     let path : c.deref.result.now ≡ string_bytes c.in_ok-path.path = c.deref.ensures in
     let o = given_as (ap opened path) (c.in_ok-opened.ensures.gives files f.holds) in
     moves_none c.from_residual-in_err-push.result c.push.new.self.items (leads_under rests (leads_further f (leads_next o))) c.from_residual-in_err-push.ensures.1
 
 pub returns-in_err-push-2-clause-gives : goal.returns-in_err-push-2-clause-gives
-returns-in_err-push-2-clause-gives g c = λ files rests hold stacked.
+returns-in_err-push-2-clause-gives g c = λ few files rests hold stacked.
     let more : suc (c.args.left - 1) ≡ c.args.left = omega arith in
-    let f = leads_fresh c.args.text.now more (c.in_ok-path.ensures.gives files hold) in
+    let f = leads_fresh few c.args.text.now more (c.in_ok-path.ensures.gives files hold) in
     let path : c.deref.result.now ≡ string_bytes c.in_ok-path.path = c.deref.ensures in
     let o = given_as (ap opened path) (c.in_ok-opened.ensures.gives files f.holds) in
     moves_none c.from_residual-in_err-push-2.result c.push-2.new.self.items (leads_under rests (leads_further f (leads_next o))) c.from_residual-in_err-push-2.ensures.1
 
 pub returns-in_err-push-3-clause-gives : goal.returns-in_err-push-3-clause-gives
-returns-in_err-push-3-clause-gives g c = λ files rests hold stacked.
+returns-in_err-push-3-clause-gives g c = λ few files rests hold stacked.
     let more : suc (c.args.left - 1) ≡ c.args.left = omega arith in
-    let f = leads_fresh c.args.text.now more (c.in_ok-path.ensures.gives files hold) in
+    let f = leads_fresh few c.args.text.now more (c.in_ok-path.ensures.gives files hold) in
     let path : c.deref.result.now ≡ string_bytes c.in_ok-path.path = c.deref.ensures in
     let o = given_as (ap opened path) (c.in_ok-opened.ensures.gives files f.holds) in
     moves_none c.from_residual-in_err-push-3.result c.push-3.new.self.items (leads_under rests (leads_further f (leads_next o))) c.from_residual-in_err-push-3.ensures.1

@@ -1,6 +1,7 @@
 use Rattle.std.proofs.Common.{◌≡◌, ℕ, [], ◌∷◌, ◌++◌, List, add-one, sym, ap, refl, ◌∙◌, arith}
 use Rattle.basics.specs.declared.faults.refusal.Refusal.TheVariants as refusals
 use Rattle.world.specs.Plan.{next, refuse}
+use Rattle.interp.specs.Bounds.{bounds}
 use Rattle.interp.specs.Folders.{folder}
 use Rattle.interp.specs.Frames.{Refuses, behind_all}
 use Rattle.interp.specs.Inside.{ended_all}
@@ -20,13 +21,13 @@ loop-rule-preserved g c = record {
 }
 
 pub returns-in_err-push-clause-gives : goal.returns-in_err-push-clause-gives
-returns-in_err-push-clause-gives g c = λ files rests hold stacked. moves_none c.from_residual.result c.push.new.self.items (leads_start hold) c.from_residual.ensures.1
+returns-in_err-push-clause-gives g c = λ few files rests hold stacked. moves_none c.from_residual.result c.push.new.self.items (leads_start hold) c.from_residual.ensures.1
 
 pub returns-in_err-push-2-clause-gives : goal.returns-in_err-push-2-clause-gives
-returns-in_err-push-2-clause-gives g c = λ files rests hold stacked. moves_none c.from_residual-in_err-push-2.result c.push-2.new.self.items (leads_start hold) c.from_residual-in_err-push-2.ensures.1
+returns-in_err-push-2-clause-gives g c = λ few files rests hold stacked. moves_none c.from_residual-in_err-push-2.result c.push-2.new.self.items (leads_start hold) c.from_residual-in_err-push-2.ensures.1
 
 pub returns-clause-gives : goal.returns-clause-gives
-returns-clause-gives g c = λ files rests hold stacked.
+returns-clause-gives g c = λ few files rests hold stacked.
     let n = c.args.entry.rules in
     let fs = c.args.stack.now.items in
     let ends = stacked_ends fs rests n stacked in
@@ -35,5 +36,5 @@ returns-clause-gives g c = λ files rests hold stacked.
     let top = stacked_top (over_ends fs n) c.push-2.new.self.items (under_ends rests n) (frames.Refuses c.args.entry.line) (Refuses c.args.entry.line)
     (c.in_ok-push-2.ensures.items ∙ ap (λ (gs : List Frame). gs ++ frames.Refuses c.args.entry.line ∷ []) all) ends refl in
     moves_as (behind_top (under_ends rests n) (Refuses c.args.entry.line) _ ∙ behind_ends rests n _
-    ∙ ap (λ (t : List ℕ). behind_all rests (ended_all n (next (folder c.args.left t) (λ _. refuse c.args.entry.line refusals.Type [])))) c.deref.ensures)
-    (c.enter.ensures.gives files (under_ends rests n ++ Refuses c.args.entry.line ∷ []) hold top)
+    ∙ ap (λ (t : List ℕ). behind_all rests (ended_all n (next (folder (bounds few c.args.left) t) (λ _. refuse c.args.entry.line refusals.Type [])))) c.deref.ensures)
+    (c.enter.ensures.gives few files (under_ends rests n ++ Refuses c.args.entry.line ∷ []) hold top)

@@ -1,4 +1,5 @@
 use Rattle.std.proofs.Common.{Ok, sym, ap, refl}
+use Rattle.interp.specs.Bounds.{bounds}
 use Rattle.interp.specs.Folders.{folder}
 use Rattle.interp.specs.Frames.{behind_all, others_by}
 use Rattle.interp.specs.Statements.{do_all, on_next}
@@ -9,21 +10,21 @@ use Rattle.interp.proofs.Stack.{moves_as, moves_given}
 use Rattle.interp.proofs.evaluator.Evaluator.go_on.Goals as goal
 
 pub returns-in-Next-clause-gives : goal.returns-in-Next-clause-gives
-returns-in-Next-clause-gives g c = λ files rests table hold stacked made.
-    moves_as (ap (λ (f : Flow). behind_all rests (on_next f (do_all (folder c.args.rest.left) (others_by table c.args.rest)))) (sym c.in-Next.is))
-    (c.next_statement.ensures.gives files rests table hold stacked made)
+returns-in-Next-clause-gives g c = λ few files rests table hold stacked made.
+    moves_as (ap (λ (f : Flow). behind_all rests (on_next f (do_all (folder (bounds few c.args.rest.left)) few (others_by table c.args.rest)))) (sym c.in-Next.is))
+    (c.next_statement.ensures.gives few files rests table hold stacked made)
 
 pub returns-in-Continued-clause-gives : goal.returns-in-Continued-clause-gives
-returns-in-Continued-clause-gives g c = λ files rests table hold stacked made.
-    moves_as (ap (λ (f : Flow). behind_all rests (on_next f (do_all (folder c.args.rest.left) (others_by table c.args.rest)))) (sym c.in-Continued.is))
+returns-in-Continued-clause-gives g c = λ few files rests table hold stacked made.
+    moves_as (ap (λ (f : Flow). behind_all rests (on_next f (do_all (folder (bounds few c.args.rest.left)) few (others_by table c.args.rest)))) (sym c.in-Continued.is))
     (moves_given c.args.stack.now.items rests (Ok flows.Continued) stacked (given_give hold refl))
 
 pub returns-in-Broken-clause-gives : goal.returns-in-Broken-clause-gives
-returns-in-Broken-clause-gives g c = λ files rests table hold stacked made.
-    moves_as (ap (λ (f : Flow). behind_all rests (on_next f (do_all (folder c.args.rest.left) (others_by table c.args.rest)))) (sym c.in-Broken.is))
+returns-in-Broken-clause-gives g c = λ few files rests table hold stacked made.
+    moves_as (ap (λ (f : Flow). behind_all rests (on_next f (do_all (folder (bounds few c.args.rest.left)) few (others_by table c.args.rest)))) (sym c.in-Broken.is))
     (moves_given c.args.stack.now.items rests (Ok flows.Broken) stacked (given_give hold refl))
 
 pub returns-in-Finished-clause-gives : goal.returns-in-Finished-clause-gives
-returns-in-Finished-clause-gives g c = λ files rests table hold stacked made.
-    moves_as (ap (λ (f : Flow). behind_all rests (on_next f (do_all (folder c.args.rest.left) (others_by table c.args.rest)))) (sym c.in-Finished.is))
+returns-in-Finished-clause-gives g c = λ few files rests table hold stacked made.
+    moves_as (ap (λ (f : Flow). behind_all rests (on_next f (do_all (folder (bounds few c.args.rest.left)) few (others_by table c.args.rest)))) (sym c.in-Finished.is))
     (moves_given c.args.stack.now.items rests (Ok flows.Finished) stacked (given_give hold refl))

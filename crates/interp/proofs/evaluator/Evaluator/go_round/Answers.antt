@@ -1,4 +1,5 @@
 use Rattle.std.proofs.Common.{Ok, sym, ap, refl}
+use Rattle.interp.specs.Bounds.{bounds}
 use Rattle.interp.specs.Frames.{behind_all, round_by, rounds_left}
 use Rattle.interp.specs.Statements.{after_round, rounds_of}
 use Rattle.interp.specs.declared.flow.Flow.{Flow}
@@ -8,21 +9,21 @@ use Rattle.interp.proofs.Stack.{moves_as, moves_given}
 use Rattle.interp.proofs.evaluator.Evaluator.go_round.Goals as goal
 
 pub returns-in-Next-clause-gives : goal.returns-in-Next-clause-gives
-returns-in-Next-clause-gives g c = λ files rests table hold stacked made.
-    moves_as (ap (λ (f : Flow). behind_all rests (after_round f (rounds_of (round_by table c.args.rest.code.value c.args.rest.left c.args.rest.head) (rounds_left c.args.rest)))) (sym c.in-Next.is))
-    (c.next_round.ensures.gives files rests table hold stacked made)
+returns-in-Next-clause-gives g c = λ few files rests table hold stacked made.
+    moves_as (ap (λ (f : Flow). behind_all rests (after_round f (rounds_of (round_by table c.args.rest.code.value (bounds few c.args.rest.left) c.args.rest.head) (rounds_left c.args.rest)))) (sym c.in-Next.is))
+    (c.next_round.ensures.gives few files rests table hold stacked made)
 
 pub returns-in-Continued-clause-gives : goal.returns-in-Continued-clause-gives
-returns-in-Continued-clause-gives g c = λ files rests table hold stacked made.
-    moves_as (ap (λ (f : Flow). behind_all rests (after_round f (rounds_of (round_by table c.args.rest.code.value c.args.rest.left c.args.rest.head) (rounds_left c.args.rest)))) (sym c.in-Continued.is))
-    (c.next_round-in-Continued.ensures.gives files rests table hold stacked made)
+returns-in-Continued-clause-gives g c = λ few files rests table hold stacked made.
+    moves_as (ap (λ (f : Flow). behind_all rests (after_round f (rounds_of (round_by table c.args.rest.code.value (bounds few c.args.rest.left) c.args.rest.head) (rounds_left c.args.rest)))) (sym c.in-Continued.is))
+    (c.next_round-in-Continued.ensures.gives few files rests table hold stacked made)
 
 pub returns-in-Broken-clause-gives : goal.returns-in-Broken-clause-gives
-returns-in-Broken-clause-gives g c = λ files rests table hold stacked made.
-    moves_as (ap (λ (f : Flow). behind_all rests (after_round f (rounds_of (round_by table c.args.rest.code.value c.args.rest.left c.args.rest.head) (rounds_left c.args.rest)))) (sym c.in-Broken.is))
+returns-in-Broken-clause-gives g c = λ few files rests table hold stacked made.
+    moves_as (ap (λ (f : Flow). behind_all rests (after_round f (rounds_of (round_by table c.args.rest.code.value (bounds few c.args.rest.left) c.args.rest.head) (rounds_left c.args.rest)))) (sym c.in-Broken.is))
     (moves_given c.args.stack.now.items rests (Ok flows.Next) stacked (given_give hold refl))
 
 pub returns-in-Finished-clause-gives : goal.returns-in-Finished-clause-gives
-returns-in-Finished-clause-gives g c = λ files rests table hold stacked made.
-    moves_as (ap (λ (f : Flow). behind_all rests (after_round f (rounds_of (round_by table c.args.rest.code.value c.args.rest.left c.args.rest.head) (rounds_left c.args.rest)))) (sym c.in-Finished.is))
+returns-in-Finished-clause-gives g c = λ few files rests table hold stacked made.
+    moves_as (ap (λ (f : Flow). behind_all rests (after_round f (rounds_of (round_by table c.args.rest.code.value (bounds few c.args.rest.left) c.args.rest.head) (rounds_left c.args.rest)))) (sym c.in-Finished.is))
     (moves_given c.args.stack.now.items rests (Ok flows.Finished) stacked (given_give hold refl))

@@ -1,8 +1,9 @@
-use Rattle.std.proofs.Common.{◌≡◌}
+use Rattle.std.proofs.Common.{◌≡◌, Bool}
 use Rattle.world.specs.Deed.{Files}
 use Rattle.world.specs.Gives.{Holds}
 use Rattle.interp.specs.Blocks.{file_by}
 use Rattle.expressions.specs.Contexts.{Same, stand_of}
+use Rattle.interp.specs.Bounds.{bounds}
 use Rattle.interp.specs.Folders.{folder}
 use Rattle.interp.specs.Frames.{Moved}
 use Rattle.interp.specs.Statements.{do_all}
@@ -17,6 +18,6 @@ invariant-loop-step g l =
       same : Same l.fn.self.context l.self.context;
       tree : (see l.self.context.tree.now).failures ≡ (see l.fn.self.context.tree.now).failures;
       out : (heard l.self.context.out.now).failures ≡ (heard l.fn.self.context.out.now).failures;
-      done : (files : Files) → Holds (see l.fn.self.context.tree.now) files
-          → Moved files (do_all (folder 63) (file_by l.fn.self.context.store.now.names l.fn.code)) (stand_of see heard l.fn.self.context) l.flow l.stack.items (stand_of see heard l.self.context);
+      done : (few : Bool) (files : Files) → Holds (see l.fn.self.context.tree.now) files
+          → Moved files (do_all (folder (bounds few 63)) few (file_by l.fn.self.context.store.now.names l.fn.code)) (stand_of see heard l.fn.self.context) l.flow l.stack.items (stand_of see heard l.self.context);
     }

@@ -5,6 +5,7 @@ use Rattle.code.specs.declared.node.CallNode.{CallNode}
 use Rattle.code.specs.declared.node.Node.TheVariants as nodes
 use Rattle.grammar.specs.ExpressionTree.{ExpressionTree, arguments}
 use Rattle.world.specs.Plan.{next}
+use Rattle.interp.specs.Bounds.{bounds}
 use Rattle.interp.specs.Acting.{performed, way_view}
 use Rattle.interp.specs.Entering.{by_way}
 use Rattle.interp.specs.Blocks.{expressions_by}
@@ -31,13 +32,13 @@ perform-requires-clause-here g c =
     (sym (c.deref-in-Call-2.ensures.value ∙ ap (λ (x : CallNode). x.arguments.items) c.deref.ensures)) near
 
 pub returns-in_err-push-clause-gives : goal.returns-in_err-push-clause-gives
-returns-in_err-push-clause-gives g c = λ files rests table hold stacked made.
+returns-in_err-push-clause-gives g c = λ few files rests table hold stacked made.
     moves_none c.from_residual.result c.push.new.self.items (leads_start hold) c.from_residual.ensures.1
 
 pub returns-in-Ok-clause-gives : goal.returns-in-Ok-clause-gives
-returns-in-Ok-clause-gives g c = λ files rests table hold stacked made.
+returns-in-Ok-clause-gives g c = λ few files rests table hold stacked made.
     let tree = call_at table c.args.code.now c.args.value c.index.result.now c.in-Call.call c.in-Call.line c.requires.here c.index.ensures c.in-Call.is in
-    let into = folder c.args.left in
+    let into = folder (bounds few c.args.left) in
     let fs = c.args.stack.now.items in
     let gs = c.push.new.self.items in
     let two = stacked_top fs gs rests frames.End End c.in_ok-push.ensures.items stacked refl in
@@ -46,14 +47,14 @@ returns-in-Ok-clause-gives g c = λ files rests table hold stacked made.
     let same = ap (λ (n : List ℕ). done n c.deref-in-Call-2.result.now) c.deref-in-Call.ensures ∙ ap (done (string_bytes c.deref.result.now.name)) c.deref-in-Call-2.ensures.value
     ∙ ap (λ (x : CallNode). done (string_bytes x.name) x.arguments.items) c.deref.ensures in
     let whole = behind_top rests End (next (done (string_bytes c.in-Call.call.value.name) c.in-Call.call.value.arguments.items) (λ w. by_way into w)) ∙ ap (λ (t : ExpressionTree). behind_all rests (stated into t)) (sym tree) in
-    let p = given_as same (c.in-Ok.ensures.gives files c.args.left ts hold (reads_at refl made)).comes in
+    let p = given_as same (c.in-Ok.ensures.gives files (bounds few c.args.left) ts hold (reads_at refl made)).comes in
     moves_as whole (moves_then c.take_way.result (leads_under (rests ++ End ∷ []) (leads_next {view = way_view} {others = λ w. by_way into w} p))
-    (c.take_way.ensures.gives files (rests ++ End ∷ []) p.holds (stacked_on gs (rests ++ End ∷ []) p.gives.written.names two)))
+    (c.take_way.ensures.gives few files (rests ++ End ∷ []) p.holds (stacked_on gs (rests ++ End ∷ []) p.gives.written.names two)))
 
 pub returns-in-Err-Stops-clause-gives : goal.returns-in-Err-Stops-clause-gives
-returns-in-Err-Stops-clause-gives g c = λ files rests table hold stacked made.
+returns-in-Err-Stops-clause-gives g c = λ few files rests table hold stacked made.
     let tree = call_at table c.args.code.now c.args.value c.index.result.now c.in-Call.call c.in-Call.line c.requires.here c.index.ensures c.in-Call.is in
-    let into = folder c.args.left in
+    let into = folder (bounds few c.args.left) in
     let fs = c.args.stack.now.items in
     let gs = c.push.new.self.items in
     let two = stacked_top fs gs rests frames.End End c.in_ok-push.ensures.items stacked refl in
@@ -62,13 +63,13 @@ returns-in-Err-Stops-clause-gives g c = λ files rests table hold stacked made.
     let same = ap (λ (n : List ℕ). done n c.deref-in-Call-2.result.now) c.deref-in-Call.ensures ∙ ap (done (string_bytes c.deref.result.now.name)) c.deref-in-Call-2.ensures.value
     ∙ ap (λ (x : CallNode). done (string_bytes x.name) x.arguments.items) c.deref.ensures in
     let whole = behind_top rests End (next (done (string_bytes c.in-Call.call.value.name) c.in-Call.call.value.arguments.items) (λ w. by_way into w)) ∙ ap (λ (t : ExpressionTree). behind_all rests (stated into t)) (sym tree) in
-    let p = given_as same (halted_stops c.in-Err-Stops.field-0-is (c.in-Err-Stops.ensures.gives files c.args.left ts hold (reads_at refl made))) in
+    let p = given_as same (halted_stops c.in-Err-Stops.field-0-is (c.in-Err-Stops.ensures.gives files (bounds few c.args.left) ts hold (reads_at refl made))) in
     moves_as whole (moves_given gs (rests ++ End ∷ []) (Err c.in-Err-Stops.stop) two (given_stop p refl))
 
 pub returns-in-Err-Enters-clause-gives : goal.returns-in-Err-Enters-clause-gives
-returns-in-Err-Enters-clause-gives g c = λ files rests table hold stacked made.
+returns-in-Err-Enters-clause-gives g c = λ few files rests table hold stacked made.
     let tree = call_at table c.args.code.now c.args.value c.index.result.now c.in-Call.call c.in-Call.line c.requires.here c.index.ensures c.in-Call.is in
-    let into = folder c.args.left in
+    let into = folder (bounds few c.args.left) in
     let fs = c.args.stack.now.items in
     let gs = c.push.new.self.items in
     let two = stacked_top fs gs rests frames.End End c.in_ok-push.ensures.items stacked refl in
@@ -77,28 +78,28 @@ returns-in-Err-Enters-clause-gives g c = λ files rests table hold stacked made.
     let same = ap (λ (n : List ℕ). done n c.deref-in-Call-2.result.now) c.deref-in-Call.ensures ∙ ap (done (string_bytes c.deref.result.now.name)) c.deref-in-Call-2.ensures.value
     ∙ ap (λ (x : CallNode). done (string_bytes x.name) x.arguments.items) c.deref.ensures in
     let whole = behind_top rests End (next (done (string_bytes c.in-Call.call.value.name) c.in-Call.call.value.arguments.items) (λ w. by_way into w)) ∙ ap (λ (t : ExpressionTree). behind_all rests (stated into t)) (sym tree) in
-    let l = leads_other same (halted_enters c.in-Err-Enters.field-0-is (c.in-Err-Enters.ensures.gives files c.args.left ts hold (reads_at refl made))) in
-    moves_as whole (moves_then c.enter_inside.result (leads_under (rests ++ End ∷ []) (leads_left c.args.left c.in-Err-Enters.entry {others = λ w. by_way into w} l))
-    (c.enter_inside.ensures.gives files (rests ++ End ∷ []) l.holds (stacked_on gs (rests ++ End ∷ []) l.continues.written.names two)))
+    let l = leads_other same (halted_enters c.in-Err-Enters.field-0-is (c.in-Err-Enters.ensures.gives files (bounds few c.args.left) ts hold (reads_at refl made))) in
+    moves_as whole (moves_then c.enter_inside.result (leads_under (rests ++ End ∷ []) (leads_left (bounds few c.args.left) c.in-Err-Enters.entry {others = λ w. by_way into w} l))
+    (c.enter_inside.ensures.gives few files (rests ++ End ∷ []) l.holds (stacked_on gs (rests ++ End ∷ []) l.continues.written.names two)))
 
 pub returns-in-Ok-alone-clause-gives : goal.returns-in-Ok-alone-clause-gives
-returns-in-Ok-alone-clause-gives g c = λ files rests table hold stacked made.
+returns-in-Ok-alone-clause-gives g c = λ few files rests table hold stacked made.
     let ts = expressions_by table c.args.code.now in
-    let whole = ap (behind_all rests) (stated_at (folder c.args.left) table c.args.code.now c.args.value c.index.result.now c.requires.here c.index.ensures c.in_default.not-Call) in
-    let e = (c.in-Ok-alone.ensures.gives files c.args.left ts hold (reads_at refl made)).comes in
+    let whole = ap (behind_all rests) (stated_at (folder (bounds few c.args.left)) table c.args.code.now c.args.value c.index.result.now c.requires.here c.index.ensures c.in_default.not-Call) in
+    let e = (c.in-Ok-alone.ensures.gives files (bounds few c.args.left) ts hold (reads_at refl made)).comes in
     moves_as whole (moves_given c.args.stack.now.items rests (Ok flows.Next) stacked (given_then e (given_give e.holds refl)))
 
 pub returns-in-Err-Stops-alone-clause-gives : goal.returns-in-Err-Stops-alone-clause-gives
-returns-in-Err-Stops-alone-clause-gives g c = λ files rests table hold stacked made.
+returns-in-Err-Stops-alone-clause-gives g c = λ few files rests table hold stacked made.
     let ts = expressions_by table c.args.code.now in
-    let whole = ap (behind_all rests) (stated_at (folder c.args.left) table c.args.code.now c.args.value c.index.result.now c.requires.here c.index.ensures c.in_default.not-Call) in
-    let e = halted_stops c.in-Err-Stops-alone.field-0-is (c.in-Err-Stops-alone.ensures.gives files c.args.left ts hold (reads_at refl made)) in
+    let whole = ap (behind_all rests) (stated_at (folder (bounds few c.args.left)) table c.args.code.now c.args.value c.index.result.now c.requires.here c.index.ensures c.in_default.not-Call) in
+    let e = halted_stops c.in-Err-Stops-alone.field-0-is (c.in-Err-Stops-alone.ensures.gives files (bounds few c.args.left) ts hold (reads_at refl made)) in
     moves_as whole (moves_given c.args.stack.now.items rests (Err c.in-Err-Stops-alone.stop) stacked (given_stop e refl))
 
 pub returns-in-Err-Enters-alone-clause-gives : goal.returns-in-Err-Enters-alone-clause-gives
-returns-in-Err-Enters-alone-clause-gives g c = λ files rests table hold stacked made.
+returns-in-Err-Enters-alone-clause-gives g c = λ few files rests table hold stacked made.
     let ts = expressions_by table c.args.code.now in
-    let whole = ap (behind_all rests) (stated_at (folder c.args.left) table c.args.code.now c.args.value c.index.result.now c.requires.here c.index.ensures c.in_default.not-Call) in
-    let l = halted_enters c.in-Err-Enters-alone.field-0-is (c.in-Err-Enters-alone.ensures.gives files c.args.left ts hold (reads_at refl made)) in
-    moves_as whole (moves_then c.enter_inside-in-Err-Enters-alone.result (leads_under rests (leads_left c.args.left c.in-Err-Enters-alone.entry l))
-    (c.enter_inside-in-Err-Enters-alone.ensures.gives files rests l.holds (stacked_on c.args.stack.now.items rests l.continues.written.names stacked)))
+    let whole = ap (behind_all rests) (stated_at (folder (bounds few c.args.left)) table c.args.code.now c.args.value c.index.result.now c.requires.here c.index.ensures c.in_default.not-Call) in
+    let l = halted_enters c.in-Err-Enters-alone.field-0-is (c.in-Err-Enters-alone.ensures.gives files (bounds few c.args.left) ts hold (reads_at refl made)) in
+    moves_as whole (moves_then c.enter_inside-in-Err-Enters-alone.result (leads_under rests (leads_left (bounds few c.args.left) c.in-Err-Enters-alone.entry l))
+    (c.enter_inside-in-Err-Enters-alone.ensures.gives few files rests l.holds (stacked_on c.args.stack.now.items rests l.continues.written.names stacked)))

@@ -1,4 +1,5 @@
 use Rattle.std.proofs.Common.{Ok, sym, ap, refl}
+use Rattle.interp.specs.Bounds.{bounds}
 use Rattle.interp.specs.Acting.{way_view}
 use Rattle.interp.specs.Entering.{by_way}
 use Rattle.interp.specs.Folders.{folder}
@@ -9,6 +10,6 @@ use Rattle.interp.proofs.Stack.{moves_as, moves_given}
 use Rattle.interp.proofs.evaluator.Evaluator.take_way.Goals as goal
 
 pub returns-in-Ends-clause-gives : goal.returns-in-Ends-clause-gives
-returns-in-Ends-clause-gives g c = λ files rests hold stacked.
-    moves_as (ap (λ (w : Way). behind_all rests (by_way (folder c.args.left) (way_view w))) (sym c.in-Ends.is))
+returns-in-Ends-clause-gives g c = λ few files rests hold stacked.
+    moves_as (ap (λ (w : Way). behind_all rests (by_way (folder (bounds few c.args.left)) (way_view w))) (sym c.in-Ends.is))
     (moves_given c.args.stack.now.items rests (Ok c.in-Ends.flow) stacked (given_give hold refl))

@@ -1,5 +1,6 @@
 use Rattle.std.proofs.Common.{Ok, sym, ap, refl, ◌≡◌, string_bytes}
 use Rattle.world.specs.Plan.{give}
+use Rattle.interp.specs.Bounds.{bounds}
 use Rattle.interp.specs.Folders.{folder}
 use Rattle.interp.specs.Frames.{Rest, End, Left, Refuses, behind, behind_all, MeansBlock, MeansLoop, others_by, rounds_left, round_by}
 use Rattle.interp.specs.Statements.{after_round, do_all, on_next, rounds_of}
@@ -12,15 +13,15 @@ pub returns-in-Block-clause-gives : goal.returns-in-Block-clause-gives
 returns-in-Block-clause-gives g c = λ files rests rest hold stacked means.
     let m : MeansBlock c.args.self.now.context.store.now.names c.in-Block.rest rest = means_as c.args.self.now.context.store.now.names rest c.in-Block.is means in
     moves_as (ap (λ (r : Rest). behind_all rests (behind r (give c.args.flow))) (sym m.is))
-    (moves_next rests c.args.flow (λ flow. on_next flow (do_all (folder c.in-Block.rest.left) (others_by m.table c.in-Block.rest))) c.go_on.result hold
-    (c.go_on.ensures.gives files rests m.table hold stacked m.made))
+    (moves_next rests c.args.flow (λ flow. on_next flow (do_all (folder (bounds m.few c.in-Block.rest.left)) m.few (others_by m.table c.in-Block.rest))) c.go_on.result hold
+    (c.go_on.ensures.gives m.few files rests m.table hold stacked m.made))
 
 pub returns-in-Loop-clause-gives : goal.returns-in-Loop-clause-gives
 returns-in-Loop-clause-gives g c = λ files rests rest hold stacked means.
     let m : MeansLoop c.args.self.now.context.store.now.names c.in-Loop.rest rest = means_as c.args.self.now.context.store.now.names rest c.in-Loop.is means in
     moves_as (ap (λ (r : Rest). behind_all rests (behind r (give c.args.flow))) (sym m.is))
-    (moves_next rests c.args.flow (λ flow. after_round flow (rounds_of (round_by m.table c.in-Loop.rest.code.value c.in-Loop.rest.left c.in-Loop.rest.head) (rounds_left c.in-Loop.rest))) c.go_round.result hold
-    (c.go_round.ensures.gives files rests m.table hold stacked m.made))
+    (moves_next rests c.args.flow (λ flow. after_round flow (rounds_of (round_by m.table c.in-Loop.rest.code.value (bounds m.few c.in-Loop.rest.left) c.in-Loop.rest.head) (rounds_left c.in-Loop.rest))) c.go_round.result hold
+    (c.go_round.ensures.gives m.few files rests m.table hold stacked m.made))
 
 pub returns-in-End-clause-gives : goal.returns-in-End-clause-gives
 returns-in-End-clause-gives g c = λ files rests rest hold stacked means.

@@ -1,0 +1,107 @@
+//! What a call asks of its arguments beside its row, and the words that say what breaks it.
+ghost use Rattle.std.specs.Prelude.{◌≡◌, IfOk, string_bytes};
+ghost use Rattle.arguments.specs.Rules.{broken, rule_words, sign_of};
+
+use std::alloc::{AllocError, Global};
+
+/// A rule that a text or the value of a keyword breaks.
+#[derive(Clone, Copy)]
+pub enum Rule {
+    /// A text names a file of the tree.
+    NamesFile,
+    /// A text names a folder of the tree.
+    NamesFolder,
+    /// A target may have the name.
+    IsTargetName,
+    /// A file may have the name.
+    IsFileName,
+    /// A file is a source of C or a header.
+    IsSource,
+    /// The target of the name has a source of C.
+    HasSource,
+    /// A library may have the version.
+    IsLibraryVersion,
+    /// A page of a manual may have the name.
+    IsManPage,
+    /// The definitions may set the variable.
+    IsSettable,
+    /// A variable may have the name.
+    IsVariableName,
+    /// Configuration data may have the name.
+    IsValueName,
+    /// The name has a value that configuration data can hold.
+    IsSetting,
+    /// A text is a name and a value behind `=`.
+    IsAssignment,
+    /// A keyword takes libraries alone.
+    TakesLibraries,
+    /// A keyword takes the language C alone.
+    TakesC,
+    /// A keyword takes at least one item.
+    HasItems,
+    /// A keyword takes one output alone.
+    TakesOneOutput,
+    /// A keyword has to be given.
+    IsNeeded,
+    /// A keyword takes one file alone.
+    TakesOneFile,
+    /// A keyword takes a file of the tree, and none that is built.
+    TakesTreeFile,
+    /// Each placeholder of a keyword stands for something, and each program in it was found.
+    HasMeaning,
+}
+
+impl Rule {
+    // What stands before the text: a quote, and before it `keyword` where the text is the name of one.
+    fn sign(self) -> &'static str
+        ensures { result.now ≡ sign_of self }
+    {
+        match self {
+            Rule::TakesLibraries
+            | Rule::TakesC
+            | Rule::HasItems
+            | Rule::TakesOneOutput
+            | Rule::IsNeeded
+            | Rule::TakesOneFile
+            | Rule::TakesTreeFile
+            | Rule::HasMeaning => "keyword '",
+            _ => "'",
+        }
+    }
+
+    fn words(self) -> &'static str
+        ensures { result.now ≡ rule_words self }
+    {
+        match self {
+            Rule::NamesFile => "names no file of the project",
+            Rule::NamesFolder => "names no folder of the project",
+            Rule::IsTargetName => "is no name of a target",
+            Rule::IsFileName => "is no name of a file",
+            Rule::IsSource => "is no source of C",
+            Rule::HasSource => "has no source of C",
+            Rule::IsLibraryVersion => "is no version of a library",
+            Rule::IsManPage => "is no name of a man page",
+            Rule::IsSettable => "is no name that can be set",
+            Rule::IsVariableName => "is no name of a variable",
+            Rule::IsValueName => "is no name of a value",
+            Rule::IsSetting => "takes a text, an integer or a truth value",
+            Rule::IsAssignment => "has no '='",
+            Rule::TakesLibraries => "takes libraries",
+            Rule::TakesC => "takes 'c'",
+            Rule::HasItems => "is empty",
+            Rule::TakesOneOutput => "takes one output",
+            Rule::IsNeeded => "is missing, and is needed",
+            Rule::TakesOneFile => "takes one file",
+            Rule::TakesTreeFile => "takes a file of the project",
+            Rule::HasMeaning => "has a placeholder or a program that stands for nothing",
+        }
+    }
+
+    /// That this text breaks the rule, or the keyword of this name: `'../a.c': names no file of the project`.
+    pub fn broken(self, alloc: Global, text: &str) -> Result<String, AllocError>
+        ensures { IfOk result (λ words. string_bytes words ≡ broken self text.now) }
+    {
+        let (sign, words) = (self.sign(), self.words());
+        format!(in alloc; "{sign}{text}': {words}")
+    }
+}

@@ -1,0 +1,13 @@
+use Rattle.std.proofs.Common.{ap, codes}
+use Rattle.std.specs.Prelude.{not}
+use Rattle.basics.specs.declared.faults.refusal.Refusal.TheVariants as refusals
+use Rattle.world.specs.Deed.{need}
+use Rattle.world.proofs.Answering.{carries_as}
+use Rattle.calls.specs.Functions.{without_disabler}
+use Rattle.calls.proofs.calling.refuse_disabler.Goals as goal
+
+pub returns : goal.returns
+unfolding without_disabler
+returns g c =
+    carries_as (ap (λ b. need (not b) refusals.Arguments (codes "arguments: takes no disabler")) c.has_unwanted_disabler-unwanted.ensures)
+    c.need.ensures

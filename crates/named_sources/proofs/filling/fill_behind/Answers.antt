@@ -1,0 +1,52 @@
+use Rattle.std.proofs.Common.{ℕ, ◌+◌, ◌<◌, List, [], ◌++◌, length, drop, get_or, Bor, string_bytes, sym, ap, ◌∙◌, arith}
+use Rattle.named_sources.specs.Holes.{meaning, behind_text, filled_behind}
+use Rattle.named_sources.specs.HolesView.{place_view, meaning_view}
+use Rattle.named_sources.proofs.Steps.{stays_step, means_step}
+use Rattle.named_sources.proofs.Places.{now_of, one_at, two_at}
+use Rattle.named_sources.proofs.filling.fill_behind.Goals as goal
+
+pub loop-i-preserved-in-Stays : goal.loop-i-preserved-in-Stays
+loop-i-preserved-in-Stays c =
+    let xs = c.args.parts.now in
+    let i = c.loop-i.i in
+    let d : Bor (List ℕ) = record { ref_ptr = (0, 0); now = [] } in
+    let m = meaning c.args.scope (place_view c.args.place.now) in
+    let made = string_bytes c.loop-i.made in
+    let new = string_bytes c.push_str-in-Stays-2.new.self in
+    let name = (get_or xs i d).now in
+    let text = (get_or xs (i + 1) d).now in
+    let others = now_of (drop (i + 2) xs) in
+    let apart = c.if-i-parts.false in
+    let more : i + 1 < length xs = omega (arith, c.loop-i-test.true) in
+    record {
+      within = omega arith;
+      filled =
+          ap (λ l. behind_text new (filled_behind m l)) (one_at xs (i + 1) (i + 2) d more (omega arith))
+          ∙ stays_step m made new name text others (sym c.in_ok-meaning_of.ensures ∙ ap meaning_view c.in-Stays.is)
+          (c.in_ok-push_str-in-Stays-2.ensures.bytes ∙ ap (λ x. x ++ name) c.in_ok-push_str-in-Stays.ensures.bytes)
+          ∙ ap (λ l. behind_text made (filled_behind m l)) (sym (two_at xs i d more))
+          ∙ c.loop-i.invariant.filled;
+    }
+
+pub loop-i-preserved : goal.loop-i-preserved
+loop-i-preserved c =
+    let xs = c.args.parts.now in
+    let i = c.loop-i.i in
+    let d : Bor (List ℕ) = record { ref_ptr = (0, 0); now = [] } in
+    let m = meaning c.args.scope (place_view c.args.place.now) in
+    let made = string_bytes c.loop-i.made in
+    let new = string_bytes c.push_str-in-Means-2.new.self in
+    let name = (get_or xs i d).now in
+    let text = (get_or xs (i + 1) d).now in
+    let value = string_bytes c.in-Means.value in
+    let others = now_of (drop (i + 2) xs) in
+    let apart = c.if-i-parts.false in
+    let more : i + 1 < length xs = omega (arith, c.loop-i-test.true) in
+    record {
+      within = omega arith;
+      filled =
+          means_step m made new name text others value (sym c.in_ok-meaning_of.ensures ∙ ap meaning_view c.in-Means.is)
+          (c.in_ok-push_str-in-Means-2.ensures.bytes ∙ ap (λ x. x ++ text) (c.in_ok-push_str-in-Means.ensures.bytes ∙ ap (λ v. made ++ v) c.deref.ensures))
+          ∙ ap (λ l. behind_text made (filled_behind m l)) (sym (two_at xs i d more))
+          ∙ c.loop-i.invariant.filled;
+    }

@@ -1,0 +1,88 @@
+//! Texts with placeholders.
+ghost use Rattle.std.specs.Prelude.{◌≡◌, ◌==◌, map, IfOk, option_map, string_bytes};
+ghost use Rattle.std.specs.List.{slice_split};
+ghost use Rattle.named_sources.specs.Holes.{meaning, behind_text, filled_behind, filled_parts, filled};
+ghost use Rattle.named_sources.specs.HolesView.{place_view};
+
+use crate::holes::{Meaning, Place, Scope, meaning_of};
+use std::alloc::{AllocError, Global};
+
+// What stands between the `@` of a text.
+fn pieces<'a>(alloc: Global, text: &'a str) -> Result<Vec<&'a str>, AllocError>
+    ensures { IfOk result (λ pieces. map (λ s. s.now) pieces.items ≡ slice_split (λ b. b == 64) text.now) }
+{
+    text.split('@').collect(alloc)
+}
+
+// The text so far, and behind it the parts behind an `@`, with the values of their placeholders.
+fn fill_behind(
+    alloc: Global,
+    scope: Scope,
+    place: &Place,
+    mut made: String,
+    parts: &[&str],
+) -> Result<Option<String>, AllocError>
+    ensures { IfOk result (λ r. option_map string_bytes r
+        ≡ behind_text (string_bytes made) (filled_behind (meaning scope (place_view place.now)) (map (λ s. s.now) parts.now))) }
+{
+    let mut i = 0;
+    while i < parts.len() {
+        let name = parts[i];
+        if i + 1 == parts.len() {
+            made.push_str("@")?;
+            made.push_str(name)?;
+            return Ok(Some(made));
+        }
+        let text = parts[i + 1];
+        match meaning_of(alloc, scope, place, name)? {
+            Meaning::Stays => {
+                made.push_str("@")?;
+                made.push_str(name)?;
+                i += 1;
+            }
+            Meaning::Refused => return Ok(None),
+            Meaning::Means(value) => {
+                made.push_str(&value)?;
+                made.push_str(text)?;
+                i += 2;
+            }
+        }
+    }
+    Ok(Some(made))
+}
+
+// The parts of a text, with the values of the placeholders.
+fn fill_parts(
+    alloc: Global,
+    scope: Scope,
+    place: &Place,
+    parts: &[&str],
+) -> Result<Option<String>, AllocError>
+    ensures { IfOk result (λ r. option_map string_bytes r
+        ≡ filled_parts (meaning scope (place_view place.now)) (map (λ s. s.now) parts.now)) }
+{
+    match parts {
+        [] => Ok(Some(String::new(alloc))),
+        [first, behind @ ..] => fill_behind(
+            alloc,
+            scope,
+            place,
+            String::from_str(alloc, first)?,
+            behind,
+        ),
+    }
+}
+
+/// The text with the values of its placeholders, leftmost first and not scanned again; or none where one of them stands for nothing
+/// here (E9): `@INPUT@` inside a word and `@BASENAME@` without exactly one input, `@INPUT3@` past the last, `@DEPFILE@` without a depfile.
+pub fn filled(
+    alloc: Global,
+    scope: Scope,
+    place: &Place,
+    text: &str,
+) -> Result<Option<String>, AllocError>
+    ensures { IfOk result (λ r. option_map string_bytes r ≡ filled scope (place_view place.now) text.now) }
+{
+    let parts = pieces(alloc, text)?;
+    fill_parts(alloc, scope, place, &parts)
+}

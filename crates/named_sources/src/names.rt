@@ -1,0 +1,64 @@
+//! The names of files, without folders and without endings.
+ghost use Rattle.std.specs.Prelude.{◌≡◌, IfOk, string_bytes};
+ghost use Rattle.named_sources.specs.Names.{has, plain_name, before_dot, are_dots, without_ending, base_name};
+
+use std::alloc::{AllocError, Global};
+
+/// What stands behind the last `/`.
+pub fn plain_name(path: &str) -> &str
+    ensures { result.now ≡ plain_name path.now }
+{
+    let mut name = path;
+    while let Some((_folder, behind)) = name.split_once('/') {
+        name = behind;
+    }
+    name
+}
+
+fn has_dot(text: &str) -> bool
+    ensures { result ≡ has 46 text.now }
+{
+    text.as_bytes().iter().any(|byte| *byte == b'.')
+}
+
+// What stands before the last dot, or all where there is none.
+fn before_dot(alloc: Global, name: &str) -> Result<String, AllocError>
+    ensures { IfOk result (λ s. string_bytes s ≡ before_dot name.now) }
+{
+    let mut front = String::new(alloc);
+    let mut rest = name;
+    while let Some((part, behind)) = rest.split_once('.') {
+        front.push_str(part)?;
+        if !has_dot(behind) {
+            return Ok(front);
+        }
+        front.push_str(".")?;
+        rest = behind;
+    }
+    front.push_str(rest)?;
+    Ok(front)
+}
+
+fn are_dots(text: &str) -> bool
+    ensures { result ≡ are_dots text.now }
+{
+    text.as_bytes().iter().all(|byte| *byte == b'.')
+}
+
+fn without_ending(alloc: Global, name: &str) -> Result<String, AllocError>
+    ensures { IfOk result (λ s. string_bytes s ≡ without_ending name.now) }
+{
+    let front = before_dot(alloc, name)?;
+    if are_dots(&front) {
+        String::from_str(alloc, name)
+    } else {
+        Ok(front)
+    }
+}
+
+/// The file's name without its last ending: `a.tar` of `d/a.tar.gz`, and `.x` of `.x`.
+pub fn base_name(alloc: Global, path: &str) -> Result<String, AllocError>
+    ensures { IfOk result (λ s. string_bytes s ≡ base_name path.now) }
+{
+    without_ending(alloc, plain_name(path))
+}

@@ -1,0 +1,62 @@
+-- What is wrong with a statement of an option file, and the words that say so.
+use Rattle.std.specs.Prelude.{ℕ, List, ◌++◌, codes}
+use Rattle.basics.specs.declared.faults.refusal.Refusal.{Refusal}
+use Rattle.basics.specs.declared.faults.refusal.Refusal.TheVariants as refusals
+
+pub data MisfitData : Type 0 where
+  -- it is no call of `option`
+  NoCall : MisfitData
+  -- a keyword that stands twice, and one that is left out
+  Twice : (key : List ℕ) → MisfitData
+  LeftOut : (key : List ℕ) → MisfitData
+  -- an option of this name was declared before
+  Again : (name : List ℕ) → MisfitData
+  -- no text says the name of the option; or the text is no name, or that of an option that every project has
+  Nameless : MisfitData
+  NoName : (text : List ℕ) → MisfitData
+  BuiltIn : (name : List ℕ) → MisfitData
+  -- a further argument without a keyword
+  TooMany : MisfitData
+  -- a keyword that there is not, and one with something else than plain values
+  Unknown : (key : List ℕ) → MisfitData
+  NoPlain : (key : List ℕ) → MisfitData
+  -- a keyword whose value is no type, no choices, or no bound
+  NoType : (key : List ℕ) → MisfitData
+  NoChoices : (key : List ℕ) → MisfitData
+  NoBound : (key : List ℕ) → MisfitData
+  -- a keyword that is needed and not given
+  Missing : (key : List ℕ) → MisfitData
+
+-- what is refused, and what that is about
+pub record RefusedData : Type 0 where
+  pub refusal : Refusal
+  pub detail : List ℕ
+
+abbrev pub refusal_of : MisfitData → Refusal
+refusal_of (LeftOut key) = refusals.LeftOut
+refusal_of _ = refusals.OptionValue
+
+abbrev pub text_is : List ℕ → List ℕ → List ℕ
+text_is text words = codes "'" ++ (text ++ (codes "': " ++ words))
+
+abbrev pub keyword_is : List ℕ → List ℕ → List ℕ
+keyword_is key words = codes "keyword '" ++ (key ++ (codes "': " ++ words))
+
+abbrev pub words_of : MisfitData → List ℕ
+words_of NoCall = codes "statement: is no call of option"
+words_of (Twice key) = keyword_is key (codes "stands twice")
+words_of (LeftOut key) = keyword_is key (codes "is left out")
+words_of (Again name) = codes "option '" ++ (name ++ codes "': stands twice")
+words_of Nameless = codes "arguments: needs the name of an option"
+words_of (NoName text) = text_is text (codes "is no name of an option")
+words_of (BuiltIn name) = text_is name (codes "is the name of a built-in option")
+words_of TooMany = codes "arguments: takes 1, and got more"
+words_of (Unknown key) = keyword_is key (codes "there is none")
+words_of (NoPlain key) = keyword_is key (codes "takes a plain value")
+words_of (NoType key) = keyword_is key (codes "takes the name of a type")
+words_of (NoChoices key) = keyword_is key (codes "takes a list of texts")
+words_of (NoBound key) = keyword_is key (codes "takes an integer")
+words_of (Missing key) = keyword_is key (codes "is missing, and is needed")
+
+abbrev pub refused_as : MisfitData → RefusedData
+refused_as m = record { refusal = refusal_of m; detail = words_of m }

@@ -1,0 +1,22 @@
+-- What is written at a place, and what is wrong with it, without where it lies in memory.
+use Rattle.std.specs.Option.{option_map}
+use Rattle.machine_file.specs.Values as machine_values
+use Rattle.machine_file.specs.View.{value_in as machine_value_in}
+use Rattle.option_file.specs.View.{given_in}
+use Rattle.option_values.specs.View.{kind_in}
+use Rattle.options.specs.Misfits as plain
+use Rattle.options.specs.declared.misfit.Misfit.{Misfit}
+use Rattle.options.specs.declared.misfit.Misfit.TheVariants as misfit
+use Rattle.options.specs.declared.misfit.Written.{Written}
+use Rattle.options.specs.declared.misfit.Written.TheVariants as written
+
+abbrev pub written_in : Written → machine_values.Value
+written_in (written.Text text) = machine_values.Text text.now
+written_in (written.Value value) = machine_value_in value.now
+
+abbrev pub misfit_in : Misfit → plain.MisfitData
+misfit_in (misfit.NoOption name) = plain.NoOption name.now
+misfit_in (misfit.NoSign text) = plain.NoSign text.now
+misfit_in misfit.Both = plain.Both
+misfit_in (misfit.NoValue name kind what) = plain.NoValue name.now (kind_in kind.now) (written_in what)
+misfit_in (misfit.NoDefault name kind value) = plain.NoDefault name.now (kind_in kind.now) (option_map given_in value.now)

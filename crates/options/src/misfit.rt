@@ -1,0 +1,140 @@
+//! What is wrong with a value that a place gives an option, and the words that say so.
+
+ghost use Rattle.std.specs.Prelude.{◌≡◌, IfOk, option_map, string_bytes};
+ghost use Rattle.option_file.specs.View.{given_in};
+ghost use Rattle.option_values.specs.Given.{boolean_text};
+ghost use Rattle.option_values.specs.View.{kind_in};
+ghost use Rattle.options.specs.MisfitView.{misfit_in, written_in};
+ghost use Rattle.options.specs.Misfits.{default_words, given_words, in_quotes, option_is, refusal_of, takes, words_of, written_words};
+ghost use Rattle.machine_file.specs.View.{value_in as machine_value_in};
+
+use basics::faults::Refusal;
+use machine_file::MachineValue;
+use option_file::Given;
+use option_values::{OptionKind, kind_words};
+use std::alloc::{AllocError, Global};
+
+/// What is written at a place.
+#[derive(Clone, Copy)]
+pub enum Written<'a> {
+    Text(&'a str),
+    /// A value of the machine file.
+    Value(&'a MachineValue),
+}
+
+/// What is refused of a name and a value.
+#[derive(Clone, Copy)]
+pub enum Misfit<'a> {
+    /// No option has this name.
+    NoOption(&'a str),
+    /// A text that is no name with a value, since it has no `=`.
+    NoSign(&'a str),
+    /// The value `both` of `default_library`, which is left out.
+    Both,
+    /// The option of this name takes this, and something else was given.
+    NoValue(&'a str, &'a OptionKind, Written<'a>),
+    /// The same of the default of its declaration.
+    NoDefault(&'a str, &'a OptionKind, &'a Option<Given>),
+}
+
+fn in_quotes(alloc: Global, text: &str) -> Result<String, AllocError>
+    ensures { IfOk result (λ words. string_bytes words ≡ in_quotes text.now) }
+{
+    format!(in alloc; "'{text}'")
+}
+
+fn boolean_words(alloc: Global, boolean: bool) -> Result<String, AllocError>
+    ensures { IfOk result (λ words. string_bytes words ≡ boolean_text boolean) }
+{
+    let words = if boolean { "true" } else { "false" };
+    String::from_str(alloc, words)
+}
+
+// A value of the machine file, a list by its form alone.
+fn value_words(alloc: Global, value: &MachineValue) -> Result<String, AllocError>
+    ensures { IfOk result (λ words. string_bytes words ≡ written_words (machine_value_in value.now)) }
+{
+    match value {
+        MachineValue::Text(text) => in_quotes(alloc, text),
+        MachineValue::Integer(number) => format!(in alloc; "{}", *number),
+        MachineValue::Boolean(boolean) => boolean_words(alloc, *boolean),
+        MachineValue::Texts(_) => String::from_str(alloc, "a list"),
+    }
+}
+
+fn written_words(alloc: Global, what: Written<'_>) -> Result<String, AllocError>
+    ensures { IfOk result (λ words. string_bytes words ≡ written_words (written_in what.entry)) }
+{
+    match what {
+        Written::Text(text) => in_quotes(alloc, text),
+        Written::Value(value) => value_words(alloc, value),
+    }
+}
+
+// What a declaration gives, a list by its form alone.
+fn given_words(alloc: Global, given: &Given) -> Result<String, AllocError>
+    ensures { IfOk result (λ words. string_bytes words ≡ given_words (given_in given.now)) }
+{
+    match given {
+        Given::Text(text) => in_quotes(alloc, text),
+        Given::Integer(number) => format!(in alloc; "{}", *number),
+        Given::Boolean(boolean) => boolean_words(alloc, *boolean),
+        Given::Texts(_) => String::from_str(alloc, "a list"),
+        Given::Other => String::from_str(alloc, "another value"),
+    }
+}
+
+fn default_words(alloc: Global, value: &Option<Given>) -> Result<String, AllocError>
+    ensures { IfOk result (λ words. string_bytes words ≡ default_words (option_map given_in value.now)) }
+{
+    match value {
+        Some(given) => given_words(alloc, given),
+        None => String::from_str(alloc, "nothing"),
+    }
+}
+
+// Of an option this is so.
+fn option_is(alloc: Global, name: &str, words: &str) -> Result<String, AllocError>
+    ensures { IfOk result (λ text. string_bytes text ≡ option_is name.now words.now) }
+{
+    format!(in alloc; "option '{name}': {words}")
+}
+
+// An option takes this, and that was given.
+fn takes(alloc: Global, name: &str, kind: &OptionKind, got: &str) -> Result<String, AllocError>
+    ensures { IfOk result (λ text. string_bytes text ≡ takes name.now (kind_in kind.now) got.now) }
+{
+    let kind = kind_words(alloc, kind)?;
+    format!(in alloc; "option '{name}': takes {kind}, and got {got}")
+}
+
+impl<'a> Misfit<'a> {
+    /// What it is refused as: E15, or E23 where it is left out by name.
+    pub fn refusal(self) -> Refusal
+        ensures { result ≡ refusal_of (misfit_in self.entry) }
+    {
+        match self {
+            Misfit::Both => Refusal::LeftOut,
+            _ => Refusal::OptionValue,
+        }
+    }
+
+    /// What it is about.
+    pub fn words(self, alloc: Global) -> Result<String, AllocError>
+        ensures { IfOk result (λ text. string_bytes text ≡ words_of (misfit_in self.entry)) }
+    {
+        match self {
+            Misfit::NoOption(name) => option_is(alloc, name, "there is none"),
+            Misfit::NoSign(text) => format!(in alloc; "'{text}': has no '='"),
+            Misfit::Both => option_is(alloc, "default_library", "'both' is left out"),
+            Misfit::NoValue(name, kind, what) => {
+                let got = written_words(alloc, what)?;
+                takes(alloc, name, kind, &got)
+            }
+            Misfit::NoDefault(name, kind, value) => {
+                let got = default_words(alloc, value)?;
+                takes(alloc, name, kind, &got)
+            }
+        }
+    }
+}

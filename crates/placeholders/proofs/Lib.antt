@@ -1,5 +1,0 @@
-pub mod NameTexts
-pub mod Numbers
-pub mod Steps
-pub mod Places
-mod Examples

@@ -1,0 +1,55 @@
+-- Which rule is broken by arguments that say nothing to install or no dependency, and by which text or keyword.
+use Rattle.std.specs.Prelude.{ℕ, List, [], ◌∷◌, Option, Some, None, codes}
+use Rattle.arguments.specs.Arguments.{ArgumentsData}
+use Rattle.arguments.specs.Leaves.{leaves_from, leaves_named}
+use Rattle.arguments.specs.declared.rule.Rule.{Rule}
+use Rattle.arguments.specs.declared.rule.Rule.TheVariants as rules
+use Rattle.edge.specs.Texts.{Path}
+use Rattle.named_sources.specs.Folders.{folders_in, folders_of}
+use Rattle.named_sources.specs.Sources.{NamedData, built, source_of, sources_of, tree}
+use Rattle.named_sources.specs.Unnamed.{first_unnamed, unless_named}
+use Rattle.resource_calls.specs.Destinations.{FoldersData, install_of}
+use Rattle.resource_calls.specs.OwnLists.{libraries_of}
+use Rattle.resource_calls.specs.Place.{PlaceData}
+use Rattle.resource_calls.specs.declared.destinations.Sort.{Sort}
+
+-- a rule, and the text or the keyword that breaks it
+abbrev pub Breach : Type 0
+Breach = Rule × List ℕ
+
+-- ---- files that are installed
+
+abbrev pub path_said : NamedData → Path
+path_said (tree path) = path
+path_said (built path) = path
+path_said _ = []
+
+-- the first of these that can't be installed
+abbrev pub first_homeless : FoldersData → Sort → ArgumentsData → List NamedData → Path
+first_homeless folders sort a [] = []
+first_homeless folders sort a (n ∷ ns) = unless_named (install_of folders sort a n) (path_said n) (first_homeless folders sort a ns)
+
+abbrev pub named_breach : FoldersData → Sort → ArgumentsData → Option (List NamedData) → Breach
+named_breach folders sort a None = (rules.NamesFile, first_unnamed (source_of folders.source_root folders.folder) (leaves_from 0 a))
+named_breach folders sort a (Some named) = (rules.IsManPage, first_homeless folders sort a named)
+
+-- a text that names no file, or else a page without a section
+abbrev pub install_breach : FoldersData → Sort → ArgumentsData → Breach
+install_breach folders sort a = named_breach folders sort a (sources_of folders.source_root folders.folder (leaves_from 0 a))
+
+-- ---- lists of a dependency
+
+abbrev pub library_breach : PlaceData → ArgumentsData → Option (List ℕ) → Breach
+library_breach place a None = (rules.TakesLibraries, codes "link_with")
+library_breach place a (Some libraries) =
+    (rules.NamesFile, first_unnamed (source_of place.source_root place.folder) (leaves_named (codes "sources") a))
+
+abbrev pub folder_breach : PlaceData → ArgumentsData → Option (List Path) → Breach
+folder_breach place a None =
+    (rules.NamesFolder, first_unnamed (folders_in place.source_root place.folder) (leaves_named (codes "include_directories") a))
+folder_breach place a (Some folders) = library_breach place a (libraries_of place.earlier (leaves_named (codes "link_with") a))
+
+-- a text that names no folder, what is no library, or else a text that names no file
+abbrev pub lists_breach : PlaceData → ArgumentsData → Breach
+lists_breach place a =
+    folder_breach place a (folders_of place.source_root place.folder (leaves_named (codes "include_directories") a))

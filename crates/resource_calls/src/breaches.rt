@@ -1,0 +1,105 @@
+//! Which rule is broken by arguments that say nothing to install or no dependency: it is looked for only where a call is refused.
+ghost use Rattle.std.specs.Prelude.{◌≡◌, IfOk, codes, map, string_bytes};
+ghost use Rattle.arguments.specs.Arguments.{arguments_data};
+ghost use Rattle.arguments.specs.Leaves.{leaves_named};
+ghost use Rattle.named_sources.specs.SourcesView.{named_view};
+ghost use Rattle.resource_calls.specs.Breaches.{first_homeless, install_breach, library_breach, lists_breach, path_said};
+ghost use Rattle.resource_calls.specs.DestinationsView.{folders_view};
+ghost use Rattle.resource_calls.specs.OwnLists.{libraries_of};
+ghost use Rattle.resource_calls.specs.PlaceView.{place_view};
+
+use crate::destinations::{Folders, Sort, install_of};
+use crate::own_lists::libraries_of;
+use crate::place::Place;
+use arguments::{Arguments, Rule};
+use named_sources::{NamedSource, folders_of, sources_of, unnamed_folder, unnamed_source};
+use std::alloc::{AllocError, Global};
+
+fn path_said(alloc: Global, named: &NamedSource) -> Result<String, AllocError>
+    ensures { IfOk result (λ path. string_bytes path ≡ path_said (named_view named.now)) }
+{
+    match named {
+        NamedSource::Tree(path) => String::from_str(alloc, path.as_str()),
+        NamedSource::Built(path) => String::from_str(alloc, path.as_str()),
+        NamedSource::Outputs(_) => Ok(String::new(alloc)),
+        NamedSource::Output { .. } => Ok(String::new(alloc)),
+    }
+}
+
+// The path of the first of these files that can't be installed.
+fn first_homeless(
+    folders: &Folders<'_>,
+    sort: Sort,
+    arguments: &Arguments,
+    named: &[NamedSource],
+) -> Result<String, AllocError>
+    ensures { IfOk result (λ path. string_bytes path
+        ≡ first_homeless (folders_view folders.now) sort (arguments_data arguments.now) (map named_view named.now)) }
+{
+    for one in named {
+        match install_of(folders, sort, arguments, one)? {
+            Some(_) => {}
+            None => return path_said(folders.alloc, one),
+        }
+    }
+    Ok(String::new(folders.alloc))
+}
+
+/// Of a call that installs files: the rule, and the text that breaks it.
+pub fn install_breach(
+    folders: &Folders<'_>,
+    sort: Sort,
+    arguments: &Arguments,
+) -> Result<(Rule, String), AllocError>
+    ensures { IfOk result (λ b. (b.0, string_bytes b.1)
+        ≡ install_breach (folders_view folders.now) sort (arguments_data arguments.now)) }
+{
+    let alloc = folders.alloc;
+    let values = arguments.leaves_behind(alloc, 0)?;
+    match sources_of(alloc, folders.source_root, folders.folder, &values)? {
+        None => {
+            let text = unnamed_source(alloc, folders.source_root, folders.folder, &values)?;
+            Ok((Rule::NamesFile, String::from_str(alloc, text)?))
+        }
+        Some(named) => {
+            let path = first_homeless(folders, sort, arguments, &named)?;
+            Ok((Rule::IsManPage, path))
+        }
+    }
+}
+
+// What is no library, or else a text that names no file.
+fn library_breach<'v>(
+    place: &Place<'_>,
+    arguments: &'v Arguments,
+) -> Result<(Rule, &'v str), AllocError>
+    ensures { IfOk result (λ b. (b.0, b.1.now) ≡ library_breach (place_view place.now) (arguments_data arguments.now)
+        (libraries_of (place_view place.now).earlier (leaves_named (codes "link_with") (arguments_data arguments.now)))) }
+{
+    let values = arguments.leaves(place.alloc, "link_with")?;
+    match libraries_of(place.alloc, place.earlier, &values)? {
+        None => Ok((Rule::TakesLibraries, "link_with")),
+        Some(_) => {
+            let values = arguments.leaves(place.alloc, "sources")?;
+            let text = unnamed_source(place.alloc, place.source_root, place.folder, &values)?;
+            Ok((Rule::NamesFile, text))
+        }
+    }
+}
+
+/// Of a call of `declare_dependency`: the rule, and the text or the keyword that breaks it.
+pub fn lists_breach<'v>(
+    place: &Place<'_>,
+    arguments: &'v Arguments,
+) -> Result<(Rule, &'v str), AllocError>
+    ensures { IfOk result (λ b. (b.0, b.1.now) ≡ lists_breach (place_view place.now) (arguments_data arguments.now)) }
+{
+    let values = arguments.leaves(place.alloc, "include_directories")?;
+    match folders_of(place.alloc, place.source_root, place.folder, &values)? {
+        None => {
+            let text = unnamed_folder(place.alloc, place.source_root, place.folder, &values)?;
+            Ok((Rule::NamesFolder, text))
+        }
+        Some(_) => library_breach(place, arguments),
+    }
+}

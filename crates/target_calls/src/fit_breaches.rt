@@ -1,0 +1,186 @@
+//! Which rule is broken by a target that the project can't have: it is looked for only where a call is refused.
+ghost use Rattle.std.specs.Prelude.{◌≡◌, ◌∷◌, IfOk, map, option_map, string_bytes};
+ghost use Rattle.edge.specs.Texts.{texts};
+ghost use Rattle.project.specs.Adding.{is_target_name};
+ghost use Rattle.targets.specs.Files.{file_name, link_names};
+ghost use Rattle.targets.specs.Sources.{is_foreign, is_header};
+ghost use Rattle.targets.specs.View.{build_view, custom_view, linked_view, lists_view, source_view, target_view};
+ghost use Rattle.target_calls.specs.FitBreaches.{bad_name, build_fit, custom_fit, file_breach, fit_breach, foreign_among, foreign_in};
+ghost use Rattle.target_calls.specs.FitBreaches.{foreign_of, foreign_path, source_breach};
+
+use arguments::Rule;
+use edge::copies;
+use project::{Project, has_slash, is_file_name};
+use std::alloc::{AllocError, Global};
+use std::rc::Rc;
+use targets::{
+    BuildTarget, CustomTarget, Linked, Lists, Source, Target, file_name, is_c, link_names,
+    links_libraries,
+};
+
+// ---- names
+
+fn is_target_name(name: &str) -> bool
+    ensures { result ≡ is_target_name name.now }
+{
+    !(name == "" || has_slash(name) || matches!(name.as_bytes(), [b'-', ..]))
+}
+
+// The first of names that no file may have.
+fn bad_name(names: &[String]) -> Option<&str>
+    ensures { option_map (λ n. n.now) result ≡ bad_name (texts names.now) }
+{
+    for name in names {
+        if !is_file_name(name.as_str()) {
+            return Some(name.as_str());
+        }
+    }
+    None
+}
+
+// ---- sources
+
+#[tactic(auto, using(std::proofs::lemmas::Str::Pattern::ends_text))]
+fn is_header(path: &str) -> bool
+    ensures { result ≡ is_header path.now }
+{
+    path.ends_with(".h")
+}
+
+// The path of a file that is neither a C source nor a header.
+fn foreign_path(source: &Source) -> Option<&str>
+    ensures { option_map (λ p. p.now) result ≡ foreign_path (source_view source.now) }
+{
+    match source {
+        Source::Tree(path) | Source::Built(path) => {
+            if is_c(path) || is_header(path) {
+                None
+            } else {
+                Some(path.as_str())
+            }
+        }
+        Source::Made(_) => None,
+    }
+}
+
+fn foreign_in(sources: &[Source]) -> Option<&str>
+    ensures { option_map (λ p. p.now) result ≡ foreign_in (map source_view sources.now) }
+{
+    for source in sources {
+        match foreign_path(source) {
+            Some(path) => return Some(path),
+            None => {}
+        }
+    }
+    None
+}
+
+fn foreign_among(lists: &[Rc<Lists>]) -> Option<&str>
+    ensures { option_map (λ p. p.now) result ≡ foreign_among (map (λ l. lists_view l.value) lists.now) }
+{
+    for one in lists {
+        match foreign_in(&one.sources) {
+            Some(path) => return Some(path),
+            None => {}
+        }
+    }
+    None
+}
+
+// The first among the sources of the target, and then of its dependencies.
+fn foreign_of(target: &BuildTarget) -> Option<&str>
+    ensures { option_map (λ p. p.now) result ≡ foreign_of (build_view target.now) }
+{
+    match foreign_in(&target.own.sources) {
+        Some(path) => Some(path),
+        None => foreign_among(&target.dependencies),
+    }
+}
+
+// ---- the target
+
+fn source_breach<'t>(earlier: &[Linked], target: &'t BuildTarget) -> (Rule, &'t str)
+    ensures { (result.0, result.1.now)
+        ≡ source_breach (map linked_view earlier.now) (build_view target.now) (foreign_of (build_view target.now)) }
+{
+    match foreign_of(target) {
+        Some(path) => (Rule::IsSource, path),
+        None => {
+            if links_libraries(earlier, target) {
+                (Rule::HasSource, target.name.as_str())
+            } else {
+                (Rule::TakesLibraries, "link_with")
+            }
+        }
+    }
+}
+
+// The names of the target's files.
+fn file_names(alloc: Global, target: &BuildTarget) -> Result<Vec<String>, AllocError>
+    ensures { IfOk result (λ v. texts v.items ≡ file_name (build_view target.now) ∷ link_names (build_view target.now)) }
+{
+    let mut names = Vec::new(alloc);
+    names.push(file_name(alloc, target)?)?;
+    let mut links = link_names(alloc, target)?;
+    names.append(&mut links)?;
+    Ok(names)
+}
+
+fn file_breach(
+    alloc: Global,
+    earlier: &[Linked],
+    target: &BuildTarget,
+) -> Result<(Rule, String), AllocError>
+    ensures { IfOk result (λ b. (b.0, string_bytes b.1) ≡ file_breach (map linked_view earlier.now) (build_view target.now)
+        (bad_name (file_name (build_view target.now) ∷ link_names (build_view target.now)))) }
+{
+    let names = file_names(alloc, target)?;
+    match bad_name(&names) {
+        Some(name) => Ok((Rule::IsFileName, String::from_str(alloc, name)?)),
+        None => {
+            let (rule, text) = source_breach(earlier, target);
+            Ok((rule, String::from_str(alloc, text)?))
+        }
+    }
+}
+
+fn build_fit(
+    alloc: Global,
+    earlier: &[Linked],
+    target: &BuildTarget,
+) -> Result<(Rule, String), AllocError>
+    ensures { IfOk result (λ b. (b.0, string_bytes b.1) ≡ build_fit (map linked_view earlier.now) (build_view target.now)) }
+{
+    let name = target.name.as_str();
+    if is_target_name(name) {
+        file_breach(alloc, earlier, target)
+    } else {
+        Ok((Rule::IsTargetName, String::from_str(alloc, name)?))
+    }
+}
+
+fn custom_fit(alloc: Global, target: &CustomTarget) -> Result<(Rule, String), AllocError>
+    ensures { IfOk result (λ b. (b.0, string_bytes b.1) ≡ custom_fit (custom_view target.now)) }
+{
+    let mut names = copies(alloc, &target.outputs)?;
+    match &target.depfile {
+        Some(name) => names.push(name.clone()?)?,
+        None => {}
+    }
+    let name = bad_name(&names).unwrap_or("");
+    Ok((Rule::IsFileName, String::from_str(alloc, name)?))
+}
+
+/// Of a target that the project can't have: the rule, and the text or the keyword that breaks it.
+pub fn fit_breach(
+    alloc: Global,
+    project: &Project,
+    target: &Target,
+) -> Result<(Rule, String), AllocError>
+    ensures { IfOk result (λ b. (b.0, string_bytes b.1) ≡ fit_breach project.now (target_view target.now)) }
+{
+    match target {
+        Target::Build(target) => build_fit(alloc, project.targets(), target),
+        Target::Custom(target) => custom_fit(alloc, target),
+    }
+}

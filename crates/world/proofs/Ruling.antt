@@ -1,0 +1,29 @@
+-- Rules that are kept or broken.
+use Rattle.std.proofs.Common.{◌≡◌, refl, ℕ, List, Option, Some, None, Result, Ok, Err, IsErrAnd, sym, subst}
+use Rattle.arguments.specs.Rules.{broken}
+use Rattle.arguments.specs.declared.rule.Rule.{Rule}
+use Rattle.basics.specs.Faults.{FaultData}
+use Rattle.basics.specs.declared.faults.refusal.Refusal.TheVariants as refusals
+use Rattle.world.specs.Answering.{Carries, Refuses, State}
+use Rattle.world.specs.Gives.{IsRefusal}
+use Rattle.world.specs.Ruled.{ruled}
+use Rattle.world.specs.World.{fault_here}
+use Rattle.world.specs.declared.stop.Stop.{Stop}
+use Rattle.world.specs.declared.stop.Stop.TheVariants as stops
+use Rattle.world.proofs.Answering.{carries_give, carries_refuse}
+
+-- want of memory stands in for each refusal
+pub refuses_none : {B : Type 0} (f : FaultData) (result : Result B Stop) → IsErrAnd result (λ e. e ≡ stops.Memory) → Refuses f result
+refuses_none f (Ok x) is = absurd is
+refuses_none f (Err s) is = subst (λ (x : Stop). IsRefusal x f) (sym is) tt
+
+pub ruled_found : {A B : Type 0} {view : B → A} (found : Option A) (rule : Rule) (text : List ℕ) {s : State} {x : B} → Some (view x) ≡ found
+    → Carries view (ruled found rule text) s (Ok x) s
+unfolding ruled
+ruled_found {view = view} found rule text {s = s} {x = x} is = subst (λ o. Carries view (ruled o rule text) s (Ok x) s) is (carries_give refl)
+
+pub ruled_broken : {A B : Type 0} {view : B → A} (found : Option A) (rule : Rule) (text : List ℕ) {s : State} {result : Result B Stop}
+    → None ≡ found → Refuses (fault_here s.world refusals.Arguments (broken rule text)) result → Carries view (ruled found rule text) s result s
+unfolding ruled
+ruled_broken {view = view} found rule text {s = s} {result = result} is r =
+    subst (λ o. Carries view (ruled o rule text) s result s) is (carries_refuse r)

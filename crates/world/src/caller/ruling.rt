@@ -1,0 +1,37 @@
+//! Refuses a call that breaks a rule.
+ghost use Rattle.arguments.specs.Rules.{broken};
+ghost use Rattle.basics.specs.declared.faults.refusal.Refusal.TheVariants.{Arguments as ArgumentsRefused};
+ghost use Rattle.world.specs.Answering.{Carries, Refuses};
+ghost use Rattle.world.specs.Ruled.{obeyed};
+ghost use Rattle.world.specs.Store.{world_of};
+ghost use Rattle.world.specs.World.{fault_here};
+
+use crate::caller::Caller;
+use crate::stop::Stop;
+use arguments::Rule;
+use basics::faults::Refusal;
+use ports::{Outputs, Tree};
+
+impl<'a, T: Tree, O: Outputs> Caller<'a, T, O> {
+    ghost use Rattle.world.specs.Caller.{state_of};
+
+    /// Refuses the call, since this text breaks the rule, or the keyword of this name. The words are made only here.
+    pub fn refuse_by<A>(&self, rule: Rule, text: &str) -> Result<A, Stop>
+        ensures { Refuses (fault_here (world_of self.now.store.now) ArgumentsRefused (broken rule text.now)) result }
+    {
+        let detail = rule.broken(self.alloc, text)?;
+        self.refuse(Refusal::Arguments, detail.as_str())
+    }
+
+    /// Refuses the call unless the rule is kept, which else this text breaks, or the keyword of this name.
+    pub fn obey(&self, is_so: bool, rule: Rule, text: &str) -> Result<(), Stop>
+        ensures { Carries (λ u. u) (obeyed is_so rule text.now) (state_of T.seen O.seen self.now)
+            result (state_of T.seen O.seen self.now) }
+    {
+        if is_so {
+            Ok(())
+        } else {
+            self.refuse_by(rule, text)
+        }
+    }
+}
