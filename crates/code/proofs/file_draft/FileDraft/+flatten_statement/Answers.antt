@@ -55,11 +55,11 @@ conditional-returns-clause-is t c =
 pub statement-returns-in-If-clause-is : goal.statement-returns-in-If-clause-is
 statement-returns-in-If-clause-is t c =
     statement_as c.conditional.result c.conditional.new.self
-    (IfTree c.in-If.line (branches (map branch_of c.deref.result.now)) (statements (map statement_of c.deref-in-If.result.now)))
+    (IfTree c.in-If.line (branches (map branch_of c.deref-in-If.result.now)) (statements (map statement_of c.deref-in-If-2.result.now)))
     (statement_of c.args.statement.now) c.conditional.ensures.is
     (if_made c.args.statement.now c.in-If.line c.in-If.branches c.in-If.otherwise
-    (map branch_of c.deref.result.now) (map statement_of c.deref-in-If.result.now) c.deref.result.now c.deref-in-If.result.now
-    c.in-If.is c.deref.ensures.value c.deref-in-If.ensures.value refl refl)
+    (map branch_of c.deref-in-If.result.now) (map statement_of c.deref-in-If-2.result.now) c.deref-in-If.result.now c.deref-in-If-2.result.now
+    c.in-If.is c.deref-in-If.ensures.value c.deref-in-If-2.ensures.value refl refl)
 
 pub body-loop-statement-preserved : goal.body-loop-statement-preserved
 body-loop-statement-preserved t c =
@@ -101,7 +101,7 @@ statement-returns-in-Assign-clause-extends t c = c.assign.ensures.extends
 
 pub statement-returns-in-Assign-clause-is : goal.statement-returns-in-Assign-clause-is
 statement-returns-in-Assign-clause-is t c = statement_as c.assign.result c.assign.new.self _ (statement_of c.args.statement.now) c.assign.ensures.is
-    (ap (λ (e : Expression). AssignTree c.in-Assign.name.now c.in-Assign.line (expression_of e)) c.deref-in-Assign.ensures
+    (ap (λ (e : Expression). AssignTree c.in-Assign.name.now c.in-Assign.line (expression_of e)) c.deref.ensures
     ∙ assign_made c.args.statement.now c.in-Assign.line c.in-Assign.name c.in-Assign.value c.in-Assign.is)
 
 pub statement-returns-in-Append-clause-extends : goal.statement-returns-in-Append-clause-extends
