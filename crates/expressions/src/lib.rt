@@ -1,6 +1,5 @@
-//! What expressions give for the values of their parts, and variables.
-//!
-//! What calls a function or a method of an object is none of this crate's.
+//! What an evaluation does that calls nothing: what expressions give for the values of their parts, variables, and the definition files
+//! that are opened.
 #![tactic(auto)]
 
 mod assign;
@@ -12,11 +11,10 @@ mod literals;
 mod loops;
 mod meaning;
 mod names;
-mod operation;
+mod open;
 
 pub use conditions::Choice;
 pub use context::Context;
 pub use loops::{Round, check_loop, round_at};
-pub use meaning::Meaning;
+pub use meaning::{Meaning, meaning_of};
 pub use names::disabler_method;
-pub use operation::{Begun, Half};

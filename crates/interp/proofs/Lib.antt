@@ -9,7 +9,7 @@ pub mod Looping
 pub mod Machines
 mod Meanings
 mod Noting
-pub mod Opening
+pub mod Operating
 mod Pairs
 mod Paths
 pub mod Places

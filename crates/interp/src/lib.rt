@@ -25,7 +25,7 @@ mod halt;
 mod inside;
 mod law;
 mod nodes;
-mod open;
+mod operation;
 mod running;
 mod stated;
 mod unwinding;

@@ -10,11 +10,11 @@ ghost use Rattle.interp.specs.Parts.{above, above_number, above_entry, above_arg
 
 use crate::evaluator::Evaluator;
 use crate::halt::{Halt, ended_inside};
+use crate::operation::Begun;
 use arguments::{Arguments, add_argument, no_arguments};
 use code::Code;
 use code::node::{ArgumentNode, CallNode, EntryNode, LinkNode, Node, OperandNode};
 use data::Value;
-use expressions::Begun;
 use ports::{Outputs, Tree};
 use std::sync::ledger::Ledger;
 
@@ -43,7 +43,8 @@ impl<'a, T: Tree, O: Outputs, L: Ledger> Evaluator<'a, T, O, L> {
         requires room { HasRoom T.seen O.seen self.old.context }
         ensures same { Same self.old.context self.new.context }
         ensures device { FailsInside T.seen O.seen self.old.context result self.new.context }
-        ensures gives { Evaluates T.seen O.seen data_of (λ into ts. value_of into (tree_at ts node)) code.now self.old.context result self.new.context }
+        ensures gives { Evaluates T.seen O.seen data_of (λ into ts. value_of into (tree_at ts node))
+            code.now self.old.context result self.new.context }
     {
         match &code.nodes[node] {
             Node::Name { number, line } => Ok(self.context.variable(*number, *line)?),
@@ -170,7 +171,8 @@ impl<'a, T: Tree, O: Outputs, L: Ledger> Evaluator<'a, T, O, L> {
         ensures same { Same self.old.context self.new.context }
         ensures device { FailsInside T.seen O.seen self.old.context result self.new.context }
         ensures gives { Evaluates T.seen O.seen (option_map data_of) (λ into ts. next (ruled (value_of into (tree_at ts first)))
-            (λ d. links_of into line (Some d) (link_trees (map (link_at ts) links.now)))) code.now self.old.context result self.new.context }
+            (λ d. links_of into line (Some d) (link_trees (map (link_at ts) links.now))))
+            code.now self.old.context result self.new.context }
     {
         let value = self.eval(code, first)?;
         let mut given = Some(value);
@@ -228,7 +230,7 @@ impl<'a, T: Tree, O: Outputs, L: Ledger> Evaluator<'a, T, O, L> {
     {
         let mut value = self.eval(code, first)?;
         for operand in others {
-            let begun = self.context.begun(line, operand.operator, value)?;
+            let begun = self.begun(line, operand.operator, value)?;
             let half = match begun {
                 Begun::Decided(whole) => {
                     value = whole;
@@ -237,7 +239,7 @@ impl<'a, T: Tree, O: Outputs, L: Ledger> Evaluator<'a, T, O, L> {
                 Begun::Waits(half) => half,
             };
             let right = self.eval(code, operand.value)?;
-            value = self.context.completed(line, half, right)?;
+            value = self.completed(line, half, right)?;
         }
         Ok(value)
     }

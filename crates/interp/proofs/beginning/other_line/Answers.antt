@@ -4,7 +4,7 @@ use Rattle.code.specs.declared.node.ForeachNode.{ForeachNode}
 use Rattle.code.specs.declared.node.IfNode.{IfNode}
 use Rattle.code.specs.declared.node.StatementNode.TheVariants as flat
 use Rattle.interp.specs.Beginnings.{line_unless, other_line}
-use Rattle.interp.specs.Blocks.{expressions_by}
+use Rattle.expressions.specs.Codes.{expressions_by}
 use Rattle.interp.proofs.Starting.{statement_is, value_line, value_there}
 use Rattle.interp.proofs.beginning.other_line.Goals as goal
 
