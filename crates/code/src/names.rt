@@ -59,7 +59,6 @@ impl Names {
     }
 
     /// The name with a number.
-    #[inline(always)]
     pub fn name(&self, number: usize) -> Option<&str>
         ensures { option_map (λ n. n.now) result ≡ slice_get self.now number }
     {
@@ -68,7 +67,6 @@ impl Names {
     }
 
     /// How many names there are.
-    #[inline(always)]
     pub fn len(&self) -> usize
         ensures len { result ≡ length self.now }
         ensures distinct { IsDistinct bytes_eq self.now }

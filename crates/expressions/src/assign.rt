@@ -22,7 +22,6 @@ use std::sync::ledger::Ledger;
 use world::{Caller, Stop};
 
 // The number of an object that is configuration data.
-#[inline(always)]
 fn configuration_of(object: &Object) -> Option<usize>
     ensures { result ≡ configuration_of object.now }
 {
@@ -33,7 +32,6 @@ fn configuration_of(object: &Object) -> Option<usize>
 }
 
 // The number of configuration data.
-#[inline(always)]
 fn configuration_in(value: &Value) -> Option<usize>
     ensures { result ≡ configuration_in (data_of value.now) }
 {
@@ -44,7 +42,6 @@ impl<'a, T: Tree, O: Outputs, L: Ledger> Context<'a, T, O, L> {
     ghost use Rattle.expressions.specs.Contexts.{Answers, Fails, HasRoom, Same, fault_on};
 
     // The number of a copy of configuration data.
-    #[inline(never)]
     fn copy_made(&mut self, number: usize) -> Result<usize, Stop>
         requires room { HasRoom T.seen O.seen self.old }
         ensures same { Same self.old self.new }
@@ -61,7 +58,6 @@ impl<'a, T: Tree, O: Outputs, L: Ledger> Context<'a, T, O, L> {
     }
 
     // A copy of configuration data.
-    #[inline(never)]
     fn copied(&mut self, number: usize) -> Result<Value, Stop>
         requires room { HasRoom T.seen O.seen self.old }
         ensures same { Same self.old self.new }
@@ -73,7 +69,6 @@ impl<'a, T: Tree, O: Outputs, L: Ledger> Context<'a, T, O, L> {
     }
 
     /// What an assignment gives a variable: of configuration data a copy, which may be changed again, and else the value itself.
-    #[inline(always)]
     pub fn own(&mut self, value: Value) -> Result<Value, Stop>
         requires room { HasRoom T.seen O.seen self.old }
         ensures same { Same self.old self.new }
@@ -87,7 +82,6 @@ impl<'a, T: Tree, O: Outputs, L: Ledger> Context<'a, T, O, L> {
     }
 
     /// The variable of a number takes a value: error 11 where its name stands for a thing of the run.
-    #[inline(always)]
     pub fn assign(&mut self, line: usize, number: usize, value: Value) -> Result<(), Stop>
         ensures same { Same self.old self.new }
         ensures device { Fails T.seen O.seen self.old result self.new }
@@ -103,7 +97,6 @@ impl<'a, T: Tree, O: Outputs, L: Ledger> Context<'a, T, O, L> {
     }
 
     /// The variables of a round take their values: the first, and the second where there is one.
-    #[inline(always)]
     pub fn bind(
         &mut self,
         line: usize,
@@ -124,7 +117,6 @@ impl<'a, T: Tree, O: Outputs, L: Ledger> Context<'a, T, O, L> {
     }
 
     // The same with two names.
-    #[inline(never)]
     fn bind_pair(
         &mut self,
         line: usize,
@@ -149,7 +141,6 @@ impl<'a, T: Tree, O: Outputs, L: Ledger> Context<'a, T, O, L> {
     }
 
     // Two variables take their values.
-    #[inline(never)]
     fn assign_both(
         &mut self,
         line: usize,
@@ -187,7 +178,6 @@ impl<'a, T: Tree, O: Outputs, L: Ledger> Context<'a, T, O, L> {
     }
 
     // The thing of the run that the name of a number stands for.
-    #[inline(never)]
     fn thing_at(&self, number: usize) -> Result<Value, Stop>
         ensures gives { number < length self.now.store.now.names
             → Answers T.seen O.seen data_of (thing (name_at self.now.store.now.names number)) self.now result self.now }
@@ -198,7 +188,6 @@ impl<'a, T: Tree, O: Outputs, L: Ledger> Context<'a, T, O, L> {
     }
 
     // Refuses the name of a number, whose variable has no value.
-    #[inline(never)]
     fn unknown(&self, line: usize, number: usize) -> Result<(), Stop>
         ensures refuses { number < length self.now.store.now.names → Refuses (fault_on self.now line Refusal.UndefinedName
             (name_at self.now.store.now.names number)) result }
@@ -209,7 +198,6 @@ impl<'a, T: Tree, O: Outputs, L: Ledger> Context<'a, T, O, L> {
     }
 
     // The same where its name stands for a thing of the run.
-    #[inline(never)]
     fn add_to_thing(&mut self, line: usize, number: usize, right: Value) -> Result<(), Stop>
         ensures same { Same self.old self.new }
         ensures device { Fails T.seen O.seen self.old result self.new }

@@ -16,7 +16,6 @@ pub struct Round {
 }
 
 // The item of a list at a place.
-#[inline(always)]
 fn item_at(items: &[Value], at: usize) -> Result<Option<Round>, AllocError>
     ensures { IfOk result (λ r. RoundAt (item_rounds (items_of items.now)) at r) }
 {
@@ -31,7 +30,6 @@ fn item_at(items: &[Value], at: usize) -> Result<Option<Round>, AllocError>
 }
 
 // The key and the value of a dictionary at a place. The key's bytes are shared.
-#[inline(never)]
 fn entry_at(dictionary: &Dictionary, at: usize) -> Result<Option<Round>, AllocError>
     ensures { IfOk result (λ r. RoundAt (entry_rounds dictionary.now) at r) }
 {
@@ -48,7 +46,6 @@ fn entry_at(dictionary: &Dictionary, at: usize) -> Result<Option<Round>, AllocEr
 }
 
 /// The round over a list or a dictionary at a place, none behind the last. What it gives is shared with the whole.
-#[inline(always)]
 pub fn round_at(whole: &Value, at: usize) -> Result<Option<Round>, AllocError>
     ensures { IfOk result (λ r. RoundAt (rounds_in (data_of whole.now)) at r) }
 {

@@ -7,7 +7,6 @@ mod Examples
 pub mod Ending
 pub mod Looping
 pub mod Machines
-mod Meanings
 mod Noting
 pub mod Operating
 mod Pairs

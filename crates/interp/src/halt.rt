@@ -59,7 +59,6 @@ impl<T: Drop> From<AllocFailed<T>> for Halt {
 }
 
 // The same with one rule more behind it.
-#[inline(never)]
 fn deeper(entry: Inside) -> Halt
     ensures { IsDeeper entry result }
 {
@@ -75,7 +74,6 @@ fn deeper(entry: Inside) -> Halt
 }
 
 /// Ticks where the rule of a node has ended, by a value or by a fault. Where its expression was left for a folder it ends behind that.
-#[inline(always)]
 pub fn ended_inside<A, L: Ledger>(answer: Result<A, Halt>, steps: &mut Steps<L>) -> Result<A, Halt>
     ensures ends { RuleEnds answer steps.old result steps.new }
     ensures quiet { (n : ℕ) → failures_inside n result ≡ failures_inside n answer }

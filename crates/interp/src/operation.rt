@@ -44,7 +44,6 @@ impl<'a, T: Tree, O: Outputs, L: Ledger> Evaluator<'a, T, O, L> {
     ghost use Rattle.expressions.specs.Contexts.{Answers};
 
     /// An operator on the value of its left side.
-    #[inline(always)]
     pub fn begun(&self, line: usize, operator: Operator, left: Value) -> Result<Begun, Stop>
         ensures gives { (files : Files) (more : Bounds) (right : ExpressionTree) → Holds (T.seen self.now.context.tree.now) files
             → Goes files line (combined line (meaning_of operator) (data_of left) (ruled (value_of (folder more) right)))
@@ -58,7 +57,6 @@ impl<'a, T: Tree, O: Outputs, L: Ledger> Evaluator<'a, T, O, L> {
     }
 
     // The left side may decide alone.
-    #[inline(never)]
     fn connected(&self, line: usize, connective: Connective, left: Value) -> Result<Begun, Stop>
         ensures gives { (files : Files) (more : Bounds) (right : ExpressionTree) → Holds (T.seen self.now.context.tree.now) files
             → Goes files line (combined line (Meaning.Connects connective) (data_of left) (ruled (value_of (folder more) right)))
@@ -73,7 +71,6 @@ impl<'a, T: Tree, O: Outputs, L: Ledger> Evaluator<'a, T, O, L> {
     }
 
     /// The same with the value of its right side.
-    #[inline(always)]
     pub fn completed(&self, line: usize, half: Half, right: Value) -> Result<Value, Stop>
         ensures gives { Answers T.seen O.seen data_of (completed line half (data_of right)) self.now.context result self.now.context }
         ensures quiet { (n : ℕ) → failures_after n result ≡ n }
@@ -85,7 +82,6 @@ impl<'a, T: Tree, O: Outputs, L: Ledger> Evaluator<'a, T, O, L> {
     }
 
     // An operator between two values.
-    #[inline(always)]
     fn combined(
         &self,
         line: usize,

@@ -21,7 +21,6 @@ use std::sync::ledger::Ledger;
 use world::Stop;
 
 // The number of the statement at a place of a block, none behind the last.
-#[inline(always)]
 fn number_at(code: &Code, block: Block, at: usize) -> Option<usize>
     ensures is { NumberAt (statements_of code.now block) at result }
     ensures room { OnSome result (at + 1 < 2 ^ 64) }

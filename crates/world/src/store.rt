@@ -118,7 +118,6 @@ impl Model for Store {
 }
 
 // Makes room for a variable.
-#[inline(always)]
 fn reach(slots: &mut Vec<Option<Value>>, number: usize) -> Result<(), AllocError>
     ensures same { (i : ℕ) → slice_index_or slots.new.items i None ≡ slice_index_or slots.old.items i None }
     ensures room { OnOk result (number < length slots.new.items) }
@@ -131,7 +130,6 @@ fn reach(slots: &mut Vec<Option<Value>>, number: usize) -> Result<(), AllocError
 }
 
 // The value in a slot, shared.
-#[inline(always)]
 fn slot(slots: &[Option<Value>], number: usize) -> Result<Option<Value>, AllocError>
     ensures { IfOk result (λ v. option_map data_of v ≡ slot_value slots.now number) }
 {
@@ -142,7 +140,6 @@ fn slot(slots: &[Option<Value>], number: usize) -> Result<Option<Value>, AllocEr
 }
 
 // Takes the value out of a slot, where there is one.
-#[inline(always)]
 fn taken(slots: &mut Vec<Option<Value>>, number: usize) -> Option<Value>
     ensures value { option_map data_of result ≡ slot_value slots.old.items number }
     ensures same { (i : ℕ) → i ≢ number → slice_index_or slots.new.items i None ≡ slice_index_or slots.old.items i None }
@@ -278,7 +275,6 @@ impl Store {
     }
 
     /// The value of the variable of a number, which is that of a name.
-    #[inline(always)]
     pub fn value(&self, number: usize) -> Result<Option<Value>, AllocError>
         ensures { IfOk result (λ v. number < length self.now.names → option_map data_of v
             ≡ (world_of self.now).facts.variables (slice_index_or self.now.names number [])) }
@@ -290,7 +286,6 @@ impl Store {
     }
 
     /// The name with a number.
-    #[inline(always)]
     pub fn name(&self, number: usize) -> &str
         ensures { number < length self.now.names → result.now ≡ slice_index_or self.now.names number [] }
     {
@@ -319,7 +314,6 @@ impl Store {
     }
 
     /// The variable of a number takes a value.
-    #[inline(always)]
     pub fn put(&mut self, number: usize, value: Value) -> Result<(), AllocError>
         ensures names { self.new.names ≡ self.old.names }
         ensures world { number < length self.old.names → OnOk result (world_of self.new
@@ -335,7 +329,6 @@ impl Store {
     }
 
     /// Takes the value of the variable of a number out of it, which then has none.
-    #[inline(always)]
     pub fn take(&mut self, number: usize) -> Option<Value>
         ensures value { number < length self.old.names
             → option_map data_of result ≡ (world_of self.old).facts.variables (slice_index_or self.old.names number []) }
