@@ -198,7 +198,7 @@ part_done into few (MoreBranches test line body bs) otherwise (Some (suc part)) 
 module _ {T O L : Type 0} where
   -- over what is left of a stack the call does what this plan does, by the table of names as it was when the code was made
   abbrev pub Does : (T → TreeState) → (O → OutputState) → (List (List ℕ) → Plan Flow) → Code
-      → Evaluator T O L → List Frame → Result Flow Stop → Evaluator T O L → List Frame → Type 0
+      → Context T O L → List Frame → Result Flow Stop → Context T O L → List Frame → Type 0
   Does tree out plan code old before result new after =
       (files : Files) (rests : List Rest) (table : List (List ℕ)) → Holds (tree old.tree.now) files
       → Stacked old.store.now.names before rests → Made code old.store.now.names table
@@ -206,14 +206,14 @@ module _ {T O L : Type 0} where
 
   -- the same of a plan that no code has to be read for
   abbrev pub Acts : (T → TreeState) → (O → OutputState) → Plan Flow
-      → Evaluator T O L → List Frame → Result Flow Stop → Evaluator T O L → List Frame → Type 0
+      → Context T O L → List Frame → Result Flow Stop → Context T O L → List Frame → Type 0
   Acts tree out plan old before result new after =
       (files : Files) (rests : List Rest) → Holds (tree old.tree.now) files → Stacked old.store.now.names before rests
       → Moves files (behind_all rests plan) (stand_of tree out old) result after (stand_of tree out new)
 
   -- the same of what is left of a frame
   abbrev pub Turns : (T → TreeState) → (O → OutputState) → Frame → Flow
-      → Evaluator T O L → List Frame → Result Flow Stop → Evaluator T O L → List Frame → Type 0
+      → Context T O L → List Frame → Result Flow Stop → Context T O L → List Frame → Type 0
   Turns tree out frame flow old before result new after =
       (files : Files) (rests : List Rest) (rest : Rest) → Holds (tree old.tree.now) files
       → Stacked old.store.now.names before rests → Means old.store.now.names frame rest
@@ -221,7 +221,7 @@ module _ {T O L : Type 0} where
 
   -- the same of a whole step
   abbrev pub Steps : (T → TreeState) → (O → OutputState) → Frame → Flow
-      → Evaluator T O L → List Frame → Result Flow Stop → Evaluator T O L → List Frame → Type 0
+      → Context T O L → List Frame → Result Flow Stop → Context T O L → List Frame → Type 0
   Steps tree out frame flow old before result new after =
       (files : Files) (rests : List Rest) (rest : Rest) → Holds (tree old.tree.now) files
       → Stacked old.store.now.names before rests → Means old.store.now.names frame rest
@@ -229,7 +229,7 @@ module _ {T O L : Type 0} where
 
   -- the call chooses of the parts of an `if` with these branches
   abbrev pub ChoosesOf : (T → TreeState) → (O → OutputState) → List BranchNode → Code
-      → Evaluator T O L → Result (Option ℕ) Halt → Evaluator T O L → Type 0
+      → Context T O L → Result (Option ℕ) Halt → Context T O L → Type 0
   ChoosesOf tree out parts code old result new =
       (files : Files) (ts : List ExpressionTree) (ss : List StatementTree) (left : Bounds) (otherwise : Statements)
       → Holds (tree old.tree.now) files → Reads ts code old.store.now.names

@@ -1,4 +1,4 @@
-use Rattle.std.proofs.Common.{List, ap, refl, string_bytes, subst, sym, ◌∙◌}
+use Rattle.std.proofs.Common.{◌≡◌, List, ap, refl, string_bytes, subst, sym, ◌∙◌}
 use Rattle.std.specs.Prelude.{IsTrue}
 use Rattle.code.specs.Literals.{means}
 use Rattle.code.specs.declared.literal.LiteralNode.{LiteralNode}
