@@ -1,4 +1,6 @@
-use Rattle.std.proofs.Common.{sym, ap, ◌∙◌, ◌&&◌, length, map, nat_lt, option_map}
+use Rattle.std.proofs.Common.{sym, ap, ◌∙◌, ◌&&◌, length, map, nat_lt, option_map, string_bytes, subst}
+use Rattle.std.specs.Prelude.{IsTrue}
+use Rattle.code.specs.declared.node.CallNode.{CallNode}
 use Rattle.std.specs.List.{list_all}
 use Rattle.grammar.specs.ExpressionTree.{ExpressionTree, ListTree, DictionaryTree, FunctionTree, PostfixTree, PrefixTree, ChainTree, TernaryTree, arguments, entries, expressions, links, operands, expression_of, entry_of, argument_of, operand_of, link_of}
 use Rattle.code.specs.Nodes.{tree_at, entry_at, argument_at, operand_at, link_at, entry_within, argument_within, operand_within, link_within}
@@ -211,7 +213,7 @@ pub call-returns-in_err-arguments-clause-grows : goal.call-returns-in_err-argume
 call-returns-in_err-arguments-clause-grows t c = c.arguments.ensures.grows
 
 pub call-push-requires : goal.call-push-requires
-call-push-requires t c = c.in_ok-arguments.ensures.parts.within
+call-push-requires t c = subst (λ (x : CallNode). IsTrue (list_all (argument_within (length (trees_in c.arguments.new.self))) x.arguments.items)) (sym c.in_ok-call.ensures.ok) c.in_ok-arguments.ensures.parts.within
 
 pub call-returns-clause-grows : goal.call-returns-clause-grows
 call-returns-clause-grows t c = grows_trans c.args.self.now c.arguments.new.self c.push.new.self c.arguments.ensures.grows c.push.ensures.grows
@@ -221,7 +223,8 @@ call-returns-in_err-call-clause-grows t c = c.arguments.ensures.grows
 
 pub call-returns-clause-stands : goal.call-returns-clause-stands
 call-returns-clause-stands t c = stands_as c.push.result (trees_in c.push.new.self) _ _ c.push.ensures.stands
-    (ap (λ n. FunctionTree n (arguments (map (argument_at (trees_in c.arguments.new.self)) c.in_ok-arguments.arguments.items)) c.args.line) c.in_ok-name.ensures.ok
+    (ap (λ (x : CallNode). FunctionTree (string_bytes x.name) (arguments (map (argument_at (trees_in c.arguments.new.self)) x.arguments.items)) c.args.line) c.in_ok-call.ensures.ok
+    ∙ ap (λ n. FunctionTree n (arguments (map (argument_at (trees_in c.arguments.new.self)) c.in_ok-arguments.arguments.items)) c.args.line) c.in_ok-name.ensures.ok
     ∙ ap (λ l. FunctionTree c.args.name.now (arguments l) c.args.line) c.in_ok-arguments.ensures.parts.are)
 
 pub prefix-returns-in_err-value-clause-grows : goal.prefix-returns-in_err-value-clause-grows

@@ -25,7 +25,7 @@ conditional-push-requires t c =
     let new = c.body.new.self in
     let parts = branches_more c.branches.new.self new c.in_ok-branches.branches.items (map branch_of c.args.branches.now)
     c.body.ensures.extends c.in_ok-branches.ensures.are in
-    parts_within (length new.draft.names) (length (trees_in new.draft)) (length (statements_in new)) c.in_ok-node.node _ c.in_ok-node.ensures
+    parts_within (length new.draft.names) (length (trees_in new.draft)) (length (statements_in new)) c.in_ok-node.node _ c.in_ok-node.ensures.ok
     (and_both (list_all (branch_within (length (trees_in new.draft)) (length (statements_in new))) c.in_ok-branches.branches.items)
     (list_all (λ i. nat_lt i (length (statements_in new))) c.in_ok-otherwise.otherwise.items) parts.within
     c.in_ok-otherwise.ensures.are.within)
@@ -48,7 +48,7 @@ conditional-returns-clause-is t c =
     (statement_tree new.draft.names (trees_in new.draft) (statements_in new)
     (flat.If c.in_ok-node.node))
     (IfTree c.args.line (branches (map branch_of c.args.branches.now)) (statements (map statement_of c.args.otherwise.now))) c.push.ensures.is
-    (parts_are new.draft.names (trees_in new.draft) (statements_in new) c.in_ok-node.node _ c.in_ok-node.ensures
+    (parts_are new.draft.names (trees_in new.draft) (statements_in new) c.in_ok-node.node _ c.in_ok-node.ensures.ok
     ∙ ap (λ l. IfTree c.args.line (branches l) (statements (map (statement_at (statements_in new)) c.in_ok-otherwise.otherwise.items))) parts.are
     ∙ ap (λ l. IfTree c.args.line (branches (map branch_of c.args.branches.now)) (statements l)) c.in_ok-otherwise.ensures.are.are)
 
@@ -149,10 +149,10 @@ statement-returns-in_ok-body-in-Foreach-clause-extends t c =
 pub statement-returns-in_ok-body-in-Foreach-clause-is : goal.statement-returns-in_ok-body-in-Foreach-clause-is
 statement-returns-in_ok-body-in-Foreach-clause-is t c = statement_as c.foreach.result c.foreach.new.self _ (statement_of c.args.statement.now) c.foreach.ensures.is
     (ap (λ (b : Branch). ForeachTree c.in-Foreach.line c.in-Foreach.first.now (option_map (λ n. n.now) c.in-Foreach.second) (expression_of b.condition) b.line
-    (statements (map (statement_at (statements_in c.body.new.self)) c.in_ok-body-in-Foreach.body.items))) c.deref-in-Foreach.ensures
+    (statements (map (statement_at (statements_in c.body.new.self)) c.in_ok-body-in-Foreach.body.items))) c.deref-round.ensures
     ∙ each_made c.args.statement.now c.in-Foreach.line c.in-Foreach.first c.in-Foreach.second c.in-Foreach.round
-    c.deref-in-Foreach-2.result.now (map (statement_at (statements_in c.body.new.self)) c.in_ok-body-in-Foreach.body.items) c.in-Foreach.is
-    (c.deref-in-Foreach-2.ensures.value ∙ ap (λ (b : Branch). b.body.items) c.deref-in-Foreach.ensures) c.in_ok-body-in-Foreach.ensures.are.are)
+    c.deref-in-Foreach.result.now (map (statement_at (statements_in c.body.new.self)) c.in_ok-body-in-Foreach.body.items) c.in-Foreach.is
+    (c.deref-in-Foreach.ensures.value ∙ ap (λ (b : Branch). b.body.items) c.deref-round.ensures) c.in_ok-body-in-Foreach.ensures.are.are)
 
 pub body-returns-in_err-number-clause-extends : goal.body-returns-in_err-number-clause-extends
 body-returns-in_err-number-clause-extends t c =

@@ -1,4 +1,4 @@
-use Rattle.std.proofs.Common.{map, nat_lt, length, refl, option_map}
+use Rattle.std.proofs.Common.{map, nat_lt, length, refl, option_map, ◌∙◌}
 use Rattle.std.specs.List.{list_all}
 use Rattle.grammar.specs.ExpressionTree.{expression_of}
 use Rattle.grammar.specs.Tree.{ForeachTree, statements}
@@ -28,7 +28,7 @@ push-requires c =
     let body : AreStatements new c.args.body.items (map (statement_at (statements_in old)) c.args.body.items) =
     are_more old new c.args.body.items (map (statement_at (statements_in old)) c.args.body.items) whole record
     { within = c.requires; are = refl } in
-    each_within (length new.draft.names) (length (trees_in new.draft)) (length (statements_in new)) c.in_ok-node.node _ c.in_ok-node.ensures
+    each_within (length new.draft.names) (length (trees_in new.draft)) (length (statements_in new)) c.in_ok-node.node _ c.in_ok-node.ensures.ok
     (and_three (nat_lt c.in_ok-first.first (length new.draft.names)) (second_within (length new.draft.names) c.in_ok-second.second)
     (nat_lt c.in_ok-list.list (length (trees_in new.draft)))
     (list_all (λ i. nat_lt i (length (statements_in new))) c.args.body.items) first.0 c.in_ok-second.ensures.within list.within body.within)
@@ -55,7 +55,7 @@ returns-clause-is c =
     (ForeachTree c.args.line c.args.first.now (option_map (λ n. n.now) c.args.second) (expression_of c.args.list.now) c.args.list_line
     (statements (map (statement_at (statements_in old)) c.args.body.items)))
     c.push.ensures.is
-    (each_is new.draft.names (trees_in new.draft) (statements_in new) c.in_ok-node.node _ c.in_ok-node.ensures
+    (each_is new.draft.names (trees_in new.draft) (statements_in new) c.in_ok-node.node _ c.in_ok-node.ensures.ok
     ∙ foreach_made c.args.line c.args.list_line (name_at new.draft.names c.in_ok-first.first) c.args.first.now
     (option_map (name_at new.draft.names) c.in_ok-second.second) (option_map (λ n. n.now) c.args.second)
     (tree_at (trees_in new.draft) c.in_ok-list.list) (expression_of c.args.list.now)
