@@ -1,4 +1,5 @@
 mod Examples
+pub mod EachBehind
 pub mod FilesBehind
 pub mod NameTexts
 pub mod Numbers
