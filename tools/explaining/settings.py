@@ -13,14 +13,19 @@ from tools.explaining.detail import Detail, detail, listed, near, quoted
 from tools.explaining.instead import in_its_place
 from tools.explaining.machine import section_at
 from tools.explaining.run import Asked, Fault
-from tools.explaining.told import LEFT, NONE, Told
+from tools.explaining.told import LEFT, MISSING, NONE, TWICE, Told
 
 BUILT_IN = ("prefix", "bindir", "libdir", "includedir", "datadir", "mandir", "sysconfdir", "buildtype", "debug", "optimization",
             "warning_level", "werror", "c_std", "default_library", "c_args", "c_link_args", "auto_features")
 TYPES = ("string", "boolean", "combo", "integer", "array", "feature")
 WORDS = ("type", "value", "description", "choices", "min", "max", "yield")
 FILES = ("meson.options", "meson_options.txt")
-LEFT_OUT = ("kwargs", "fallback", "deprecated")
+# Of what is told of the name of a declaration what would be one.
+WHYS = {
+    "is no name of an option": "it has letters, digits, '_' and '-'",
+    "is the name of a built-in option": "give yours another one",
+    "needs the name of an option": "it is one plain text without a name",
+}
 # What is told of the option that `get_option` does not find is its name alone.
 ABSENT = "there is no option "
 
@@ -71,77 +76,45 @@ def of_option_file(asked: Asked, fault: Fault, told: Told, text: str) -> Detail:
     try:
         body = parse(text)
     except (SyntaxFault, RecursionError):
-        return detail("this is no call option(NAME, type: ..)")
+        return detail(told.shown)
     at_line = [it for it in body if text.count("\n", 0, it.start) + 1 == fault.line]
     statement = at_line[0] if at_line else None
     call = statement.value if isinstance(statement, tree.Expression) else None
     if not isinstance(call, tree.Call) or call.name != "option" or call.receiver is not None:
-        return detail("the option file holds calls of option(NAME, type: ..) and nothing else", at=statement.start if statement else None)
-    if told.option is not None:
-        return of_value(asked, told, at=call.keywords["value"].value.start if "value" in call.keywords else call.start)
-    return of_option(call, [it.value for it in body if isinstance(it, tree.Expression) and isinstance(it.value, tree.Call)])
+        why = "the option file holds calls of option(NAME, type: ..) and nothing else"
+        return detail(told.shown, why, at=statement.start if statement else None)
+    return of_option(told, call)
 
 
-def of_option(call: tree.Call, calls: list[tree.Call]) -> Detail:
-    """What is wrong with a call of `option`."""
-    name = plain_text(call.arguments[0]) if call.arguments else ""
-    at, named = call.arguments[0].start if call.arguments else call.start, f"option {quoted(name)}: "
-    seen: set[str] = set()
-    for item in call.items:
-        if isinstance(item, tree.Keyword) and item.name in seen:
-            return detail(f"{named}the keyword {quoted(item.name)} stands twice", at=item.start)
-        if isinstance(item, tree.Keyword):
-            seen.add(item.name)
-    for key, word in call.keywords.items():
-        if key in LEFT_OUT:
-            return detail(f"{named}the keyword {quoted(key)} is left out", in_its_place("Keywords", key), at=word.start)
-        if key not in WORDS:
-            return detail(f"{named}keyword {quoted(key)}: there is none{near(key, WORDS)}", f"option takes {listed(WORDS)}", at=word.start)
-    if len(call.arguments) != 1 or not isinstance(call.arguments[0], tree.Text):
-        return detail("option: it takes one text without a name, that of the option", at=call.start)
-    if call.arguments[0].has_names:
-        return detail(f"{named}its name is a plain text, and no f-string", at=at)
-    if not re.fullmatch(r"[-A-Za-z0-9_]+", name):
-        return detail(f"{named}a name has letters, digits, '_' and '-'", at=at)
-    if name in BUILT_IN:
-        return detail(f"{named}each project has an option of this name: give yours another one", at=at)
-    if any(other.start < call.start and other.arguments and plain_text(other.arguments[0]) == name for other in calls):
-        return detail(f"{named}an option of this name was declared before", at=at)
-    return of_type(call, named)
+def of_option(told: Told, call: tree.Call) -> Detail:
+    """What is told of a call of `option`, which itself gives a default."""
+    name = call.arguments[0].value if call.arguments and isinstance(call.arguments[0], tree.Text) else ""
+    named = f"option {quoted(name)}: " if name and told.option is None and told.text is None else ""
+    words = told.words_of(call)
+    if told.keyword is not None and words:
+        is_of_value = told.so not in (NONE, LEFT, TWICE)
+        hints = hints_of(told, plain_text(words[-1].value))
+        return detail(named + told.shown + hints[0], *hints[1:], at=words[-1].value.start if is_of_value else words[-1].start)
+    if told.option is not None and told.so != TWICE and "value" in call.keywords:
+        return detail(told.shown, at=call.keywords["value"].value.start)
+    why = WHYS.get(told.so, "")
+    is_of_call = told.so == MISSING or not call.arguments
+    return detail(named + told.shown, why, at=call.start if is_of_call else call.arguments[0].start)
 
 
-def of_type(call: tree.Call, named: str) -> Detail:
-    words = call.keywords
-    if "type" not in words:
-        return detail(f"{named}the keyword 'type' is missing: one of {listed(TYPES)}", at=call.start)
-    kind = plain_text(words["type"].value)
-    if kind not in TYPES:
-        return detail(f"{named}there is no type {quoted(kind)}{near(kind, TYPES)}", f"types: {listed(TYPES)}", at=words["type"].value.start)
-    for node in (it for word in words.values() for it in tree.inside(word.value)):
-        is_plain = isinstance(node, (tree.Text, tree.Number, tree.Truth, tree.List, tree.Unary))
-        if not is_plain or isinstance(node, tree.Text) and node.has_names:
-            return detail(f"{named}a value is a plain text, number, truth value or list of these", at=node.start)
-    if kind == "combo" and not ("choices" in words and isinstance(words["choices"].value, tree.List) and words["choices"].value.items):
-        return detail(f"{named}the type combo needs 'choices', a list of texts", at=call.start)
-    if kind == "integer" and "value" not in words:
-        return detail(f"{named}the type integer needs a 'value'", at=call.start)
-    for key in (it for it in ("choices", "min", "max") if it in words):
-        node = words[key].value
-        if key == "choices" and not (isinstance(node, tree.List) and all(isinstance(it, tree.Text) for it in node.items)):
-            return detail(f"{named}'choices' is a list of texts", at=node.start)
-        if key != "choices" and not re.fullmatch(r"-?\d+", number_of(node)) or isinstance(node, tree.Text):
-            return detail(f"{named}{quoted(key)} is an integer", at=node.start)
-    return detail(f"{named}its arguments don't go together", at=call.start)
+def hints_of(told: Told, value: str) -> tuple[str, ...]:
+    """Behind what is told of a keyword of `option` the nearest word; then lines of what there is."""
+    if told.so == NONE:
+        return near(told.keyword or "", WORDS), f"option takes {listed(WORDS)}"
+    if told.so == LEFT:
+        return "", in_its_place("Keywords", told.keyword or "")
+    if told.kind == "the name of a type":
+        return near(value, TYPES), f"types: {listed(TYPES)}"
+    return ("",)
 
 
 def plain_text(node: tree.Node) -> str:
     return node.value if isinstance(node, tree.Text) else ""
-
-
-def number_of(node: tree.Node) -> str:
-    if isinstance(node, tree.Unary):
-        return node.operator + number_of(node.operand)
-    return str(node.value) if isinstance(node, tree.Number) else plain_text(node)
 
 
 def of_statement(context: Context) -> Detail:

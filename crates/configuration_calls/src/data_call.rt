@@ -50,8 +50,8 @@ fn said_data<T: Tree, O: Outputs>(
     match found {
         Some(values) => Ok(values),
         None => {
-            let (rule, text) = values_breach(value);
-            caller.refuse_by(rule, text)
+            let breach = values_breach(value);
+            caller.refuse_by(breach.0, breach.1)
         }
     }
 }

@@ -122,8 +122,8 @@ pub fn input_given<T: Tree, O: Outputs>(
     match input {
         Some(input) => Ok(input),
         None => {
-            let (rule, text) = input_breach(caller.alloc, arguments)?;
-            caller.refuse_by(rule, text)
+            let breach = input_breach(caller.alloc, arguments)?;
+            caller.refuse_by(breach.0, breach.1)
         }
     }
 }
@@ -184,8 +184,8 @@ pub fn values_given<T: Tree, O: Outputs>(
     match found {
         Some(given) => Ok(given),
         None => {
-            let (rule, text) = values_breach(value);
-            caller.refuse_by(rule, text)
+            let breach = values_breach(value);
+            caller.refuse_by(breach.0, breach.1)
         }
     }
 }

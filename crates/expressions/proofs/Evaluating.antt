@@ -18,9 +18,6 @@ use Rattle.world.proofs.Follow.{begun, done, further, gives_later, stopped_later
 use Rattle.world.proofs.Holding.{holds_later}
 use Rattle.world.proofs.Marks.{none_added}
 use Rattle.expressions.specs.Contexts.{Stand, Given, Leads, seen_of}
-use Rattle.expressions.specs.Operations.{Goes}
-use Rattle.expressions.specs.declared.operation.Begun.{Begun}
-use Rattle.expressions.specs.declared.operation.Begun.TheVariants.{Decided, Waits}
 
 -- one call, and then the rest
 pub given_then : {A B C D : Type 0} {view : C → A} {view' : D → B} {files : Files} {p : Plan A} {others : A → Plan B} {s0 s1 s2 : Stand} {x : C} {result : Result D Stop}
@@ -199,23 +196,3 @@ next_is h xs i x lt is = next_item h xs i x lt ∙ ap (λ y. h y ∷ map h (drop
 -- none is left
 pub no_item : {X Y : Type 0} (h : X → Y) (xs : List X) (i : ℕ) → length xs ≤ i → map h (drop i xs) ≡ []
 no_item h xs i le = ap (map h) (drop_of_length-le xs le)
-
--- ---- operators
-
--- the same plan, written otherwise
-pub goes_as : (files : Files) (line : ℕ) {whole other : Plan Data} (right : Plan Data) (s : Stand) (result : Result Begun Stop)
-    → whole ≡ other → Goes files line whole right s result → Goes files line other right s result
-goes_as files line right s (Ok (Decided value)) e g = given_as e g
-goes_as files line right s (Ok (Waits half)) e g = leads_other e g
-goes_as files line right s (Err stop) e g = given_as e g
-
--- what the left side came to
-pub goes_on : (files : Files) (line : ℕ) (whole right : Plan Data) (s : Stand) {b begun : Begun} → b ≡ begun → Goes files line whole right s (Ok b) → Goes files line whole right s (Ok begun)
-goes_on files line whole right s e g = subst (λ x. Goes files line whole right s (Ok x)) e g
-
--- the left side is refused
-pub goes_refused : {A : Type 0} (files : Files) (line : ℕ) (refusal : Refusal) (detail : List ℕ) (others : A → Plan Data) {whole : Plan Data} (right : Plan Data) (s : Stand) (result : Result Begun Stop)
-    → whole ≡ next (refuse line refusal detail) others → Holds s.tree files
-    → Refuses (record { file = s.world.facts.file; line = line; refusal = refusal; detail = detail }) result → Goes files line whole right s result
-goes_refused files line refusal detail others right s (Ok x) e h is = absurd is
-goes_refused files line refusal detail others right s (Err stop) e h is = given_as (sym e) (given_refused (Err stop) h is)

@@ -2,5 +2,4 @@ pub mod Assignments
 pub mod Conditions
 pub mod Contexts
 pub mod Forms
-pub mod Operations
 pub mod Rounds

@@ -12,11 +12,9 @@ mod literals;
 mod loops;
 mod meaning;
 mod names;
-mod operation;
 
 pub use conditions::Choice;
 pub use context::Context;
 pub use loops::{Round, check_loop, round_at};
-pub use meaning::Meaning;
+pub use meaning::{Meaning, meaning_of};
 pub use names::disabler_method;
-pub use operation::{Begun, Half};

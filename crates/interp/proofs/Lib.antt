@@ -9,6 +9,7 @@ pub mod Looping
 pub mod Machines
 mod Noting
 pub mod Opening
+pub mod Operating
 mod Pairs
 mod Paths
 pub mod Places

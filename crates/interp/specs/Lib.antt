@@ -12,5 +12,6 @@ pub mod Folders
 pub mod Frames
 pub mod Inside
 pub mod Laws
+pub mod Operations
 pub mod Parts
 pub mod Statements

@@ -26,6 +26,7 @@ mod inside;
 mod law;
 mod nodes;
 mod open;
+mod operation;
 mod running;
 mod stated;
 mod unwinding;

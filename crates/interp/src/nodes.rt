@@ -10,11 +10,11 @@ ghost use Rattle.interp.specs.Parts.{above, above_number, above_entry, above_arg
 
 use crate::evaluator::Evaluator;
 use crate::halt::{Halt, ended_inside};
+use crate::operation::Begun;
 use arguments::{Arguments, add_argument, no_arguments};
 use code::Code;
 use code::node::{ArgumentNode, EntryNode, LinkNode, Node, OperandNode};
 use data::Value;
-use expressions::Begun;
 use ports::{Outputs, Tree};
 use std::sync::ledger::Ledger;
 
@@ -229,7 +229,7 @@ impl<'a, T: Tree, O: Outputs, L: Ledger> Evaluator<'a, T, O, L> {
     {
         let mut value = self.eval(code, first)?;
         for operand in others {
-            let begun = self.context.begun(line, operand.operator, value)?;
+            let begun = self.begun(line, operand.operator, value)?;
             let half = match begun {
                 Begun::Decided(whole) => {
                     value = whole;
@@ -238,7 +238,7 @@ impl<'a, T: Tree, O: Outputs, L: Ledger> Evaluator<'a, T, O, L> {
                 Begun::Waits(half) => half,
             };
             let right = self.eval(code, operand.value)?;
-            value = self.context.completed(line, half, right)?;
+            value = self.completed(line, half, right)?;
         }
         Ok(value)
     }

@@ -9,16 +9,28 @@ use std::{fs, io};
 
 /// The files of a folder, by their paths below it. Nothing is said of their bytes.
 ///
-/// The file that is being read stays open from one call of `read_at` to the next; `size` looks at the folder anew. What is no
-/// file, as a folder, and what no file can be named are absent. Want of memory in a call is a device fault.
+/// The file that is being read stays open from one call of `read_at` to the next; `size` looks at the folder anew. A file of which `size`
+/// has just told the size is opened without a further look. What is no file, as a folder, and what no file can be named are absent. Want of
+/// memory in a call is a device fault.
 #[derive(Drop)]
 pub struct DiskTree<'a, R: Files> {
     files: &'a R,
     alloc: Global,
     folder: String,
-    // the file that was read last, with its path
-    current: Option<(String, R::File)>,
+    // the whole path that `size` found a file at in the last call
+    found: Option<String>,
+    // the file that was read last
+    current: Option<OpenFile<R::File>>,
     failures: u64,
+}
+
+// A file that is being read.
+#[derive(Drop)]
+struct OpenFile<F: Drop> {
+    path: String,
+    file: F,
+    // the place in it that the next read begins at
+    place: u64,
 }
 
 // A path below a folder.
@@ -52,27 +64,61 @@ fn file_size<R: Files>(files: &R, whole: &str) -> io::Result<Option<u64>> {
     }
 }
 
-// Opens the file at this path, if there is one.
+// The whole path of the file at this path and how many bytes it has, if there is one.
+fn look<R: Files>(
+    files: &R,
+    alloc: Global,
+    folder: &str,
+    path: &str,
+) -> io::Result<(Option<String>, Option<u64>)> {
+    let whole = joined(alloc, folder, path)?;
+    let size = file_size(files, whole.as_str())?;
+    if size.is_some() {
+        Ok((Some(whole), size))
+    } else {
+        Ok((None, None))
+    }
+}
+
+fn is_found(found: &Option<String>, whole: &str) -> bool {
+    match found {
+        Some(path) => path.as_str() == whole,
+        None => false,
+    }
+}
+
+// Opens the file at this path, if there is one: there is at the whole path where one was found.
 fn open_file<R: Files>(
     files: &R,
     alloc: Global,
     folder: &str,
     path: &str,
-) -> io::Result<Option<(String, R::File)>> {
+    found: &Option<String>,
+) -> io::Result<Option<OpenFile<R::File>>> {
     let whole = joined(alloc, folder, path)?;
-    if file_size(files, whole.as_str())?.is_none() {
+    if !is_found(found, whole.as_str()) && file_size(files, whole.as_str())?.is_none() {
         return Ok(None);
     }
     let file = fs::open(files, whole.as_str())?;
-    Ok(Some((String::from_str(alloc, path)?, file)))
+    Ok(Some(OpenFile {
+        path: String::from_str(alloc, path)?,
+        file,
+        place: 0,
+    }))
 }
 
-// Reads some bytes of an open file from this place on.
-fn read_part<T: Read + Seek>(file: &mut T, at: u64, buf: &mut [u8]) -> io::Result<usize>
-    ensures { IfOk result (λ n. n ≤ length buf.old) }
-{
-    file.seek(SeekFrom::Start(at))?;
-    file.read(buf)
+impl<F: Read + Seek + Drop> OpenFile<F> {
+    // Reads some bytes from this place on.
+    fn read_part(&mut self, at: u64, buf: &mut [u8]) -> io::Result<usize>
+        ensures { IfOk result (λ n. n ≤ length buf.old) }
+    {
+        if at != self.place {
+            self.file.seek(SeekFrom::Start(at))?;
+        }
+        let count = self.file.read(buf)?;
+        self.place = at.saturating_add(count as u64);
+        Ok(count)
+    }
 }
 
 impl<'a, R: Files> DiskTree<'a, R> {
@@ -84,19 +130,15 @@ impl<'a, R: Files> DiskTree<'a, R> {
             files,
             alloc,
             folder,
+            found: None,
             current: None,
             failures: 0,
         }
     }
 
-    fn size_of_file(&self, path: &str) -> io::Result<Option<u64>> {
-        let whole = joined(self.alloc, self.folder.as_str(), path)?;
-        file_size(self.files, whole.as_str())
-    }
-
     fn is_current(&self, path: &str) -> bool {
         match &self.current {
-            Some((current, _)) => current.as_str() == path,
+            Some(open) => open.path.as_str() == path,
             None => false,
         }
     }
@@ -111,8 +153,11 @@ impl<'a, R: Files> Tree for DiskTree<'a, R> {
 
     fn size(&mut self, path: &str) -> Result<Option<u64>, DeviceFault> {
         self.current = None;
-        match self.size_of_file(path) {
-            Ok(size) => Ok(size),
+        match look(self.files, self.alloc, self.folder.as_str(), path) {
+            Ok((found, size)) => {
+                self.found = found;
+                Ok(size)
+            }
             Err(_) => {
                 self.failures += 1;
                 Err(DeviceFault)
@@ -122,7 +167,13 @@ impl<'a, R: Files> Tree for DiskTree<'a, R> {
 
     fn read_at(&mut self, path: &str, at: u64, buf: &mut [u8]) -> Result<usize, DeviceFault> {
         if !self.is_current(path) {
-            match open_file(self.files, self.alloc, self.folder.as_str(), path) {
+            match open_file(
+                self.files,
+                self.alloc,
+                self.folder.as_str(),
+                path,
+                &self.found,
+            ) {
                 Ok(opened) => self.current = opened,
                 Err(_) => {
                     self.failures += 1;
@@ -130,12 +181,13 @@ impl<'a, R: Files> Tree for DiskTree<'a, R> {
                 }
             }
         }
-        let Some((_, file)) = &mut self.current else {
+        let Some(open) = &mut self.current else {
             return Ok(0);
         };
-        match read_part(file, at, buf) {
+        match open.read_part(at, buf) {
             Ok(count) => Ok(count),
             Err(_) => {
+                self.current = None;
                 self.failures += 1;
                 Err(DeviceFault)
             }

@@ -30,8 +30,8 @@ fn said_lists<T: Tree, O: Outputs>(
     match found {
         Some(own) => Ok(own),
         None => {
-            let (rule, text) = lists_breach(&place, arguments)?;
-            caller.refuse_by(rule, text)
+            let breach = lists_breach(&place, arguments)?;
+            caller.refuse_by(breach.0, breach.1)
         }
     }
 }

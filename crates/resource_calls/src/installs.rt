@@ -33,8 +33,8 @@ fn said_installs<T: Tree, O: Outputs>(
     match found {
         Some(said) => Ok(said),
         None => {
-            let (rule, text) = install_breach(&folders, sort, arguments)?;
-            caller.refuse_by(rule, text.as_str())
+            let breach = install_breach(&folders, sort, arguments)?;
+            caller.refuse_by(breach.0, breach.1.as_str())
         }
     }
 }

@@ -32,8 +32,8 @@ fn said_custom<T: Tree, O: Outputs>(
     match found {
         Some(named) => Ok(named),
         None => {
-            let (rule, text) = custom_breach(&here, arguments)?;
-            caller.refuse_by(rule, text)
+            let breach = custom_breach(&here, arguments)?;
+            caller.refuse_by(breach.0, breach.1)
         }
     }
 }

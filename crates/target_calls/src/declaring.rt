@@ -36,8 +36,8 @@ fn said<T: Tree, O: Outputs>(
     match found {
         Some(named) => Ok(named),
         None => {
-            let (rule, text) = build_breach(&here, arguments)?;
-            caller.refuse_by(rule, text)
+            let breach = build_breach(&here, arguments)?;
+            caller.refuse_by(breach.0, breach.1)
         }
     }
 }
@@ -55,8 +55,8 @@ pub fn require_fit<T: Tree, O: Outputs>(
     if fits {
         Ok(())
     } else {
-        let (rule, text) = fit_breach(caller.alloc, project, target)?;
-        caller.refuse_by(rule, text.as_str())
+        let breach = fit_breach(caller.alloc, project, target)?;
+        caller.refuse_by(breach.0, breach.1.as_str())
     }
 }
 

@@ -23,6 +23,6 @@ unfolding said_data
 returns-in-None g c =
     let given = argument 0 (arguments_data c.args.arguments.now) in
     let none = sym c.in-None.is ∙ c.in_ok-found.ensures ∙ ap data_given c.argument-value.ensures in
-    let breach = c.values_breach.ensures ∙ ap values_breach c.argument-value.ensures in
+    let breach = c.values_breach-breach.ensures ∙ ap values_breach c.argument-value.ensures in
     carries_as (ap (λ (b : Breach). ruled (data_given given) b.0 b.1) breach)
     (ruled_broken {view = λ (x : Configuration). x} _ _ _ none c.refuse_by.ensures)

@@ -21,15 +21,15 @@ returns-in-Some g c =
     (ap (option_map (option_map string_bytes)) (sym c.in-Some.is) ∙ c.in_ok-input.ensures
     ∙ two (λ r f. input_named r f (arguments_data c.args.arguments.now)) root c.folder.ensures))
 
-pub returns-in_err-input_breach-in-None : goal.returns-in_err-input_breach-in-None
-returns-in_err-input_breach-in-None g c = carries_none c.from_residual-in_err-input_breach-in-None.ensures.1
+pub returns-in_err-breach-in-None : goal.returns-in_err-breach-in-None
+returns-in_err-breach-in-None g c = carries_none c.from_residual-in_err-breach-in-None.ensures.1
 
-pub returns-in_ok-input_breach-in-None : goal.returns-in_ok-input_breach-in-None
+pub returns-in_ok-breach-in-None : goal.returns-in_ok-breach-in-None
 unfolding input_given
-returns-in_ok-input_breach-in-None g c =
+returns-in_ok-breach-in-None g c =
     let root = c.as_str-source_root.ensures.value ∙ ap (λ (s : SettingsData). s.source_root) c.settings.ensures in
     let a = arguments_data c.args.arguments.now in
     let facts = (world_of c.args.caller.now.store.now).facts in
     let none = ap (option_map (option_map string_bytes)) (sym c.in-None.is) ∙ c.in_ok-input.ensures ∙ two (λ r f. input_named r f a) root c.folder.ensures in
     carries_read (carries_as (ap (λ (b : Breach). ruled (input_named facts.settings.source_root facts.folder a) b.0 b.1)
-    c.in_ok-input_breach-in-None.ensures) (ruled_broken {view = option_map string_bytes} _ _ _ none c.refuse_by.ensures))
+    c.in_ok-breach-in-None.ensures) (ruled_broken {view = option_map string_bytes} _ _ _ none c.refuse_by.ensures))

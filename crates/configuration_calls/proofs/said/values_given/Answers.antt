@@ -29,6 +29,6 @@ returns-in-None g c =
     let facts = (world_of c.args.caller.now.store.now).facts in
     let given = keyword (codes "configuration") (arguments_data c.args.arguments.now) in
     let none = ap (option_map given_view) (sym c.in-None.is) ∙ c.in_ok-found.ensures ∙ ap (option_and_then (given_by facts)) c.keyword-value.ensures in
-    let breach = c.values_breach.ensures ∙ ap values_breach c.keyword-value.ensures in
+    let breach = c.values_breach-breach.ensures ∙ ap values_breach c.keyword-value.ensures in
     carries_read (carries_as (ap (λ (b : Breach). ruled (option_and_then (given_by facts) given) b.0 b.1) breach)
     (ruled_broken {view = given_view} _ _ _ none c.refuse_by.ensures))

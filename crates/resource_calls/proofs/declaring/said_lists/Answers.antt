@@ -20,16 +20,16 @@ returns-in-Some g c =
     let said = c.in_ok-found.ensures ∙ ap (λ (p : PlaceData). own_lists p (arguments_data c.args.arguments.now)) c.place_of-place.ensures in
     carries_read (ruled_found {view = own_view} _ _ _ (ap (option_map own_view) (sym c.in-Some.is) ∙ said))
 
-pub returns-in_err-lists_breach-in-None : goal.returns-in_err-lists_breach-in-None
-returns-in_err-lists_breach-in-None g c = carries_none c.from_residual-in_err-lists_breach-in-None.ensures.1
+pub returns-in_err-breach-in-None : goal.returns-in_err-breach-in-None
+returns-in_err-breach-in-None g c = carries_none c.from_residual-in_err-breach-in-None.ensures.1
 
-pub returns-in_ok-lists_breach-in-None : goal.returns-in_ok-lists_breach-in-None
+pub returns-in_ok-breach-in-None : goal.returns-in_ok-breach-in-None
 unfolding said_lists
-returns-in_ok-lists_breach-in-None g c =
+returns-in_ok-breach-in-None g c =
     let a = arguments_data c.args.arguments.now in
     let place = place_of (world_of c.args.caller.now.store.now).facts in
     let none = ap (option_map own_view) (sym c.in-None.is) ∙ c.in_ok-found.ensures
     ∙ ap (λ (p : PlaceData). own_lists p a) c.place_of-place.ensures in
-    let breach = c.in_ok-lists_breach-in-None.ensures ∙ ap (λ (p : PlaceData). lists_breach p a) c.place_of-place.ensures in
+    let breach = c.in_ok-breach-in-None.ensures ∙ ap (λ (p : PlaceData). lists_breach p a) c.place_of-place.ensures in
     carries_read (carries_as (ap (λ (b : Breach). ruled (own_lists place a) b.0 b.1) breach)
     (ruled_broken {view = own_view} _ _ _ none c.refuse_by.ensures))

@@ -20,16 +20,18 @@ returns-in-Some g c =
     ∙ ap (λ (f : FoldersData). said_of f c.args.sort (arguments_data c.args.arguments.now)) c.folders_in-folders.ensures in
     carries_read (ruled_found {view = said_view} _ _ _ (ap (option_map said_view) (sym c.in-Some.is) ∙ said))
 
-pub returns-in_err-install_breach-in-None : goal.returns-in_err-install_breach-in-None
-returns-in_err-install_breach-in-None g c = carries_none c.from_residual-in_err-install_breach-in-None.ensures.1
+pub returns-in_err-breach-in-None : goal.returns-in_err-breach-in-None
+returns-in_err-breach-in-None g c = carries_none c.from_residual-in_err-breach-in-None.ensures.1
 
-pub returns-in_ok-install_breach-in-None : goal.returns-in_ok-install_breach-in-None
+pub returns-in_ok-breach-in-None : goal.returns-in_ok-breach-in-None
 unfolding said_installs
-returns-in_ok-install_breach-in-None g c =
+returns-in_ok-breach-in-None g c =
     let a = arguments_data c.args.arguments.now in
     let folders = folders_in (world_of c.args.caller.now.store.now).facts in
     let none = ap (option_map said_view) (sym c.in-None.is) ∙ c.in_ok-found.ensures
     ∙ ap (λ (f : FoldersData). said_of f c.args.sort a) c.folders_in-folders.ensures in
-    let breach = c.in_ok-install_breach-in-None.ensures ∙ ap (λ (f : FoldersData). install_breach f c.args.sort a) c.folders_in-folders.ensures in
+    let rule = c.in_ok-breach-in-None.breach.0 in
+    let breach = ap (λ (t : List ℕ). (rule, t)) c.as_str.ensures.value ∙ c.in_ok-breach-in-None.ensures
+    ∙ ap (λ (f : FoldersData). install_breach f c.args.sort a) c.folders_in-folders.ensures in
     carries_read (carries_as (ap (λ (b : Breach). ruled (said_of folders c.args.sort a) b.0 b.1) breach)
     (ruled_broken {view = said_view} _ _ _ none c.refuse_by.ensures))

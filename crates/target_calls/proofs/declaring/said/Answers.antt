@@ -20,16 +20,16 @@ returns-in-Some g c =
     let named = c.in_ok-found.ensures ∙ ap (λ (h : HereData). declared h c.args.kind (arguments_data c.args.arguments.now)) c.here_of-here.ensures in
     carries_read (ruled_found {view = named_target_view} _ _ _ (ap (option_map named_target_view) (sym c.in-Some.is) ∙ named))
 
-pub returns-in_err-build_breach-in-None : goal.returns-in_err-build_breach-in-None
-returns-in_err-build_breach-in-None g c = carries_none c.from_residual-in_err-build_breach-in-None.ensures.1
+pub returns-in_err-breach-in-None : goal.returns-in_err-breach-in-None
+returns-in_err-breach-in-None g c = carries_none c.from_residual-in_err-breach-in-None.ensures.1
 
-pub returns-in_ok-build_breach-in-None : goal.returns-in_ok-build_breach-in-None
+pub returns-in_ok-breach-in-None : goal.returns-in_ok-breach-in-None
 unfolding said
-returns-in_ok-build_breach-in-None g c =
+returns-in_ok-breach-in-None g c =
     let a = arguments_data c.args.arguments.now in
     let here = here_of (world_of c.args.caller.now.store.now).facts in
     let none = ap (option_map named_target_view) (sym c.in-None.is) ∙ c.in_ok-found.ensures
     ∙ ap (λ (h : HereData). declared h c.args.kind a) c.here_of-here.ensures in
-    let breach = c.in_ok-build_breach-in-None.ensures ∙ ap (λ (h : HereData). build_breach h a) c.here_of-here.ensures in
+    let breach = c.in_ok-breach-in-None.ensures ∙ ap (λ (h : HereData). build_breach h a) c.here_of-here.ensures in
     carries_read (carries_as (ap (λ (b : Breach). ruled (declared here c.args.kind a) b.0 b.1) breach)
     (ruled_broken {view = named_target_view} _ _ _ none c.refuse_by.ensures))

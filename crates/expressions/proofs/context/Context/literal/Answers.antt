@@ -49,6 +49,6 @@ returns-in-Format-clause-gives g c = λ files h.
 pub returns-in-Source-clause-gives : goal.returns-in-Source-clause-gives
 returns-in-Source-clause-gives g c = λ files h.
     let n = c.args.node.now in
-    given_as (ap (literal_value c.args.line n.literal) c.as_str-in-Source.ensures.value
+    given_as (ap (literal_value c.args.line n.literal) (c.as_str-in-Source.ensures.value ∙ ap string_bytes c.deref.ensures)
     ∙ of_source c.args.line (string_bytes n.source.value) n.literal (string_bytes c.in-Source.text.value) (stands n (meanings.Source c.in-Source.text) c.in-Source.is))
     (c.unread.ensures.gives files h)

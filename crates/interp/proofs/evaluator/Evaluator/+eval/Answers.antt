@@ -18,7 +18,8 @@ use Rattle.expressions.specs.Forms.{chosen, listed, paired, variable}
 use Rattle.interp.specs.Parts.{above, above_number, above_entry, above_argument, above_operand, above_link}
 use Rattle.interp.specs.Folders.{folder}
 use Rattle.interp.proofs.Coming.{comes_as, comes_end, comes_given, comes_halt, comes_halt_inside, comes_last, comes_none, comes_rule, comes_stop, comes_then}
-use Rattle.expressions.proofs.Evaluating.{given_as, given_give, given_then, goes_on, leads_as, leads_end, leads_inside, leads_on, leads_start, leads_within, next_is, next_item, no_item}
+use Rattle.expressions.proofs.Evaluating.{given_as, given_give, given_then, leads_as, leads_end, leads_inside, leads_on, leads_start, leads_within, next_is, next_item, no_item}
+use Rattle.interp.proofs.Operating.{goes_on}
 use Rattle.interp.proofs.Pairs.{pairs_of-push}
 use Rattle.interp.proofs.Reading.{reads_on, opened, parts_at, name_of, number_reach, first_reach, three_reach, numbers_reach, entries_reach, arguments_reach, operands_reach, links_reach}
 use Rattle.interp.proofs.evaluator.Evaluator.+eval.Goals as goal
@@ -84,7 +85,7 @@ pub asked-returns-clause-gives : goal.asked-returns-clause-gives
 asked-returns-clause-gives g t c = λ files left ts hold reads. comes_given (leads_end (leads_as (ap (λ ys. links_of (folder left) c.args.line (option_map data_of c.loop-link.given) (links ys)) (no_item (link_at ts) c.args.links.now c.loop-link.link-index c.loop-link-test.false)) (c.loop-link.invariant.done files left ts hold reads)) (given_give (c.loop-link.invariant.done files left ts hold reads).holds refl))
 
 pub form-list-requires : goal.form-list-requires
-form-list-requires g t c κs lives = let reach : above above_number c.deref-in-List.result.now ≤ c.args.node = rw c.deref-in-List.ensures.value (numbers_reach c.args.node c.in-List.items.items (parts_at c.args.code.now c.args.node c.index.result.now (flat.List c.in-List.items c.in-List.line) c.requires.here c.index.ensures c.in-List.is)) in (omega arith, (lives.0, (lives.1.0, (lives.1.1, (omega arith, c.requires.room)))))
+form-list-requires g t c κs lives = let reach : above above_number c.deref.result.now ≤ c.args.node = rw c.deref.ensures.value (numbers_reach c.args.node c.in-List.items.items (parts_at c.args.code.now c.args.node c.index.result.now (flat.List c.in-List.items c.in-List.line) c.requires.here c.index.ensures c.in-List.is)) in (omega arith, (lives.0, (lives.1.0, (lives.1.1, (omega arith, c.requires.room)))))
 
 pub form-dictionary-requires : goal.form-dictionary-requires
 form-dictionary-requires g t c κs lives = let reach : above above_entry c.deref-in-Dictionary.result.now ≤ c.args.node = rw c.deref-in-Dictionary.ensures.value (entries_reach c.args.node c.in-Dictionary.entries.items (parts_at c.args.code.now c.args.node c.index.result.now (flat.Dictionary c.in-Dictionary.entries c.in-Dictionary.line) c.requires.here c.index.ensures c.in-Dictionary.is)) in (omega arith, (lives.0, (lives.1.0, (lives.1.1, (omega arith, c.requires.room)))))
@@ -99,7 +100,7 @@ pub form-ternary-requires : goal.form-ternary-requires
 form-ternary-requires g t c κs lives = let reach : max (suc c.in-Ternary.test) (max (suc c.in-Ternary.yes) (suc c.in-Ternary.no)) ≤ c.args.node = three_reach c.args.node c.in-Ternary.test c.in-Ternary.yes c.in-Ternary.no (parts_at c.args.code.now c.args.node c.index.result.now (flat.Ternary c.in-Ternary.test c.in-Ternary.yes c.in-Ternary.no c.in-Ternary.line) c.requires.here c.index.ensures c.in-Ternary.is) in (omega arith, (lives.0, (lives.1.0, (lives.1.1, (omega arith, c.requires.room)))))
 
 pub form-returns-in-List-clause-gives : goal.form-returns-in-List-clause-gives
-form-returns-in-List-clause-gives g t c = λ files left ts hold reads. comes_as (ap (value_of (folder left)) (sym (opened reads c.args.node c.index.result.now (flat.List c.in-List.items c.in-List.line) c.requires.here c.index.ensures c.in-List.is))) (comes_as (ap (λ (xs : List ℕ). value_of (folder left) (ListTree (expressions (map (tree_at ts) xs)) c.in-List.line)) c.deref-in-List.ensures.value) (c.list.ensures.gives files left ts hold reads))
+form-returns-in-List-clause-gives g t c = λ files left ts hold reads. comes_as (ap (value_of (folder left)) (sym (opened reads c.args.node c.index.result.now (flat.List c.in-List.items c.in-List.line) c.requires.here c.index.ensures c.in-List.is))) (comes_as (ap (λ (xs : List ℕ). value_of (folder left) (ListTree (expressions (map (tree_at ts) xs)) c.in-List.line)) c.deref.ensures.value) (c.list.ensures.gives files left ts hold reads))
 
 pub form-returns-in-Dictionary-clause-gives : goal.form-returns-in-Dictionary-clause-gives
 form-returns-in-Dictionary-clause-gives g t c = λ files left ts hold reads. comes_as (ap (value_of (folder left)) (sym (opened reads c.args.node c.index.result.now (flat.Dictionary c.in-Dictionary.entries c.in-Dictionary.line) c.requires.here c.index.ensures c.in-Dictionary.is))) (comes_as (ap (λ (xs : List EntryNode). value_of (folder left) (DictionaryTree (entries (map (entry_at ts) xs)) c.in-Dictionary.line)) c.deref-in-Dictionary.ensures.value) (c.dictionary.ensures.gives files left ts hold reads))
@@ -277,18 +278,18 @@ chain-loop-operand-init g t c = record { same = search rules; tree = search rule
 pub chain-returns-in_err-begun-clause-gives : goal.chain-returns-in_err-begun-clause-gives
 chain-returns-in_err-begun-clause-gives g t c = λ files left ts hold reads.
     let led = leads_as (ap (λ ys. chain_of (folder left) c.args.line (data_of c.loop-operand.value) (operands ys)) (next_item (operand_at ts) c.args.others.now c.loop-operand.operand-index (record { operator = flatop.Or; value = 0 }) c.loop-operand-test.true)) (c.loop-operand.invariant.done files left ts hold reads) in
-    comes_end led (comes_stop {view = data_of} (c.in_err-begun.ensures.gives files (ruled (value_of (folder left) (tree_at ts (get_or c.args.others.now c.loop-operand.operand-index (record { operator = flatop.Or; value = 0 })).value))) led.holds) c.from_residual-in_err-begun.ensures.1)
+    comes_end led (comes_stop {view = data_of} (c.in_err-begun.ensures.gives files left (tree_at ts (get_or c.args.others.now c.loop-operand.operand-index (record { operator = flatop.Or; value = 0 })).value) led.holds) c.from_residual-in_err-begun.ensures.1)
 
 pub chain-returns-in_err-right-clause-gives : goal.chain-returns-in_err-right-clause-gives
 chain-returns-in_err-right-clause-gives g t c = λ files left ts hold reads.
     let led = leads_as (ap (λ ys. chain_of (folder left) c.args.line (data_of c.loop-operand.value) (operands ys)) (next_item (operand_at ts) c.args.others.now c.loop-operand.operand-index (record { operator = flatop.Or; value = 0 }) c.loop-operand-test.true)) (c.loop-operand.invariant.done files left ts hold reads) in
-    let half = leads_within led (goes_on files c.args.line _ _ _ c.in-Waits.is (c.in_ok-begun.ensures.gives files (ruled (value_of (folder left) (tree_at ts (get_or c.args.others.now c.loop-operand.operand-index (record { operator = flatop.Or; value = 0 })).value))) led.holds)) in
+    let half = leads_within led (goes_on files c.args.line _ _ _ c.in-Waits.is (c.in_ok-begun.ensures.gives files left (tree_at ts (get_or c.args.others.now c.loop-operand.operand-index (record { operator = flatop.Or; value = 0 })).value) led.holds)) in
     comes_end half (comes_halt_inside (c.in_err-right.ensures.gives files left ts half.holds (reads_on reads half.continues.written.names)) c.from_residual-in_err-right.ensures.1)
 
 pub chain-returns-in_err-value-2-clause-gives : goal.chain-returns-in_err-value-2-clause-gives
 chain-returns-in_err-value-2-clause-gives g t c = λ files left ts hold reads.
     let led = leads_as (ap (λ ys. chain_of (folder left) c.args.line (data_of c.loop-operand.value) (operands ys)) (next_item (operand_at ts) c.args.others.now c.loop-operand.operand-index (record { operator = flatop.Or; value = 0 }) c.loop-operand-test.true)) (c.loop-operand.invariant.done files left ts hold reads) in
-    let half = leads_within led (goes_on files c.args.line _ _ _ c.in-Waits.is (c.in_ok-begun.ensures.gives files (ruled (value_of (folder left) (tree_at ts (get_or c.args.others.now c.loop-operand.operand-index (record { operator = flatop.Or; value = 0 })).value))) led.holds)) in
+    let half = leads_within led (goes_on files c.args.line _ _ _ c.in-Waits.is (c.in_ok-begun.ensures.gives files left (tree_at ts (get_or c.args.others.now c.loop-operand.operand-index (record { operator = flatop.Or; value = 0 })).value) led.holds)) in
     let whole = leads_inside half (c.in_ok-right.ensures.gives files left ts half.holds (reads_on reads half.continues.written.names)).comes in
     comes_end whole (comes_stop (c.in_err-value-2.ensures.gives files whole.holds) c.from_residual-in_err-value-2.ensures.1)
 
@@ -299,7 +300,7 @@ chain-loop-operand-preserved-in-Decided g t c = record {
   out = search rules;
   done = λ files left ts hold reads.
       let led = leads_as (ap (λ ys. chain_of (folder left) c.args.line (data_of c.loop-operand.value) (operands ys)) (next_item (operand_at ts) c.args.others.now c.loop-operand.operand-index (record { operator = flatop.Or; value = 0 }) c.loop-operand-test.true)) (c.loop-operand.invariant.done files left ts hold reads) in
-      leads_on led (goes_on files c.args.line _ _ _ c.in-Decided.is (c.in_ok-begun.ensures.gives files (ruled (value_of (folder left) (tree_at ts (get_or c.args.others.now c.loop-operand.operand-index (record { operator = flatop.Or; value = 0 })).value))) led.holds));
+      leads_on led (goes_on files c.args.line _ _ _ c.in-Decided.is (c.in_ok-begun.ensures.gives files left (tree_at ts (get_or c.args.others.now c.loop-operand.operand-index (record { operator = flatop.Or; value = 0 })).value) led.holds));
 }
 
 pub chain-loop-operand-preserved : goal.chain-loop-operand-preserved
@@ -309,7 +310,7 @@ chain-loop-operand-preserved g t c = record {
   out = search rules;
   done = λ files left ts hold reads.
       let led = leads_as (ap (λ ys. chain_of (folder left) c.args.line (data_of c.loop-operand.value) (operands ys)) (next_item (operand_at ts) c.args.others.now c.loop-operand.operand-index (record { operator = flatop.Or; value = 0 }) c.loop-operand-test.true)) (c.loop-operand.invariant.done files left ts hold reads) in
-      let half = leads_within led (goes_on files c.args.line _ _ _ c.in-Waits.is (c.in_ok-begun.ensures.gives files (ruled (value_of (folder left) (tree_at ts (get_or c.args.others.now c.loop-operand.operand-index (record { operator = flatop.Or; value = 0 })).value))) led.holds)) in
+      let half = leads_within led (goes_on files c.args.line _ _ _ c.in-Waits.is (c.in_ok-begun.ensures.gives files left (tree_at ts (get_or c.args.others.now c.loop-operand.operand-index (record { operator = flatop.Or; value = 0 })).value) led.holds)) in
       let whole = leads_inside half (c.in_ok-right.ensures.gives files left ts half.holds (reads_on reads half.continues.written.names)).comes in
       leads_on whole (c.in_ok-value-2.ensures.gives files whole.holds);
 }

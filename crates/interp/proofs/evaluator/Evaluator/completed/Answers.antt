@@ -1,9 +1,9 @@
 use Rattle.std.proofs.Common.{ap, sym}
 use Rattle.data.specs.View.{data_of}
-use Rattle.expressions.specs.Operations.{completed}
-use Rattle.expressions.specs.declared.operation.Half.{Half}
+use Rattle.interp.specs.Operations.{completed}
+use Rattle.interp.specs.declared.operation.Half.{Half}
 use Rattle.expressions.proofs.Evaluating.{given_as}
-use Rattle.expressions.proofs.context.Context.completed.Goals as goal
+use Rattle.interp.proofs.evaluator.Evaluator.completed.Goals as goal
 
 pub returns-in-Combines-clause-gives : goal.returns-in-Combines-clause-gives
 returns-in-Combines-clause-gives g c = λ files h.

@@ -1,5 +1,5 @@
 use Rattle.expressions.proofs.Evaluating.{given_none}
-use Rattle.expressions.proofs.context.Context.combined.Goals as goal
+use Rattle.interp.proofs.evaluator.Evaluator.combined.Goals as goal
 
 pub returns-in_err-answer-clause-gives : goal.returns-in_err-answer-clause-gives
 returns-in_err-answer-clause-gives g c = λ files h. given_none h c.from_residual.ensures.1

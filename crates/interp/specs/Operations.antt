@@ -8,10 +8,10 @@ use Rattle.operators.specs.Logic.{right_answer}
 use Rattle.world.specs.Deed.{Files}
 use Rattle.world.specs.Plan.{Plan, answered, next}
 use Rattle.world.specs.declared.stop.Stop.{Stop}
-use Rattle.expressions.specs.declared.operation.Begun.{Begun}
-use Rattle.expressions.specs.declared.operation.Begun.TheVariants.{Decided, Waits}
-use Rattle.expressions.specs.declared.operation.Half.{Half}
-use Rattle.expressions.specs.declared.operation.Half.TheVariants as halves
+use Rattle.interp.specs.declared.operation.Begun.{Begun}
+use Rattle.interp.specs.declared.operation.Begun.TheVariants.{Decided, Waits}
+use Rattle.interp.specs.declared.operation.Half.{Half}
+use Rattle.interp.specs.declared.operation.Half.TheVariants as halves
 use Rattle.expressions.specs.Contexts.{Stand, Given, Leads}
 
 -- what waited for its right side, which has this value
