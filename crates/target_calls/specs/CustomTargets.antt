@@ -132,13 +132,19 @@ custom_target here a names inputs command = record {
 abbrev pub with_needs : PartData → (more : List SourceData) → PartData
 with_needs command more = record { words = command.words; needs = command.needs ++ more }
 
+-- what has to be there beside the command: `depends`, then `depend_files`
+abbrev pub other_needs : HereData → ArgumentsData → PlaceData → Option (List SourceData)
+other_needs here a place = do
+  depends ← command_of here place (leaves_named (codes "depends") a)
+  files ← sources_by here a (codes "depend_files")
+  Some (depends.needs ++ files)
+
 -- the command, and what has to be there: files and targets in it, then `depends`, then `depend_files`
 abbrev pub whole_command : HereData → ArgumentsData → PlaceData → Option PartData
 whole_command here a place = do
   command ← command_of here place (leaves_named (codes "command") a)
-  depends ← command_of here place (leaves_named (codes "depends") a)
-  files ← sources_by here a (codes "depend_files")
-  Some (with_needs command (depends.needs ++ files))
+  needs ← other_needs here a place
+  Some (with_needs command needs)
 
 abbrev pub custom_from : HereData → ArgumentsData → (inputs : List SourceData) → Option CustomData
 custom_from here a inputs = do

@@ -1,5 +1,5 @@
 //! A custom target as the arguments of a call say it.
-ghost use Rattle.std.specs.Prelude.{◌≡◌, ◌++◌, IfOk, flat_map, map, option_map, string_bytes};
+ghost use Rattle.std.specs.Prelude.{◌≡◌, ◌++◌, [], IfOk, None, flat_map, map, option_map, string_bytes};
 ghost use Rattle.arguments.specs.Arguments.{arguments_data, named_data};
 ghost use Rattle.data.specs.View.{data_of};
 ghost use Rattle.edge.specs.Texts.{texts};
@@ -12,7 +12,7 @@ ghost use Rattle.target_calls.specs.BuildTargetsView.{named_target_view};
 ghost use Rattle.target_calls.specs.CommandsView.{part_view};
 ghost use Rattle.target_calls.specs.CustomTargets.{build_folder, call_fits, captures_one, count_named, custom_from, custom_target};
 ghost use Rattle.target_calls.specs.CustomTargets.{declared_custom, declared_files, has_place, is_made, is_source_keyword, longest};
-ghost use Rattle.target_calls.specs.CustomTargets.{names_in, names_of, place_of, place_with, source_folder, sources_by, whole_command};
+ghost use Rattle.target_calls.specs.CustomTargets.{names_in, names_of, other_needs, place_of, place_with, source_folder, sources_by, whole_command};
 ghost use Rattle.target_calls.specs.CustomTargets.{written, written_files, written_in};
 ghost use Rattle.target_calls.specs.CustomTargetsView.{names_view};
 ghost use Rattle.target_calls.specs.HereView.{here_view};
@@ -299,6 +299,26 @@ fn custom_target(
     })
 }
 
+// What has to be there beside the command: `depends`, then `depend_files`.
+fn other_needs(
+    here: &Here<'_>,
+    arguments: &Arguments,
+    place: &Place,
+) -> Result<Option<Vec<Source>>, AllocError>
+    ensures { IfOk result (λ ss. option_map (λ v. map source_view v.items) ss
+        ≡ other_needs (here_view here.now) (arguments_data arguments.now) (place_view place.now)) }
+{
+    let targets = arguments.leaves(here.alloc, "depends")?;
+    let Some(mut depends) = command_of(here, place, &targets)? else {
+        return Ok(None);
+    };
+    let Some(mut files) = sources_by(here, arguments, "depend_files")? else {
+        return Ok(None);
+    };
+    depends.needs.append(&mut files)?;
+    Ok(Some(depends.needs))
+}
+
 // The command, and what has to be there: files and targets in it, then `depends`, then `depend_files`.
 fn whole_command(
     here: &Here<'_>,
@@ -312,16 +332,38 @@ fn whole_command(
     let Some(mut command) = command_of(here, place, &words)? else {
         return Ok(None);
     };
-    let targets = arguments.leaves(here.alloc, "depends")?;
-    let Some(mut depends) = command_of(here, place, &targets)? else {
+    let Some(mut needs) = other_needs(here, arguments, place)? else {
         return Ok(None);
     };
-    let Some(mut files) = sources_by(here, arguments, "depend_files")? else {
-        return Ok(None);
-    };
-    depends.needs.append(&mut files)?;
-    command.needs.append(&mut depends.needs)?;
+    command.needs.append(&mut needs)?;
     Ok(Some(command))
+}
+
+// The names of a call with these inputs.
+fn names_beside(
+    here: &Here<'_>,
+    arguments: &Arguments,
+    inputs: &[String],
+) -> Result<Option<Names>, AllocError>
+    ensures { IfOk result (λ n. option_map names_view n
+        ≡ names_of (place_with (here_view here.now) (texts inputs.now) [] None) (arguments_data arguments.now)) }
+{
+    let place = place_with(here, inputs, Vec::new(here.alloc), None)?;
+    names_of(here.alloc, &place, arguments)
+}
+
+// The command of a call with these inputs and names.
+fn command_beside(
+    here: &Here<'_>,
+    arguments: &Arguments,
+    inputs: &[String],
+    names: &Names,
+) -> Result<Option<Part>, AllocError>
+    ensures { IfOk result (λ p. option_map part_view p ≡ whole_command (here_view here.now) (arguments_data arguments.now)
+        (place_of (here_view here.now) (texts inputs.now) (names_view names.now))) }
+{
+    let place = place_of(here, inputs, names)?;
+    whole_command(here, arguments, &place)
 }
 
 fn custom_from(
@@ -333,12 +375,10 @@ fn custom_from(
         ≡ custom_from (here_view here.now) (arguments_data arguments.now) (map source_view inputs.items)) }
 {
     let paths = source_paths(here.alloc, here.depth, &inputs)?;
-    let from_inputs = place_with(here, &paths, Vec::new(here.alloc), None)?;
-    let Some(names) = names_of(here.alloc, &from_inputs, arguments)? else {
+    let Some(names) = names_beside(here, arguments, &paths)? else {
         return Ok(None);
     };
-    let place = place_of(here, &paths, &names)?;
-    let Some(command) = whole_command(here, arguments, &place)? else {
+    let Some(command) = command_beside(here, arguments, &paths, &names)? else {
         return Ok(None);
     };
     let target = custom_target(here, arguments, names, inputs, command)?;
