@@ -2,4 +2,5 @@ pub mod Assigning
 pub mod Evaluating
 pub mod Filling
 mod Meanings
+pub mod Opening
 pub mod Walking

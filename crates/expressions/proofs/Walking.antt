@@ -6,7 +6,7 @@ use Rattle.data.specs.Data.{Data, boolean, integer, text, list, dictionary, obje
 use Rattle.data.specs.Few.{item_count}
 use Rattle.data.specs.View.{data_of, items_of}
 use Rattle.data.specs.declared.value.Value.{Value}
-use Rattle.expressions.specs.Rounds.{HasFewRounds, Loops, Round, entry_rounds, item_rounds, rounds_in}
+use Rattle.expressions.specs.Rounds.{HasFewRounds, Loops, Round, entry_rounds, item_rounds, looped, rounds_in}
 
 rounds_counted : (xs : List Value) → length (item_rounds (items_of xs)) ≡ length xs
 rounds_counted [] = refl
@@ -45,10 +45,17 @@ rounds_few (integer z) few = omega arith
 rounds_few (text t) few = omega arith
 rounds_few (object o) few = omega arith
 
+one_name : (ds : Items) (second : Option (List ℕ)) → is_some second ≡ false → looped second (list ds) ≡ Ok (item_rounds ds)
+one_name ds None h = refl
+one_name ds (Some name) h = absurd (let f : true ≡ false = h in cc)
+
+two_names : (es : Entries) (second : Option (List ℕ)) → is_some second ≡ true → looped second (dictionary es) ≡ Ok (entry_rounds es)
+two_names es None h = absurd (let f : false ≡ true = h in cc)
+two_names es (Some name) h = refl
+
 -- a list is walked by one name
 pub loops_list : (d : Data) (ds : Items) → items_in d ≡ Some ds → Loops false d (Ok tt)
-loops_list (list es) ds e None h = refl
-loops_list (list es) ds e (Some name) h = absurd (let f : true ≡ false = h in cc)
+loops_list (list es) ds e = one_name es
 loops_list (boolean b) ds e = absurd (let h : None ≡ Some ds = e in cc)
 loops_list (integer z) ds e = absurd (let h : None ≡ Some ds = e in cc)
 loops_list (text t) ds e = absurd (let h : None ≡ Some ds = e in cc)
@@ -57,8 +64,7 @@ loops_list (object o) ds e = absurd (let h : None ≡ Some ds = e in cc)
 
 -- a dictionary is walked by two
 pub loops_dictionary : (d : Data) (es : Entries) → entries_in d ≡ Some es → Loops true d (Ok tt)
-loops_dictionary (dictionary ds) es e None h = absurd (let f : false ≡ true = h in cc)
-loops_dictionary (dictionary ds) es e (Some name) h = refl
+loops_dictionary (dictionary ds) es e = two_names ds
 loops_dictionary (boolean b) es e = absurd (let h : None ≡ Some es = e in cc)
 loops_dictionary (integer z) es e = absurd (let h : None ≡ Some es = e in cc)
 loops_dictionary (text t) es e = absurd (let h : None ≡ Some es = e in cc)

@@ -13,7 +13,7 @@ use Rattle.data.specs.declared.object.Object.{Object}
 use Rattle.data.specs.declared.object.Object.TheVariants as objects
 use Rattle.data.specs.declared.refusal.Refusal.{Refusal as OperationRefusal}
 use Rattle.data.specs.declared.refusal.Refusal.TheVariants as operation
-use Rattle.data.specs.Data.{Data, boolean, integer, text, list, object, Items}
+use Rattle.data.specs.Data.{Data, boolean, integer, text, list, Items}
 use Rattle.data.specs.Limits.{within}
 use Rattle.basics.specs.declared.faults.refusal.Refusal.TheVariants as refusals
 use Rattle.printing.specs.Printed.{printed}

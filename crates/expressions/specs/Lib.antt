@@ -1,5 +1,7 @@
 pub mod Assignments
+pub mod Codes
 pub mod Conditions
 pub mod Contexts
+pub mod Folders
 pub mod Forms
 pub mod Rounds

@@ -1,6 +1,5 @@
-//! What expressions give for the values of their parts, and variables.
-//!
-//! What calls a function or a method of an object is none of this crate's.
+//! What an evaluation does that calls nothing: what expressions give for the values of their parts, variables, and the definition files
+//! that are opened.
 #![tactic(auto)]
 
 mod assign;
@@ -12,6 +11,7 @@ mod literals;
 mod loops;
 mod meaning;
 mod names;
+mod open;
 
 pub use conditions::Choice;
 pub use context::Context;

@@ -60,7 +60,8 @@ use Rattle.interp.specs.Acting.{acted_by, done_by, performed}
 use Rattle.interp.specs.Entering.{WayData, Ends, Enters, action_of, by_way, subdir_by}
 use Rattle.expressions.specs.Assignments.{configuration_in, own_by, own, added, appended, summed, assigned_by, assigned, bound}
 use Rattle.expressions.specs.Rounds.{Round, looped, item_rounds, entry_rounds}
-use Rattle.interp.specs.Folders.{opened_by, opened, fresh_by, fresh, go_back, folder_by}
+use Rattle.expressions.specs.Folders.{opened_by, opened, fresh_by, fresh, go_back}
+use Rattle.interp.specs.Folders.{folder_by}
 use Rattle.definition_files.specs.Files.{most_bytes, refuse_line, tree_or_fault, spelled_by, spelled}
 use Rattle.interp.specs.Evaluation.{begun_by, is_project, begins, begins_all, root, MachineSaid, sections_of, defined, evaluated_few, evaluation}
 use Rattle.interp.specs.Laws.{StepsWithinCost}

@@ -18,7 +18,8 @@ use Rattle.world.specs.Start.{first_world}
 use Rattle.world.specs.Trace.{ends_of}
 use Rattle.world.specs.World.{World, entering}
 use Rattle.interp.specs.Bounds.{bounds}
-use Rattle.interp.specs.Folders.{folder, go_to}
+use Rattle.interp.specs.Folders.{folder}
+use Rattle.expressions.specs.Folders.{go_to}
 use Rattle.interp.specs.Statements.{do_all}
 use Rattle.interp.specs.declared.flow.Flow.{Flow}
 use Rattle.interp.specs.declared.flow.Flow.TheVariants.{Next}

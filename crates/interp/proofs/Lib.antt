@@ -8,7 +8,6 @@ pub mod Ending
 pub mod Looping
 pub mod Machines
 mod Noting
-pub mod Opening
 pub mod Operating
 mod Pairs
 mod Paths

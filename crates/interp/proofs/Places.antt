@@ -12,7 +12,8 @@ use Rattle.world.specs.declared.stop.Stop.{Stop}
 use Rattle.world.proofs.Follow.{begun, refused_later}
 use Rattle.world.proofs.Marks.{none_added}
 use Rattle.expressions.specs.Contexts.{Stand, Given, seen_of, Leads}
-use Rattle.interp.specs.Folders.{folder_by, fresh, go_back, opened}
+use Rattle.interp.specs.Folders.{folder_by}
+use Rattle.expressions.specs.Folders.{fresh, go_back, opened}
 use Rattle.interp.specs.Statements.{do_all}
 use Rattle.interp.specs.declared.flow.Flow.{Flow}
 use Rattle.interp.specs.declared.flow.Flow.TheVariants.{Next}

@@ -21,7 +21,8 @@ use Rattle.world.specs.Deed.{Files}
 use Rattle.world.specs.Plan.{Plan, give, next, ruled}
 use Rattle.world.specs.declared.stop.Stop.{Stop}
 use Rattle.interp.specs.Bounds.{Bounds}
-use Rattle.interp.specs.Blocks.{branch_or, expressions_by, node_at, statements_by}
+use Rattle.interp.specs.Blocks.{branch_or, node_at}
+use Rattle.expressions.specs.Codes.{expressions_by, statements_by}
 use Rattle.interp.specs.Evaluates.{Comes, HaltsTo, Reads}
 use Rattle.expressions.specs.Contexts.{Given, Stand, Leads}
 use Rattle.interp.specs.Expressions.{given_by, value_of}

@@ -14,7 +14,8 @@ use Rattle.world.specs.declared.stop.Stop.{Stop}
 use Rattle.world.specs.declared.stop.Stop.TheVariants as stops
 use Rattle.world.proofs.Follow.{after-nil, done}
 use Rattle.world.proofs.Marks.{front_of_front, none_added, same_front}
-use Rattle.interp.specs.Blocks.{block_by, statements_by, statements_of}
+use Rattle.expressions.specs.Codes.{block_by, statements_by}
+use Rattle.interp.specs.Blocks.{statements_of}
 use Rattle.expressions.specs.Contexts.{Stand, Given, seen_of, Leads}
 use Rattle.interp.specs.Bounds.{bounds}
 use Rattle.interp.specs.Folders.{folder}

@@ -9,7 +9,7 @@ use Rattle.code.specs.declared.node.StatementNode.{StatementNode}
 use Rattle.code.specs.declared.node.StatementNode.TheVariants as flat
 use Rattle.code.proofs.CallerLemmas.{node_opens, statement_opens, statement_parts_before}
 use Rattle.code.proofs.Trees.{less}
-use Rattle.interp.specs.Blocks.{expressions_by, statements_by}
+use Rattle.expressions.specs.Codes.{expressions_by, statements_by}
 use Rattle.std.proofs.lemmas.Bool.{false≢true, eqb-true}
 use Rattle.machine_file.specs.Fault.{told}
 use Rattle.machine_file.specs.Files.{Section}

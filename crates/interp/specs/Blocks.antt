@@ -1,13 +1,9 @@
--- Lists of statements in the code of a file, and their trees.
-use Rattle.std.specs.Prelude.{ℕ, zero, suc, List, [], ◌∷◌, map, slice_index_or}
+-- Lists of statements in the code of a file.
+use Rattle.std.specs.Prelude.{ℕ, zero, suc, List, [], ◌∷◌, slice_index_or}
 use Rattle.code.specs.declared.code.Code.{Code}
 use Rattle.code.specs.declared.node.BranchNode.{BranchNode}
 use Rattle.code.specs.declared.node.StatementNode.{StatementNode}
 use Rattle.code.specs.declared.node.StatementNode.TheVariants as flat
-use Rattle.code.specs.Nodes.{trees}
-use Rattle.code.specs.Statements.{statement_at, statement_trees}
-use Rattle.grammar.specs.ExpressionTree.{ExpressionTree}
-use Rattle.grammar.specs.Tree.{StatementTree, Statements, statements}
 use Rattle.interp.specs.declared.block.Block.{Block}
 use Rattle.interp.specs.declared.block.Block.TheVariants as blocks
 
@@ -34,19 +30,3 @@ node_at c i = slice_index_or c.statements.items i (flat.Break 0)
 abbrev pub statements_of : Code → Block → List ℕ
 statements_of c blocks.File = c.body.items
 statements_of c (blocks.Part statement part) = part_of (node_at c statement) part
-
--- ---- trees, by the table of names as it was when the code was made
-
-abbrev pub expressions_by : List (List ℕ) → Code → List ExpressionTree
-expressions_by table c = trees table c.nodes.items
-
-abbrev pub statements_by : List (List ℕ) → Code → List StatementTree
-statements_by table c = statement_trees table (expressions_by table c) c.statements.items
-
--- the trees of some statements
-abbrev pub block_by : List (List ℕ) → Code → List ℕ → Statements
-block_by table c numbers = statements (map (statement_at (statements_by table c)) numbers)
-
--- the statements of a file
-abbrev pub file_by : List (List ℕ) → Code → Statements
-file_by table c = block_by table c (statements_of c blocks.File)

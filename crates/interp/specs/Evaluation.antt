@@ -16,7 +16,8 @@ use Rattle.world.specs.Run.{Run}
 use Rattle.world.specs.Settings.{SettingsData}
 use Rattle.world.specs.Start.{first_world}
 use Rattle.interp.specs.Bounds.{bounds}
-use Rattle.interp.specs.Folders.{opened, folder}
+use Rattle.expressions.specs.Folders.{opened}
+use Rattle.interp.specs.Folders.{folder}
 use Rattle.interp.specs.declared.flow.Flow.{Flow}
 use Rattle.interp.specs.Statements.{do_all}
 

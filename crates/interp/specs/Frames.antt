@@ -25,7 +25,8 @@ use Rattle.interp.specs.declared.frames.LoopHead.{LoopHead}
 use Rattle.interp.specs.declared.frames.LoopRest.{LoopRest}
 use Rattle.interp.specs.declared.frames.Frame.{Frame}
 use Rattle.interp.specs.declared.frames.Frame.TheVariants as frames
-use Rattle.interp.specs.Blocks.{block_by, statements_of}
+use Rattle.expressions.specs.Codes.{block_by}
+use Rattle.interp.specs.Blocks.{statements_of}
 use Rattle.expressions.specs.Contexts.{Stand, Given, Leads, stand_of}
 use Rattle.interp.specs.Evaluates.{HaltsTo, Reads}
 use Rattle.interp.specs.Bounds.{Bounds, bounds}

@@ -81,7 +81,8 @@ impl<'a, T: Tree, O: Outputs, L: Ledger> Evaluator<'a, T, O, L> {
     pub fn subdir(&mut self, line: usize, arguments: &Arguments) -> Result<Way, Stop>
         ensures same { Same self.old.context self.new.context }
         ensures device { Fails T.seen O.seen self.old.context result self.new.context }
-        ensures gives { Answers T.seen O.seen way_view (entering line (arguments_data arguments.now)) self.old.context result self.new.context }
+        ensures gives { Answers T.seen O.seen way_view (entering line (arguments_data arguments.now))
+            self.old.context result self.new.context }
     {
         if gives_disabler(arguments) {
             return Ok(Way::Ends(Flow::Next));
@@ -94,7 +95,8 @@ impl<'a, T: Tree, O: Outputs, L: Ledger> Evaluator<'a, T, O, L> {
 
     // `subdir_done`
     fn subdir_done(&self, line: usize, arguments: &Arguments) -> Result<Way, Stop>
-        ensures gives { Answers T.seen O.seen way_view (leaving line (arguments_data arguments.now)) self.now.context result self.now.context }
+        ensures gives { Answers T.seen O.seen way_view (leaving line (arguments_data arguments.now))
+            self.now.context result self.now.context }
         ensures quiet { (n : ℕ) → failures_after n result ≡ n }
     {
         if gives_disabler(arguments) {
@@ -127,7 +129,8 @@ impl<'a, T: Tree, O: Outputs, L: Ledger> Evaluator<'a, T, O, L> {
         requires room { HasRoom T.seen O.seen self.old.context }
         ensures same { Same self.old.context self.new.context }
         ensures device { Fails T.seen O.seen self.old.context result self.new.context }
-        ensures gives { Answers T.seen O.seen way_view (acted line function (arguments_data arguments.now)) self.old.context result self.new.context }
+        ensures gives { Answers T.seen O.seen way_view (acted line function (arguments_data arguments.now))
+            self.old.context result self.new.context }
     {
         match action_of(function) {
             Action::Enter => self.subdir(line, arguments),

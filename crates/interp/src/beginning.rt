@@ -4,7 +4,7 @@ ghost use Rattle.code.specs.Nodes.{tree_of};
 ghost use Rattle.code.specs.Statements.{statement_at};
 ghost use Rattle.grammar.specs.ExpressionTree.{ExpressionTree};
 ghost use Rattle.interp.specs.Beginnings.{line_before, other_line};
-ghost use Rattle.interp.specs.Blocks.{file_by, statements_by};
+ghost use Rattle.expressions.specs.Codes.{file_by, statements_by};
 ghost use Rattle.interp.specs.Evaluation.{is_project};
 
 use code::Code;

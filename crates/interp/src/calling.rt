@@ -4,6 +4,7 @@ ghost use Rattle.arguments.specs.Arguments.{arguments_data};
 ghost use Rattle.data.specs.Data.{object_in};
 ghost use Rattle.data.specs.View.{data_of};
 ghost use Rattle.world.specs.Gives.{failures_after};
+ghost use Rattle.expressions.specs.Contexts.{Answers, Fails, HasRoom, Same};
 ghost use Rattle.interp.specs.Expressions.{called, called_by, method_at, method_by, method_called, object_method_at, object_method_called};
 
 use crate::evaluator::Evaluator;
@@ -11,15 +12,60 @@ use arguments::{Arguments, gives_disabler};
 use basics::faults::Refusal;
 use calls::{Function, call, is_turned_off};
 use data::{Object, Value};
-use expressions::disabler_method;
+use expressions::{Context, disabler_method};
 use objects::{has_object_method, is_left_out_method, object_method};
 use ports::{Outputs, Tree};
 use std::sync::ledger::Ledger;
 use world::{Caller, Stop};
 
-impl<'a, T: Tree, O: Outputs, L: Ledger> Evaluator<'a, T, O, L> {
-    ghost use Rattle.expressions.specs.Contexts.{Answers, Fails, HasRoom, Same};
+// A function on its arguments, at a line.
+fn carry_out<T: Tree, O: Outputs, L: Ledger>(
+    context: &mut Context<'_, T, O, L>,
+    line: usize,
+    function: Function,
+    arguments: &Arguments,
+) -> Result<Option<Value>, Stop>
+    requires room { HasRoom T.seen O.seen context.old }
+    ensures same { Same context.old context.new }
+    ensures device { Fails T.seen O.seen context.old result context.new }
+    ensures gives { Answers T.seen O.seen (option_map data_of) (called_by false line function (arguments_data arguments.now))
+        context.old result context.new }
+{
+    context.store.at(line);
+    let mut caller = Caller {
+        alloc: context.alloc,
+        store: context.store,
+        tree: context.tree,
+        out: context.out,
+    };
+    call(&mut caller, function, arguments)
+}
 
+// A method of an object on its arguments, at a line.
+fn object_method_of<T: Tree, O: Outputs, L: Ledger>(
+    context: &mut Context<'_, T, O, L>,
+    line: usize,
+    object: &Object,
+    name: &str,
+    arguments: &Arguments,
+) -> Result<Option<Value>, Stop>
+    requires room { HasRoom T.seen O.seen context.old }
+    ensures same { Same context.old context.new }
+    ensures device { Fails T.seen O.seen context.old result context.new }
+    ensures gives { Answers T.seen O.seen (option_map data_of)
+        (object_method_called line object.now name.now (arguments_data arguments.now)) context.old result context.new }
+{
+    context.store.at(line);
+    let mut caller = Caller {
+        alloc: context.alloc,
+        store: context.store,
+        tree: context.tree,
+        out: context.out,
+    };
+    object_method(&mut caller, object, name, arguments)
+}
+
+impl<'a, T: Tree, O: Outputs, L: Ledger> Evaluator<'a, T, O, L> {
     /// A function on its evaluated arguments: it gives a value, or nothing.
     pub fn called(
         &mut self,
@@ -36,35 +82,13 @@ impl<'a, T: Tree, O: Outputs, L: Ledger> Evaluator<'a, T, O, L> {
         if is_turned_off(function, arguments) {
             return Ok(Some(Value::of_object(self.context.alloc, Object::Disabler)?));
         }
-        self.carry_out(line, function, arguments)
-    }
-
-    // A function on its arguments, at a line.
-    fn carry_out(
-        &mut self,
-        line: usize,
-        function: Function,
-        arguments: &Arguments,
-    ) -> Result<Option<Value>, Stop>
-        requires room { HasRoom T.seen O.seen self.old.context }
-        ensures same { Same self.old.context self.new.context }
-        ensures device { Fails T.seen O.seen self.old.context result self.new.context }
-        ensures gives { Answers T.seen O.seen (option_map data_of) (called_by false line function (arguments_data arguments.now))
-            self.old.context result self.new.context }
-    {
-        self.context.store.at(line);
-        let mut caller = Caller {
-            alloc: self.context.alloc,
-            store: self.context.store,
-            tree: self.context.tree,
-            out: self.context.out,
-        };
-        call(&mut caller, function, arguments)
+        carry_out(&mut self.context, line, function, arguments)
     }
 
     // Refuses a name that no method of an object has, and what may not be asked yet.
     fn object_method_at(&self, line: usize, object: &Object, name: &str) -> Result<(), Stop>
-        ensures gives { Answers T.seen O.seen (λ u. u) (object_method_at line object.now name.now) self.now.context result self.now.context }
+        ensures gives { Answers T.seen O.seen (λ u. u) (object_method_at line object.now name.now)
+            self.now.context result self.now.context }
         ensures quiet { (n : ℕ) → failures_after n result ≡ n }
     {
         if has_object_method(object, name) {
@@ -79,7 +103,8 @@ impl<'a, T: Tree, O: Outputs, L: Ledger> Evaluator<'a, T, O, L> {
 
     // Refuses a name that no method of a receiver has.
     pub fn method_at(&self, line: usize, whole: &Value, name: &str) -> Result<(), Stop>
-        ensures gives { Answers T.seen O.seen (λ u. u) (method_at line (data_of whole.now) name.now) self.now.context result self.now.context }
+        ensures gives { Answers T.seen O.seen (λ u. u) (method_at line (data_of whole.now) name.now)
+            self.now.context result self.now.context }
         ensures quiet { (n : ℕ) → failures_after n result ≡ n }
     {
         if whole.is_disabler() {
@@ -129,32 +154,8 @@ impl<'a, T: Tree, O: Outputs, L: Ledger> Evaluator<'a, T, O, L> {
             (data_of whole.now) name.now (arguments_data arguments.now)) self.old.context result self.new.context }
     {
         match whole.as_object() {
-            Some(object) => self.object_method(line, object, name, arguments),
+            Some(object) => object_method_of(&mut self.context, line, object, name, arguments),
             None => self.context.value_method(line, whole, name, arguments),
         }
-    }
-
-    // A method of an object on its arguments, at a line.
-    fn object_method(
-        &mut self,
-        line: usize,
-        object: &Object,
-        name: &str,
-        arguments: &Arguments,
-    ) -> Result<Option<Value>, Stop>
-        requires room { HasRoom T.seen O.seen self.old.context }
-        ensures same { Same self.old.context self.new.context }
-        ensures device { Fails T.seen O.seen self.old.context result self.new.context }
-        ensures gives { Answers T.seen O.seen (option_map data_of)
-            (object_method_called line object.now name.now (arguments_data arguments.now)) self.old.context result self.new.context }
-    {
-        self.context.store.at(line);
-        let mut caller = Caller {
-            alloc: self.context.alloc,
-            store: self.context.store,
-            tree: self.context.tree,
-            out: self.context.out,
-        };
-        object_method(&mut caller, object, name, arguments)
     }
 }

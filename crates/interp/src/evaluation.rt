@@ -9,7 +9,7 @@ ghost use Rattle.world.specs.Plan.{ruled};
 ghost use Rattle.world.specs.SettingsView.{settings_view};
 ghost use Rattle.world.specs.Trace.{seen};
 ghost use Rattle.interp.specs.Beginnings.{Reads, RootGives, Starts};
-ghost use Rattle.interp.specs.Blocks.{file_by};
+ghost use Rattle.expressions.specs.Codes.{file_by};
 ghost use Rattle.interp.specs.Cost.{tree_cost};
 ghost use Rattle.interp.specs.Evaluated.{Evaluated, FailsOnce, Ticked};
 ghost use Rattle.interp.specs.Evaluation.{IsSaid, MachineSaid, defined, evaluated, root};
@@ -74,7 +74,7 @@ impl<'a, T: Tree, O: Outputs, L: Ledger> Evaluator<'a, T, O, L> {
         ensures device { Fails T.seen O.seen self.old.context result self.new.context }
         ensures gives { (few : Bool) → Answers T.seen O.seen (λ u. u) (defined few) self.old.context result self.new.context }
     {
-        let code = self.open("")?;
+        let code = self.context.open("")?;
         self.root(code)?;
         Ok(())
     }

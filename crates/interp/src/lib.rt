@@ -25,7 +25,6 @@ mod halt;
 mod inside;
 mod law;
 mod nodes;
-mod open;
 mod operation;
 mod running;
 mod stated;

@@ -43,7 +43,8 @@ impl<'a, T: Tree, O: Outputs, L: Ledger> Evaluator<'a, T, O, L> {
         requires room { HasRoom T.seen O.seen self.old.context }
         ensures same { Same self.old.context self.new.context }
         ensures device { FailsInside T.seen O.seen self.old.context result self.new.context }
-        ensures gives { Evaluates T.seen O.seen data_of (λ into ts. value_of into (tree_at ts node)) code.now self.old.context result self.new.context }
+        ensures gives { Evaluates T.seen O.seen data_of (λ into ts. value_of into (tree_at ts node))
+            code.now self.old.context result self.new.context }
     {
         match &code.nodes[node] {
             Node::Name { number, line } => Ok(self.context.variable(*number, *line)?),
@@ -171,7 +172,8 @@ impl<'a, T: Tree, O: Outputs, L: Ledger> Evaluator<'a, T, O, L> {
         ensures same { Same self.old.context self.new.context }
         ensures device { FailsInside T.seen O.seen self.old.context result self.new.context }
         ensures gives { Evaluates T.seen O.seen (option_map data_of) (λ into ts. next (ruled (value_of into (tree_at ts first)))
-            (λ d. links_of into line (Some d) (link_trees (map (link_at ts) links.now)))) code.now self.old.context result self.new.context }
+            (λ d. links_of into line (Some d) (link_trees (map (link_at ts) links.now))))
+            code.now self.old.context result self.new.context }
     {
         let value = self.eval(code, first)?;
         let mut given = Some(value);

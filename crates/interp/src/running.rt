@@ -1,7 +1,8 @@
 //! The statements of a file and of those that it enters, on one stack of frames.
 ghost use Rattle.std.specs.Prelude.{Bool, ◌≡◌, ◌<◌, ◌+◌, ◌^◌, IfSome, OnSome, length};
 ghost use Rattle.interp.specs.Bounds.{bounds};
-ghost use Rattle.interp.specs.Blocks.{file_by, statements_of};
+ghost use Rattle.expressions.specs.Codes.{file_by};
+ghost use Rattle.interp.specs.Blocks.{statements_of};
 ghost use Rattle.interp.specs.Folders.{folder};
 ghost use Rattle.interp.specs.Frames.{Does, NumberAt, Steps, Turns, others_by, round_by, rounds_left};
 ghost use Rattle.interp.specs.Statements.{after_round, do_all, on_next, rounds_of};

@@ -8,7 +8,8 @@ ghost use Rattle.world.specs.Plan.{give, next, ruled};
 ghost use Rattle.interp.specs.Bounds.{bounds};
 ghost use Rattle.interp.specs.Acting.{way_view};
 ghost use Rattle.interp.specs.Entering.{by_way};
-ghost use Rattle.interp.specs.Blocks.{block_by, branch_or, expressions_by, statements_by, statements_of};
+ghost use Rattle.expressions.specs.Codes.{block_by, expressions_by, statements_by};
+ghost use Rattle.interp.specs.Blocks.{branch_or, statements_of};
 ghost use Rattle.interp.specs.Expressions.{given_by, value_of};
 ghost use Rattle.interp.specs.Folders.{folder};
 ghost use Rattle.interp.specs.Frames.{Acts, ChoosesOf, Does, above_branch, round_by};
@@ -138,8 +139,8 @@ impl<'a, T: Tree, O: Outputs, L: Ledger> Evaluator<'a, T, O, L> {
         ensures same { Same self.old.context self.new.context }
         ensures device { FailsInside T.seen O.seen self.old.context result self.new.context }
         ensures gives { name < length self.old.context.store.now.names → Evaluates T.seen O.seen (λ f. f) (λ into ts.
-            next (appended line (name_at self.old.context.store.now.names name) (ruled (value_of into (tree_at ts value)))) (λ _. give Next))
-            code.now self.old.context result self.new.context }
+            next (appended line (name_at self.old.context.store.now.names name) (ruled (value_of into (tree_at ts value))))
+            (λ _. give Next)) code.now self.old.context result self.new.context }
     {
         self.append(code, name, line, value)?;
         Ok(Flow::Next)
@@ -152,7 +153,8 @@ impl<'a, T: Tree, O: Outputs, L: Ledger> Evaluator<'a, T, O, L> {
         ensures same { Same self.old.context self.new.context }
         ensures device { FailsInside T.seen O.seen self.old.context result self.new.context }
         ensures gives { number < length self.old.context.store.now.names → Evaluates T.seen O.seen (λ u. u) (λ into ts. appended line
-            (name_at self.old.context.store.now.names number) (ruled (value_of into (tree_at ts value)))) code.now self.old.context result self.new.context }
+            (name_at self.old.context.store.now.names number) (ruled (value_of into (tree_at ts value))))
+            code.now self.old.context result self.new.context }
     {
         let _ = self.context.variable(number, line)?;
         let right = self.eval(code, value)?;

@@ -3,7 +3,7 @@ use Rattle.std.specs.Prelude.{slice_get}
 use Rattle.code.specs.Statements.{statement_at}
 use Rattle.grammar.specs.Tree.{statements}
 use Rattle.interp.specs.Beginnings.{line_before}
-use Rattle.interp.specs.Blocks.{statements_by}
+use Rattle.expressions.specs.Codes.{statements_by}
 use Rattle.interp.proofs.Starting.{first_is}
 use Rattle.interp.proofs.beginning.line_before_project.Goals as goal
 

@@ -2,7 +2,7 @@ use Rattle.std.proofs.Common.{◌<◌, length, ap, sym, ◌∙◌, arith, rules}
 use Rattle.std.proofs.lemmas.Grind.{common_steps}
 use Rattle.code.specs.declared.node.StatementNode.TheVariants as flat
 use Rattle.interp.specs.Beginnings.{line_unless, other_line}
-use Rattle.interp.specs.Blocks.{expressions_by}
+use Rattle.expressions.specs.Codes.{expressions_by}
 use Rattle.interp.proofs.Starting.{statement_is, value_line, value_there}
 use Rattle.interp.proofs.beginning.other_line.Goals as goal
 

@@ -19,17 +19,17 @@ returns-then-fits g c =
     let fits = c.in_ok-fits.ensures ∙ ap (λ (p : WorldData). is_fit p (target_view c.args.target.now)) c.project-project.ensures in
     carries_read (need_yes _ _ _ (sym fits ∙ c.if-fits.true))
 
-pub returns-in_err-breach-else-fits : goal.returns-in_err-breach-else-fits
-returns-in_err-breach-else-fits g c = carries_none c.from_residual-in_err-breach-else-fits.ensures.1
+pub returns-in_err-breach : goal.returns-in_err-breach
+returns-in_err-breach g c = carries_none c.from_residual-in_err-breach.ensures.1
 
-pub returns-in_ok-breach-else-fits : goal.returns-in_ok-breach-else-fits
+pub returns-in_ok-breach : goal.returns-in_ok-breach
 unfolding required_fit obeyed
-returns-in_ok-breach-else-fits g c =
+returns-in_ok-breach g c =
     let t = target_view c.args.target.now in
     let p = (world_of c.args.caller.now.store.now).facts.project in
     let fits = c.in_ok-fits.ensures ∙ ap (λ (p : WorldData). is_fit p t) c.project-project.ensures in
-    let rule = c.in_ok-breach-else-fits.breach.0 in
-    let breach = ap (λ (x : List ℕ). (rule, x)) c.as_str.ensures.value ∙ c.in_ok-breach-else-fits.ensures
+    let rule = c.in_ok-breach.breach.0 in
+    let breach = ap (λ (x : List ℕ). (rule, x)) c.as_str.ensures.value ∙ c.in_ok-breach.ensures
     ∙ ap (λ (p : WorldData). fit_breach p t) c.project-project.ensures in
     carries_read (carries_as (ap (λ (b : Breach). obeyed (is_fit p t) b.0 b.1) breach)
     (need_no _ _ _ (sym fits ∙ c.if-fits.false) c.refuse_by.ensures))

@@ -12,7 +12,8 @@ use Rattle.data.specs.Data.{Data}
 use Rattle.grammar.specs.Tree.{StatementTree, branches}
 use Rattle.world.specs.Plan.{give, next, ruled}
 use Rattle.interp.specs.Bounds.{bounds}
-use Rattle.interp.specs.Blocks.{block_by, branch_or, expressions_by, part_of, statements_by}
+use Rattle.expressions.specs.Codes.{block_by, expressions_by, statements_by}
+use Rattle.interp.specs.Blocks.{branch_or, part_of}
 use Rattle.interp.specs.Expressions.{value_of}
 use Rattle.interp.specs.Folders.{folder}
 use Rattle.interp.specs.Frames.{above_branch, behind_all, one_round, round_by}

@@ -3,7 +3,8 @@ use Rattle.code.specs.Statements.{branch_at}
 use Rattle.code.specs.declared.code.Code.{Code}
 use Rattle.grammar.specs.Tree.{branches}
 use Rattle.interp.specs.Bounds.{bounds}
-use Rattle.interp.specs.Blocks.{block_by, expressions_by, statements_by, statements_of}
+use Rattle.expressions.specs.Codes.{block_by, expressions_by, statements_by}
+use Rattle.interp.specs.Blocks.{statements_of}
 use Rattle.interp.specs.Folders.{folder}
 use Rattle.interp.specs.Frames.{part_done}
 use Rattle.interp.specs.Statements.{do_all}

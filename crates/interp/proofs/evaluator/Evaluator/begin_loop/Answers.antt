@@ -4,7 +4,7 @@ use Rattle.code.specs.Statements.{name_at, second_within}
 use Rattle.code.specs.declared.code.Code.{Code}
 use Rattle.data.specs.View.{data_of}
 use Rattle.interp.specs.Bounds.{bounds}
-use Rattle.interp.specs.Blocks.{expressions_by}
+use Rattle.expressions.specs.Codes.{expressions_by}
 use Rattle.interp.specs.Frames.{behind_all, round_by}
 use Rattle.expressions.specs.Rounds.{rounds_in}
 use Rattle.interp.specs.Statements.{rounds_of}

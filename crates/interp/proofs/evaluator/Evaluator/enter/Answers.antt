@@ -2,9 +2,10 @@ use Rattle.std.proofs.Common.{subst, ◌≡◌, ℕ, suc, ◌-◌, [], ◌∷◌
 use Rattle.basics.specs.declared.faults.refusal.Refusal.TheVariants as refusals
 use Rattle.world.specs.Answering.{Refuses}
 use Rattle.world.specs.Plan.{next}
-use Rattle.interp.specs.Blocks.{file_by}
+use Rattle.expressions.specs.Codes.{file_by}
 use Rattle.expressions.specs.Contexts.{stand_of}
-use Rattle.interp.specs.Folders.{folder_by, fresh, opened}
+use Rattle.interp.specs.Folders.{folder_by}
+use Rattle.expressions.specs.Folders.{fresh, opened}
 use Rattle.interp.specs.Frames.{Rest, End, Left, behind, behind_all}
 use Rattle.interp.specs.Statements.{do_all}
 use Rattle.interp.specs.declared.frames.Frame.TheVariants as frames
@@ -44,7 +45,7 @@ returns-clause-gives g c = λ few files rests hold stacked.
     let f = leads_fresh few c.args.text.now more (c.in_ok-path.ensures.gives files hold) in
     let path : c.deref.result.now ≡ string_bytes c.in_ok-path.path = c.deref.ensures in
     let o = given_as (ap opened path) (c.in_ok-opened.ensures.gives files f.holds) in
-    let names = c.open.new.self.context.store.now.names in
+    let names = c.open.new.self.store.now.names in
     let here = c.args.self.now.context.store.now in
     let outer : Rest = Left here.file here.folder here.line in
     let inside = stacked_on c.args.stack.now.items rests o.gives.written.names stacked in

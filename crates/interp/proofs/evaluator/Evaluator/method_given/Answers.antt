@@ -9,7 +9,7 @@ use Rattle.interp.proofs.evaluator.Evaluator.method_given.Goals as goal
 pub returns-in-Some-clause-gives : goal.returns-in-Some-clause-gives
 returns-in-Some-clause-gives g c = λ files h.
     given_as (ap (λ o. method_by false o c.args.line (data_of c.args.whole.now) c.args.name.now (arguments_data c.args.arguments.now)) (sym (ap (option_map (λ (b : Bor Object). b.now)) c.in-Some.is) ∙ c.as_object.ensures))
-    (c.object_method.ensures.gives files h)
+    (c.object_method_of.ensures.gives files h)
 
 pub returns-in-None-clause-gives : goal.returns-in-None-clause-gives
 returns-in-None-clause-gives g c = λ files h.

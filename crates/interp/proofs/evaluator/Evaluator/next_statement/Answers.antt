@@ -1,7 +1,8 @@
 use Rattle.std.proofs.Common.{◌≡◌, ◌+◌, ℕ, List, [], ◌∷◌, drop, Ok, sym, ap, subst, refl, ◌∙◌}
 use Rattle.code.specs.declared.code.Code.{Code}
 use Rattle.interp.specs.Bounds.{bounds}
-use Rattle.interp.specs.Blocks.{block_by, statements_of}
+use Rattle.expressions.specs.Codes.{block_by}
+use Rattle.interp.specs.Blocks.{statements_of}
 use Rattle.interp.specs.Folders.{folder}
 use Rattle.interp.specs.Frames.{behind_all}
 use Rattle.interp.specs.Statements.{do_all}

@@ -1,6 +1,6 @@
 use Rattle.std.proofs.Common.{Some, None, ap, refl}
 use Rattle.world.specs.Plan.{next}
-use Rattle.interp.specs.Blocks.{file_by}
+use Rattle.expressions.specs.Codes.{file_by}
 use Rattle.interp.specs.Bounds.{bounds}
 use Rattle.interp.specs.Folders.{folder}
 use Rattle.interp.specs.Statements.{do_all}

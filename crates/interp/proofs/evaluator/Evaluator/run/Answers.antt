@@ -1,6 +1,6 @@
 use Rattle.std.proofs.Common.{◌-◌, ℕ, append-nil, take, Err, Ok, ap, refl, ◌∙◌, rules}
 use Rattle.code.specs.declared.code.Code.{Code}
-use Rattle.interp.specs.Blocks.{file_by}
+use Rattle.expressions.specs.Codes.{file_by}
 use Rattle.interp.specs.Bounds.{bounds}
 use Rattle.interp.specs.Folders.{folder}
 use Rattle.interp.specs.Statements.{do_all}

@@ -1,7 +1,7 @@
 use Rattle.std.proofs.Common.{◌≡◌, Bool}
 use Rattle.world.specs.Deed.{Files}
 use Rattle.world.specs.Gives.{Holds}
-use Rattle.interp.specs.Blocks.{file_by}
+use Rattle.expressions.specs.Codes.{file_by}
 use Rattle.expressions.specs.Contexts.{Same, stand_of}
 use Rattle.interp.specs.Bounds.{bounds}
 use Rattle.interp.specs.Folders.{folder}

@@ -7,7 +7,7 @@ use Rattle.world.specs.Plan.{next}
 use Rattle.interp.specs.Bounds.{bounds}
 use Rattle.interp.specs.Acting.{performed, way_view}
 use Rattle.interp.specs.Entering.{by_way}
-use Rattle.interp.specs.Blocks.{expressions_by}
+use Rattle.expressions.specs.Codes.{expressions_by}
 use Rattle.interp.specs.Folders.{folder}
 use Rattle.interp.specs.Frames.{End, behind_all}
 use Rattle.interp.specs.Parts.{above, above_argument}

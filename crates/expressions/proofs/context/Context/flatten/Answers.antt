@@ -1,8 +1,8 @@
 use Rattle.std.proofs.Common.{ap, refl}
 use Rattle.grammar.specs.Tree.{file_of, statements}
 use Rattle.expressions.proofs.Assigning.{given_none_grown}
-use Rattle.interp.proofs.Opening.{given_made}
-use Rattle.interp.proofs.evaluator.Evaluator.flatten.Goals as goal
+use Rattle.expressions.proofs.Opening.{given_made}
+use Rattle.expressions.proofs.context.Context.flatten.Goals as goal
 
 pub returns-in_err-code-clause-gives : goal.returns-in_err-code-clause-gives
 returns-in_err-code-clause-gives g c = λ files h. given_none_grown h c.from_residual.ensures.1 c.in_err-code.ensures.names

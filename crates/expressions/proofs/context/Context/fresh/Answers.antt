@@ -1,21 +1,21 @@
 use Rattle.std.proofs.Common.{ap, option_map, string_bytes, sym, ◌∙◌}
 use Rattle.paths.specs.Paths.{folder_below}
-use Rattle.interp.specs.Folders.{fresh_by}
+use Rattle.expressions.specs.Folders.{fresh_by}
 use Rattle.expressions.proofs.Evaluating.{given_as, given_none, given_read}
-use Rattle.interp.proofs.Opening.{given_entered, given_here}
-use Rattle.interp.proofs.evaluator.Evaluator.fresh.Goals as goal
+use Rattle.expressions.proofs.Opening.{given_entered, given_here}
+use Rattle.expressions.proofs.context.Context.fresh.Goals as goal
 
 pub returns-in_err-folder-clause-gives : goal.returns-in_err-folder-clause-gives
 returns-in_err-folder-clause-gives g c = λ files h. given_none h c.from_residual.ensures.1
 
 pub returns-in-Some-clause-gives : goal.returns-in-Some-clause-gives
 returns-in-Some-clause-gives g c = λ files h.
-    given_read (given_entered (given_as (ap (λ o. fresh_by o c.args.self.now.context.store.now.entered) (sym (ap (option_map string_bytes) c.in-Some.is) ∙ c.in_ok-folder.ensures
+    given_read (given_entered (given_as (ap (λ o. fresh_by o c.args.self.now.store.now.entered) (sym (ap (option_map string_bytes) c.in-Some.is) ∙ c.in_ok-folder.ensures
     ∙ ap (λ here. folder_below here c.args.text.now) c.folder.ensures))
     (c.not_entered.ensures.gives files h)))
 
 pub returns-in-None-clause-gives : goal.returns-in-None-clause-gives
 returns-in-None-clause-gives g c = λ files h.
-    given_read (given_entered (given_as (ap (λ o. fresh_by o c.args.self.now.context.store.now.entered) (sym (ap (option_map string_bytes) c.in-None.is) ∙ c.in_ok-folder.ensures
+    given_read (given_entered (given_as (ap (λ o. fresh_by o c.args.self.now.store.now.entered) (sym (ap (option_map string_bytes) c.in-None.is) ∙ c.in_ok-folder.ensures
     ∙ ap (λ here. folder_below here c.args.text.now) c.folder.ensures))
     (given_here h c.line.ensures c.refuse.ensures)))

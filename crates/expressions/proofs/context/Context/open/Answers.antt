@@ -8,10 +8,10 @@ use Rattle.world.specs.Store.{world_of}
 use Rattle.world.specs.World.{looking}
 use Rattle.world.specs.declared.stop.Stop.TheVariants as stops
 use Rattle.world.proofs.Holding.{holds_later}
-use Rattle.interp.specs.Folders.{opened_by}
+use Rattle.expressions.specs.Folders.{opened_by}
 use Rattle.expressions.proofs.Evaluating.{given_as, given_none}
-use Rattle.interp.proofs.Opening.{found_length, given_ask, given_here, given_short, none_length, some_length}
-use Rattle.interp.proofs.evaluator.Evaluator.open.Goals as goal
+use Rattle.expressions.proofs.Opening.{found_length, given_ask, given_here, given_short, none_length, some_length}
+use Rattle.expressions.proofs.context.Context.open.Goals as goal
 
 pub returns-in_err-file-clause-gives : goal.returns-in_err-file-clause-gives
 returns-in_err-file-clause-gives g c = λ files h. given_none h c.from_residual.ensures.1
@@ -27,7 +27,7 @@ returns-in_err-note_look-clause-gives g c = λ files h.
 pub returns-in-Some-clause-gives : goal.returns-in-Some-clause-gives
 returns-in-Some-clause-gives g c = λ files h.
     let path = definition_file c.args.folder.now in
-    let before = world_of c.args.self.now.context.store.now in
+    let before = world_of c.args.self.now.store.now in
     let sized : c.in_ok-size.size ≡ option_map length (file_at files path) =
     c.in_ok-size.ensures.size h.steady ∙ ap (λ fs. option_map length (file_at fs c.deref.result.now)) h.files ∙ ap (λ p. option_map length (file_at files p)) (c.deref.ensures ∙ c.in_ok-file.ensures) in
     let looked : world_of c.note_look.new.self ≡ looking before path (is_some (file_at files path)) =
@@ -40,7 +40,7 @@ returns-in-Some-clause-gives g c = λ files h.
 pub returns-in-None-clause-gives : goal.returns-in-None-clause-gives
 returns-in-None-clause-gives g c = λ files h.
     let path = definition_file c.args.folder.now in
-    let before = world_of c.args.self.now.context.store.now in
+    let before = world_of c.args.self.now.store.now in
     let sized : c.in_ok-size.size ≡ option_map length (file_at files path) =
     c.in_ok-size.ensures.size h.steady ∙ ap (λ fs. option_map length (file_at fs c.deref.result.now)) h.files ∙ ap (λ p. option_map length (file_at files p)) (c.deref.ensures ∙ c.in_ok-file.ensures) in
     let looked : world_of c.note_look.new.self ≡ looking before path (is_some (file_at files path)) =

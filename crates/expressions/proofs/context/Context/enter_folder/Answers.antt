@@ -5,8 +5,8 @@ use Rattle.world.specs.Store.{changing, world_of}
 use Rattle.world.specs.World.{with_place}
 use Rattle.world.specs.declared.stop.Stop.TheVariants as stops
 use Rattle.expressions.proofs.Evaluating.{given_change, given_none, given_then}
-use Rattle.interp.proofs.Opening.{given_enter, given_short}
-use Rattle.interp.proofs.evaluator.Evaluator.enter_folder.Goals as goal
+use Rattle.expressions.proofs.Opening.{given_enter, given_short}
+use Rattle.expressions.proofs.context.Context.enter_folder.Goals as goal
 
 pub returns-in_err-enter-clause-gives : goal.returns-in_err-enter-clause-gives
 returns-in_err-enter-clause-gives g c = λ files bytes h at size. given_short stops.Memory h tt c.from_residual.ensures.1 c.in_err-enter.ensures.names

@@ -5,8 +5,8 @@ use Rattle.world.specs.Plan.{deed}
 use Rattle.world.proofs.Holding.{holds_later}
 use Rattle.definition_files.specs.Files.{most_bytes, spelled_by}
 use Rattle.expressions.proofs.Evaluating.{given_as}
-use Rattle.interp.proofs.Opening.{given_over, given_short, given_within}
-use Rattle.interp.proofs.evaluator.Evaluator.read.Goals as goal
+use Rattle.expressions.proofs.Opening.{given_over, given_short, given_within}
+use Rattle.expressions.proofs.context.Context.read.Goals as goal
 
 pub returns-then-size-gt-MOST_BYTES-clause-gives : goal.returns-then-size-gt-MOST_BYTES-clause-gives
 returns-then-size-gt-MOST_BYTES-clause-gives g c = λ files bytes h at size.

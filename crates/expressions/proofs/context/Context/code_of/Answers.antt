@@ -4,8 +4,8 @@ use Rattle.basics.specs.declared.faults.refusal.Refusal.TheVariants as refusals
 use Rattle.world.specs.Plan.{deed}
 use Rattle.definition_files.specs.Files.{line_at, refuse_line, tree_or_fault}
 use Rattle.expressions.proofs.Evaluating.{given_as}
-use Rattle.interp.proofs.Opening.{given_line, is_no_text, is_text}
-use Rattle.interp.proofs.evaluator.Evaluator.code_of.Goals as goal
+use Rattle.expressions.proofs.Opening.{given_line, is_no_text, is_text}
+use Rattle.expressions.proofs.context.Context.code_of.Goals as goal
 
 pub returns-in-Ok-clause-gives : goal.returns-in-Ok-clause-gives
 returns-in-Ok-clause-gives g c = λ files h.

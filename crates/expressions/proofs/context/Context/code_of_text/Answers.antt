@@ -3,8 +3,8 @@ use Rattle.grammar.specs.Parsed.{parsed}
 use Rattle.grammar.specs.Tree.{file_of}
 use Rattle.lexer.specs.Answers.{Refuses}
 use Rattle.expressions.proofs.Evaluating.{given_as, given_none}
-use Rattle.interp.proofs.Opening.{given_line, source_read, source_refused}
-use Rattle.interp.proofs.evaluator.Evaluator.code_of_text.Goals as goal
+use Rattle.expressions.proofs.Opening.{given_line, source_read, source_refused}
+use Rattle.expressions.proofs.context.Context.code_of_text.Goals as goal
 
 pub returns-in-Ok-clause-gives : goal.returns-in-Ok-clause-gives
 returns-in-Ok-clause-gives g c = λ files h.

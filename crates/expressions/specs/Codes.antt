@@ -1,0 +1,21 @@
+-- The trees of a file's code, by the table of names as it was when the code was made.
+use Rattle.std.specs.Prelude.{ℕ, List, map}
+use Rattle.code.specs.declared.code.Code.{Code}
+use Rattle.code.specs.Nodes.{trees}
+use Rattle.code.specs.Statements.{statement_at, statement_trees}
+use Rattle.grammar.specs.ExpressionTree.{ExpressionTree}
+use Rattle.grammar.specs.Tree.{StatementTree, Statements, statements}
+
+abbrev pub expressions_by : List (List ℕ) → Code → List ExpressionTree
+expressions_by table c = trees table c.nodes.items
+
+abbrev pub statements_by : List (List ℕ) → Code → List StatementTree
+statements_by table c = statement_trees table (expressions_by table c) c.statements.items
+
+-- the trees of some statements
+abbrev pub block_by : List (List ℕ) → Code → List ℕ → Statements
+block_by table c numbers = statements (map (statement_at (statements_by table c)) numbers)
+
+-- the statements of a file
+abbrev pub file_by : List (List ℕ) → Code → Statements
+file_by table c = block_by table c c.body.items

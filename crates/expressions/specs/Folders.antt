@@ -1,0 +1,48 @@
+-- Folders that are entered, and their definition files.
+use Rattle.std.specs.Prelude.{ℕ, List, [], length, nat_lt, not, bytes_eq, Option, Some, None, refl}
+use Rattle.std.specs.List.{list_any}
+use Rattle.grammar.specs.Tree.{Statements}
+use Rattle.basics.specs.declared.faults.refusal.Refusal.TheVariants as refusals
+use Rattle.paths.specs.Paths.{folder_below}
+use Rattle.world.specs.Costs.{definition_file}
+use Rattle.world.specs.World.{Facts, with_place}
+use Rattle.world.specs.Deed.{refuse, ask, read, change, need}
+use Rattle.definition_files.specs.Files.{spelled}
+use Rattle.world.specs.Plan.{Plan, deed, enter, entered, ◌>>=◌, give}
+
+-- what is done next is done in a folder's definition file
+abbrev pub go_to : List ℕ → Plan (Unit {0})
+go_to folder = deed (change (with_place (definition_file folder) folder 1) (λ facts. refl))
+
+-- what is done next is done at this place
+abbrev pub go_back : Facts → Plan (Unit {0})
+go_back outer = deed (change (with_place outer.file outer.folder outer.line) (λ facts. refl))
+
+-- a folder whose definition file has these bytes, or has none
+abbrev pub opened_by : List ℕ → Option (List ℕ) → Plan Statements
+opened_by folder None = deed (refuse refusals.FileMissing (definition_file folder))
+opened_by folder (Some bytes) = do
+  _ ← enter folder
+  _ ← go_to folder
+  deed (spelled bytes)
+
+-- The statements of a folder's definition file: E14 where that is absent. The folder counts as entered before its file is read.
+abbrev pub opened : List ℕ → Plan Statements
+opened folder = do
+  bytes ← deed (ask (definition_file folder))
+  opened_by folder bytes
+
+-- a folder that was not entered, E12 otherwise
+abbrev pub fresh_by : Option (List ℕ) → List (List ℕ) → Plan (List ℕ)
+fresh_by None folders = deed (refuse refusals.Subdir [])
+fresh_by (Some folder) folders = do
+  _ ← deed (need (not (list_any (bytes_eq folder) folders)) refusals.Subdir [])
+  _ ← deed (need (nat_lt (length folders) 4096) refusals.Limit [])
+  give folder
+
+-- the folder that a text names, which was not entered; there are at most 4,096
+abbrev pub fresh : List ℕ → Plan (List ℕ)
+fresh text = do
+  facts ← deed read
+  folders ← entered
+  fresh_by (folder_below facts.folder text) folders

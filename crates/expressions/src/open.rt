@@ -1,0 +1,188 @@
+//! Folders that are entered, and their definition files.
+ghost use Rattle.std.specs.Prelude.{◌≡◌, ℕ, List, IfOk, Some, [], false, length, string_bytes, bytes_eq};
+ghost use Rattle.std.specs.List.{list_any};
+ghost use Rattle.std.specs.Str.{is_utf8};
+ghost use Rattle.grammar.specs.Parsed.{parsed};
+ghost use Rattle.grammar.specs.Tree.{file_of, statements};
+ghost use Rattle.ports.specs.Tree.{file_at};
+ghost use Rattle.world.specs.Costs.{definition_file};
+ghost use Rattle.world.specs.Deed.{Files};
+ghost use Rattle.world.specs.Gives.{Holds, failures_after};
+ghost use Rattle.world.specs.Plan.{deed, give};
+ghost use Rattle.expressions.specs.Codes.{file_by};
+ghost use Rattle.definition_files.specs.Files.{spelled, spelled_by, tree_or_fault};
+ghost use Rattle.expressions.specs.Folders.{fresh, fresh_by, opened, opened_by};
+
+use crate::context::Context;
+use basics::faults::Refusal;
+use basics::limits::FOLDERS;
+use code::Code;
+use definition_files::{MOST_BYTES, line_at, read_file, refusal_of};
+use grammar::fault::SyntaxError;
+use grammar::parse;
+use grammar::tree::File;
+use paths::{folder_below, path_in};
+use ports::{Outputs, Tree};
+use std::alloc::AllocError;
+use std::str;
+use std::sync::ledger::Ledger;
+use world::{Place, Stop};
+
+impl<'a, T: Tree, O: Outputs, L: Ledger> Context<'a, T, O, L> {
+    ghost use Rattle.expressions.specs.Contexts.{Answers, Fails, Given, HasRoom, Same, stand_of};
+
+    /// The present line.
+    pub fn line(&self) -> usize
+        ensures { result ≡ self.now.store.now.line }
+    {
+        self.store.line()
+    }
+
+    /// The present place.
+    pub fn place(&self) -> Result<Place, AllocError>
+        ensures file { IfOk result (λ place. string_bytes place.file ≡ self.now.store.now.file) }
+        ensures folder { IfOk result (λ place. string_bytes place.folder ≡ self.now.store.now.folder) }
+        ensures line { IfOk result (λ place. place.line ≡ self.now.store.now.line) }
+    {
+        Ok(Place {
+            file: String::from_str(self.alloc, self.store.file())?,
+            folder: String::from_str(self.alloc, self.store.folder())?,
+            line: self.store.line(),
+        })
+    }
+
+    /// The folder that a text names in the present one: error 12 where it names none or one that was entered, error 22 past 4,096 folders.
+    pub fn fresh(&self, text: &str) -> Result<String, Stop>
+        ensures gives { Answers T.seen O.seen string_bytes (fresh text.now) self.now result self.now }
+        ensures new { IfOk result (λ path. list_any (bytes_eq (string_bytes path)) self.now.store.now.entered ≡ false) }
+        ensures quiet { (n : ℕ) → failures_after n result ≡ n }
+    {
+        match folder_below(self.alloc, self.store.folder(), text)? {
+            Some(folder) => self.not_entered(folder),
+            None => self.refuse(self.store.line(), Refusal::Subdir, ""),
+        }
+    }
+
+    // A folder, unless it was entered or too many were.
+    fn not_entered(&self, folder: String) -> Result<String, Stop>
+        ensures gives { Answers T.seen O.seen string_bytes (fresh_by (Some (string_bytes folder)) self.now.store.now.entered)
+            self.now result self.now }
+        ensures new { IfOk result (λ path. list_any (bytes_eq (string_bytes path)) self.now.store.now.entered ≡ false) }
+        ensures quiet { (n : ℕ) → failures_after n result ≡ n }
+    {
+        let line = self.store.line();
+        if self.store.is_entered(&folder) {
+            return self.refuse(line, Refusal::Subdir, "");
+        }
+        if self.store.entered() < FOLDERS {
+            Ok(folder)
+        } else {
+            self.refuse(line, Refusal::Limit, "")
+        }
+    }
+
+    /// Enters a folder and gives the code of its definition file: error 14 where that is absent, and those of its bytes.
+    pub fn open(&mut self, folder: &str) -> Result<Code, Stop>
+        requires new { list_any (bytes_eq folder.now) self.old.store.now.entered ≡ false }
+        requires room { HasRoom T.seen O.seen self.old }
+        ensures same { Same self.old self.new }
+        ensures device { Fails T.seen O.seen self.old result self.new }
+        ensures known { IfOk result (λ code. code.names ≡ length self.new.store.now.names) }
+        ensures gives { Answers T.seen O.seen (file_by self.new.store.now.names) (opened folder.now) self.old result self.new }
+    {
+        let file = path_in(self.alloc, folder, "meson.build")?;
+        let size = self.tree.size(&file)?;
+        self.store.note_look(self.alloc, &file, size.is_some())?;
+        let line = self.store.line();
+        match size {
+            Some(size) => self.enter_folder(folder, file, size),
+            None => self.refuse(line, Refusal::FileMissing, &file),
+        }
+    }
+
+    // Enters a folder whose definition file has so many bytes, and gives the code of these.
+    fn enter_folder(&mut self, folder: &str, file: String, size: u64) -> Result<Code, Stop>
+        requires new { list_any (bytes_eq folder.now) self.old.store.now.entered ≡ false }
+        requires room { HasRoom T.seen O.seen self.old }
+        requires file { string_bytes file ≡ definition_file folder.now }
+        ensures same { Same self.old self.new }
+        ensures device { Fails T.seen O.seen self.old result self.new }
+        ensures known { IfOk result (λ code. code.names ≡ length self.new.store.now.names) }
+        ensures gives { (files : Files) (bytes : List ℕ) → Holds (T.seen self.old.tree.now) files
+            → file_at files (definition_file folder.now) ≡ Some bytes → size ≡ length bytes
+            → Given (file_by self.new.store.now.names) files (opened_by folder.now (Some bytes)) (stand_of T.seen O.seen self.old)
+            result (stand_of T.seen O.seen self.new) }
+    {
+        self.store.enter(folder)?;
+        let folder = String::from_str(self.alloc, folder)?;
+        self.store.go(Place {
+            file,
+            folder,
+            line: 1,
+        });
+        self.read(size)
+    }
+
+    // The code of the present definition file, which has so many bytes.
+    fn read(&mut self, size: u64) -> Result<Code, Stop>
+        requires room { HasRoom T.seen O.seen self.old }
+        ensures same { Same self.old self.new }
+        ensures device { Fails T.seen O.seen self.old result self.new }
+        ensures known { IfOk result (λ code. code.names ≡ length self.new.store.now.names) }
+        ensures gives { (files : Files) (bytes : List ℕ) → Holds (T.seen self.old.tree.now) files
+            → file_at files self.old.store.now.file ≡ Some bytes → size ≡ length bytes
+            → Given (file_by self.new.store.now.names) files (deed (spelled bytes)) (stand_of T.seen O.seen self.old)
+            result (stand_of T.seen O.seen self.new) }
+    {
+        let line = self.store.line();
+        if size > MOST_BYTES {
+            return self.refuse(line, Refusal::Limit, "");
+        }
+        let bytes = read_file(self.alloc, self.tree, self.store.file(), size as usize)?;
+        self.code_of(&bytes)
+    }
+
+    // The code that bytes of the present definition file spell.
+    fn code_of(&mut self, bytes: &[u8]) -> Result<Code, Stop>
+        ensures same { Same self.old self.new }
+        ensures device { Fails T.seen O.seen self.old result self.new }
+        ensures known { IfOk result (λ code. code.names ≡ length self.new.store.now.names) }
+        ensures gives { Answers T.seen O.seen (file_by self.new.store.now.names) (deed (spelled_by (is_utf8 bytes.now) bytes.now))
+            self.old result self.new }
+    {
+        match str::from_utf8(bytes) {
+            Ok(text) => self.code_of_text(text),
+            Err(error) => {
+                let line = line_at(bytes, error.valid_up_to());
+                self.refuse(line, Refusal::NotUtf8, "")
+            }
+        }
+    }
+
+    // The code of a file.
+    fn flatten(&mut self, file: &File<'_>) -> Result<Code, Stop>
+        ensures same { Same self.old self.new }
+        ensures device { Fails T.seen O.seen self.old result self.new }
+        ensures known { IfOk result (λ code. code.names ≡ length self.new.store.now.names) }
+        ensures gives { Answers T.seen O.seen (file_by self.new.store.now.names) (give (statements (file_of file.now)))
+            self.old result self.new }
+    {
+        let code = self.store.flatten(self.alloc, file)?;
+        Ok(code)
+    }
+
+    // The code that a text of the present definition file spells.
+    fn code_of_text(&mut self, text: &str) -> Result<Code, Stop>
+        ensures same { Same self.old self.new }
+        ensures device { Fails T.seen O.seen self.old result self.new }
+        ensures known { IfOk result (λ code. code.names ≡ length self.new.store.now.names) }
+        ensures gives { Answers T.seen O.seen (file_by self.new.store.now.names) (deed (tree_or_fault (parsed text.now)))
+            self.old result self.new }
+    {
+        match parse(self.alloc, text) {
+            Ok(file) => self.flatten(&file),
+            Err(SyntaxError::Memory) => Err(Stop::Memory),
+            Err(SyntaxError::Fault(fault)) => self.refuse(fault.line, refusal_of(fault.kind), ""),
+        }
+    }
+}
