@@ -22,7 +22,6 @@ pub enum Scope {
 }
 
 /// What the texts of a custom target are seen from. All paths are seen from the build folder.
-#[derive(Drop)]
 pub struct Place {
     pub inputs: Vec<String>,
     pub outputs: Vec<String>,
@@ -32,6 +31,19 @@ pub struct Place {
     /// The folder of the definition file in the tree.
     pub source_folder: String,
     pub source_root: String,
+}
+
+impl Drop for Place {
+    fn drop(self) {
+        let Place {
+            inputs: _,
+            outputs: _,
+            depfile: _,
+            build_folder: _,
+            source_folder: _,
+            source_root: _,
+        } = self;
+    }
 }
 
 /// What a name between two `@` stands for.
