@@ -1,6 +1,7 @@
 //! A custom target as the arguments of a call say it.
-ghost use Rattle.std.specs.Prelude.{◌≡◌, ◌++◌, IfOk, flat_map, map, option_map, string_bytes};
+ghost use Rattle.std.specs.Prelude.{◌≡◌, ◌++◌, IfOk, flat_map, length, map, option_map, string_bytes};
 ghost use Rattle.arguments.specs.Arguments.{arguments_data, named_data};
+ghost use Rattle.data.specs.Flat.{opened as items_of};
 ghost use Rattle.data.specs.View.{data_of};
 ghost use Rattle.edge.specs.Texts.{texts};
 ghost use Rattle.named_sources.specs.Holes.{first_of};
@@ -37,12 +38,24 @@ pub struct Names {
 
 // ---- what may be given
 
+// How many items a value is, its lists opened.
+fn count(alloc: Global, value: &Value) -> Result<usize, AllocError>
+    ensures { IfOk result (λ n. n ≡ length (items_of (data_of value.now))) }
+{
+    match value {
+        Value::Text(_) | Value::Object(_) => Ok(1),
+        _ => Ok(opened(alloc, value)?.len()),
+    }
+}
+
 /// How many items a keyword gives, its lists opened.
 pub fn count_named(alloc: Global, arguments: &Arguments, name: &str) -> Result<usize, AllocError>
     ensures { IfOk result (λ n. n ≡ count_named name.now (arguments_data arguments.now)) }
 {
-    let leaves = arguments.leaves(alloc, name)?;
-    Ok(leaves.len())
+    match arguments.keyword(name) {
+        Some(value) => count(alloc, value),
+        None => Ok(0),
+    }
 }
 
 // The longest of the lists that the call gives.

@@ -97,9 +97,13 @@ pub fn add_custom<T: Tree, O: Outputs>(
     ensures { Carries (λ n. n) (add_custom (arguments_data arguments.now) (target_view target))
         (state_of T.seen O.seen caller.old) result (state_of T.seen O.seen caller.new) }
 {
+    let names = installed_names(caller.alloc, &target)?;
+    if names.is_empty() {
+        let number = caller.add_target(target)?;
+        return Ok(number);
+    }
     let folders = folders_in(caller);
     let way = way_of(&folders, arguments)?;
-    let names = installed_names(caller.alloc, &target)?;
     let number = caller.add_target(target)?;
     note_all(caller, &way, &names)?;
     Ok(number)

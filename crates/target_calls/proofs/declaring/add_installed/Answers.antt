@@ -16,15 +16,13 @@ returns-in_err-number g c = carries_read (carries_stop c.in_err-number.ensures c
 pub returns-in_err-note : goal.returns-in_err-note
 unfolding add_installed
 returns-in_err-note g c =
-    let install = c.in_ok-install.ensures
-    ∙ ap (λ (f : FoldersData). install_of f (arguments_data c.args.arguments.now) (target_view c.args.target)) c.folders_in-folders.ensures in
+    let install = c.in_ok-install.ensures in
     carries_read (carries_then {x = c.in_ok-number.number} c.in_ok-number.ensures
     (carries_stop (carries_as (ap noted install) c.in_err-note.ensures) c.from_residual-in_err-note.ensures.1))
 
 pub returns : goal.returns
 unfolding add_installed
 returns g c =
-    let install = c.in_ok-install.ensures
-    ∙ ap (λ (f : FoldersData). install_of f (arguments_data c.args.arguments.now) (target_view c.args.target)) c.folders_in-folders.ensures in
+    let install = c.in_ok-install.ensures in
     carries_read (carries_then {x = c.in_ok-number.number} c.in_ok-number.ensures
     (carries_then (carries_as (ap noted install) c.in_ok-note.ensures) (carries_give refl)))
