@@ -1,5 +1,6 @@
 -- What forms of expressions give for the values of their parts, and names.
-use Rattle.std.specs.Prelude.{ℕ, pos, ◌^◌, nat_lt, Bool, true, false, ◌||◌, ◌&&◌, List, [], ◌∷◌, ◌++◌, Option, Some, None, Result, Ok, Err, bytes_eq, codes, if◌then◌else◌}
+use Rattle.std.specs.Prelude.{ℕ, pos, ◌^◌, nat_lt, Bool, true, false, ◌||◌, ◌&&◌, List, [], ◌∷◌, ◌++◌, Option, Some, None, Result, Ok}
+use Rattle.std.specs.Prelude.{Err, bytes_eq, codes, if◌then◌else◌}
 use Rattle.lexer.specs.Texts.{text_of}
 use Rattle.lexer.specs.Numerals.{magnitude}
 use Rattle.lexer.specs.declared.token.Kind.TheVariants as kinds

@@ -4,7 +4,8 @@ ghost use Rattle.arguments.specs.Arguments.{arguments_data};
 ghost use Rattle.data.specs.View.{data_of};
 ghost use Rattle.methods.specs.Methods.{has_name};
 ghost use Rattle.world.specs.Gives.{failures_after};
-ghost use Rattle.expressions.specs.Forms.{asked_of, disabler_method, function_at, function_inside, known, known_method, may_be_asked_first, may_come_first, thing, value_method, variable};
+ghost use Rattle.expressions.specs.Forms.{asked_of, disabler_method, function_at, function_inside, known, known_method};
+ghost use Rattle.expressions.specs.Forms.{may_be_asked_first, may_come_first, thing, value_method, variable};
 
 use crate::context::Context;
 use arguments::{Arguments, check};

@@ -1,6 +1,9 @@
 -- What expressions mean: one paragraph for each form of node.
 use Rattle.std.specs.Prelude.{ℕ, Bool, true, false, List, [], ◌∷◌, ◌++◌, Option, Some, None}
-use Rattle.grammar.specs.ExpressionTree.{ExpressionTree, NameTree, LiteralTree, ListTree, DictionaryTree, FunctionTree, PostfixTree, PrefixTree, ChainTree, TernaryTree, ExpressionTrees, NoExpression, MoreExpressions, EntryTrees, NoEntry, MoreEntries, ArgumentTrees, NoArgument, MoreArguments, LinkTree, MethodTree, IndexTree, LinkTrees, NoLink, MoreLinks, OperandTrees, NoOperand, MoreOperands}
+use Rattle.grammar.specs.ExpressionTree.{ExpressionTree, NameTree, LiteralTree, ListTree, DictionaryTree, FunctionTree, PostfixTree}
+use Rattle.grammar.specs.ExpressionTree.{PrefixTree, ChainTree, TernaryTree, ExpressionTrees, NoExpression, MoreExpressions, EntryTrees}
+use Rattle.grammar.specs.ExpressionTree.{NoEntry, MoreEntries, ArgumentTrees, NoArgument, MoreArguments, LinkTree, MethodTree, IndexTree}
+use Rattle.grammar.specs.ExpressionTree.{LinkTrees, NoLink, MoreLinks, OperandTrees, NoOperand, MoreOperands}
 use Rattle.data.specs.declared.object.Object.{Object}
 use Rattle.data.specs.Data.{Data, Items, no_items, item, items_append, boolean_in, object_in, is_disabler}
 use Rattle.basics.specs.declared.faults.refusal.Refusal.TheVariants as refusals
@@ -14,7 +17,8 @@ use Rattle.language_calls.specs.declared.function.Function.{Function}
 use Rattle.objects.specs.Left.{is_left_out as is_left_out_method}
 use Rattle.objects.specs.Methods.{has_method as has_object_method, object_method}
 use Rattle.world.specs.Plan.{Plan, deed, ruled, ◌>>=◌, give, at, refuse}
-use Rattle.expressions.specs.Forms.{asked_of, chosen, combined, disabler_method, function_inside, known_method, listed, literal_value, meaning_of, needed, paired, part_at, prefixed, refused_name, value_method, variable}
+use Rattle.expressions.specs.Forms.{asked_of, chosen, combined, disabler_method, function_inside, known_method, listed, literal_value}
+use Rattle.expressions.specs.Forms.{meaning_of, needed, paired, part_at, prefixed, refused_name, value_method, variable}
 use Rattle.interp.specs.declared.acting.Action.{Action}
 use Rattle.interp.specs.declared.acting.Action.TheVariants.{Call, Enter, Leave}
 use Rattle.interp.specs.declared.flow.Flow.{Flow}

@@ -29,7 +29,8 @@ DependsOnLooked = (f g : Files) (settings : SettingsData) (said other : MachineS
 -- After an evaluation the project has noted the paths that were looked at, each once, in the order of the first look, by whether the tree
 -- has a file there.
 pub record NotesWhatItLooksAt : Type 0 where
-  pub looks : (files : Files) (settings : SettingsData) (said : MachineSaid) → NotesLooks files (world_after (evaluated files settings said))
+  pub looks : (files : Files) (settings : SettingsData) (said : MachineSaid)
+      → NotesLooks files (world_after (evaluated files settings said))
   pub present : (files : Files) (settings : SettingsData) (said : MachineSaid)
       → PresentAreFiles files (world_after (evaluated files settings said))
 
