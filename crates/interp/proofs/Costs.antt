@@ -66,7 +66,7 @@ use Rattle.definition_files.specs.Files.{most_bytes, refuse_line, tree_or_fault,
 use Rattle.interp.specs.Evaluation.{begun_by, is_project, begins, begins_all, root, MachineSaid, sections_of, defined, evaluated_few, evaluation}
 use Rattle.interp.specs.Laws.{StepsWithinCost}
 use Rattle.interp.proofs.Paths.{not_opened, is_definition}
-use Rattle.definition_files.specs.Places.{refuse_at}
+use Rattle.definition_files.specs.Details.{refuse_about}
 
 module _ (files : Files) where
   more : {A : Type 0} {p : Plan A} {c d : ℕ} → c ≤ d → Takes file_cost files c p → Takes file_cost files d p
@@ -530,7 +530,7 @@ module _ (files : Files) where
   definitions-cost w new = body-paid [] (λ body. next_plan (ruled (root true body)) (λ u. give (tt {0}))) (λ body. last (rules (root-cost body)) (λ u. none _)) w new
 
   begun_run : (said : MachineSaid) (w : World) → w.entered ≡ [] → spent file_cost files (carry files (evaluation true said) w) ≤ unopened file_cost files w.entered
-  unfolding refuse_at
+  unfolding refuse_about
   begun_run (Ok sections) w none_entered = definitions-cost w (ap (λ l. is_opened l (definition_file [])) none_entered)
   begun_run (Err fault) w none_entered = omega arith
 
