@@ -1,10 +1,10 @@
 -- What the answer of a call says of its deed or its plan, in a world and over devices.
-use Rattle.std.specs.Prelude.{◌≡◌, ℕ, ◌+◌, ◌<◌, ◌≤◌, ◌^◌, List, [], Result, Ok, Err}
+use Rattle.std.specs.Prelude.{◌≡◌, ℕ, ◌+◌, ◌<◌, ◌≤◌, ◌^◌, List, [], Result, Ok, Err, string_bytes}
 use Rattle.ports.specs.Outputs.{OutputState}
 use Rattle.ports.specs.Tree.{TreeState, Stays}
 use Rattle.data.specs.declared.refusal.Refusal.{Refusal as OperationRefusal}
 use Rattle.basics.specs.Faults.{FaultData}
-use Rattle.project.specs.declared.refusal.Refusal.{Refusal as ProjectRefusal}
+use Rattle.project.specs.declared.refusal.Refused.{Refused}
 use Rattle.template.specs.declared.config.SetStop.{SetStop}
 use Rattle.template.specs.declared.config.SetStop.TheVariants as set_stops
 use Rattle.world.specs.Operation.{of_operation, of_project}
@@ -81,10 +81,10 @@ abbrev pub IsFitting : {B : Type 0} → World → Result B Refusal → Result B 
 IsFitting w (Ok x) result = result ≡ Ok x
 IsFitting w (Err refusal) result = Refuses (fault_here w refusal []) result
 
--- what the project answers is handed on, or its refusal
-abbrev pub IsAllowed : {B : Type 0} → World → Result B ProjectRefusal → Result B Stop → Type 0
+-- what the project answers is handed on, or its refusal, with what that is about
+abbrev pub IsAllowed : {B : Type 0} → World → Result B Refused → Result B Stop → Type 0
 IsAllowed w (Ok x) result = result ≡ Ok x
-IsAllowed w (Err refusal) result = Refuses (fault_here w (of_project refusal) []) result
+IsAllowed w (Err refused) result = Refuses (fault_here w (of_project refused.why) (string_bytes refused.detail)) result
 
 -- a change of configuration data was made, or the call is refused since they are frozen, or no memory was left
 abbrev pub IsConfigured : World → Result (Unit {0}) SetStop → Result (Unit {0}) Stop → Type 0
