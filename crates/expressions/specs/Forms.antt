@@ -36,8 +36,10 @@ use Rattle.language_calls.specs.Rows.{any_values}
 use Rattle.language_calls.specs.declared.function.Function.{Function}
 use Rattle.language_calls.specs.declared.function.Function.TheVariants as functions
 use Rattle.world.specs.Deed.{read}
+use Rattle.world.specs.Operation.{of_operation}
 use Rattle.world.specs.Plan.{Plan, deed, ◌>>=◌, give, refuse, answered}
 use Rattle.arguments.specs.Refused.{RefusedData}
+use Rattle.expressions.specs.Details.{method_detail}
 use Rattle.expressions.specs.declared.meaning.Meaning.{Meaning}
 use Rattle.expressions.specs.declared.meaning.Meaning.TheVariants.{Combines, Connects}
 
@@ -257,9 +259,18 @@ asked_of line o = do
   facts ← deed read
   allowed line (facts.is_begun || may_be_asked_first o)
 
+-- what an operation on values answers, or its refusal at a line, with what that is about
+abbrev pub answered_with : {A : Type 0} → ℕ → (OperationRefusal → List ℕ) → Result A OperationRefusal → Plan A
+answered_with line detail (Ok a) = give a
+answered_with line detail (Err refusal) = refuse line (of_operation refusal) (detail refusal)
+
+-- what the method of a value answers
+abbrev pub method_answered : ℕ → Data → List ℕ → List Data → Plan Data
+method_answered line d name ds = answered_with line (method_detail d name ds) (method_answer d name ds)
+
 -- a method of a value that is no object
 abbrev pub value_method : ℕ → Data → List ℕ → ArgumentsData → Plan (Option Data)
 value_method line d name a = do
   _ ← fitted line (checked any_values a)
-  e ← answered line (method_answer d name a.positional)
+  e ← method_answered line d name a.positional
   give (Some e)

@@ -46,7 +46,8 @@ use Rattle.world.proofs.Costs.{Takes, more as more_in, free as free_in, none as 
 use Rattle.expressions.specs.declared.meaning.Meaning.{Meaning}
 use Rattle.expressions.specs.declared.meaning.Meaning.TheVariants.{Combines, Connects}
 use Rattle.interp.specs.Cost.{value_cost, values_cost, entries_cost, arguments_cost, links_cost, link_cost, chain_cost, statement_cost, branches_cost, statements_cost, parsed_cost, file_cost, tree_cost}
-use Rattle.expressions.specs.Forms.{known, variable, variable_by, is_plain, printed_plain, part_text, filled, number, literal_value, meaning_of, unless_decided, combined, unchosen, chosen, needed, known_function, refused_name, function_at, may_come_first, allowed, function_inside, known_method, may_be_asked_first, value_method, fitted}
+use Rattle.expressions.specs.Forms.{known, variable, variable_by, is_plain, printed_plain, part_text, filled, number, literal_value, meaning_of, unless_decided, combined, unchosen, chosen, needed, known_function, refused_name, function_at, may_come_first, allowed, function_inside, known_method, may_be_asked_first, value_method, fitted, answered_with}
+use Rattle.expressions.specs.Details.{method_detail}
 use Rattle.interp.specs.Expressions.{called_by, called, entered_inside, inside_by, known_object_method, method_at_by, method_at, object_method_called, method_by, method_called_by, method_of, value_of, values_of, entries_of, arguments_of, links_of, link_of, chain_of}
 use Rattle.interp.specs.declared.flow.Flow.{Flow}
 use Rattle.interp.specs.declared.flow.Flow.TheVariants.{Next, Continued, Broken, Finished}
@@ -100,6 +101,10 @@ module _ (files : Files) where
   answered-cost : {A : Type 0} (line : ℕ) (r : Result A OperationRefusal) → Takes file_cost files 0 (answered line r)
   answered-cost line (Ok a) = free _
   answered-cost line (Err refusal) = refuse-cost line _ []
+
+  answered_with-cost : {A : Type 0} (line : ℕ) (detail : OperationRefusal → List ℕ) (r : Result A OperationRefusal) → Takes file_cost files 0 (answered_with line detail r)
+  answered_with-cost line detail (Ok a) = free _
+  answered_with-cost line detail (Err refusal) = refuse-cost line _ (detail refusal)
 
   known-cost : (line : ℕ) (name : List ℕ) (o : Option Data) → Takes file_cost files 0 (known line name o)
   known-cost line name (Some d) = free _
@@ -184,7 +189,7 @@ module _ (files : Files) where
   fitted-cost line (Err refused) = refuse-cost line refused.refusal refused.detail
 
   value_method-cost : (line : ℕ) (d : Data) (name : List ℕ) (a : ArgumentsData) → Takes file_cost files 0 (value_method line d name a)
-  value_method-cost line d name a = first (fitted-cost line _) (λ v. first (answered-cost line (method_answer d name a.positional)) (λ e. none _))
+  value_method-cost line d name a = first (fitted-cost line _) (λ v. first (answered_with-cost line (method_detail d name a.positional) (method_answer d name a.positional)) (λ e. none _))
 
   object_method-cost : (line : ℕ) (o : Object) (name : List ℕ) (a : ArgumentsData) → Takes file_cost files 0 (object_method_called line o name a)
   object_method-cost line o name a = first (none _) (λ u. none _)
