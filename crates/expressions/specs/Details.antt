@@ -14,3 +14,7 @@ method_words d name ds = name ++ (codes ": takes " ++ (takes_words d name ++ (co
 abbrev pub method_detail : Data → List ℕ → List Data → Refusal → List ℕ
 method_detail d name ds operation.Arguments = method_words d name ds
 method_detail d name ds _ = []
+
+-- this key of a dictionary stands before it already
+abbrev pub key_twice : List ℕ → List ℕ
+key_twice key = codes "key '" ++ (key ++ codes "': stands twice")

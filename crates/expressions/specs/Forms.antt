@@ -28,6 +28,8 @@ use Rattle.operators.specs.Operations.{unary_answer, binary_answer, disabler}
 use Rattle.operators.specs.Logic.{left_answer, right_answer}
 use Rattle.operators.specs.Index.{index_answer}
 use Rattle.operators.specs.Literal.{literal_answer}
+use Rattle.operators.specs.declared.literal.LiteralRefusal.{LiteralRefusal}
+use Rattle.operators.specs.declared.literal.LiteralRefusal.TheVariants as literal_refusals
 use Rattle.methods.specs.Methods.{answer as method_answer}
 use Rattle.arguments.specs.Arguments.{ArgumentsData}
 use Rattle.arguments.specs.Misfits.{checked}
@@ -39,7 +41,7 @@ use Rattle.world.specs.Deed.{read}
 use Rattle.world.specs.Operation.{of_operation}
 use Rattle.world.specs.Plan.{Plan, deed, ◌>>=◌, give, refuse, answered}
 use Rattle.arguments.specs.Refused.{RefusedData}
-use Rattle.expressions.specs.Details.{method_detail}
+use Rattle.expressions.specs.Details.{key_twice, method_detail}
 use Rattle.expressions.specs.declared.meaning.Meaning.{Meaning}
 use Rattle.expressions.specs.declared.meaning.Meaning.TheVariants.{Combines, Connects}
 
@@ -178,8 +180,14 @@ chosen line None disabled one other = unchosen line disabled
 abbrev pub listed : ℕ → Items → Plan Data
 listed line ds = answered line (within (list ds))
 
+-- what a dictionary literal gives, or its refusal; of a key that stands twice that key
+abbrev pub paired_by : ℕ → Result Data LiteralRefusal → Plan Data
+paired_by line (Ok d) = give d
+paired_by line (Err (literal_refusals.Twice key)) = refuse line refusals.Duplicate (key_twice key)
+paired_by line (Err (literal_refusals.Refused refusal)) = refuse line (of_operation refusal) []
+
 abbrev pub paired : ℕ → List (Data × Data) → Plan Data
-paired line ps = answered line (literal_answer ps)
+paired line ps = paired_by line (literal_answer ps)
 
 abbrev pub prefixed : ℕ → Prefix → Data → Plan Data
 prefixed line prefix d = answered line (unary_answer (unary_of prefix) d)
