@@ -24,20 +24,20 @@ def duplicate(context: Context) -> Detail:
         first, second = context.told.words_of(calls[0])[:2]
         why = f"in line {context.place.line_of(first.start)} before"
         return detail(f"{calls[0].name}: {context.told.shown}: {why}", at=second.start)
-    culprit = context.probe.culprit if context.probe.can_ask else None
-    dictionaries = [culprit] if isinstance(culprit, tree.Dictionary) else [it for it in nodes if isinstance(it, tree.Dictionary)]
-    if not isinstance(culprit, tree.Call):
-        for node in dictionaries:
-            keys: dict[str, tree.Node] = {}
-            for key, _ in node.pairs:
-                text = context.text_of(key)
-                if text is not None and text in keys:
-                    first = context.place.line_of(keys[text].start)
-                    return detail(f"the key {quoted(text)} stands twice in a dictionary: in line {first} before", at=key.start)
-                if text is not None:
-                    keys[text] = key
+    if context.told.entry is not None:
+        return key_twice(context, [it for it in nodes if isinstance(it, tree.Dictionary)])
     call = context.call()
     return made_twice(context, call) if call else detail("something stands twice in this line", at=context.place.statement.start)
+
+
+def key_twice(context: Context, dictionaries: list[tree.Dictionary]) -> Detail:
+    """The key that is told of, at the second place where a dictionary has it."""
+    for node in dictionaries:
+        found = [key for key, _ in node.pairs if context.text_of(key) == context.told.entry]
+        if len(found) > 1:
+            first = context.place.line_of(found[0].start)
+            return detail(f"a dictionary: {context.told.shown}: in line {first} before", at=found[1].start)
+    return detail(f"a dictionary: {context.told.shown}", at=(dictionaries or [context.place.statement])[0].start)
 
 
 def named_by(call: tree.Call) -> tree.Node | None:

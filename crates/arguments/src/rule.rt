@@ -27,6 +27,14 @@ pub enum Rule {
     IsSettable,
     /// A variable may have the name.
     IsVariableName,
+    /// The program was found whose path the method of this name gives.
+    HasProgram,
+    /// The target has one output alone whose path the method of this name gives.
+    HasOneOutput,
+    /// A language has a compiler.
+    HasCompiler,
+    /// The function of this name goes up, from a start that is not negative.
+    GoesUp,
     /// Configuration data may have the name.
     IsValueName,
     /// The name has a value that configuration data can hold.
@@ -83,6 +91,10 @@ impl Rule {
             Rule::IsManPage => "is no name of a man page",
             Rule::IsSettable => "is no name that can be set",
             Rule::IsVariableName => "is no name of a variable",
+            Rule::HasProgram => "needs a program that was found",
+            Rule::HasOneOutput => "needs a target with one output",
+            Rule::HasCompiler => "is no language that has a compiler",
+            Rule::GoesUp => "needs a start from 0, a stop from the start and a step from 1",
             Rule::IsValueName => "is no name of a value",
             Rule::IsSetting => "takes a text, an integer or a truth value",
             Rule::IsAssignment => "has no '='",

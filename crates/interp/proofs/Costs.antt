@@ -24,6 +24,8 @@ use Rattle.operators.specs.Operations.{binary_answer}
 use Rattle.operators.specs.Logic.{left_answer, right_answer}
 use Rattle.operators.specs.Index.{index_answer}
 use Rattle.operators.specs.Literal.{literal_answer}
+use Rattle.operators.specs.declared.literal.LiteralRefusal.{LiteralRefusal}
+use Rattle.operators.specs.declared.literal.LiteralRefusal.TheVariants as literal_refusals
 use Rattle.methods.specs.Methods.{answer as method_answer, has_name}
 use Rattle.objects.specs.Methods.{has_method as has_object_method}
 use Rattle.texts.specs.Segments.{Segment, text as between, place}
@@ -46,7 +48,10 @@ use Rattle.world.proofs.Costs.{Takes, more as more_in, free as free_in, none as 
 use Rattle.expressions.specs.declared.meaning.Meaning.{Meaning}
 use Rattle.expressions.specs.declared.meaning.Meaning.TheVariants.{Combines, Connects}
 use Rattle.interp.specs.Cost.{value_cost, values_cost, entries_cost, arguments_cost, links_cost, link_cost, chain_cost, statement_cost, branches_cost, statements_cost, parsed_cost, file_cost, tree_cost}
-use Rattle.expressions.specs.Forms.{known, variable, variable_by, is_plain, printed_plain, part_text, filled, number, literal_value, meaning_of, unless_decided, combined, unchosen, chosen, needed, known_function, refused_name, function_at, may_come_first, allowed, function_inside, known_method, may_be_asked_first, value_method, fitted}
+use Rattle.expressions.specs.Forms.{known, variable, variable_by, is_plain, printed_plain, part_text, filled, number, literal_value, meaning_of, unless_decided, combined, unchosen, chosen, needed, known_function, refused_name, function_at, may_come_first, allowed, function_inside, known_method, may_be_asked_first, value_method, fitted, answered_with, paired_by}
+use Rattle.expressions.specs.Details.{key_twice, method_detail}
+use Rattle.arguments.specs.Rules.{broken}
+use Rattle.arguments.specs.declared.rule.Rule.TheVariants as broken_rules
 use Rattle.interp.specs.Expressions.{called_by, called, entered_inside, inside_by, known_object_method, method_at_by, method_at, object_method_called, method_by, method_called_by, method_of, value_of, values_of, entries_of, arguments_of, links_of, link_of, chain_of}
 use Rattle.interp.specs.declared.flow.Flow.{Flow}
 use Rattle.interp.specs.declared.flow.Flow.TheVariants.{Next, Continued, Broken, Finished}
@@ -100,6 +105,15 @@ module _ (files : Files) where
   answered-cost : {A : Type 0} (line : ℕ) (r : Result A OperationRefusal) → Takes file_cost files 0 (answered line r)
   answered-cost line (Ok a) = free _
   answered-cost line (Err refusal) = refuse-cost line _ []
+
+  answered_with-cost : {A : Type 0} (line : ℕ) (detail : OperationRefusal → List ℕ) (r : Result A OperationRefusal) → Takes file_cost files 0 (answered_with line detail r)
+  answered_with-cost line detail (Ok a) = free _
+  answered_with-cost line detail (Err refusal) = refuse-cost line _ (detail refusal)
+
+  paired_by-cost : (line : ℕ) (r : Result Data LiteralRefusal) → Takes file_cost files 0 (paired_by line r)
+  paired_by-cost line (Ok d) = free _
+  paired_by-cost line (Err (literal_refusals.Twice key)) = refuse-cost line refusals.Duplicate (key_twice key)
+  paired_by-cost line (Err (literal_refusals.Refused refusal)) = refuse-cost line _ []
 
   known-cost : (line : ℕ) (name : List ℕ) (o : Option Data) → Takes file_cost files 0 (known line name o)
   known-cost line name (Some d) = free _
@@ -184,7 +198,7 @@ module _ (files : Files) where
   fitted-cost line (Err refused) = refuse-cost line refused.refusal refused.detail
 
   value_method-cost : (line : ℕ) (d : Data) (name : List ℕ) (a : ArgumentsData) → Takes file_cost files 0 (value_method line d name a)
-  value_method-cost line d name a = first (fitted-cost line _) (λ v. first (answered-cost line (method_answer d name a.positional)) (λ e. none _))
+  value_method-cost line d name a = first (fitted-cost line _) (λ v. first (answered_with-cost line (method_detail d name a.positional) (method_answer d name a.positional)) (λ e. none _))
 
   object_method-cost : (line : ℕ) (o : Object) (name : List ℕ) (a : ArgumentsData) → Takes file_cost files 0 (object_method_called line o name a)
   object_method-cost line o name a = first (none _) (λ u. none _)
@@ -220,7 +234,7 @@ module _ (files : Files) where
   -- ---- statements
 
   assigned_by-cost : (b : Bool) (line : ℕ) (name : List ℕ) (d : Data) → Takes file_cost files 0 (assigned_by b line name d)
-  assigned_by-cost true line name d = refuse-cost line refusals.Arguments []
+  assigned_by-cost true line name d = refuse-cost line refusals.Arguments (broken broken_rules.IsSettable name)
   assigned_by-cost false line name d = none _
 
   assigned-cost : (line : ℕ) (name : List ℕ) (d : Data) → Takes file_cost files 0 (assigned line name d)
@@ -320,7 +334,7 @@ module _ (files : Files) where
       value-cost (NameTree name line) = rules (variable-cost line name)
       value-cost (LiteralTree literal t line) = rules (literal-cost line literal t)
       value-cost (ListTree es line) = rules (last (values-cost no_items es) (λ ds. answered-cost line (within (list ds))))
-      value-cost (DictionaryTree es line) = rules (last (entries-cost [] es) (λ ps. answered-cost line (literal_answer ps)))
+      value-cost (DictionaryTree es line) = rules (last (entries-cost [] es) (λ ps. paired_by-cost line (literal_answer ps)))
       value-cost (FunctionTree name es line) = rules (first (function_inside-cost line name) (λ f. last (arguments-cost no_arguments es) (λ a. inside-cost (action_of f) line f a)))
       value-cost (PostfixTree e ls line) = rules (last (chain (value-cost e) (λ d. links-cost line (Some d) ls)) (λ o. needed-cost line o))
       value-cost (PrefixTree prefix value line) = rules (last (value-cost value) (λ d. answered-cost line _))
@@ -372,7 +386,7 @@ module _ (files : Files) where
     stated-cost (NameTree name line) = alone-cost (variable-cost line name)
     stated-cost (LiteralTree literal t line) = alone-cost (literal-cost line literal t)
     stated-cost (ListTree es line) = alone-cost (last (values-cost no_items es) (λ ds. answered-cost line (within (list ds))))
-    stated-cost (DictionaryTree es line) = alone-cost (last (entries-cost [] es) (λ ps. answered-cost line (literal_answer ps)))
+    stated-cost (DictionaryTree es line) = alone-cost (last (entries-cost [] es) (λ ps. paired_by-cost line (literal_answer ps)))
     stated-cost (PostfixTree e ls line) = last (rules (chain (value-cost e) (λ d. links-cost line (Some d) ls))) (λ o. none _)
     stated-cost (PrefixTree prefix value line) = alone-cost (last (value-cost value) (λ d. answered-cost line _))
     stated-cost (ChainTree e others line) = alone-cost (chain (value-cost e) (λ d. chain-cost line d others))

@@ -13,6 +13,8 @@ use Rattle.world.specs.World.{World, fault_here}
 use Rattle.world.specs.Trace.{Seen, seen}
 use Rattle.world.specs.Gives.{Gives, Holds, Continues, IsRefusal, failures_after}
 use Rattle.world.specs.Deed.{Files, Deed, perform}
+use Rattle.world.specs.Ruled.{broken_by}
+use Rattle.arguments.specs.declared.rule.Rule.{Rule}
 use Rattle.basics.specs.declared.faults.refusal.Refusal.{Refusal}
 use Rattle.basics.specs.declared.faults.refusal.Refusal.TheVariants as refusals
 use Rattle.world.specs.declared.stop.Stop.{Stop}
@@ -75,6 +77,11 @@ Refuses f (Err s) = IsRefusal s f
 abbrev pub IsAnswered : {B : Type 0} → World → Result B OperationRefusal → Result B Stop → Type 0
 IsAnswered w (Ok x) result = result ≡ Ok x
 IsAnswered w (Err refusal) result = Refuses (fault_here w (of_operation refusal) []) result
+
+-- an operation's answer is handed on, or its refusal, with this rule where it is of the arguments
+abbrev pub IsAnsweredBy : {B : Type 0} → World → Rule → List ℕ → Result B OperationRefusal → Result B Stop → Type 0
+IsAnsweredBy w rule text (Ok x) result = result ≡ Ok x
+IsAnsweredBy w rule text (Err refusal) result = Refuses (fault_here w (of_operation refusal) (broken_by rule text refusal)) result
 
 -- what a test of arguments answers is handed on, or its refusal
 abbrev pub IsFitting : {B : Type 0} → World → Result B Refusal → Result B Stop → Type 0

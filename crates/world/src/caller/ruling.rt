@@ -1,12 +1,13 @@
 //! Refuses a call that breaks a rule.
 ghost use Rattle.arguments.specs.Rules.{broken};
 ghost use Rattle.basics.specs.declared.faults.refusal.Refusal.TheVariants.{Arguments as ArgumentsRefused};
-ghost use Rattle.world.specs.Answering.{Carries, Refuses};
+ghost use Rattle.world.specs.Answering.{Carries, IsAnsweredBy, Refuses};
 ghost use Rattle.world.specs.Ruled.{obeyed};
 ghost use Rattle.world.specs.Store.{world_of};
 ghost use Rattle.world.specs.World.{fault_here};
 
 use crate::caller::Caller;
+use crate::operation::of_operation;
 use crate::stop::Stop;
 use arguments::Rule;
 use basics::faults::Refusal;
@@ -21,6 +22,22 @@ impl<'a, T: Tree, O: Outputs> Caller<'a, T, O> {
     {
         let detail = rule.broken(self.alloc, text)?;
         self.refuse(Refusal::Arguments, detail.as_str())
+    }
+
+    /// What an operation on values answered, or the stop of its refusal; where that is of the arguments, this text breaks the rule.
+    pub fn answered_by<A>(
+        &self,
+        rule: Rule,
+        text: &str,
+        answer: Result<A, data::Refusal>,
+    ) -> Result<A, Stop>
+        ensures { IsAnsweredBy (world_of self.now.store.now) rule text.now answer result }
+    {
+        match answer {
+            Ok(value) => Ok(value),
+            Err(data::Refusal::Arguments) => self.refuse_by(rule, text),
+            Err(refusal) => self.refuse(of_operation(refusal), ""),
+        }
     }
 
     /// Refuses the call unless the rule is kept, which else this text breaks, or the keyword of this name.
