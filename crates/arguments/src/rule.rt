@@ -57,10 +57,28 @@ pub enum Rule {
     TakesTreeFile,
     /// Each placeholder of a keyword stands for something, and each program in it was found.
     HasMeaning,
+    /// The value of a name is a text.
+    TakesText,
+    /// The test of the name has a program that was found.
+    HasProgram,
+    /// The test of the name runs no library.
+    RunsNoLibrary,
+    /// The value of a name can be printed.
+    IsPrinted,
+    /// The language is C.
+    IsC,
+    /// There is an option of the name.
+    IsOption,
+    /// A text names a folder below the present one.
+    IsBelow,
+    /// The folder was not entered.
+    IsNew,
+    /// The call begins the root's definition file.
+    ComesFirst,
 }
 
 impl Rule {
-    // What stands before the text: a quote, and before it `keyword` where the text is the name of one.
+    // What stands before the text: a quote, and before it what the text is the name of, where that is told.
     fn sign(self) -> &'static str
         ensures { result.now ≡ sign_of self }
     {
@@ -73,6 +91,9 @@ impl Rule {
             | Rule::TakesOneFile
             | Rule::TakesTreeFile
             | Rule::HasMeaning => "keyword '",
+            Rule::IsC => "language '",
+            Rule::IsOption => "option '",
+            Rule::IsBelow | Rule::IsNew => "folder '",
             _ => "'",
         }
     }
@@ -106,6 +127,15 @@ impl Rule {
             Rule::TakesOneFile => "takes one file",
             Rule::TakesTreeFile => "takes a file of the project",
             Rule::HasMeaning => "has a placeholder or a program that stands for nothing",
+            Rule::TakesText => "takes a text",
+            Rule::HasProgram => "has a program that was not found",
+            Rule::RunsNoLibrary => "runs a library",
+            Rule::IsPrinted => "has a value that can't be printed",
+            Rule::IsC => "is not C",
+            Rule::IsOption => "there is none",
+            Rule::IsBelow => "is none below the present one",
+            Rule::IsNew => "was entered before",
+            Rule::ComesFirst => "stands in place of a call of 'project'",
         }
     }
 

@@ -16,12 +16,19 @@ use ports::{Outputs, Tree};
 impl<'a, T: Tree, O: Outputs> Caller<'a, T, O> {
     ghost use Rattle.world.specs.Caller.{state_of};
 
-    /// Refuses the call, since this text breaks the rule, or the keyword of this name. The words are made only here.
+    /// Refuses the call as this, since this text breaks the rule. The words are made only here.
+    pub fn refuse_for<A>(&self, refusal: Refusal, rule: Rule, text: &str) -> Result<A, Stop>
+        ensures { Refuses (fault_here (world_of self.now.store.now) refusal (broken rule text.now)) result }
+    {
+        let detail = rule.broken(self.alloc, text)?;
+        self.refuse(refusal, detail.as_str())
+    }
+
+    /// Refuses the call's arguments, since this text breaks the rule, or the keyword of this name.
     pub fn refuse_by<A>(&self, rule: Rule, text: &str) -> Result<A, Stop>
         ensures { Refuses (fault_here (world_of self.now.store.now) ArgumentsRefused (broken rule text.now)) result }
     {
-        let detail = rule.broken(self.alloc, text)?;
-        self.refuse(Refusal::Arguments, detail.as_str())
+        self.refuse_for(Refusal::Arguments, rule, text)
     }
 
     /// What an operation on values answered, or the stop of its refusal; where that is of the arguments, this text breaks the rule.
