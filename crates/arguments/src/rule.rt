@@ -60,7 +60,7 @@ pub enum Rule {
     /// The value of a name is a text.
     TakesText,
     /// The test of the name has a program that was found.
-    HasProgram,
+    RunsProgram,
     /// The test of the name runs no library.
     RunsNoLibrary,
     /// The value of a name can be printed.
@@ -128,7 +128,7 @@ impl Rule {
             Rule::TakesTreeFile => "takes a file of the project",
             Rule::HasMeaning => "has a placeholder or a program that stands for nothing",
             Rule::TakesText => "takes a text",
-            Rule::HasProgram => "has a program that was not found",
+            Rule::RunsProgram => "has a program that was not found",
             Rule::RunsNoLibrary => "runs a library",
             Rule::IsPrinted => "has a value that can't be printed",
             Rule::IsC => "is not C",

@@ -64,7 +64,7 @@ lists_breach place a =
 
 -- a program was not found; what else can't run is a library
 abbrev pub object_rule : Object → Rule
-object_rule (objects.Program p) = rules.HasProgram
+object_rule (objects.Program p) = rules.RunsProgram
 object_rule _ = rules.RunsNoLibrary
 
 abbrev pub program_rule : Option Data → Rule

@@ -115,7 +115,7 @@ fn object_rule(object: &Object) -> Rule
     ensures { result ≡ object_rule object.now }
 {
     match object {
-        Object::Program(_) => Rule::HasProgram,
+        Object::Program(_) => Rule::RunsProgram,
         _ => Rule::RunsNoLibrary,
     }
 }
