@@ -22,7 +22,7 @@ ON_STATEMENTS = {
 }
 ON_TEXTS = {2: grammar.token_detail, 3: grammar.grammar_detail, 4: grammar.nesting_detail}
 # The faults of which the program tells more than their line says.
-TOLD = (9, 11, 15, 16, 23)
+TOLD = (9, 11, 15, 16, 21, 22, 23, 24)
 # How long a file is that is looked at, and what is said of one that isn't.
 MOST_CHARACTERS = 1 << 20
 TOO_LONG = "a text or a definition file may have 16,777,216 bytes, a machine file 33,554,432, and a line of a template 65,536"
