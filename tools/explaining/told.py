@@ -10,7 +10,8 @@ from tools.explaining.detail import WIDEST
 # The forms of what is told: what it is about, and what is so of that.
 FORMS = (
     re.compile(r"keyword '(?P<keyword>\w+)': (?P<so>.*)", re.S), re.compile(r"argument (?P<number>\d+): (?P<so>.*)", re.S),
-    re.compile(r"option '(?P<option>.*?)': (?P<so>.*)", re.S), re.compile(r"section '(?P<section>.*)': (?P<so>.*)", re.S),
+    re.compile(r"option '(?P<option>.*?)': (?P<so>.*)", re.S),
+    re.compile(r"language '(?P<language>.*)': (?P<so>.*)", re.S), re.compile(r"section '(?P<section>.*)': (?P<so>.*)", re.S),
     re.compile(r"\[(?P<section>.*?)\] key '(?P<key>.*?)': (?P<so>.*)", re.S), re.compile(r"'(?P<text>.*)': (?P<so>.*)", re.S),
     re.compile(r"(arguments|statement|line|\[(?P<section>.*?)\] line): (?P<so>.*)", re.S),
 )
@@ -30,6 +31,7 @@ class Told:
     section: str | None = None
     key: str | None = None
     text: str | None = None
+    language: str | None = None
 
     @property
     def shown(self) -> str:
