@@ -12,6 +12,7 @@ FORMS = (
     re.compile(r"keyword '(?P<keyword>\w+)': (?P<so>.*)", re.S), re.compile(r"argument (?P<number>\d+): (?P<so>.*)", re.S),
     re.compile(r"option '(?P<option>.*?)': (?P<so>.*)", re.S), re.compile(r"section '(?P<section>.*)': (?P<so>.*)", re.S),
     re.compile(r"output '(?P<output>.*)': (?P<so>.*)", re.S), re.compile(r"target '(?P<target>.*)': (?P<so>.*)", re.S),
+    re.compile(r"language '(?P<language>.*)': (?P<so>.*)", re.S),
     re.compile(r"\[(?P<section>.*?)\] key '(?P<key>.*?)': (?P<so>.*)", re.S), re.compile(r"'(?P<text>.*)': (?P<so>.*)", re.S),
     re.compile(r"(arguments|statement|line|a list of the target|\[(?P<section>.*?)\] line): (?P<so>.*)", re.S),
     re.compile(r"key '(?P<entry>.*)': (?P<so>.*)", re.S), re.compile(r"(?P<method>\w+): (?P<so>takes .*)", re.S),
@@ -38,6 +39,7 @@ class Told:
     method: str | None = None
     output: str | None = None
     target: str | None = None
+    language: str | None = None
 
     @property
     def shown(self) -> str:

@@ -17,6 +17,8 @@ use Rattle.data.specs.declared.refusal.Refusal.{Refusal as OperationRefusal}
 use Rattle.data.specs.Data.{Data, boolean, integer, text, list, dictionary, object, Items, no_items, item, items_append, boolean_in, object_in, is_disabler}
 use Rattle.data.specs.Limits.{within}
 use Rattle.arguments.specs.Refused.{RefusedData}
+use Rattle.arguments.specs.Rules.{broken}
+use Rattle.arguments.specs.declared.rule.Rule.TheVariants as call_rules
 use Rattle.basics.specs.declared.faults.refusal.Refusal.{Refusal}
 use Rattle.basics.specs.declared.faults.refusal.Refusal.TheVariants as refusals
 use Rattle.operators.specs.declared.operator.Binary.TheVariants.{Add}
@@ -469,29 +471,29 @@ module _ (files : Files) where
   body-paid folder others p w new =
       omega (arith, opened-paid folder w new, spent-paid file_cost files worth (carry files (opened folder) w) (λ body. carry files (others body)) (λ body. (p body).costs))
 
-  abbrev fresh_as : List ℕ → Bool → Bool → Plan (List ℕ)
-  fresh_as path b c = next_plan (deed (need (not b) refusals.Subdir [])) (λ u. next_plan (deed (need c refusals.Limit [])) (λ v. give path))
+  abbrev fresh_as : List ℕ → List ℕ → Bool → Bool → Plan (List ℕ)
+  fresh_as t path b c = next_plan (deed (need (not b) refusals.Subdir (broken call_rules.IsNew t))) (λ u. next_plan (deed (need c refusals.Limit [])) (λ v. give path))
 
-  fresh_as-paid : (others : List ℕ → Plan Flow) (path : List ℕ) (b c : Bool) (w : World) → (b ≡ false → spent file_cost files (carry files (others path) w) ≤ unopened file_cost files w.entered)
-      → spent file_cost files (carry files (next_plan (fresh_as path b c) others) w) ≤ unopened file_cost files w.entered
+  fresh_as-paid : (others : List ℕ → Plan Flow) (t path : List ℕ) (b c : Bool) (w : World) → (b ≡ false → spent file_cost files (carry files (others path) w) ≤ unopened file_cost files w.entered)
+      → spent file_cost files (carry files (next_plan (fresh_as t path b c) others) w) ≤ unopened file_cost files w.entered
   unfolding need
-  fresh_as-paid others path true c w p = omega arith
-  fresh_as-paid others path false true w p = omega (arith, spent-after file_cost files [] (carry files (others path) w), p refl)
-  fresh_as-paid others path false false w p = omega arith
+  fresh_as-paid others t path true c w p = omega arith
+  fresh_as-paid others t path false true w p = omega (arith, spent-after file_cost files [] (carry files (others path) w), p refl)
+  fresh_as-paid others t path false false w p = omega arith
 
-  fresh_by-paid : (others : List ℕ → Plan Flow) (o : Option (List ℕ)) (w : World)
+  fresh_by-paid : (others : List ℕ → Plan Flow) (t : List ℕ) (o : Option (List ℕ)) (w : World)
       → ((path : List ℕ) → is_opened w.entered (definition_file path) ≡ false → spent file_cost files (carry files (others path) w) ≤ unopened file_cost files w.entered)
-      → spent file_cost files (carry files (next_plan (fresh_by o w.entered) others) w) ≤ unopened file_cost files w.entered
-  fresh_by-paid others None w p = omega arith
-  fresh_by-paid others (Some path) w p =
-      fresh_as-paid others path (list_any (bytes_eq path) w.entered) (nat_lt (length w.entered) 4096) w (λ h. p path (not_opened w.entered path ∙ h))
+      → spent file_cost files (carry files (next_plan (fresh_by t o w.entered) others) w) ≤ unopened file_cost files w.entered
+  fresh_by-paid others t None w p = omega arith
+  fresh_by-paid others t (Some path) w p =
+      fresh_as-paid others t path (list_any (bytes_eq path) w.entered) (nat_lt (length w.entered) 4096) w (λ h. p path (not_opened w.entered path ∙ h))
 
   fresh-paid : (others : List ℕ → Plan Flow) (t : List ℕ) (w : World)
       → ((path : List ℕ) → is_opened w.entered (definition_file path) ≡ false → spent file_cost files (carry files (others path) w) ≤ unopened file_cost files w.entered)
       → spent file_cost files (carry files (next_plan (fresh t) others) w) ≤ unopened file_cost files w.entered
   fresh-paid others t w p =
-      let q = fresh_by-paid others (folder_below w.facts.folder t) w p in
-      omega (arith, q, fresh-as others (carry files (fresh_by (folder_below w.facts.folder t) w.entered) w))
+      let q = fresh_by-paid others t (folder_below w.facts.folder t) w p in
+      omega (arith, q, fresh-as others (carry files (fresh_by t (folder_below w.facts.folder t) w.entered) w))
     where
       fresh-as : (others : List ℕ → Plan Flow) (r : Run (List ℕ)) → spent file_cost files (follow (after [] (after [] r)) (λ a. carry files (others a))) ≡ spent file_cost files (follow r (λ a. carry files (others a)))
       fresh-as others (ran (Done path) v ms) = refl

@@ -232,6 +232,10 @@ pub fn project<T: Tree, O: Outputs>(
         (state_of T.seen O.seen caller.new) }
 {
     let is_begun = caller.store.is_begun();
-    caller.need(!is_begun, Refusal::ProjectCall, "'project': was called before")?;
+    caller.need(
+        !is_begun,
+        Refusal::ProjectCall,
+        "'project': was called before",
+    )?;
     first_project(caller, arguments)
 }
