@@ -52,8 +52,6 @@ use Rattle.expressions.specs.declared.meaning.Meaning.TheVariants.{Combines, Con
 use Rattle.interp.specs.Cost.{value_cost, values_cost, entries_cost, arguments_cost, links_cost, link_cost, chain_cost, statement_cost, branches_cost, statements_cost, parsed_cost, file_cost, tree_cost}
 use Rattle.expressions.specs.Forms.{known, variable, variable_by, is_plain, printed_plain, part_text, filled, number, literal_value, meaning_of, unless_decided, combined, unchosen, chosen, needed, known_function, refused_name, function_at, may_come_first, allowed, function_inside, known_method, may_be_asked_first, value_method, fitted, answered_with, paired_by}
 use Rattle.expressions.specs.Details.{key_twice, method_detail}
-use Rattle.arguments.specs.Rules.{broken}
-use Rattle.arguments.specs.declared.rule.Rule.TheVariants as broken_rules
 use Rattle.interp.specs.Expressions.{called_by, called, entered_inside, inside_by, known_object_method, method_at_by, method_at, object_method_called, method_by, method_called_by, method_of, value_of, values_of, entries_of, arguments_of, links_of, link_of, chain_of}
 use Rattle.interp.specs.declared.flow.Flow.{Flow}
 use Rattle.interp.specs.declared.flow.Flow.TheVariants.{Next, Continued, Broken, Finished}
@@ -236,7 +234,7 @@ module _ (files : Files) where
   -- ---- statements
 
   assigned_by-cost : (b : Bool) (line : ℕ) (name : List ℕ) (d : Data) → Takes file_cost files 0 (assigned_by b line name d)
-  assigned_by-cost true line name d = refuse-cost line refusals.Arguments (broken broken_rules.IsSettable name)
+  assigned_by-cost true line name d = refuse-cost line refusals.Arguments (broken call_rules.IsSettable name)
   assigned_by-cost false line name d = none _
 
   assigned-cost : (line : ℕ) (name : List ℕ) (d : Data) → Takes file_cost files 0 (assigned line name d)
