@@ -7,31 +7,32 @@ from porting import left, tree
 from tools.explaining.context import Context
 from tools.explaining.detail import Detail, detail, listed, near, quoted
 from tools.explaining.instead import in_its_place
-from tools.explaining.rows import FUNCTIONS, KINDS, METHODS, OF_VALUES, PRINTED, Kind, Row
+from tools.explaining.rows import FUNCTIONS, KINDS, METHODS, PRINTED, TEXTS, Kind
 from tools.explaining.rules import broken_rule, hint_of, place_of_text, value_of_key
-from tools.explaining.told import GOT, NONE
+from tools.explaining.told import GOT, NONE, UNSETTABLE
 from tools.explaining.values import OBJECT, OWN, Value
 
 # What is taken and is no kind of values, where what was given says more.
 OTHERS = ("'c'", "one file")
 # What is told of more than one argument, and of words of commands.
 UNPRINTED, FOR_NOTHING = "one can't be printed", " stands for nothing"
+# Methods that open the lists that they get, each with what may stand there.
+OPENED = {"format": PRINTED, "join": TEXTS}
 
 
 def refused(context: Context) -> Detail:
     """E9 at a call, or at an assignment to a name that can't be set."""
-    call, statement = call_of(context), context.place.statement
+    statement = context.place.statement
+    if context.told.so == UNSETTABLE and own_name(statement) is not None:
+        return detail(f"{context.told.shown}: it is a variable of the program's own", at=statement.start)
+    call = call_of(context)
     if call is not None:
         return of_told(context, call) if context.told.whole else of_call(context, call)
-    own = own_name(statement)
-    if own is not None:
-        return detail(f"{quoted(own)} can't be set: it is a variable of the program's own", at=statement.start)
     return detail(f"{quoted(context.place.source(statement))}: a value can't be used so", at=statement.start)
 
 
 def call_of(context: Context) -> tree.Call | None:
-    """The call that is refused: the one that what is told may be of, where that is one alone, or else the node at fault; none of an
-    assignment."""
+    """The call that is refused: the one that what is told may be of, where that is one alone, or else the node at fault."""
     told, calls = context.told, context.place.calls()
     fitting = [it for it in calls if told.may_be_of(it)] if told.whole else []
     if len(fitting) == 1:
@@ -39,8 +40,6 @@ def call_of(context: Context) -> tree.Call | None:
     node = context.probe.culprit if context.probe.can_ask else None
     if isinstance(node, tree.Call) and (node in fitting or not fitting):
         return node
-    if not fitting and node is None and own_name(context.place.statement) is not None:
-        return None
     return (fitting or calls or [None])[0]
 
 
@@ -55,6 +54,10 @@ def of_told(context: Context, call: tree.Call) -> Detail:
     node = told.value_in(call) if told.may_be_of(call) else None
     if told.so == NONE and told.keyword is not None:
         return unknown_keyword(context, call, told.keyword)
+    if told.method is not None:
+        return of_value(context, call)
+    if told.function is not None:
+        return detail(f"{call.name}: {told.so}{of_all(context, call)}", hint_of(context, call), at=call.name_start)
     if told.text is not None:
         given = value_of_key(context, call, told.text) if told.kind else None
         text = f"{call.name}: {told.shown}" + (f"{GOT}{given.shown()}" if given else "")
@@ -67,6 +70,27 @@ def of_told(context: Context, call: tree.Call) -> Detail:
         return detail(f"{call.name}: {told.shown.partition(GOT)[0]}{got(context, context.value(node))}", at=node.start)
     rule = broken_rule(context, call, values_of(context, call)) if told.so.endswith(FOR_NOTHING) else None
     return detail(f"{call.name}: {told.shown}", *(rule.lines if rule else ()), at=rule.at if rule else node.start)
+
+
+def of_value(context: Context, call: tree.Call) -> Detail:
+    """A method of a value: the rule that the value breaks or the text that it got, or else what it takes, and what it got."""
+    rule = broken_rule(context, call, values_of(context, call))
+    if rule is not None:
+        return rule
+    kind = OPENED.get(call.name)
+    for node in call.arguments if kind else ():
+        value = context.value(node)
+        misfit = misfit_of(kind, value) if kind and value is not None else ""
+        if misfit:
+            return detail(f"{context.told.shown.partition(GOT)[0]}{GOT}{misfit}", at=node.start)
+    given = of_all(context, call) or "".join(context.told.shown.partition(GOT)[1:])
+    return detail(f"{context.told.shown.partition(GOT)[0]}{given}", at=call.name_start)
+
+
+def of_all(context: Context, call: tree.Call) -> str:
+    """What a call got, where all of it is known."""
+    values = [context.value(it) for it in call.arguments]
+    return GOT + listed(it.shown() for it in values if it) if values and None not in values else ""
 
 
 def unprinted(context: Context, call: tree.Call) -> Detail:
@@ -107,18 +131,9 @@ def place_of_count(call: tree.Call, so: str) -> int:
 
 
 def of_call(context: Context, call: tree.Call) -> Detail:
-    """A call of which the program tells nothing: kinds of values of a method, then rules of the call; else what each argument is."""
-    row, values = row_of(context, call), {}
-    count = len(call.arguments)
-    if row and (count < row.least or row.most is not None and count > row.most):
-        at = call.arguments[row.most].start if row.most is not None and count > row.most else call.start
-        return detail(f"{call.name}: takes {row.count()} without a name, and got {count}", at=at)
-    for name, number, item in items_of(call):
-        values[name] = value = context.value(item)
-        kind = row.kind(number) if row and number is not None else None
-        if kind is not None and value is not None and (misfit := misfit_of(kind, value)):
-            return detail(f"{call.name}: {name_of(name, number)}: takes {kind.words}{GOT}{misfit}", at=item.start)
-    rule = broken_rule(context, call, {name: it for name, it in values.items() if it is not None})
+    """A call of which the program tells nothing: rules of the call; else what each argument is."""
+    values = {name: context.value(item) for name, _, item in items_of(call)}
+    rule = broken_rule(context, call, values_of(context, call))
     if rule is not None:
         return rule
     dropped = context.probe.without(call) if context.probe.can_ask else None
@@ -127,12 +142,6 @@ def of_call(context: Context, call: tree.Call) -> Detail:
         given = value.shown() if value else quoted(context.place.source(dropped.value))
         return detail(f"{call.name}: keyword {quoted(dropped.name)}: can't be {given}", at=dropped.start)
     return all_values(context, call, values)
-
-
-def row_of(context: Context, call: tree.Call) -> Row | None:
-    """What a method of a value takes."""
-    value = context.value(call.receiver) if call.receiver is not None and any(name == call.name for _, name in OF_VALUES) else None
-    return OF_VALUES.get((value.kind, call.name)) if value else None
 
 
 def misfit_of(kind: Kind, value: Value) -> str:

@@ -22,7 +22,7 @@ ON_STATEMENTS = {
 }
 ON_TEXTS = {2: grammar.token_detail, 3: grammar.grammar_detail, 4: grammar.nesting_detail}
 # The faults of which the program tells more than their line says.
-TOLD = (9, 11, 15, 23)
+TOLD = (9, 11, 15, 16, 21, 22, 23, 24)
 # How long a file is that is looked at, and what is said of one that isn't.
 MOST_CHARACTERS = 1 << 20
 TOO_LONG = "a text or a definition file may have 16,777,216 bytes, a machine file 33,554,432, and a line of a template 65,536"
@@ -110,7 +110,7 @@ def detail_of(asked: Asked, fault: Fault, told: Told, text: str | None) -> Detai
     if fault.file == WORDS:
         return settings.of_value(asked, told)
     if fault.file == MACHINE:
-        return settings.of_machine(asked, fault, told) if fault.number in (15, 23) else of_machine(asked, fault)
+        return settings.of_machine(asked, fault, told) if fault.number in (15, 23) else of_machine(asked, fault, told)
     if text is None:
         return detail(f"the folder has no {fault.file}: `meson explain` is called in the folder of the sources, as `meson setup`")
     if len(text) > MOST_CHARACTERS:
@@ -124,8 +124,8 @@ def detail_of(asked: Asked, fault: Fault, told: Told, text: str | None) -> Detai
     return on_statement(asked, fault, told, text)
 
 
-def of_machine(asked: Asked, fault: Fault) -> Detail:
-    return machine.machine_detail(asked.machine or b"", fault.line) if fault.number == 16 else detail(TOO_LONG)
+def of_machine(asked: Asked, fault: Fault, told: Told) -> Detail:
+    return machine.machine_detail(asked.machine or b"", fault.line, told) if fault.number == 16 else detail(TOO_LONG)
 
 
 def bytes_of(asked: Asked, fault: Fault) -> bytes:

@@ -1,18 +1,17 @@
-"""E16, and lines of a machine file."""
+"""E16: what the program tells of a line of a machine file, and what that line could be."""
 from __future__ import annotations
 
 import re
 from collections.abc import Callable
 
-from tools.asking.checks import METHODS, NUMBERS
-from tools.explaining.detail import Detail, detail, listed, named, near, quoted
+from tools.asking.checks import METHODS
+from tools.explaining.detail import Detail, detail, listed, near, quoted
+from tools.explaining.told import NONE, TWICE, Told
 
 SECTIONS = ("binaries", "built-in options", "project options", "host_machine", "compiler", "dependency NAME", "checks", "properties")
 KEYS = {"host_machine": ("system", "cpu_family", "cpu", "endian"), "compiler": ("id", "version"),
         "dependency": ("version", "compile_args", "link_args")}
-VALUE = re.compile(r"(?:(?P<text>'(?:[^'\\]|\\.)*')|(?P<number>-?\s*(?:0[xX][0-9a-fA-F]+|0[oO][0-7]+|0[bB][01]+|0|[1-9][0-9]*))"
-                   r"|(?P<truth>true|false)"
-                   r"|(?P<list>\[(?:\s*'(?:[^'\\]|\\.)*'\s*,)*(?:\s*'(?:[^'\\]|\\.)*')?\s*\]))\s*(?:#.*)?")
+LINES = "a line is a section '[name]', 'key = value', or a comment '#'"
 
 
 def section_at(lines: list[str], number: int) -> str | None:
@@ -29,35 +28,33 @@ def cut(section: str | None, line: str) -> tuple[str, str]:
     return key.strip(), value.strip()
 
 
-def machine_detail(machine: bytes, number: int) -> Detail:
-    """E16: what a line of the machine file should be."""
+def machine_detail(machine: bytes, number: int, told: Told) -> Detail:
+    """What is told of a line, with what it could be."""
     lines = machine.decode(errors="replace").split("\n")
     line = lines[number - 1].strip() if number <= len(lines) else ""
-    if line.startswith("["):
-        return section_detail(lines, number, line)
-    section = section_at(lines, number)
-    if "=" not in line:
-        return detail(f"{quoted(line)} is no line of a machine file: a section '[name]', 'key = value', or a comment '#'")
-    key, value = cut(section, line)
-    if section is None:
-        return detail(f"the key {quoted(key)} stands before the first section")
-    where = f"[{section}], key {quoted(key)}: "
-    before = line_before(lines, number, lambda it: "=" in it and cut(section, it)[0] == key)
-    if before:
-        return detail(f"{where}the key was there before, in line {before}")
-    known = KEYS.get(section.split(" ")[0], ())
-    if known and key not in known:
-        return detail(f"{where}there is none{near(key, known)}; it has {listed(known)}")
-    method, _, rest = key.partition(" ")
-    if section == "checks" and method not in METHODS:
-        return detail(f"{where}there is no check {quoted(method)}{near(method, METHODS)}", f"checks: {listed(METHODS)}")
-    if section == "checks" and not rest:
-        return detail(f"{where}what is checked is missing: the key is a method and its arguments, as 'has_function fsync'")
-    found = VALUE.fullmatch(value)
-    if not found:
-        return detail(f"{where}the value {named(value)} is none: {hint_of(value)}")
-    kind = "truth value" if found.lastgroup == "truth" else found.lastgroup
-    return detail(f"{where}the value {named(value)} is a {kind}: {wanted(section, key)}")
+    if told.key is not None:
+        return of_key(lines, number, told)
+    if told.section is not None and told.so in (NONE, TWICE):
+        return of_section(lines, number, told)
+    return detail(f"{told.shown}: {quoted(line)}", LINES)
+
+
+def of_key(lines: list[str], number: int, told: Told) -> Detail:
+    section, key = told.section or "", told.key or ""
+    if told.so == TWICE:
+        before = line_before(lines, number, lambda it: "=" in it and cut(section, it)[0] == key)
+        return detail(told.shown + (f": in line {before} before" if before else ""))
+    if told.so == NONE and section == "checks":
+        method, _, rest = key.partition(" ")
+        if method in METHODS and not rest:
+            return detail(told.shown, "the key is a method and its arguments, as 'has_function fsync'")
+        return detail(told.shown + near(method, METHODS), f"checks: {listed(METHODS)}")
+    if told.so == NONE:
+        known = KEYS.get(section.split(" ")[0], ())
+        return detail(told.shown + near(key, known), f"[{section}] has {listed(known)}" if known else "")
+    if told.kind is None and number <= len(lines):
+        return detail(told.shown, hint_of(cut(section, lines[number - 1])[1]))
+    return detail(told.shown)
 
 
 def hint_of(value: str) -> str:
@@ -85,24 +82,11 @@ def line_before(lines: list[str], number: int, fits: Callable[[str], bool]) -> i
     return 0
 
 
-def section_detail(lines: list[str], number: int, line: str) -> Detail:
-    name = line[1:].partition("]")[0]
-    before = [above for above, it in enumerate(lines[:number - 1], 1) if it.strip() == line]
-    if before:
-        return detail(f"the section {quoted(line)} was there before, in line {before[0]}")
-    if not line.endswith("]"):
-        return detail(f"{quoted(line)} is no section: it is '[name]', and nothing else on its line")
+def of_section(lines: list[str], number: int, told: Told) -> Detail:
+    name = told.section or ""
+    if told.so == TWICE:
+        before = next((above for above, it in enumerate(lines[:number - 1], 1) if it.strip() == f"[{name}]"), 0)
+        return detail(told.shown + (f": in line {before} before" if before else ""))
     if name == "dependency":
-        return detail("the section '[dependency]' names no dependency: it is as '[dependency zlib]'")
-    return detail(f"there is no section {quoted(line)}{near(name, SECTIONS)}", f"there are: {listed(SECTIONS)}")
-
-
-def wanted(section: str, key: str) -> str:
-    """What a key takes."""
-    if section == "binaries":
-        return "a program is a text, or a list of its words, of which there is at least one"
-    if section == "checks":
-        return "a size is a number" if key.split(" ")[0] in NUMBERS else "the answer to a check is true or false"
-    if section.startswith("dependency"):
-        return "version is a text, compile_args and link_args are lists of texts"
-    return "a text is wanted" if section in KEYS else "no such value can be kept there"
+        return detail(told.shown, "it names a dependency, as '[dependency zlib]'")
+    return detail(told.shown + near(name, SECTIONS), f"there are: {listed(SECTIONS)}")

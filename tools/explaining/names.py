@@ -159,7 +159,7 @@ def left_keyword(context: Context, name: str) -> Detail:
 
 
 def of_project(context: Context, call: tree.Call | None) -> Detail:
-    """A language beside C, of which nothing is told, or a value of an option."""
+    """A language beside C, or a value of an option."""
     told = context.told
     given = call.keywords.get("default_options") if call else None
     if told.option is not None:
@@ -167,7 +167,7 @@ def of_project(context: Context, call: tree.Call | None) -> Detail:
         return detail(f"project: default_options: {told.shown}", instead, at=given.start if given else None)
     for argument in call.arguments[1:] if call else []:
         for node in tree.inside(argument):
-            if isinstance(node, tree.Text) and node.value != "c":
+            if isinstance(node, tree.Text) and node.value == told.language:
                 why = f"project: the language {quoted(node.value)} is left out: C alone is built"
                 return detail(why, in_its_place("Functions", "add_languages"), at=node.start)
     return detail("project: a language beside C is left out", in_its_place("Functions", "add_languages"), at=call.start if call else None)

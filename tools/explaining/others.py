@@ -24,20 +24,20 @@ def duplicate(context: Context) -> Detail:
         first, second = context.told.words_of(calls[0])[:2]
         why = f"in line {context.place.line_of(first.start)} before"
         return detail(f"{calls[0].name}: {context.told.shown}: {why}", at=second.start)
-    culprit = context.probe.culprit if context.probe.can_ask else None
-    dictionaries = [culprit] if isinstance(culprit, tree.Dictionary) else [it for it in nodes if isinstance(it, tree.Dictionary)]
-    if not isinstance(culprit, tree.Call):
-        for node in dictionaries:
-            keys: dict[str, tree.Node] = {}
-            for key, _ in node.pairs:
-                text = context.text_of(key)
-                if text is not None and text in keys:
-                    first = context.place.line_of(keys[text].start)
-                    return detail(f"the key {quoted(text)} stands twice in a dictionary: in line {first} before", at=key.start)
-                if text is not None:
-                    keys[text] = key
+    if context.told.entry is not None:
+        return key_twice(context, [it for it in nodes if isinstance(it, tree.Dictionary)])
     call = context.call()
     return made_twice(context, call) if call else detail("something stands twice in this line", at=context.place.statement.start)
+
+
+def key_twice(context: Context, dictionaries: list[tree.Dictionary]) -> Detail:
+    """The key that is told of, at the second place where a dictionary has it."""
+    for node in dictionaries:
+        found = [key for key, _ in node.pairs if context.text_of(key) == context.told.entry]
+        if len(found) > 1:
+            first = context.place.line_of(found[0].start)
+            return detail(f"a dictionary: {context.told.shown}: in line {first} before", at=found[1].start)
+    return detail(f"a dictionary: {context.told.shown}", at=(dictionaries or [context.place.statement])[0].start)
 
 
 def named_by(call: tree.Call) -> tree.Node | None:
@@ -63,18 +63,19 @@ def files_of(maker: str, name: str) -> set[str]:
 
 
 def made_twice(context: Context, call: tree.Call) -> Detail:
-    """A target or a file whose outputs another one makes."""
+    """A target or a file that makes what another one makes, or the same twice: the path that is told."""
+    path = context.told.output or ""
+    if path in RESERVED:
+        return detail(f"{call.name}: {quoted(path)} is a name of build.ninja's own", at=call.start)
     node = named_by(call)
     value = context.value(node) if node is not None else None
     names = [it.text for it in flat(value) if it.kind == TEXT] if value else outputs_of(call)
-    reserved = [it for it in names if os.path.normpath(os.path.join(context.folder, it)) in RESERVED]
-    if reserved:
-        return detail(f"{call.name}: {quoted(reserved[0])} is a name of build.ninja's own", at=call.start)
-    made = ", ".join(map(quoted, names)) or "it"
-    if len(set(names)) < len(names):
-        return detail(f"{call.name}: an output stands twice among {made}", at=call.start)
+    own = [it for it in names if os.path.normpath(os.path.join(context.folder, it)) == path]
+    if len(own) > 1:
+        return detail(f"{call.name}: {quoted(own[0])} stands twice among its outputs", at=call.start)
     where = made_before(context, call, node, names) if names else ""
     if where:
+        made = ", ".join(map(quoted, own or names))
         told = "give it another name, or declare it in another folder"
         return detail(f"{call.name}: {made} is made before, {where}", told, at=call.start)
     sources = [it.text for argument in call.arguments[1:] if (found := context.value(argument)) for it in flat(found) if it.kind == TEXT]
@@ -82,7 +83,7 @@ def made_twice(context: Context, call: tree.Call) -> Detail:
     if call.name in TARGETS and alike:
         why = f"the sources {listed(map(quoted, alike))} have one object, since '/' becomes '_' in its name"
         return detail(f"{call.name}: {why}", at=call.start)
-    return detail(f"{call.name}: an output, an object or a link of {made} has the path of one that another target makes",
+    return detail(f"{call.name}: {context.told.shown}",
                   "two sources whose paths differ only in '/' and '_' have one object; a library has its links, too", at=call.start)
 
 
@@ -181,18 +182,12 @@ def frozen(context: Context) -> Detail:
 
 
 def not_held(context: Context) -> Detail:
-    """E21: the text with what Ninja can't hold."""
-    call = context.call()
-    nodes = [it.value if isinstance(it, tree.Keyword) else it for it in call.items] if call else []
-    for node in nodes:
-        for value in flat(found) if (found := context.value(node)) else []:
-            sign = re.search(r"[#|\x00-\x1f\x7f]", value.text) if value.kind == TEXT else None
-            if sign:
-                return detail(f"{call.name if call else ''}: the text {quoted(value.text)} has {sign_name(sign[0])}", at=node.start)
-    names = [it.value for it in tree.inside(call) if isinstance(it, tree.Text)] if call else []
-    told = f": {', '.join(map(quoted, names[:4]))}" if names else ""
-    return detail(f"{call.name if call else 'the call'}: a path with '#', '|' or a control character, or a word with an end of line{told}",
-                  at=call.start if call else None)
+    """E21: the text that is told, with what Ninja can't hold of it."""
+    call, text = context.call(), context.told.text or ""
+    sign = re.search(r"[\0\n\r]", text) or re.search(r"[#|\x00-\x1f\x7f]", text)
+    what = f"the text {quoted(text)} has {sign_name(sign[0])}" if sign else f"{quoted(text)} has a word with an end of line"
+    places = [it.start for it in tree.inside(call) if isinstance(it, tree.Text) and it.value == text] if call else []
+    return detail(f"{call.name if call else 'the call'}: {what}", at=places[0] if places else call.start if call else None)
 
 
 def sign_name(sign: str) -> str:
@@ -200,7 +195,6 @@ def sign_name(sign: str) -> str:
 
 
 LIMITS = {"range": "a list may have 65,536 items", "subdir": "4,096 folders may be entered, 64 of them inside one another"}
-LONG_LISTS = "a list of a target may have 65,536 items, those of its dependencies counted"
 VALUES = ("a list or a dictionary may have 65,536 items, hold others 64 deep and weigh a bounded amount in all; a text may have "
           "16,777,216 bytes")
 
@@ -210,23 +204,22 @@ def limit(context: Context) -> Detail:
     call = context.call()
     if call is None:
         return detail(VALUES, at=context.place.statement.start)
-    if call.name in TARGETS:
-        return detail(f"{call.name}: {LONG_LISTS}", at=call.start)
+    if context.told.whole:
+        return detail(f"{call.name}: {context.told.shown}; those of its dependencies are counted", at=call.start)
     values = [it for node in call.arguments if (it := context.value(node)) and it.kind == "integer"]
     got = f"; it got {', '.join(it.text for it in values)}" if values else ""
     return detail(f"{call.name}: {LIMITS.get(call.name, VALUES)}{got}", at=call.start)
 
 
 def too_late(context: Context) -> Detail:
-    """E24: what was declared before."""
+    """E24: the target that was declared before, which is told, and where."""
     call = next((it for it in context.place.calls() if it.name.startswith("add_project")), None)
-    what = call.name if call else "add_project_arguments"
+    what, name, move = call.name if call else "add_project_arguments", context.told.target or "", "move it before the first target"
+    at = call.start if call else None
     for path, statement in context.statements():
         for root in tree.expressions_of(statement):
             for node in tree.inside(root):
-                if isinstance(node, tree.Call) and node.receiver is None and node.name in TARGETS:
-                    name = outputs_of(node)
-                    return detail(f"{what}: it stands behind {node.name} {quoted(name[0]) if name else ''} of "
-                                  f"{path}:{line_at(open_text(context, path), node.start)}", "move it before the first target",
-                                  at=call.start if call else None)
-    return detail(f"{what}: a target was declared before", at=call.start if call else None)
+                if isinstance(node, tree.Call) and node.receiver is None and node.name in TARGETS and name in outputs_of(node):
+                    where = f"{path}:{line_at(open_text(context, path), node.start)}"
+                    return detail(f"{what}: it stands behind {node.name} {quoted(name)} of {where}", move, at=at)
+    return detail(f"{what}: the target {quoted(name)} was declared before", move, at=at)

@@ -1,5 +1,4 @@
-"""What functions and methods have and take, for words of explanations: keywords, kinds of values, and the arguments of methods of values,
-of which the program tells nothing."""
+"""What functions and methods have and take, for words of explanations: keywords and kinds of values."""
 from __future__ import annotations
 
 import dataclasses
@@ -28,7 +27,7 @@ class Kind:
 
 
 TEXT_, TEXTS = Kind("a text", (TEXT,)), Kind("texts", (TEXT,), True)
-NUMBER, ANY = Kind("an integer", (INTEGER,)), Kind("any value", (TEXT, INTEGER, TRUTH, LIST, DICTIONARY, OBJECT))
+NUMBER = Kind("an integer", (INTEGER,))
 PRINTED = Kind("texts, integers, truth values, and lists and dictionaries of these", (TEXT, INTEGER, TRUTH, DICTIONARY), True)
 TARGETS, LISTED = ("executable", "library", "target", "custom target"), ("list of files",)
 # The kinds that the program tells, each by its words.
@@ -88,36 +87,6 @@ METHODS: dict[str, tuple[str, ...]] = {
                      "has_header_symbol", "find_library"), (*ASKING, "required")),
     **dict.fromkeys(("sizeof", "alignment", "get_supported_arguments"), ASKING),
     **dict.fromkeys(("set", "set10", "set_quoted"), ("description",)),
-}
-
-
-@dataclasses.dataclass(frozen=True)
-class Row:
-    """The kinds of the arguments of a method, of which the last is that of all further ones; how many there may be."""
-    kinds: tuple[Kind, ...] = (ANY,)
-    least: int = 0
-    most: int | None = 0
-
-    def kind(self, number: int) -> Kind:
-        return self.kinds[min(number, len(self.kinds) - 1)]
-
-    def count(self) -> str:
-        """How many arguments it takes, in words."""
-        if self.most == 0:
-            return "no arguments"
-        if self.most is None:
-            return f"at least {self.least}" if self.least else "any number"
-        return str(self.least) if self.least == self.most else f"{self.least} to {self.most}"
-
-
-# What methods of values take, by the kind of the value.
-OF_VALUES: dict[tuple[str, str], Row] = {
-    **{(kind, name): Row() for kind in (TEXT, INTEGER, TRUTH, LIST, DICTIONARY) for name in METHODS_OF[kind].split()},
-    **{(TEXT, name): Row((TEXT_,), 1, 1) for name in ("contains", "startswith", "endswith", "version_compare")},
-    **{(TEXT, name): Row((TEXT_,), 0, 1) for name in ("split", "strip")},
-    (TEXT, "format"): Row((PRINTED,), 0, None), (TEXT, "join"): Row((TEXTS,), 0, None), (TEXT, "replace"): Row((TEXT_,), 2, 2),
-    (TEXT, "substring"): Row((NUMBER,), 0, 2), (TRUTH, "to_string"): Row((TEXT_,), 0, 2), (LIST, "contains"): Row((ANY,), 1, 1),
-    (LIST, "get"): Row((NUMBER, ANY), 1, 2), (DICTIONARY, "get"): Row((TEXT_, ANY), 1, 2), (DICTIONARY, "has_key"): Row((TEXT_,), 1, 1),
 }
 
 

@@ -7,6 +7,7 @@ import re
 from porting import tree
 from tools.explaining.context import Context
 from tools.explaining.detail import Detail, detail, quoted
+from tools.explaining.told import UNSETTABLE
 from tools.explaining.values import DICTIONARY, OWN, TEXT, Value, flat
 
 # Of what is told of a text what would be one.
@@ -19,6 +20,9 @@ WHYS = {
     "is no name of a variable": "it has letters, digits and '_', begins with no digit, and is no word of the language",
     "is no name of a value": "it has letters, digits, '_' and '-'",
     "is no name of a man page": "the last digit of its name says the section, as in 'name.1'",
+    "is no language that has a compiler": "that is 'c' alone",
+    "needs a program that was found": "ask 'found()' first",
+    "needs a target with one output": "an output has a path of its own: 't[0].full_path()'",
 }
 
 
@@ -27,7 +31,7 @@ def hint_of(context: Context, call: tree.Call) -> str:
     told = context.told
     if told.so.startswith("names no "):
         return why_no_path(context, told.text or "")
-    if told.so == "is no name that can be set":
+    if told.so == UNSETTABLE:
         return "it is a variable of the program's own" if told.text in OWN else WHYS["is no name of a variable"]
     return WHYS.get(told.so, "")
 
@@ -75,7 +79,7 @@ def broken_rule(context: Context, call: tree.Call, values: dict[str, Value]) -> 
     """The rule of a function or a method that its values break, where the program tells nothing."""
     if call.receiver is not None:
         return of_method(context, call, values)
-    for rule in (of_placeholders, of_ranges, of_environment, of_programs):
+    for rule in (of_placeholders, of_environment, of_programs):
         why = rule(call, values)
         if why:
             name, text = why
@@ -118,12 +122,6 @@ def of_placeholders(call: tree.Call, values: dict[str, Value]) -> Why:
     return None
 
 
-def of_ranges(call: tree.Call, values: dict[str, Value]) -> Why:
-    if call.name == "range":
-        return "1", "it takes 0 <= start <= stop and a step of 1 or more, and got " + ", ".join(it.text for it in values.values())
-    return None
-
-
 def of_programs(call: tree.Call, values: dict[str, Value]) -> Why:
     named = {"command": values.get("command"), "2": values.get("2")} if call.name in ("custom_target", "test") else {}
     for key, value in named.items():
@@ -148,16 +146,8 @@ def of_method(context: Context, call: tree.Call, values: dict[str, Value]) -> De
     receiver = context.value(call.receiver) if call.receiver is not None else None
     if receiver is None:
         return None
-    if call.name == "get_compiler" and "1" in values:
-        return detail(f"get_compiler: the language is 'c', and here {quoted(values['1'].text)}", at=place_of(call, "1"))
-    if call.name == "to_int" and receiver.kind == TEXT:
+    if call.name == "to_int" and receiver.kind == TEXT and not call.arguments:
         return detail(f"to_int: {receiver.shown()} is no number: an optional sign and digits", at=call.start)
-    if call.name in ("path", "full_path") and receiver.kind == "program":
-        return detail(f"{call.name}: the program was not found: ask 'found()' first", at=call.start)
-    if call.name in ("replace", "split") and "1" in values and values["1"].text == "":
+    if call.name in ("replace", "split") and "1" in values and values["1"] == Value(TEXT):
         return detail(f"{call.name}: the text that is looked for is empty", at=place_of(call, "1"))
-    if call.name == "full_path" and receiver.kind == "custom target":
-        return detail("full_path: a custom target of several outputs has no path of its own: t[0].full_path()", at=call.name_start)
-    if call.name == "to_string" and len(call.arguments) == 1:
-        return detail("to_string: it takes two texts, of true and of false, or none", at=call.name_start)
     return None

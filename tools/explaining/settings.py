@@ -26,7 +26,7 @@ WHYS = {
     "is the name of a built-in option": "give yours another one",
     "needs the name of an option": "it is one plain text without a name",
 }
-# What is told of the option that `get_option` does not find is its name alone.
+# What is said of the option that `get_option` does not find.
 ABSENT = "there is no option "
 
 
@@ -122,12 +122,13 @@ def of_statement(context: Context) -> Detail:
     told = context.told
     calls = [it for it in context.place.calls() if it.receiver is None]
     given = next((it.keywords["default_options"].value for it in calls if "default_options" in it.keywords), None)
-    if given is not None and told.name is None:
-        return of_value(context.asked, told, "project: default_options: ", place_of(given, told))
     asking = [it for it in calls if it.name == "get_option" and it.arguments]
-    call = next((it for it in asking if context.text_of(it.arguments[0]) == told.whole), None)
+    if given is not None and not (asking and told.so == NONE):
+        return of_value(context.asked, told, "project: default_options: ", place_of(given, told))
+    name = told.option or ""
+    call = next((it for it in asking if context.text_of(it.arguments[0]) == name), None)
     at = call.arguments[0].start if call else context.place.statement.start
-    return absent(context.asked, told.whole, f"get_option: {ABSENT}{quoted(told.whole)}", at)
+    return absent(context.asked, name, f"get_option: {ABSENT}{quoted(name)}", at)
 
 
 def place_of(given: tree.Node, told: Told) -> int:

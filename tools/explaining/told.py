@@ -11,12 +11,17 @@ from tools.explaining.detail import WIDEST
 FORMS = (
     re.compile(r"keyword '(?P<keyword>\w+)': (?P<so>.*)", re.S), re.compile(r"argument (?P<number>\d+): (?P<so>.*)", re.S),
     re.compile(r"option '(?P<option>.*?)': (?P<so>.*)", re.S), re.compile(r"section '(?P<section>.*)': (?P<so>.*)", re.S),
+    re.compile(r"output '(?P<output>.*)': (?P<so>.*)", re.S), re.compile(r"target '(?P<target>.*)': (?P<so>.*)", re.S),
+    re.compile(r"language '(?P<language>.*)': (?P<so>.*)", re.S),
     re.compile(r"\[(?P<section>.*?)\] key '(?P<key>.*?)': (?P<so>.*)", re.S), re.compile(r"'(?P<text>.*)': (?P<so>.*)", re.S),
-    re.compile(r"(arguments|statement|line|\[(?P<section>.*?)\] line): (?P<so>.*)", re.S),
+    re.compile(r"(arguments|statement|line|a list of the target|\[(?P<section>.*?)\] line): (?P<so>.*)", re.S),
+    re.compile(r"key '(?P<entry>.*)': (?P<so>.*)", re.S), re.compile(r"(?P<method>\w+): (?P<so>takes .*)", re.S),
 )
 # How it begins where a value is of another kind than is taken there, and what it ends with.
 TAKES, GOT = "takes ", ", and got "
 MISSING, TWICE, NONE, LEFT = "is missing, and is needed", "stands twice", "there is none", "is left out"
+# What a function or a method needs beside its row, of which the text is the name; and of a name that a definition file would set.
+NEEDS, UNSETTABLE = "needs ", "is no name that can be set"
 
 
 @dataclasses.dataclass(frozen=True)
@@ -30,6 +35,11 @@ class Told:
     section: str | None = None
     key: str | None = None
     text: str | None = None
+    entry: str | None = None
+    method: str | None = None
+    output: str | None = None
+    target: str | None = None
+    language: str | None = None
 
     @property
     def shown(self) -> str:
@@ -46,6 +56,11 @@ class Told:
         """What is taken there, in words, where something else was given."""
         return self.so.removeprefix(TAKES).partition(GOT)[0] if self.so.startswith(TAKES) else None
 
+    @property
+    def function(self) -> str | None:
+        """The name of the function or method that it is about, where it says that."""
+        return self.text if self.so.startswith(NEEDS) else self.method
+
     def words_of(self, call: tree.Call) -> list[tree.Keyword]:
         """The places where a call has the keyword that it is about."""
         return [it for it in call.items if isinstance(it, tree.Keyword) and it.name == self.keyword]
@@ -54,6 +69,8 @@ class Told:
         """Whether it may be told of this call."""
         if self.keyword is not None:
             return not self.words_of(call) if self.so == MISSING else len(self.words_of(call)) > (self.so == TWICE)
+        if self.function is not None:
+            return call.name == self.function and (self.method is None or call.receiver is not None)
         return self.number is None or len(call.arguments) >= int(self.number)
 
     def value_in(self, call: tree.Call) -> tree.Node | None:

@@ -1,5 +1,5 @@
 -- Kinds and values in words.
-use Rattle.std.specs.Prelude.{ℕ, List, codes}
+use Rattle.std.specs.Prelude.{ℕ, List, [], ◌∷◌, ◌++◌, length, codes, decimal}
 use Rattle.data.specs.Data.{Data, boolean, integer, text, list, dictionary, object}
 use Rattle.data.specs.declared.object.Object.{Object}
 use Rattle.data.specs.declared.object.Object.TheVariants as objects
@@ -59,3 +59,13 @@ value_words (text t) = codes "a text"
 value_words (list ds) = codes "a list"
 value_words (dictionary es) = codes "a dictionary"
 value_words (object o) = object_words o
+
+abbrev pub pair_words : Data → Data → List ℕ
+pair_words d e = value_words d ++ (codes " and " ++ value_words e)
+
+-- what the arguments of a call are: one or two by what they are, and more by their number
+abbrev pub values_words : List Data → List ℕ
+values_words [] = codes "none"
+values_words (d ∷ []) = value_words d
+values_words (d ∷ e ∷ []) = pair_words d e
+values_words ds = decimal (length ds) ++ codes " arguments"

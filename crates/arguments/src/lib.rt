@@ -22,3 +22,4 @@ pub use reader::check;
 pub use refused::Refused;
 pub use row::{Keyword, Kind, Piece, Row};
 pub use rule::Rule;
+pub use words::values_words;

@@ -27,6 +27,14 @@ pub enum Rule {
     IsSettable,
     /// A variable may have the name.
     IsVariableName,
+    /// The program was found whose path the method of this name gives.
+    HasProgram,
+    /// The target has one output alone whose path the method of this name gives.
+    HasOneOutput,
+    /// A language has a compiler.
+    HasCompiler,
+    /// The function of this name goes up, from a start that is not negative.
+    GoesUp,
     /// Configuration data may have the name.
     IsValueName,
     /// The name has a value that configuration data can hold.
@@ -49,10 +57,28 @@ pub enum Rule {
     TakesTreeFile,
     /// Each placeholder of a keyword stands for something, and each program in it was found.
     HasMeaning,
+    /// The value of a name is a text.
+    TakesText,
+    /// The test of the name has a program that was found.
+    RunsProgram,
+    /// The test of the name runs no library.
+    RunsNoLibrary,
+    /// The value of a name can be printed.
+    IsPrinted,
+    /// The language is C.
+    IsC,
+    /// There is an option of the name.
+    IsOption,
+    /// A text names a folder below the present one.
+    IsBelow,
+    /// The folder was not entered.
+    IsNew,
+    /// The call begins the root's definition file.
+    ComesFirst,
 }
 
 impl Rule {
-    // What stands before the text: a quote, and before it `keyword` where the text is the name of one.
+    // What stands before the text: a quote, and before it what the text is the name of, where that is told.
     fn sign(self) -> &'static str
         ensures { result.now ≡ sign_of self }
     {
@@ -65,6 +91,9 @@ impl Rule {
             | Rule::TakesOneFile
             | Rule::TakesTreeFile
             | Rule::HasMeaning => "keyword '",
+            Rule::IsC => "language '",
+            Rule::IsOption => "option '",
+            Rule::IsBelow | Rule::IsNew => "folder '",
             _ => "'",
         }
     }
@@ -83,6 +112,10 @@ impl Rule {
             Rule::IsManPage => "is no name of a man page",
             Rule::IsSettable => "is no name that can be set",
             Rule::IsVariableName => "is no name of a variable",
+            Rule::HasProgram => "needs a program that was found",
+            Rule::HasOneOutput => "needs a target with one output",
+            Rule::HasCompiler => "is no language that has a compiler",
+            Rule::GoesUp => "needs a start from 0, a stop from the start and a step from 1",
             Rule::IsValueName => "is no name of a value",
             Rule::IsSetting => "takes a text, an integer or a truth value",
             Rule::IsAssignment => "has no '='",
@@ -94,6 +127,15 @@ impl Rule {
             Rule::TakesOneFile => "takes one file",
             Rule::TakesTreeFile => "takes a file of the project",
             Rule::HasMeaning => "has a placeholder or a program that stands for nothing",
+            Rule::TakesText => "takes a text",
+            Rule::RunsProgram => "has a program that was not found",
+            Rule::RunsNoLibrary => "runs a library",
+            Rule::IsPrinted => "has a value that can't be printed",
+            Rule::IsC => "is not C",
+            Rule::IsOption => "there is none",
+            Rule::IsBelow => "is none below the present one",
+            Rule::IsNew => "was entered before",
+            Rule::ComesFirst => "stands in place of a call of 'project'",
         }
     }
 

@@ -1,10 +1,11 @@
 //! Kinds and values in words.
-ghost use Rattle.std.specs.Prelude.{◌≡◌};
-ghost use Rattle.arguments.specs.Words.{kind_words, object_words, piece_words, value_words};
+ghost use Rattle.std.specs.Prelude.{◌≡◌, IfOk, map, string_bytes};
+ghost use Rattle.arguments.specs.Words.{kind_words, object_words, pair_words, piece_words, value_words, values_words};
 ghost use Rattle.data.specs.View.{data_of};
 
 use crate::row::{Kind, Piece};
 use data::{Object, Value};
+use std::alloc::{AllocError, Global};
 
 fn piece_words(piece: Piece) -> &'static str
     ensures { result.now ≡ piece_words piece }
@@ -75,5 +76,25 @@ pub fn value_words(value: &Value) -> &'static str
         Value::List(_) => "a list",
         Value::Dictionary(_) => "a dictionary",
         Value::Object(object) => object_words(object),
+    }
+}
+
+// What two values are.
+fn pair_words(alloc: Global, first: &Value, second: &Value) -> Result<String, AllocError>
+    ensures { IfOk result (λ text. string_bytes text ≡ pair_words (data_of first.now) (data_of second.now)) }
+{
+    let (first, second) = (value_words(first), value_words(second));
+    format!(in alloc; "{first} and {second}")
+}
+
+/// What the arguments of a call are: one or two by what they are, and more by their number.
+pub fn values_words(alloc: Global, values: &[Value]) -> Result<String, AllocError>
+    ensures { IfOk result (λ text. string_bytes text ≡ values_words (map data_of values.now)) }
+{
+    match values {
+        [] => String::from_str(alloc, "none"),
+        [value] => String::from_str(alloc, value_words(value)),
+        [first, second] => pair_words(alloc, first, second),
+        _ => format!(in alloc; "{} arguments", values.len()),
     }
 }

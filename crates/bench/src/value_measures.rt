@@ -7,7 +7,7 @@
 
 use crate::measured::{Measured, count_of};
 use crate::stop::Stop;
-use data::{List, Refusal, Value};
+use data::{List, Value};
 use methods::method;
 use operators::{Binary, binary, dictionary, index};
 use std::alloc::Global;
@@ -38,7 +38,7 @@ fn made(alloc: Global, measure: &str, count: usize) -> Result<usize, Stop> {
 }
 
 // The value of an operation that is not refused.
-fn given(answer: Result<Value, Refusal>) -> Result<Value, Stop> {
+fn given<E: Drop>(answer: Result<Value, E>) -> Result<Value, Stop> {
     match answer {
         Ok(value) => Ok(value),
         Err(_) => Err(Stop("an operation is refused")),

@@ -26,8 +26,8 @@ node_kept names ts more k (flat.List items line) h = ap (λ l. ListTree (express
     (all_same (λ n i. nat_lt i n) tree_at keeps_number ts more items.items h)
 node_kept names ts more k (flat.Dictionary es line) h = ap (λ l. DictionaryTree (entries l) line)
     (all_same entry_within entry_at keeps_entry ts more es.items h)
-node_kept names ts more k (flat.Call name items line) h = ap (λ l. FunctionTree (string_bytes name) (arguments l) line)
-    (all_same argument_within argument_at keeps_argument ts more items.items h)
+node_kept names ts more k (flat.Call call line) h = ap (λ l. FunctionTree (string_bytes call.value.name) (arguments l) line)
+    (all_same argument_within argument_at keeps_argument ts more call.value.arguments.items h)
 node_kept names ts more k (flat.Postfix first ls line) h =
     let p = both_true (nat_lt first (length ts)) (list_all (link_within (length ts)) ls.items) h in
     ap (λ t. PostfixTree t (links (map (link_at (ts ++ more)) ls.items)) line) (tree_same ts more first p.0)
@@ -99,7 +99,10 @@ block_kept names ts ss more k m (block.Append name line value) h = refl
 block_kept names ts ss more k m (block.Expression value line) h = refl
 block_kept names ts ss more k m (block.Break line) h = refl
 block_kept names ts ss more k m (block.Continue line) h = refl
-block_kept names ts ss more k m (block.If line parts otherwise) h =
+block_kept names ts ss more k m (block.If node) h =
+    let line = node.value.line in
+    let parts = node.value.branches in
+    let otherwise = node.value.otherwise in
     let test = λ (i : ℕ). nat_lt i (length ss) in
     let p = both_true (list_all (branch_within m (length ss)) parts.items) (list_all test otherwise.items) h in
     ap (λ l. IfTree line (branches l) (statements (map (statement_at (ss ++ more)) otherwise.items)))
@@ -109,7 +112,13 @@ block_kept names ts ss more k m (block.If line parts otherwise) h =
     parts.items p.0)
     ∙ ap (λ l. IfTree line (branches (map (branch_at ts ss) parts.items)) (statements l))
     (map_alike test (statement_at (ss ++ more)) (statement_at ss) (λ i g. statement_same ss more i g) otherwise.items p.1)
-block_kept names ts ss more k m (block.Foreach line first second list list_line body) h =
+block_kept names ts ss more k m (block.Foreach node) h =
+    let line = node.value.line in
+    let list_line = node.value.list_line in
+    let first = node.value.first in
+    let second = node.value.second in
+    let list = node.value.list in
+    let body = node.value.body in
     let test = λ (i : ℕ). nat_lt i (length ss) in
     let p = both_true (nat_lt first k) (second_within k second && (nat_lt list m && list_all test body.items)) h in
     let q = both_true (second_within k second) (nat_lt list m && list_all test body.items) p.1 in

@@ -33,6 +33,10 @@ operand_is o = fold_out-Operand ExpressionTree LinkTree ArgumentTree EntryTree O
 pub stands_as : (r : Result ℕ AllocError) (ts : List ExpressionTree) (t u : ExpressionTree) → IfOk r (λ i. Stands ts i t) → t ≡ u → IfOk r (λ i. Stands ts i u)
 stands_as r ts t u h e = subst (λ v. IfOk r (λ i. Stands ts i v)) e h
 
+-- the same number, in as many bits as hold it
+pub stands_so : (ts : List ExpressionTree) (i j : ℕ) (t : ExpressionTree) → i ≡ j → Stands ts j t → Stands ts i t
+stands_so ts i j t e h = subst (λ n. Stands ts n t) (sym e) h
+
 -- ---- an expression by its variant
 
 module _ (e : Expression) (line : ℕ) where

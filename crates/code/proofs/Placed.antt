@@ -1,5 +1,5 @@
 -- Parts of statements stay what they are as a file's code grows.
-use Rattle.std.proofs.Common.{◌≡◌, ℕ, ◌+◌, ◌<◌, Bool, true, false, List, [], ◌∷◌, ◌++◌, length, map, take, get_or, refl, sym, ap, subst, ◌∙◌, Option, Result, IfOk, Vec, Global, Bor}
+use Rattle.std.proofs.Common.{◌≡◌, ℕ, ◌+◌, ◌<◌, Bool, true, false, List, [], ◌∷◌, ◌++◌, length, map, take, get_or, refl, sym, ap, subst, ◌∙◌, Option, Result, IfOk, Box, Vec, Global, Bor}
 use Rattle.std.specs.Option.{option_map}
 use Rattle.grammar.specs.declared.tree.Expression.{Expression}
 use Rattle.std.specs.Prelude.{nat_lt, ◌&&◌, IsTrue}
@@ -16,8 +16,11 @@ use Rattle.grammar.specs.declared.tree.Statement.TheFolds.{fold_out-Branch, fold
 use Rattle.grammar.specs.declared.tree.Branch.{Branch}
 use Rattle.code.specs.declared.file_draft.FileDraft.{FileDraft}
 use Rattle.code.specs.declared.node.BranchNode.{BranchNode}
+use Rattle.code.specs.declared.node.ForeachNode.{ForeachNode}
+use Rattle.code.specs.declared.node.IfNode.{IfNode}
+use Rattle.code.specs.declared.node.StatementNode.TheVariants as flat
 use Rattle.code.specs.Nodes.{tree_at}
-use Rattle.code.specs.Statements.{name_at, set_node, statement_at, statement_tree, statement_within, branch_at, branch_within}
+use Rattle.code.specs.Statements.{name_at, set_node, statement_at, statement_tree, statement_within, branch_at, branch_within, second_within}
 use Rattle.grammar.specs.ReadingStatements.{set_tree}
 use Rattle.code.specs.Draft.{trees_in}
 use Rattle.code.specs.FileDraft.{Extends, IsStatement, AreStatements, AreBranches, statements_in}
@@ -141,6 +144,32 @@ foreach_made line list_line a b o p t u qs rs e f g h =
     ap (λ x. ForeachTree line x o t list_line (statements qs)) e ∙ ap (λ x. ForeachTree line b x t list_line (statements qs)) f
     ∙ ap (λ x. ForeachTree line b p x list_line (statements qs)) g ∙ ap (λ x. ForeachTree line b p u list_line (statements x)) h
 
+-- what stands in a box
+pub each_within : (k m n : ℕ) (b : Box ForeachNode Global) (x : ForeachNode) → b.value ≡ x
+    → IsTrue (nat_lt x.first k && (second_within k x.second && (nat_lt x.list m && list_all (λ i. nat_lt i n) x.body.items)))
+    → IsTrue (statement_within k m n (flat.Foreach b))
+each_within k m n b x is h =
+    subst (λ (y : ForeachNode). IsTrue (nat_lt y.first k && (second_within k y.second
+    && (nat_lt y.list m && list_all (λ i. nat_lt i n) y.body.items)))) (sym is) h
+
+pub each_is : (names : List (List ℕ)) (ts : List ExpressionTree) (ss : List StatementTree) (b : Box ForeachNode Global) (x : ForeachNode)
+    → b.value ≡ x → statement_tree names ts ss (flat.Foreach b) ≡ ForeachTree x.line (name_at names x.first)
+    (option_map (name_at names) x.second) (tree_at ts x.list) x.list_line (statements (map (statement_at ss) x.body.items))
+each_is names ts ss b x is = ap (λ (y : ForeachNode). ForeachTree y.line (name_at names y.first)
+    (option_map (name_at names) y.second) (tree_at ts y.list) y.list_line (statements (map (statement_at ss) y.body.items))) is
+
+pub parts_within : (k m n : ℕ) (b : Box IfNode Global) (x : IfNode) → b.value ≡ x
+    → IsTrue (list_all (branch_within m n) x.branches.items && list_all (λ i. nat_lt i n) x.otherwise.items)
+    → IsTrue (statement_within k m n (flat.If b))
+parts_within k m n b x is h =
+    subst (λ (y : IfNode). IsTrue (list_all (branch_within m n) y.branches.items && list_all (λ i. nat_lt i n) y.otherwise.items)) (sym is) h
+
+pub parts_are : (names : List (List ℕ)) (ts : List ExpressionTree) (ss : List StatementTree) (b : Box IfNode Global) (x : IfNode)
+    → b.value ≡ x → statement_tree names ts ss (flat.If b)
+    ≡ IfTree x.line (branches (map (branch_at ts ss) x.branches.items)) (statements (map (statement_at ss) x.otherwise.items))
+parts_are names ts ss b x is = ap (λ (y : IfNode). IfTree y.line (branches (map (branch_at ts ss) y.branches.items))
+    (statements (map (statement_at ss) y.otherwise.items))) is
+
 pub and_three : (a b c d : Bool) → IsTrue a → IsTrue b → IsTrue c → IsTrue d → IsTrue (a && (b && (c && d)))
 and_three a b c d e f g h = and_both a (b && (c && d)) e (and_both b (c && d) f (and_both c d g h))
 
@@ -160,10 +189,10 @@ set_is false names ts ss name line value word t e f =
 -- ---- a statement by its variant
 
 module _ (s : Statement) (line : ℕ) where
-  pub assign_made : (name : Bor (List ℕ)) (value : Expression) → s ≡ Variants.Assign name line value → AssignTree name.now line (expression_of value) ≡ statement_of s
+  pub assign_made : (name : Bor (List ℕ)) (value : Box Expression Global) → s ≡ Variants.Assign name line value → AssignTree name.now line (expression_of value.value) ≡ statement_of s
   assign_made name value is = sym (ap statement_of is ∙ ap statement_of (sym (Variants.rolls-Assign name line value)) ∙ fold-roll-Statement StatementTree BranchTree statement_step branch_step (Open.Assign name line value))
 
-  pub append_made : (name : Bor (List ℕ)) (value : Expression) → s ≡ Variants.Append name line value → AppendTree name.now line (expression_of value) ≡ statement_of s
+  pub append_made : (name : Bor (List ℕ)) (value : Box Expression Global) → s ≡ Variants.Append name line value → AppendTree name.now line (expression_of value.value) ≡ statement_of s
   append_made name value is = sym (ap statement_of is ∙ ap statement_of (sym (Variants.rolls-Append name line value)) ∙ fold-roll-Statement StatementTree BranchTree statement_step branch_step (Open.Append name line value))
 
   pub value_made : (value : Expression) → s ≡ Variants.Expression value line → ValueTree (expression_of value) line ≡ statement_of s
@@ -175,9 +204,10 @@ module _ (s : Statement) (line : ℕ) where
   pub continue_made : s ≡ Variants.Continue line → ContinueTree line ≡ statement_of s
   continue_made is = sym (ap statement_of is ∙ ap statement_of (sym (Variants.rolls-Continue line)) ∙ fold-roll-Statement StatementTree BranchTree statement_step branch_step (Open.Continue line))
 
-  pub each_made : (first : Bor (List ℕ)) (second : Option (Bor (List ℕ))) (list : Expression) (list_line : ℕ) (body : Vec Statement Global) (xs : List Statement) (ys : List StatementTree)
-      → s ≡ Variants.Foreach line first second list list_line body → xs ≡ body.items → ys ≡ map statement_of xs
-      → ForeachTree line first.now (option_map (λ n. n.now) second) (expression_of list) list_line (statements ys) ≡ statement_of s
-  each_made first second list list_line body xs ys is same wanted =
-      ap (λ l. ForeachTree line first.now (option_map (λ n. n.now) second) (expression_of list) list_line (statements l)) (wanted ∙ ap (map statement_of) same)
-      ∙ sym (ap statement_of is ∙ ap statement_of (sym (Variants.rolls-Foreach line first second list list_line body)) ∙ fold-roll-Statement StatementTree BranchTree statement_step branch_step (Open.Foreach line first second list list_line body))
+  pub each_made : (first : Bor (List ℕ)) (second : Option (Bor (List ℕ))) (round : Box Branch Global) (xs : List Statement) (ys : List StatementTree)
+      → s ≡ Variants.Foreach line first second round → xs ≡ round.value.body.items → ys ≡ map statement_of xs
+      → ForeachTree line first.now (option_map (λ n. n.now) second) (expression_of round.value.condition) round.value.line (statements ys) ≡ statement_of s
+  each_made first second round xs ys is same wanted =
+      ap (λ l. ForeachTree line first.now (option_map (λ n. n.now) second) (expression_of round.value.condition) round.value.line (statements l)) (wanted ∙ ap (map statement_of) same)
+      ∙ ap (λ (b : BranchTree). ForeachTree line first.now (option_map (λ n. n.now) second) b.0 b.1 b.2) (sym (branch_is round.value))
+      ∙ sym (ap statement_of is ∙ ap statement_of (sym (Variants.rolls-Foreach line first second round)) ∙ fold-roll-Statement StatementTree BranchTree statement_step branch_step (Open.Foreach line first second round))

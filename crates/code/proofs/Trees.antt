@@ -52,7 +52,7 @@ tree_kept names more m ts (flat.Name number line) h = ap (λ name. NameTree name
 tree_kept names more m ts (flat.Literal node line) h = refl
 tree_kept names more m ts (flat.List items line) h = refl
 tree_kept names more m ts (flat.Dictionary es line) h = refl
-tree_kept names more m ts (flat.Call name items line) h = refl
+tree_kept names more m ts (flat.Call call line) h = refl
 tree_kept names more m ts (flat.Postfix first ls line) h = refl
 tree_kept names more m ts (flat.Prefix prefix value line) h = refl
 tree_kept names more m ts (flat.Chain first others line) h = refl
@@ -75,7 +75,7 @@ within_wider j k n (flat.Name number line) l h = is_less number k (let g = less 
 within_wider j k n (flat.Literal node line) l h = h
 within_wider j k n (flat.List items line) l h = h
 within_wider j k n (flat.Dictionary es line) l h = h
-within_wider j k n (flat.Call name items line) l h = h
+within_wider j k n (flat.Call call line) l h = h
 within_wider j k n (flat.Postfix first ls line) l h = h
 within_wider j k n (flat.Prefix prefix value line) l h = h
 within_wider j k n (flat.Chain first others line) l h = h

@@ -27,11 +27,11 @@ statement_tree names ts ss (flat.Append name line value) = AppendTree (name_at n
 statement_tree names ts ss (flat.Expression value line) = ValueTree (tree_at ts value) line
 statement_tree names ts ss (flat.Break line) = BreakTree line
 statement_tree names ts ss (flat.Continue line) = ContinueTree line
-statement_tree names ts ss (flat.If line parts otherwise) = IfTree line (branches (map (branch_at ts ss) parts.items))
-    (statements (map (statement_at ss) otherwise.items))
-statement_tree names ts ss (flat.Foreach line first second list list_line body) =
-    ForeachTree line (name_at names first) (option_map (name_at names) second) (tree_at ts list) list_line
-    (statements (map (statement_at ss) body.items))
+statement_tree names ts ss (flat.If node) = IfTree node.value.line (branches (map (branch_at ts ss) node.value.branches.items))
+    (statements (map (statement_at ss) node.value.otherwise.items))
+statement_tree names ts ss (flat.Foreach node) =
+    ForeachTree node.value.line (name_at names node.value.first) (option_map (name_at names) node.value.second) (tree_at ts node.value.list)
+    node.value.list_line (statements (map (statement_at ss) node.value.body.items))
 
 -- the trees with that of one statement more
 abbrev pub with_statement : List (List ℕ) → List ExpressionTree → List StatementTree → StatementNode → List StatementTree
@@ -62,10 +62,10 @@ statement_within k m n (flat.Append name line value) = nat_lt name k && nat_lt v
 statement_within k m n (flat.Expression value line) = nat_lt value m
 statement_within k m n (flat.Break line) = true
 statement_within k m n (flat.Continue line) = true
-statement_within k m n (flat.If line parts otherwise) = list_all (branch_within m n) parts.items && list_all (λ i. nat_lt i n)
-    otherwise.items
-statement_within k m n (flat.Foreach line first second list list_line body) =
-    nat_lt first k && (second_within k second && (nat_lt list m && list_all (λ i. nat_lt i n) body.items))
+statement_within k m n (flat.If node) = list_all (branch_within m n) node.value.branches.items && list_all (λ i. nat_lt i n)
+    node.value.otherwise.items
+statement_within k m n (flat.Foreach node) = nat_lt node.value.first k && (second_within k node.value.second
+    && (nat_lt node.value.list m && list_all (λ i. nat_lt i n) node.value.body.items))
 
 -- each statement stands after its parts, where the first of these has the number n
 abbrev pub all_placed : ℕ → ℕ → ℕ → List StatementNode → Bool

@@ -3,9 +3,9 @@ ghost use Rattle.std.specs.Prelude.{◌≡◌, IfOk, IsTrue, map, length, option
 ghost use Rattle.grammar.specs.ExpressionTree.{NameTree, LiteralTree, ListTree, DictionaryTree, FunctionTree, PostfixTree, PrefixTree, ChainTree, TernaryTree, expressions, entries as entry_trees, argument_trees, links as link_trees, operands as operand_trees, expression_of, entry_of, argument_of, operand_of, link_of};
 ghost use Rattle.code.specs.Nodes.{argument_at, link_at, argument_within, link_within};
 
-use crate::draft::Draft;
+use crate::draft::{Draft, narrow};
 use crate::literal::LiteralNode;
-use crate::node::{ArgumentNode, EntryNode, LinkNode, Node, OperandNode};
+use crate::node::{ArgumentNode, CallNode, EntryNode, LinkNode, Node, OperandNode};
 use grammar::tree::{Argument, Entry, Expression, Link, Literal, Operand, Prefix};
 use std::alloc::{AllocError, Global};
 
@@ -131,11 +131,8 @@ impl Draft {
     {
         let name = String::from_str(self.alloc, name)?;
         let arguments = self.arguments(arguments)?;
-        self.push(Node::Call {
-            name,
-            arguments,
-            line,
-        })
+        let call = Box::new(self.alloc, CallNode { name, arguments })?;
+        self.push(Node::Call { call, line })
     }
 
     // `first.name(argument)[index]`
@@ -150,7 +147,8 @@ impl Draft {
         ensures stands { IfOk result (λ number. Stands (trees_in self.new) number
             (PostfixTree (expression_of first.now) (link_trees (map link_of links.now)) line)) }
     {
-        let first = self.expression(first)?;
+        let head = self.expression(first)?;
+        let first = narrow(head)?;
         let mut nodes = Vec::new(self.alloc);
         for link in links {
             let node = self.link(link)?;
@@ -194,7 +192,8 @@ impl Draft {
         ensures stands { IfOk result (λ number. Stands (trees_in self.new) number
             (ChainTree (expression_of first.now) (operand_trees (map operand_of others.now)) line)) }
     {
-        let first = self.expression(first)?;
+        let head = self.expression(first)?;
+        let first = narrow(head)?;
         let mut nodes = Vec::new(self.alloc);
         for operand in others {
             let value = self.expression(&operand.value)?;

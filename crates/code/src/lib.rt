@@ -9,6 +9,10 @@
 //! statement as a part. Each node stands after its parts, and that is a fact of [`Code`] itself, so whoever walks it by number knows that
 //! the walk ends. Only names of variables stand in the table of names; those of functions, methods and keywords are texts of the node.
 //!
+//! **Nodes are small.** A source may have a statement for each two bytes. So a statement takes 16 bytes and an expression 40: what is
+//! greater stands in a box, and numbers have 32 bits where that makes a node smaller. A number that they don't hold, which no file of 16
+//! MiB has, is refused as memory is. A literal keeps what it stands for and not its text, which only proofs read.
+//!
 //! **What code stands for, not how many nodes it has.** The contract of [`flatten`] gives the tree that code stands for, and that nodes
 //! come after their parts. It doesn't say that no node is left over, which no part names: a draft that makes each node twice would pass
 //! too. That none is made twice is read in the code.

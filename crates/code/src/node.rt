@@ -27,13 +27,12 @@ pub enum Node {
     },
     /// `name(argument, name: argument)`
     Call {
-        name: String,
-        arguments: Vec<ArgumentNode>,
+        call: Box<CallNode>,
         line: usize,
     },
     /// `first.name(argument)[index]`: a value, and what is asked of it in turn.
     Postfix {
-        first: usize,
+        first: u32,
         links: Vec<LinkNode>,
         line: usize,
     },
@@ -45,7 +44,7 @@ pub enum Node {
     },
     /// `first + second - third`: values with operators between them, all of one line of the grammar.
     Chain {
-        first: usize,
+        first: u32,
         others: Vec<OperandNode>,
         line: usize,
     },
@@ -56,6 +55,13 @@ pub enum Node {
         no: usize,
         line: usize,
     },
+}
+
+/// A function by its name, and its arguments.
+#[derive(Drop)]
+pub struct CallNode {
+    pub name: String,
+    pub arguments: Vec<ArgumentNode>,
 }
 
 /// An operator and the value behind it.
@@ -97,47 +103,39 @@ pub enum LinkNode {
 #[derive(Drop)]
 pub enum StatementNode {
     /// `name = value`
-    Assign {
-        name: usize,
-        line: usize,
-        value: usize,
-    },
+    Assign { name: u32, line: u32, value: u32 },
     /// `name += value`
-    Append {
-        name: usize,
-        line: usize,
-        value: usize,
-    },
+    Append { name: u32, line: u32, value: u32 },
     /// An expression alone.
-    Expression {
-        value: usize,
-        line: usize,
-    },
+    Expression { value: u32, line: usize },
     /// `break`
-    Break {
-        line: usize,
-    },
+    Break { line: usize },
     /// `continue`
-    Continue {
-        line: usize,
-    },
+    Continue { line: usize },
     /// `if`, with a part for each `elif`, up to `endif`.
-    If {
-        line: usize,
-        branches: Vec<BranchNode>,
-        /// What stands behind `else`.
-        otherwise: Vec<usize>,
-    },
+    If { node: Box<IfNode> },
     /// `foreach first, second : list`, up to `endforeach`.
-    Foreach {
-        line: usize,
-        first: usize,
-        second: Option<usize>,
-        list: usize,
-        /// The line of the list's first token.
-        list_line: usize,
-        body: Vec<usize>,
-    },
+    Foreach { node: Box<ForeachNode> },
+}
+
+/// The parts of an `if` that have a condition, and what stands behind `else`.
+#[derive(Drop)]
+pub struct IfNode {
+    pub line: usize,
+    pub branches: Vec<BranchNode>,
+    pub otherwise: Vec<usize>,
+}
+
+/// The names of a `foreach`, its list, and the statements of a round.
+#[derive(Drop)]
+pub struct ForeachNode {
+    pub line: usize,
+    pub first: usize,
+    pub second: Option<usize>,
+    pub list: usize,
+    /// The line of the list's first token.
+    pub list_line: usize,
+    pub body: Vec<usize>,
 }
 
 /// A part of an `if`: a condition, and the statements that are run where it holds.

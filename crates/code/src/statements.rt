@@ -7,19 +7,23 @@ ghost use Rattle.grammar.specs.ReadingStatements.{set_tree};
 ghost use Rattle.grammar.specs.Tree.{ValueTree, ForeachTree, IfTree, statement_of, branch_of, branches as branch_trees, statements};
 ghost use Rattle.code.specs.Statements.{statement_at, name_at, second_within, set_node};
 
+use crate::draft::narrow;
 use crate::file_draft::FileDraft;
-use crate::node::{BranchNode, StatementNode};
+use crate::node::{BranchNode, ForeachNode, IfNode, StatementNode};
 use grammar::tree::{Branch, Expression, Statement};
 use std::alloc::AllocError;
 
 // The node that gives a name a value, or adds one to what it has.
-fn set(adds: bool, name: usize, line: usize, value: usize) -> StatementNode
-    ensures { result ≡ set_node adds name line value }
+fn set(adds: bool, name: usize, line: usize, value: usize) -> Result<StatementNode, AllocError>
+    ensures { IfOk result (λ node. node ≡ set_node adds name line value) }
 {
+    let name = narrow(name)?;
+    let line = narrow(line)?;
+    let value = narrow(value)?;
     if adds {
-        StatementNode::Append { name, line, value }
+        Ok(StatementNode::Append { name, line, value })
     } else {
-        StatementNode::Assign { name, line, value }
+        Ok(StatementNode::Assign { name, line, value })
     }
 }
 
@@ -39,7 +43,8 @@ impl FileDraft {
     {
         let value = self.expression(value)?;
         let name = self.name(name)?;
-        self.push(set(adds, name, line, value))
+        let node = set(adds, name, line, value)?;
+        self.push(node)
     }
 
     // An expression alone.
@@ -47,7 +52,8 @@ impl FileDraft {
         ensures extends { Extends self.old self.new }
         ensures is { IfOk result (λ i. IsStatement self.new i (ValueTree (expression_of value.now) line)) }
     {
-        let value = self.expression(value)?;
+        let number = self.expression(value)?;
+        let value = narrow(number)?;
         self.push(StatementNode::Expression { value, line })
     }
 
@@ -82,14 +88,16 @@ impl FileDraft {
         let list = self.expression(list)?;
         let first = self.name(first)?;
         let second = self.second_name(second)?;
-        self.push(StatementNode::Foreach {
+        let node = ForeachNode {
             line,
             first,
             second,
             list,
             list_line,
             body,
-        })
+        };
+        let node = Box::new(self.draft.alloc, node)?;
+        self.push(StatementNode::Foreach { node })
     }
 
     // Puts the nodes of a statement, its own last, and answers its number.
@@ -113,12 +121,11 @@ impl FileDraft {
                 line,
                 first,
                 second,
-                list,
-                list_line,
-                body,
+                round,
             } => {
-                let body = self.body(body)?;
-                self.foreach(*line, first, *second, list, *list_line, body)
+                let round: &Branch<'_> = round;
+                let body = self.body(&round.body)?;
+                self.foreach(*line, first, *second, &round.condition, round.line, body)
             }
         }
     }
@@ -137,11 +144,13 @@ impl FileDraft {
     {
         let branches = self.branches(branches)?;
         let otherwise = self.body(otherwise)?;
-        self.push(StatementNode::If {
+        let node = IfNode {
             line,
             branches,
             otherwise,
-        })
+        };
+        let node = Box::new(self.draft.alloc, node)?;
+        self.push(StatementNode::If { node })
     }
 
     /// Puts the nodes of these statements, and answers their numbers.

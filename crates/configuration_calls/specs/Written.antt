@@ -57,7 +57,8 @@ filling_in entries (Some path) files = template_filling entries path (bytes_at f
 -- ---- code that reads a file of the tree as it writes
 
 -- the call ended as the deed does that these files make, or after a beginning of what it tells
-pub record CarriesOf {A B : Type 0} (view : B → A) (deed : Files → Deed A) (old : State) (result : Result B Stop) (new : State) : Type 0 where
+pub record CarriesOf {A B : Type 0} (view : B → A) (deed : Files → Deed A) (old : State) (result : Result B Stop) (new : State)
+    : Type 0 where
   pub gives : (files : Files) (n : ℕ) → Holds old.tree files
       → Gives view (perform files (deed files) old.world) result new.world (seen_at old n) (seen_at new n)
   pub stays : Stays old.tree new.tree

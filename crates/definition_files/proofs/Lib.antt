@@ -1,4 +1,3 @@
 mod Pieces
 pub mod Looked
 pub mod Detailed
-pub mod Refused

@@ -29,6 +29,8 @@ use Rattle.world.specs.Answering.{Refuses}
 use Rattle.expressions.specs.Forms.{known, set_variable}
 use Rattle.expressions.proofs.Evaluating.{given_as, given_read, given_refuse, given_stop}
 use Rattle.expressions.specs.Assignments.{added, assigned, assigned_by}
+use Rattle.arguments.specs.Rules.{broken}
+use Rattle.arguments.specs.declared.rule.Rule.TheVariants as rules
 
 -- want of memory, where the table of names may have grown
 pub given_none_grown : {A B : Type 0} {view : B → A} {files : Files} {p : Plan A} {w w1 : World} {names names1 : List (List ℕ)} {tree : TreeState} {out : OutputState} {n : ℕ} {result : Result B Stop}
@@ -62,7 +64,7 @@ over_by_name : (b : Bool) (files : Files) (line : ℕ) (name : List ℕ) (d : Da
     → Gives (λ (u : Unit {0}). u) (carry files (next (give d) (λ sum. assigned_by b line name sum)) (changing (with_variable name None) w)) result v old new
     → Gives (λ (u : Unit {0}). u) (carry files (next (give d) (λ sum. assigned_by b line name sum)) w) result v old new
 over_by_name true files line name d w v result old new g =
-    faulted_gives (λ (u : Unit {0}). u) (record { file = w.facts.file; line = line; refusal = refusals.Arguments; detail = [] })
+    faulted_gives (λ (u : Unit {0}). u) (record { file = w.facts.file; line = line; refusal = refusals.Arguments; detail = broken rules.IsSettable name })
     (changing (with_line line) (changing (with_variable name None) w)) (changing (with_line line) w) v result old new refl g
 over_by_name false files line name d w v result old new g =
     gives_at (λ (u : Unit {0}). u) (λ x. ran (Done tt) x []) result v old new (overwritten name (Some d) w) g

@@ -1,9 +1,11 @@
 -- Variables that take values.
-use Rattle.std.specs.Prelude.{ℕ, Bool, true, false, List, [], Option, Some, None, refl}
+use Rattle.std.specs.Prelude.{ℕ, Bool, true, false, List, Option, Some, None, refl}
 use Rattle.std.specs.Option.{option_and_then}
 use Rattle.data.specs.declared.object.Object.{Object}
 use Rattle.data.specs.declared.object.Object.TheVariants as objects
 use Rattle.data.specs.Data.{Data, object, object_in}
+use Rattle.arguments.specs.Rules.{broken}
+use Rattle.arguments.specs.declared.rule.Rule.TheVariants as rules
 use Rattle.basics.specs.declared.faults.refusal.Refusal.TheVariants as refusals
 use Rattle.operators.specs.declared.operator.Binary.TheVariants.{Add}
 use Rattle.operators.specs.Operations.{binary_answer}
@@ -37,7 +39,7 @@ abbrev pub own : Data → Plan Data
 own d = own_by (configuration_in d) d
 
 abbrev pub assigned_by : Bool → ℕ → List ℕ → Data → Plan (Unit {0})
-assigned_by true line name d = refuse line refusals.Arguments []
+assigned_by true line name d = refuse line refusals.Arguments (broken rules.IsSettable name)
 assigned_by false line name d = deed (change (with_variable name (Some d)) (λ facts. refl))
 
 -- a variable takes a value, unless the name stands for a thing of the run

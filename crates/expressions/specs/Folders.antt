@@ -2,6 +2,8 @@
 use Rattle.std.specs.Prelude.{ℕ, List, [], length, nat_lt, not, bytes_eq, Option, Some, None, refl}
 use Rattle.std.specs.List.{list_any}
 use Rattle.grammar.specs.Tree.{Statements}
+use Rattle.arguments.specs.Rules.{broken}
+use Rattle.arguments.specs.declared.rule.Rule.TheVariants as rules
 use Rattle.basics.specs.declared.faults.refusal.Refusal.TheVariants as refusals
 use Rattle.paths.specs.Paths.{folder_below}
 use Rattle.world.specs.Costs.{definition_file}
@@ -32,11 +34,11 @@ opened folder = do
   bytes ← deed (ask (definition_file folder))
   opened_by folder bytes
 
--- a folder that was not entered, E12 otherwise
-abbrev pub fresh_by : Option (List ℕ) → List (List ℕ) → Plan (List ℕ)
-fresh_by None folders = deed (refuse refusals.Subdir [])
-fresh_by (Some folder) folders = do
-  _ ← deed (need (not (list_any (bytes_eq folder) folders)) refusals.Subdir [])
+-- a folder that a text names, and that was not entered; E12 of the text otherwise
+abbrev pub fresh_by : List ℕ → Option (List ℕ) → List (List ℕ) → Plan (List ℕ)
+fresh_by text None folders = deed (refuse refusals.Subdir (broken rules.IsBelow text))
+fresh_by text (Some folder) folders = do
+  _ ← deed (need (not (list_any (bytes_eq folder) folders)) refusals.Subdir (broken rules.IsNew text))
   _ ← deed (need (nat_lt (length folders) 4096) refusals.Limit [])
   give folder
 
@@ -45,4 +47,4 @@ abbrev pub fresh : List ℕ → Plan (List ℕ)
 fresh text = do
   facts ← deed read
   folders ← entered
-  fresh_by (folder_below facts.folder text) folders
+  fresh_by text (folder_below facts.folder text) folders

@@ -28,6 +28,8 @@ use Rattle.operators.specs.Operations.{unary_answer, binary_answer, disabler}
 use Rattle.operators.specs.Logic.{left_answer, right_answer}
 use Rattle.operators.specs.Index.{index_answer}
 use Rattle.operators.specs.Literal.{literal_answer}
+use Rattle.operators.specs.declared.literal.LiteralRefusal.{LiteralRefusal}
+use Rattle.operators.specs.declared.literal.LiteralRefusal.TheVariants as literal_refusals
 use Rattle.methods.specs.Methods.{answer as method_answer}
 use Rattle.arguments.specs.Arguments.{ArgumentsData}
 use Rattle.arguments.specs.Misfits.{checked}
@@ -36,8 +38,10 @@ use Rattle.language_calls.specs.Rows.{any_values}
 use Rattle.language_calls.specs.declared.function.Function.{Function}
 use Rattle.language_calls.specs.declared.function.Function.TheVariants as functions
 use Rattle.world.specs.Deed.{read}
+use Rattle.world.specs.Operation.{of_operation}
 use Rattle.world.specs.Plan.{Plan, deed, ◌>>=◌, give, refuse, answered}
 use Rattle.arguments.specs.Refused.{RefusedData}
+use Rattle.expressions.specs.Details.{key_twice, method_detail}
 use Rattle.expressions.specs.declared.meaning.Meaning.{Meaning}
 use Rattle.expressions.specs.declared.meaning.Meaning.TheVariants.{Combines, Connects}
 
@@ -176,8 +180,14 @@ chosen line None disabled one other = unchosen line disabled
 abbrev pub listed : ℕ → Items → Plan Data
 listed line ds = answered line (within (list ds))
 
+-- what a dictionary literal gives, or its refusal; of a key that stands twice that key
+abbrev pub paired_by : ℕ → Result Data LiteralRefusal → Plan Data
+paired_by line (Ok d) = give d
+paired_by line (Err (literal_refusals.Twice key)) = refuse line refusals.Duplicate (key_twice key)
+paired_by line (Err (literal_refusals.Refused refusal)) = refuse line (of_operation refusal) []
+
 abbrev pub paired : ℕ → List (Data × Data) → Plan Data
-paired line ps = answered line (literal_answer ps)
+paired line ps = paired_by line (literal_answer ps)
 
 abbrev pub prefixed : ℕ → Prefix → Data → Plan Data
 prefixed line prefix d = answered line (unary_answer (unary_of prefix) d)
@@ -257,9 +267,18 @@ asked_of line o = do
   facts ← deed read
   allowed line (facts.is_begun || may_be_asked_first o)
 
+-- what an operation on values answers, or its refusal at a line, with what that is about
+abbrev pub answered_with : {A : Type 0} → ℕ → (OperationRefusal → List ℕ) → Result A OperationRefusal → Plan A
+answered_with line detail (Ok a) = give a
+answered_with line detail (Err refusal) = refuse line (of_operation refusal) (detail refusal)
+
+-- what the method of a value answers
+abbrev pub method_answered : ℕ → Data → List ℕ → List Data → Plan Data
+method_answered line d name ds = answered_with line (method_detail d name ds) (method_answer d name ds)
+
 -- a method of a value that is no object
 abbrev pub value_method : ℕ → Data → List ℕ → ArgumentsData → Plan (Option Data)
 value_method line d name a = do
   _ ← fitted line (checked any_values a)
-  e ← answered line (method_answer d name a.positional)
+  e ← method_answered line d name a.positional
   give (Some e)

@@ -1,5 +1,6 @@
 //! Variables that take values.
 ghost use Rattle.std.specs.Prelude.{◌≡◌, ◌<◌, ℕ, IsTrue, Some, length, nat_lt, option_map};
+ghost use Rattle.arguments.specs.Rules.{broken};
 ghost use Rattle.code.specs.Statements.{name_at, second_within};
 ghost use Rattle.data.specs.View.{data_of};
 ghost use Rattle.configuration_calls.specs.ConfigurationData.{copy_configuration};
@@ -12,6 +13,7 @@ ghost use Rattle.expressions.specs.Assignments.{added, assigned, bound, configur
 
 use crate::context::Context;
 use crate::loops::Round;
+use arguments::Rule;
 use basics::faults::Refusal;
 use configuration_calls::copied;
 use data::{Object, Value};
@@ -81,7 +83,18 @@ impl<'a, T: Tree, O: Outputs, L: Ledger> Context<'a, T, O, L> {
         }
     }
 
-    /// The variable of a number takes a value: error 11 where its name stands for a thing of the run.
+    // Refuses to set the name of a number, which stands for a thing of the run.
+    fn refuse_name(&self, line: usize, number: usize) -> Result<(), Stop>
+        ensures refuses { number < length self.now.store.now.names → Refuses (fault_on self.now line Refusal.Arguments
+            (broken Rule.IsSettable (name_at self.now.store.now.names number))) result }
+        ensures quiet { (n : ℕ) → failures_after n result ≡ n }
+    {
+        let name = self.store.name(number);
+        let detail = Rule::IsSettable.broken(self.alloc, name)?;
+        self.refuse(line, Refusal::Arguments, detail.as_str())
+    }
+
+    /// The variable of a number takes a value: E9 where its name stands for a thing of the run.
     pub fn assign(&mut self, line: usize, number: usize, value: Value) -> Result<(), Stop>
         ensures same { Same self.old self.new }
         ensures device { Fails T.seen O.seen self.old result self.new }
@@ -90,7 +103,7 @@ impl<'a, T: Tree, O: Outputs, L: Ledger> Context<'a, T, O, L> {
     {
         let name = self.store.name(number);
         if is_predefined(name) {
-            return self.refuse(line, Refusal::Arguments, "");
+            return self.refuse_name(line, number);
         }
         self.store.put(number, value)?;
         Ok(())

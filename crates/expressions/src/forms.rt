@@ -2,20 +2,24 @@
 ghost use Rattle.std.specs.Prelude.{◌≡◌, ℕ, option_map};
 ghost use Rattle.data.specs.View.{data_of, items_of};
 ghost use Rattle.operators.specs.Literal.{pairs_of};
+ghost use Rattle.world.specs.Answering.{Refuses};
 ghost use Rattle.world.specs.Gives.{failures_after};
+ghost use Rattle.expressions.specs.Details.{key_twice};
 ghost use Rattle.expressions.specs.Forms.{listed, paired, part_at, prefixed};
 
 use crate::context::Context;
+use crate::details::key_twice;
 use crate::meaning::unary_of;
+use basics::faults::Refusal;
 use data::Value;
 use grammar::tree::Prefix;
-use operators::{dictionary, index, list, unary};
+use operators::{LiteralRefusal, dictionary, index, list, unary};
 use ports::{Outputs, Tree};
 use std::sync::ledger::Ledger;
-use world::Stop;
+use world::{Stop, of_operation};
 
 impl<'a, T: Tree, O: Outputs, L: Ledger> Context<'a, T, O, L> {
-    ghost use Rattle.expressions.specs.Contexts.{Answers};
+    ghost use Rattle.expressions.specs.Contexts.{Answers, fault_on};
 
     /// `[first, second]`
     pub fn listed(&self, line: usize, values: Vec<Value>) -> Result<Value, Stop>
@@ -26,13 +30,26 @@ impl<'a, T: Tree, O: Outputs, L: Ledger> Context<'a, T, O, L> {
         self.answered(line, answer)
     }
 
+    // Refuses a key of a dictionary that stands before it already.
+    fn refuse_key(&self, line: usize, key: &str) -> Result<Value, Stop>
+        ensures { Refuses (fault_on self.now line Refusal.Duplicate (key_twice key.now)) result }
+    {
+        let detail = key_twice(self.alloc, key)?;
+        self.refuse(line, Refusal::Duplicate, detail.as_str())
+    }
+
     /// `{key : value, key : value}`
     pub fn paired(&self, line: usize, pairs: Vec<(Value, Value)>) -> Result<Value, Stop>
         ensures gives { Answers T.seen O.seen data_of (paired line (pairs_of pairs.items)) self.now result self.now }
         ensures quiet { (n : ℕ) → failures_after n result ≡ n }
     {
-        let answer = dictionary(self.alloc, pairs)?;
-        self.answered(line, answer)
+        match dictionary(self.alloc, pairs)? {
+            Ok(value) => Ok(value),
+            Err(LiteralRefusal::Twice(key)) => self.refuse_key(line, key.as_str()),
+            Err(LiteralRefusal::Refused(refusal)) => {
+                self.refuse(line, of_operation(refusal), "")
+            }
+        }
     }
 
     /// `not value` or `-value`

@@ -5,6 +5,7 @@
 mod assign;
 mod conditions;
 mod context;
+mod details;
 mod format_strings;
 mod forms;
 mod literals;

@@ -1,13 +1,14 @@
 //! Names: of variables, of functions, and of the methods of values.
-ghost use Rattle.std.specs.Prelude.{◌≡◌, ◌<◌, ◌||◌, ◌&&◌, ℕ, IfOk, [], false, length, option_map, slice_index_or};
+ghost use Rattle.std.specs.Prelude.{◌≡◌, ◌<◌, ◌||◌, ◌&&◌, ℕ, IfOk, [], false, length, map, option_map, slice_index_or};
 ghost use Rattle.arguments.specs.Arguments.{arguments_data};
 ghost use Rattle.data.specs.View.{data_of};
 ghost use Rattle.methods.specs.Methods.{has_name};
 ghost use Rattle.world.specs.Gives.{failures_after};
 ghost use Rattle.expressions.specs.Forms.{asked_of, disabler_method, function_at, function_inside, known, known_method};
-ghost use Rattle.expressions.specs.Forms.{may_be_asked_first, may_come_first, thing, value_method, variable};
+ghost use Rattle.expressions.specs.Forms.{may_be_asked_first, may_come_first, method_answered, thing, value_method, variable};
 
 use crate::context::Context;
+use crate::details::method_detail;
 use arguments::{Arguments, check};
 use basics::faults::Refusal;
 use data::{Object, Value};
@@ -18,7 +19,7 @@ use methods::{has_method, method};
 use ports::{Outputs, Tree};
 use std::alloc::{AllocError, Global};
 use std::sync::ledger::Ledger;
-use world::Stop;
+use world::{Stop, of_operation};
 
 // Whether a function may be called in the arguments of `project`.
 fn may_come_first(function: Function) -> bool
@@ -178,6 +179,27 @@ impl<'a, T: Tree, O: Outputs, L: Ledger> Context<'a, T, O, L> {
         }
     }
 
+    // What the method of a value answers, or the stop of its refusal, with what that is about.
+    fn method_answered(
+        &self,
+        line: usize,
+        whole: &Value,
+        name: &str,
+        values: &[Value],
+    ) -> Result<Value, Stop>
+        ensures gives { Answers T.seen O.seen data_of
+            (method_answered line (data_of whole.now) name.now (map data_of values.now)) self.now result self.now }
+        ensures quiet { (n : ℕ) → failures_after n result ≡ n }
+    {
+        match method(self.alloc, whole, name, values)? {
+            Ok(value) => Ok(value),
+            Err(refusal) => {
+                let detail = method_detail(self.alloc, whole, name, values, refusal)?;
+                self.refuse(line, of_operation(refusal), detail.as_str())
+            }
+        }
+    }
+
     /// A method of a value that is no object.
     pub fn value_method(
         &self,
@@ -192,7 +214,7 @@ impl<'a, T: Tree, O: Outputs, L: Ledger> Context<'a, T, O, L> {
     {
         let fits = check(self.alloc, &any_values(), arguments)?;
         self.fitted(line, fits)?;
-        let answer = method(self.alloc, whole, name, &arguments.positional)?;
-        Ok(Some(self.answered(line, answer)?))
+        let value = self.method_answered(line, whole, name, &arguments.positional)?;
+        Ok(Some(value))
     }
 }

@@ -2,9 +2,11 @@
 ghost use Rattle.std.specs.Prelude.{◌≡◌, ℕ, List, IfOk, Some, [], false, length, string_bytes, bytes_eq};
 ghost use Rattle.std.specs.List.{list_any};
 ghost use Rattle.std.specs.Str.{is_utf8};
+ghost use Rattle.arguments.specs.Rules.{broken};
 ghost use Rattle.grammar.specs.Parsed.{parsed};
 ghost use Rattle.grammar.specs.Tree.{file_of, statements};
 ghost use Rattle.ports.specs.Tree.{file_at};
+ghost use Rattle.world.specs.Answering.{Refuses};
 ghost use Rattle.world.specs.Costs.{definition_file};
 ghost use Rattle.world.specs.Deed.{Files};
 ghost use Rattle.world.specs.Gives.{Holds, failures_after};
@@ -14,6 +16,7 @@ ghost use Rattle.definition_files.specs.Files.{spelled, spelled_by, tree_or_faul
 ghost use Rattle.expressions.specs.Folders.{fresh, fresh_by, opened, opened_by};
 
 use crate::context::Context;
+use arguments::Rule;
 use basics::faults::Refusal;
 use basics::limits::FOLDERS;
 use code::Code;
@@ -29,7 +32,7 @@ use std::sync::ledger::Ledger;
 use world::{Place, Stop};
 
 impl<'a, T: Tree, O: Outputs, L: Ledger> Context<'a, T, O, L> {
-    ghost use Rattle.expressions.specs.Contexts.{Answers, Fails, Given, HasRoom, Same, stand_of};
+    ghost use Rattle.expressions.specs.Contexts.{Answers, Fails, Given, HasRoom, Same, fault_on, stand_of};
 
     /// The present line.
     pub fn line(&self) -> usize
@@ -58,26 +61,33 @@ impl<'a, T: Tree, O: Outputs, L: Ledger> Context<'a, T, O, L> {
         ensures quiet { (n : ℕ) → failures_after n result ≡ n }
     {
         match folder_below(self.alloc, self.store.folder(), text)? {
-            Some(folder) => self.not_entered(folder),
-            None => self.refuse(self.store.line(), Refusal::Subdir, ""),
+            Some(folder) => self.not_entered(text, folder),
+            None => self.refuse_folder(Rule::IsBelow, text),
         }
     }
 
-    // A folder, unless it was entered or too many were.
-    fn not_entered(&self, folder: String) -> Result<String, Stop>
-        ensures gives { Answers T.seen O.seen string_bytes (fresh_by (Some (string_bytes folder)) self.now.store.now.entered)
-            self.now result self.now }
+    // Refuses to enter a folder, since the text that names it breaks the rule.
+    fn refuse_folder<A>(&self, rule: Rule, text: &str) -> Result<A, Stop>
+        ensures { Refuses (fault_on self.now self.now.store.now.line Refusal.Subdir (broken rule text.now)) result }
+    {
+        let detail = rule.broken(self.alloc, text)?;
+        self.refuse(self.store.line(), Refusal::Subdir, detail.as_str())
+    }
+
+    // The folder that a text names, unless it was entered or too many were.
+    fn not_entered(&self, text: &str, folder: String) -> Result<String, Stop>
+        ensures gives { Answers T.seen O.seen string_bytes
+            (fresh_by text.now (Some (string_bytes folder)) self.now.store.now.entered) self.now result self.now }
         ensures new { IfOk result (λ path. list_any (bytes_eq (string_bytes path)) self.now.store.now.entered ≡ false) }
         ensures quiet { (n : ℕ) → failures_after n result ≡ n }
     {
-        let line = self.store.line();
         if self.store.is_entered(&folder) {
-            return self.refuse(line, Refusal::Subdir, "");
+            return self.refuse_folder(Rule::IsNew, text);
         }
         if self.store.entered() < FOLDERS {
             Ok(folder)
         } else {
-            self.refuse(line, Refusal::Limit, "")
+            self.refuse(self.store.line(), Refusal::Limit, "")
         }
     }
 

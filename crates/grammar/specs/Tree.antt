@@ -49,14 +49,14 @@ branches [] = NoBranch
 branches (b ∷ bs) = MoreBranches b.0 b.1 b.2 (branches bs)
 
 abbrev pub statement_step : Statement-F StatementTree BranchTree → StatementTree
-statement_step (Assign name line value) = AssignTree name.now line (expression_of value)
-statement_step (Append name line value) = AppendTree name.now line (expression_of value)
+statement_step (Assign name line value) = AssignTree name.now line (expression_of value.value)
+statement_step (Append name line value) = AppendTree name.now line (expression_of value.value)
 statement_step (opened.Expression value line) = ValueTree (expression_of value) line
 statement_step (Break line) = BreakTree line
 statement_step (Continue line) = ContinueTree line
 statement_step (If line parts otherwise) = IfTree line (branches parts.items) (statements otherwise.items)
-statement_step (Foreach line first second list list_line body) =
-    ForeachTree line first.now (option_map (λ name. name.now) second) (expression_of list) list_line (statements body.items)
+statement_step (Foreach line first second round) =
+    ForeachTree line first.now (option_map (λ name. name.now) second) round.value.0 round.value.1 round.value.2
 
 abbrev pub branch_step : Branch-F StatementTree BranchTree → BranchTree
 branch_step b = (expression_of b.condition, b.line, statements b.body.items)

@@ -9,7 +9,8 @@ pub struct File<'a> {
     pub statements: Vec<Statement<'a>>,
 }
 
-/// A statement, of the manual's page "Syntax". Its line is that of its first token.
+/// A statement, of the manual's page "Syntax". Its line is that of its first token. It is no greater than an expression with a line, since
+/// a file of many short lines has as many statements.
 #[cycle(statement)]
 #[derive(Drop)]
 pub enum Statement<'a> {
@@ -17,13 +18,13 @@ pub enum Statement<'a> {
     Assign {
         name: &'a str,
         line: usize,
-        value: Expression<'a>,
+        value: Box<Expression<'a>>,
     },
     /// `name += value`
     Append {
         name: &'a str,
         line: usize,
-        value: Expression<'a>,
+        value: Box<Expression<'a>>,
     },
     /// An expression alone, as a call.
     Expression {
@@ -51,14 +52,12 @@ pub enum Statement<'a> {
         line: usize,
         first: &'a str,
         second: Option<&'a str>,
-        list: Expression<'a>,
-        /// The line of the list's first token.
-        list_line: usize,
-        body: Vec<Statement<'a>>,
+        /// The list, in place of a condition, and the statements of a round.
+        round: Box<Branch<'a>>,
     },
 }
 
-/// A part of an `if`: a condition, and the statements that are run where it holds.
+/// A part of an `if`: a condition, and the statements that are run where it holds. A `foreach` has its list in the condition's place.
 #[cycle(statement)]
 #[derive(Drop)]
 pub struct Branch<'a> {

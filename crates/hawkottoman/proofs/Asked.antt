@@ -1,10 +1,9 @@
 -- What a run asks.
 use Rattle.std.proofs.Common.{◌≡◌, ◌≢◌, ℕ, zero, suc, ◌+◌, ◌≤◌, List, [], Result, Ok, Err, IsErrAnd, refl, sym, ap, subst, ◌∙◌, arith}
 use Rattle.basics.specs.Faults.{FaultData}
-use Rattle.definition_files.specs.Places.{refuse_at}
-use Rattle.machine_file.specs.Fault.{told}
+use Rattle.definition_files.specs.Details.{refuse_about}
+use Rattle.machine_file.specs.Fault.{MachineFaultData, told}
 use Rattle.machine_file.specs.Files.{Section}
-use Rattle.machine_file.specs.declared.fault.MachineFault.{MachineFault}
 use Rattle.world.specs.Deed.{Files}
 use Rattle.world.specs.Gives.{Gives, failures_after}
 use Rattle.world.specs.Plan.{carry}
@@ -36,12 +35,12 @@ fails_none (Ok a) t is = absurd is
 fails_none (Err e) t is = subst (λ x. t ≡ failures_after {B = Asking} t (Err x)) (sym is) refl
 
 -- a machine file with a fault: nothing was asked
-faulty_asked : (files : Files) (s : SettingsData) (f : MachineFault) → run_text files s (Err f) ≡ []
-unfolding evaluated refuse_at
+faulty_asked : (files : Files) (s : SettingsData) (f : MachineFaultData) → run_text files s (Err f) ≡ []
+unfolding evaluated refuse_about
 faulty_asked files s f = refl
 
-faulty_ended : (files : Files) (s : SettingsData) (f : MachineFault) → outcome_of (evaluated files s (Err f)) ≡ Faulted (told f)
-unfolding evaluated refuse_at
+faulty_ended : (files : Files) (s : SettingsData) (f : MachineFaultData) → outcome_of (evaluated files s (Err f)) ≡ Faulted (told f)
+unfolding evaluated refuse_about
 faulty_ended files s f = refl
 
 unread : {A : Type 0} (view : A → List Section) (files : Files) (s : SettingsData) (said : MachineSaid) (e : Stop) → Reads view said (Err e)

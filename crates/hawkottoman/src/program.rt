@@ -1,5 +1,6 @@
 //! A run of the program, over a folder of a disk.
-ghost use Rattle.std.specs.Prelude.{◌≡◌, ◌<◌, ◌≤◌, IfOk, length, map, string_bytes};
+ghost use Rattle.std.specs.Prelude.{◌≡◌, ◌≢◌, ◌<◌, ◌≤◌, IfOk, length, map, string_bytes};
+ghost use Rattle.std.specs.IoError.{error_kind};
 ghost use Rattle.command.specs.BuildFolder.{pieces_of};
 ghost use Rattle.command.specs.CommandLine.{IsRefused, IsTaken};
 ghost use Rattle.operators.specs.Texts.{path_below};
@@ -150,7 +151,11 @@ fn machine_bytes<R: Files<File = File> + AllocGlobal>(
     Ok(bytes)
 }
 
-fn status_of(error: &io::Error) -> Status {
+// The status of a run that failed so before its outputs were begun.
+fn status_of(error: &io::Error) -> Status
+    ensures memory { error_kind error.now ≡ ErrorKind.OutOfMemory → result ≡ Status.Memory }
+    ensures device { error_kind error.now ≢ ErrorKind.OutOfMemory → result ≡ Status.Device }
+{
     if error.kind() == ErrorKind::OutOfMemory {
         Status::Memory
     } else {

@@ -17,6 +17,8 @@ use Rattle.data.specs.declared.refusal.Refusal.{Refusal as OperationRefusal}
 use Rattle.data.specs.Data.{Data, boolean, integer, text, list, dictionary, object, Items, no_items, item, items_append, boolean_in, object_in, is_disabler}
 use Rattle.data.specs.Limits.{within}
 use Rattle.arguments.specs.Refused.{RefusedData}
+use Rattle.arguments.specs.Rules.{broken}
+use Rattle.arguments.specs.declared.rule.Rule.TheVariants as call_rules
 use Rattle.basics.specs.declared.faults.refusal.Refusal.{Refusal}
 use Rattle.basics.specs.declared.faults.refusal.Refusal.TheVariants as refusals
 use Rattle.operators.specs.declared.operator.Binary.TheVariants.{Add}
@@ -24,6 +26,8 @@ use Rattle.operators.specs.Operations.{binary_answer}
 use Rattle.operators.specs.Logic.{left_answer, right_answer}
 use Rattle.operators.specs.Index.{index_answer}
 use Rattle.operators.specs.Literal.{literal_answer}
+use Rattle.operators.specs.declared.literal.LiteralRefusal.{LiteralRefusal}
+use Rattle.operators.specs.declared.literal.LiteralRefusal.TheVariants as literal_refusals
 use Rattle.methods.specs.Methods.{answer as method_answer, has_name}
 use Rattle.objects.specs.Methods.{has_method as has_object_method}
 use Rattle.texts.specs.Segments.{Segment, text as between, place}
@@ -46,7 +50,8 @@ use Rattle.world.proofs.Costs.{Takes, more as more_in, free as free_in, none as 
 use Rattle.expressions.specs.declared.meaning.Meaning.{Meaning}
 use Rattle.expressions.specs.declared.meaning.Meaning.TheVariants.{Combines, Connects}
 use Rattle.interp.specs.Cost.{value_cost, values_cost, entries_cost, arguments_cost, links_cost, link_cost, chain_cost, statement_cost, branches_cost, statements_cost, parsed_cost, file_cost, tree_cost}
-use Rattle.expressions.specs.Forms.{known, variable, variable_by, is_plain, printed_plain, part_text, filled, number, literal_value, meaning_of, unless_decided, combined, unchosen, chosen, needed, known_function, refused_name, function_at, may_come_first, allowed, function_inside, known_method, may_be_asked_first, value_method, fitted}
+use Rattle.expressions.specs.Forms.{known, variable, variable_by, is_plain, printed_plain, part_text, filled, number, literal_value, meaning_of, unless_decided, combined, unchosen, chosen, needed, known_function, refused_name, function_at, may_come_first, allowed, function_inside, known_method, may_be_asked_first, value_method, fitted, answered_with, paired_by}
+use Rattle.expressions.specs.Details.{key_twice, method_detail}
 use Rattle.interp.specs.Expressions.{called_by, called, entered_inside, inside_by, known_object_method, method_at_by, method_at, object_method_called, method_by, method_called_by, method_of, value_of, values_of, entries_of, arguments_of, links_of, link_of, chain_of}
 use Rattle.interp.specs.declared.flow.Flow.{Flow}
 use Rattle.interp.specs.declared.flow.Flow.TheVariants.{Next, Continued, Broken, Finished}
@@ -66,7 +71,7 @@ use Rattle.definition_files.specs.Files.{most_bytes, refuse_line, tree_or_fault,
 use Rattle.interp.specs.Evaluation.{begun_by, is_project, begins, begins_all, root, MachineSaid, sections_of, defined, evaluated_few, evaluation}
 use Rattle.interp.specs.Laws.{StepsWithinCost}
 use Rattle.interp.proofs.Paths.{not_opened, is_definition}
-use Rattle.definition_files.specs.Places.{refuse_at}
+use Rattle.definition_files.specs.Details.{refuse_about}
 
 module _ (files : Files) where
   more : {A : Type 0} {p : Plan A} {c d : ℕ} → c ≤ d → Takes file_cost files c p → Takes file_cost files d p
@@ -100,6 +105,15 @@ module _ (files : Files) where
   answered-cost : {A : Type 0} (line : ℕ) (r : Result A OperationRefusal) → Takes file_cost files 0 (answered line r)
   answered-cost line (Ok a) = free _
   answered-cost line (Err refusal) = refuse-cost line _ []
+
+  answered_with-cost : {A : Type 0} (line : ℕ) (detail : OperationRefusal → List ℕ) (r : Result A OperationRefusal) → Takes file_cost files 0 (answered_with line detail r)
+  answered_with-cost line detail (Ok a) = free _
+  answered_with-cost line detail (Err refusal) = refuse-cost line _ (detail refusal)
+
+  paired_by-cost : (line : ℕ) (r : Result Data LiteralRefusal) → Takes file_cost files 0 (paired_by line r)
+  paired_by-cost line (Ok d) = free _
+  paired_by-cost line (Err (literal_refusals.Twice key)) = refuse-cost line refusals.Duplicate (key_twice key)
+  paired_by-cost line (Err (literal_refusals.Refused refusal)) = refuse-cost line _ []
 
   known-cost : (line : ℕ) (name : List ℕ) (o : Option Data) → Takes file_cost files 0 (known line name o)
   known-cost line name (Some d) = free _
@@ -184,7 +198,7 @@ module _ (files : Files) where
   fitted-cost line (Err refused) = refuse-cost line refused.refusal refused.detail
 
   value_method-cost : (line : ℕ) (d : Data) (name : List ℕ) (a : ArgumentsData) → Takes file_cost files 0 (value_method line d name a)
-  value_method-cost line d name a = first (fitted-cost line _) (λ v. first (answered-cost line (method_answer d name a.positional)) (λ e. none _))
+  value_method-cost line d name a = first (fitted-cost line _) (λ v. first (answered_with-cost line (method_detail d name a.positional) (method_answer d name a.positional)) (λ e. none _))
 
   object_method-cost : (line : ℕ) (o : Object) (name : List ℕ) (a : ArgumentsData) → Takes file_cost files 0 (object_method_called line o name a)
   object_method-cost line o name a = first (none _) (λ u. none _)
@@ -220,7 +234,7 @@ module _ (files : Files) where
   -- ---- statements
 
   assigned_by-cost : (b : Bool) (line : ℕ) (name : List ℕ) (d : Data) → Takes file_cost files 0 (assigned_by b line name d)
-  assigned_by-cost true line name d = refuse-cost line refusals.Arguments []
+  assigned_by-cost true line name d = refuse-cost line refusals.Arguments (broken call_rules.IsSettable name)
   assigned_by-cost false line name d = none _
 
   assigned-cost : (line : ℕ) (name : List ℕ) (d : Data) → Takes file_cost files 0 (assigned line name d)
@@ -320,7 +334,7 @@ module _ (files : Files) where
       value-cost (NameTree name line) = rules (variable-cost line name)
       value-cost (LiteralTree literal t line) = rules (literal-cost line literal t)
       value-cost (ListTree es line) = rules (last (values-cost no_items es) (λ ds. answered-cost line (within (list ds))))
-      value-cost (DictionaryTree es line) = rules (last (entries-cost [] es) (λ ps. answered-cost line (literal_answer ps)))
+      value-cost (DictionaryTree es line) = rules (last (entries-cost [] es) (λ ps. paired_by-cost line (literal_answer ps)))
       value-cost (FunctionTree name es line) = rules (first (function_inside-cost line name) (λ f. last (arguments-cost no_arguments es) (λ a. inside-cost (action_of f) line f a)))
       value-cost (PostfixTree e ls line) = rules (last (chain (value-cost e) (λ d. links-cost line (Some d) ls)) (λ o. needed-cost line o))
       value-cost (PrefixTree prefix value line) = rules (last (value-cost value) (λ d. answered-cost line _))
@@ -372,7 +386,7 @@ module _ (files : Files) where
     stated-cost (NameTree name line) = alone-cost (variable-cost line name)
     stated-cost (LiteralTree literal t line) = alone-cost (literal-cost line literal t)
     stated-cost (ListTree es line) = alone-cost (last (values-cost no_items es) (λ ds. answered-cost line (within (list ds))))
-    stated-cost (DictionaryTree es line) = alone-cost (last (entries-cost [] es) (λ ps. answered-cost line (literal_answer ps)))
+    stated-cost (DictionaryTree es line) = alone-cost (last (entries-cost [] es) (λ ps. paired_by-cost line (literal_answer ps)))
     stated-cost (PostfixTree e ls line) = last (rules (chain (value-cost e) (λ d. links-cost line (Some d) ls))) (λ o. none _)
     stated-cost (PrefixTree prefix value line) = alone-cost (last (value-cost value) (λ d. answered-cost line _))
     stated-cost (ChainTree e others line) = alone-cost (chain (value-cost e) (λ d. chain-cost line d others))
@@ -455,29 +469,29 @@ module _ (files : Files) where
   body-paid folder others p w new =
       omega (arith, opened-paid folder w new, spent-paid file_cost files worth (carry files (opened folder) w) (λ body. carry files (others body)) (λ body. (p body).costs))
 
-  abbrev fresh_as : List ℕ → Bool → Bool → Plan (List ℕ)
-  fresh_as path b c = next_plan (deed (need (not b) refusals.Subdir [])) (λ u. next_plan (deed (need c refusals.Limit [])) (λ v. give path))
+  abbrev fresh_as : List ℕ → List ℕ → Bool → Bool → Plan (List ℕ)
+  fresh_as t path b c = next_plan (deed (need (not b) refusals.Subdir (broken call_rules.IsNew t))) (λ u. next_plan (deed (need c refusals.Limit [])) (λ v. give path))
 
-  fresh_as-paid : (others : List ℕ → Plan Flow) (path : List ℕ) (b c : Bool) (w : World) → (b ≡ false → spent file_cost files (carry files (others path) w) ≤ unopened file_cost files w.entered)
-      → spent file_cost files (carry files (next_plan (fresh_as path b c) others) w) ≤ unopened file_cost files w.entered
+  fresh_as-paid : (others : List ℕ → Plan Flow) (t path : List ℕ) (b c : Bool) (w : World) → (b ≡ false → spent file_cost files (carry files (others path) w) ≤ unopened file_cost files w.entered)
+      → spent file_cost files (carry files (next_plan (fresh_as t path b c) others) w) ≤ unopened file_cost files w.entered
   unfolding need
-  fresh_as-paid others path true c w p = omega arith
-  fresh_as-paid others path false true w p = omega (arith, spent-after file_cost files [] (carry files (others path) w), p refl)
-  fresh_as-paid others path false false w p = omega arith
+  fresh_as-paid others t path true c w p = omega arith
+  fresh_as-paid others t path false true w p = omega (arith, spent-after file_cost files [] (carry files (others path) w), p refl)
+  fresh_as-paid others t path false false w p = omega arith
 
-  fresh_by-paid : (others : List ℕ → Plan Flow) (o : Option (List ℕ)) (w : World)
+  fresh_by-paid : (others : List ℕ → Plan Flow) (t : List ℕ) (o : Option (List ℕ)) (w : World)
       → ((path : List ℕ) → is_opened w.entered (definition_file path) ≡ false → spent file_cost files (carry files (others path) w) ≤ unopened file_cost files w.entered)
-      → spent file_cost files (carry files (next_plan (fresh_by o w.entered) others) w) ≤ unopened file_cost files w.entered
-  fresh_by-paid others None w p = omega arith
-  fresh_by-paid others (Some path) w p =
-      fresh_as-paid others path (list_any (bytes_eq path) w.entered) (nat_lt (length w.entered) 4096) w (λ h. p path (not_opened w.entered path ∙ h))
+      → spent file_cost files (carry files (next_plan (fresh_by t o w.entered) others) w) ≤ unopened file_cost files w.entered
+  fresh_by-paid others t None w p = omega arith
+  fresh_by-paid others t (Some path) w p =
+      fresh_as-paid others t path (list_any (bytes_eq path) w.entered) (nat_lt (length w.entered) 4096) w (λ h. p path (not_opened w.entered path ∙ h))
 
   fresh-paid : (others : List ℕ → Plan Flow) (t : List ℕ) (w : World)
       → ((path : List ℕ) → is_opened w.entered (definition_file path) ≡ false → spent file_cost files (carry files (others path) w) ≤ unopened file_cost files w.entered)
       → spent file_cost files (carry files (next_plan (fresh t) others) w) ≤ unopened file_cost files w.entered
   fresh-paid others t w p =
-      let q = fresh_by-paid others (folder_below w.facts.folder t) w p in
-      omega (arith, q, fresh-as others (carry files (fresh_by (folder_below w.facts.folder t) w.entered) w))
+      let q = fresh_by-paid others t (folder_below w.facts.folder t) w p in
+      omega (arith, q, fresh-as others (carry files (fresh_by t (folder_below w.facts.folder t) w.entered) w))
     where
       fresh-as : (others : List ℕ → Plan Flow) (r : Run (List ℕ)) → spent file_cost files (follow (after [] (after [] r)) (λ a. carry files (others a))) ≡ spent file_cost files (follow r (λ a. carry files (others a)))
       fresh-as others (ran (Done path) v ms) = refl
@@ -530,7 +544,7 @@ module _ (files : Files) where
   definitions-cost w new = body-paid [] (λ body. next_plan (ruled (root true body)) (λ u. give (tt {0}))) (λ body. last (rules (root-cost body)) (λ u. none _)) w new
 
   begun_run : (said : MachineSaid) (w : World) → w.entered ≡ [] → spent file_cost files (carry files (evaluation true said) w) ≤ unopened file_cost files w.entered
-  unfolding refuse_at
+  unfolding refuse_about
   begun_run (Ok sections) w none_entered = definitions-cost w (ap (λ l. is_opened l (definition_file [])) none_entered)
   begun_run (Err fault) w none_entered = omega arith
 

@@ -66,13 +66,13 @@ absent = refl
 
 -- it was entered before
 again : outcome_of (carry [] (folder (bounds false 1) (codes "sub")) (entering begun (codes "sub")))
-    ≡ Faulted (record { file = codes "meson.build"; line = 1; refusal = refusals.Subdir; detail = [] })
+    ≡ Faulted (record { file = codes "meson.build"; line = 1; refusal = refusals.Subdir; detail = codes "folder 'sub': was entered before" })
 unfolding need
 again = refl
 
 -- no folder leads out of the tree
 above : outcome_of (carry [] (folder (bounds false 1) (codes "..")) begun)
-    ≡ Faulted (record { file = codes "meson.build"; line = 1; refusal = refusals.Subdir; detail = [] })
+    ≡ Faulted (record { file = codes "meson.build"; line = 1; refusal = refusals.Subdir; detail = codes "folder '..': is none below the present one" })
 above = refl
 
 -- its file is cut into tokens up to the sign that is none, in the second line; what is refused there is refused in that file

@@ -1,12 +1,12 @@
 -- What the statements of code spell, by the table of names as it was when the code was made.
-use Rattle.std.proofs.Common.{◌≡◌, Bool, ℕ, zero, suc, ◌+◌, ◌<◌, ◌≤◌, List, [], ◌∷◌, drop, drop_of_length-le, IsErrAnd, Result, Ok, Err, length, length-append, length-drop, get_or, string_bytes, String, Global, Vec, map, IsTrue, Option, Some, None, option_map, refl, sym, ap, subst, ◌∙◌, arith}
+use Rattle.std.proofs.Common.{◌≡◌, Bool, ℕ, zero, suc, ◌+◌, ◌<◌, ◌≤◌, List, [], ◌∷◌, drop, drop_of_length-le, IsErrAnd, Result, Ok, Err, length, length-append, length-drop, get_or, string_bytes, Box, Global, Vec, map, IsTrue, Option, Some, None, option_map, refl, sym, ap, subst, ◌∙◌, arith}
 use Rattle.std.specs.Prelude.{nat_lt}
 use Rattle.std.specs.List.{list_all}
 use Rattle.code.specs.Draft.{IsFront}
 use Rattle.code.specs.Nodes.{argument_at, tree_at, tree_of}
 use Rattle.code.specs.Statements.{branch_at, branch_within, name_at, second_within, statement_at, statement_tree, statement_within}
 use Rattle.code.specs.declared.code.Code.{Code}
-use Rattle.code.specs.declared.node.ArgumentNode.{ArgumentNode}
+use Rattle.code.specs.declared.node.CallNode.{CallNode}
 use Rattle.code.specs.declared.node.LinkNode.{LinkNode}
 use Rattle.code.specs.declared.node.Node.{Node}
 use Rattle.code.specs.declared.node.Node.TheVariants as nodes
@@ -161,18 +161,18 @@ drop_all xs i le = drop_of_length-le xs le
 -- ---- expressions alone
 
 -- the tree of a node that is a call
-pub call_at : (table : List (List ℕ)) (c : Code) (value : ℕ) (x : Node) (name : String Global) (items : Vec ArgumentNode Global) (line : ℕ) → value < length c.nodes.items → x ≡ get_or c.nodes.items value x → x ≡ nodes.Call name items line
-    → tree_at (expressions_by table c) value ≡ FunctionTree (string_bytes name) (arguments (map (argument_at (expressions_by table c)) items.items)) line
-call_at table c value x name items line l at is = node_opens table c.names c.nodes.items value x c.ordered l ∙ ap (tree_of table (expressions_by table c)) (sym at ∙ is)
+pub call_at : (table : List (List ℕ)) (c : Code) (value : ℕ) (x : Node) (call : Box CallNode Global) (line : ℕ) → value < length c.nodes.items → x ≡ get_or c.nodes.items value x → x ≡ nodes.Call call line
+    → tree_at (expressions_by table c) value ≡ FunctionTree (string_bytes call.value.name) (arguments (map (argument_at (expressions_by table c)) call.value.arguments.items)) line
+call_at table c value x call line l at is = node_opens table c.names c.nodes.items value x c.ordered l ∙ ap (tree_of table (expressions_by table c)) (sym at ∙ is)
 
 stated_other : (into : List ℕ → Plan Flow) (table : List (List ℕ)) (ts : List ExpressionTree) (x : Node)
-    → ((name : String Global) (items : Vec ArgumentNode Global) (line : ℕ) → x ≡ nodes.Call name items line → ⊥)
+    → ((call : Box CallNode Global) (line : ℕ) → x ≡ nodes.Call call line → ⊥)
     → stated into (tree_of table ts x) ≡ next (ruled (given_by into (tree_of table ts x))) (λ _. give Next)
 stated_other into table ts (nodes.Name number line) h = refl
 stated_other into table ts (nodes.Literal node line) h = refl
 stated_other into table ts (nodes.List items line) h = refl
 stated_other into table ts (nodes.Dictionary es line) h = refl
-stated_other into table ts (nodes.Call name items line) h = absurd (h name items line refl)
+stated_other into table ts (nodes.Call call line) h = absurd (h call line refl)
 stated_other into table ts (nodes.Postfix first ls line) h = refl
 stated_other into table ts (nodes.Prefix prefix value line) h = refl
 stated_other into table ts (nodes.Chain first others line) h = refl
@@ -180,7 +180,7 @@ stated_other into table ts (nodes.Ternary test one other line) h = refl
 
 -- what is stated by a node that is none
 pub stated_at : (into : List ℕ → Plan Flow) (table : List (List ℕ)) (c : Code) (value : ℕ) (x : Node) → value < length c.nodes.items → x ≡ get_or c.nodes.items value x
-    → ((name : String Global) (items : Vec ArgumentNode Global) (line : ℕ) → x ≡ nodes.Call name items line → ⊥)
+    → ((call : Box CallNode Global) (line : ℕ) → x ≡ nodes.Call call line → ⊥)
     → next (ruled (given_by into (tree_at (expressions_by table c) value))) (λ _. give Next) ≡ stated into (tree_at (expressions_by table c) value)
 stated_at into table c value x l at h =
     let e : tree_at (expressions_by table c) value ≡ tree_of table (expressions_by table c) x = node_opens table c.names c.nodes.items value x c.ordered l ∙ ap (tree_of table (expressions_by table c)) (sym at) in
@@ -193,7 +193,7 @@ given_other into table ts (nodes.Name number line) h = refl
 given_other into table ts (nodes.Literal node line) h = refl
 given_other into table ts (nodes.List items line) h = refl
 given_other into table ts (nodes.Dictionary es line) h = refl
-given_other into table ts (nodes.Call name items line) h = refl
+given_other into table ts (nodes.Call call line) h = refl
 given_other into table ts (nodes.Postfix first ls line) h = absurd (h first ls line refl)
 given_other into table ts (nodes.Prefix prefix value line) h = refl
 given_other into table ts (nodes.Chain first others line) h = refl

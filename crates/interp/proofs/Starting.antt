@@ -13,7 +13,7 @@ use Rattle.expressions.specs.Codes.{expressions_by, statements_by}
 use Rattle.std.proofs.lemmas.Bool.{false≢true, eqb-true}
 use Rattle.machine_file.specs.Fault.{told}
 use Rattle.machine_file.specs.Files.{Section}
-use Rattle.definition_files.specs.Places.{refuse_at}
+use Rattle.definition_files.specs.Details.{refuse_about}
 use Rattle.world.specs.Settings.{SettingsData}
 use Rattle.world.specs.Start.{first_world}
 use Rattle.world.specs.Deed.{Files}
@@ -111,7 +111,7 @@ was_read view s (Err g) x k h e = absurd h
 -- a machine file that is refused, or no memory
 pub not_started : (few : Bool) (files : Files) (s : SettingsData) (said : MachineSaid) (e : Stop) (result : Result Kept Stop) (out : OutputState) (n : ℕ) → IsErrAnd result (λ r. r ≡ e)
     → Starts s said (Err e) → Evaluated (run_of few files s said) result (seen out n []) (seen out n [])
-unfolding refuse_at
+unfolding refuse_about
 not_started few files s said stops.Memory result out n is h = evaluated_none (run_of few files s said) (seen out n []) result is
 not_started few files s said stops.Device result out n is h = absurd h
 not_started few files s (Ok sections) (stops.Refused f) result out n is h = absurd h

@@ -15,8 +15,8 @@ branch_or otherwise (b ∷ bs) (suc part) = branch_or otherwise bs part
 
 -- the statements of a part of a statement
 abbrev pub part_of : StatementNode → ℕ → List ℕ
-part_of (flat.If line branches otherwise) part = branch_or otherwise.items branches.items part
-part_of (flat.Foreach line first second list list_line body) part = body.items
+part_of (flat.If node) part = branch_or node.value.otherwise.items node.value.branches.items part
+part_of (flat.Foreach node) part = node.value.body.items
 part_of (flat.Assign name line value) part = []
 part_of (flat.Append name line value) part = []
 part_of (flat.Expression value line) part = []

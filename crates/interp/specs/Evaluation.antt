@@ -1,15 +1,11 @@
 -- A whole evaluation, from the root file on.
-use Rattle.std.specs.Prelude.{ℕ, Bool, true, false, List, [], codes, bytes_eq, Result, Ok, Err}
-use Rattle.std.specs.Str.{IsUtf8}
+use Rattle.std.specs.Prelude.{ℕ, Bool, true, false, List, [], codes, bytes_eq, Ok, Err}
 use Rattle.grammar.specs.ExpressionTree.{ExpressionTree, FunctionTree}
 use Rattle.grammar.specs.Tree.{StatementTree, AssignTree, AppendTree, ValueTree, BreakTree, ContinueTree, IfTree, ForeachTree, Statements, NoStatement, MoreStatements}
 use Rattle.basics.specs.declared.faults.refusal.Refusal.TheVariants as refusals
-use Rattle.definition_files.specs.Places.{refuse_at}
-use Rattle.machine_file.specs.Answers.{IsFault}
+use Rattle.definition_files.specs.Details.{refuse_about}
+pub use Rattle.machine_file.specs.Answers.{IsSaid, MachineSaid}
 use Rattle.machine_file.specs.Files.{Section}
-use Rattle.machine_file.specs.Lines.{file_lines}
-use Rattle.machine_file.specs.Reads.{AreSections}
-use Rattle.machine_file.specs.declared.fault.MachineFault.{MachineFault}
 use Rattle.world.specs.Deed.{Files}
 use Rattle.world.specs.Plan.{Plan, carry, deed, ruled, ◌>>=◌, give, refuse}
 use Rattle.world.specs.Run.{Run}
@@ -50,16 +46,7 @@ root few ss = do
   _ ← begins_all ss
   do_all (folder (bounds few 63)) few ss
 
--- what a machine file says: its sections, or the fault that it has
-abbrev pub MachineSaid : Type 0
-MachineSaid = Result (List Section) MachineFault
-
--- bytes are read as a machine file that says this: their lines are one with these sections, or have this fault
-abbrev pub IsSaid : List ℕ → MachineSaid → Type 0
-IsSaid bytes (Ok sections) = IsUtf8 bytes × AreSections (file_lines bytes) sections
-IsSaid bytes (Err fault) = IsFault fault.refusal bytes fault.line
-
--- its sections; none where it has a fault
+-- the sections of a machine file that says this; none where it has a fault
 abbrev pub sections_of : MachineSaid → List Section
 sections_of (Ok sections) = sections
 sections_of (Err fault) = []
@@ -75,10 +62,10 @@ defined few = do
 abbrev pub definitions : Plan (Unit {0})
 definitions = defined false
 
--- the definition files are evaluated where the machine file has sections; its fault is at its line of `<machine file>`
+-- the definition files are evaluated where the machine file has sections; its fault is at its line of `<machine file>`, with what it is about
 abbrev pub evaluation : Bool → MachineSaid → Plan (Unit {0})
 evaluation few (Ok sections) = defined few
-evaluation few (Err fault) = deed (refuse_at (codes "<machine file>") fault.line fault.refusal)
+evaluation few (Err fault) = deed (refuse_about (codes "<machine file>") fault.line fault.refusal fault.detail)
 
 -- the whole evaluation of these files, with these settings, over a machine file that says this
 unfoldable pub evaluated : Files → SettingsData → MachineSaid → Run (Unit {0})

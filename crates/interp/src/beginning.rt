@@ -16,7 +16,7 @@ fn is_project(node: &Node) -> bool
         → result ≡ is_project (tree_of names ts node.now) }
 {
     match node {
-        Node::Call { name, .. } => name.as_str() == "project",
+        Node::Call { call, .. } => call.name.as_str() == "project",
         _ => false,
     }
 }
@@ -28,18 +28,18 @@ fn other_line(code: &Code, number: usize) -> Option<usize>
 {
     match &code.statements[number] {
         StatementNode::Expression { value, line } => {
-            if is_project(&code.nodes[*value]) {
+            if is_project(&code.nodes[*value as usize]) {
                 None
             } else {
                 Some(*line)
             }
         }
-        StatementNode::Assign { line, .. } => Some(*line),
-        StatementNode::Append { line, .. } => Some(*line),
+        StatementNode::Assign { line, .. } => Some(*line as usize),
+        StatementNode::Append { line, .. } => Some(*line as usize),
         StatementNode::Break { line } => Some(*line),
         StatementNode::Continue { line } => Some(*line),
-        StatementNode::If { line, .. } => Some(*line),
-        StatementNode::Foreach { line, .. } => Some(*line),
+        StatementNode::If { node } => Some(node.line),
+        StatementNode::Foreach { node } => Some(node.line),
     }
 }
 

@@ -3,7 +3,7 @@ ghost use Rattle.std.specs.Prelude.{◌≡◌};
 ghost use Rattle.interp.specs.Blocks.{branch_or, part_of, statements_of};
 
 use code::Code;
-use code::node::{BranchNode, StatementNode};
+use code::node::{BranchNode, IfNode, StatementNode};
 
 /// A list of statements.
 #[derive(Clone, Copy)]
@@ -30,12 +30,11 @@ fn part_of(node: &StatementNode, part: usize) -> &[usize]
     ensures { result.now ≡ part_of node.now part }
 {
     match node {
-        StatementNode::If {
-            branches,
-            otherwise,
-            ..
-        } => branch_or(branches, otherwise, part),
-        StatementNode::Foreach { body, .. } => body,
+        StatementNode::If { node } => {
+            let node: &IfNode = node;
+            branch_or(&node.branches, &node.otherwise, part)
+        }
+        StatementNode::Foreach { node } => &node.body,
         StatementNode::Assign { .. } => &[],
         StatementNode::Append { .. } => &[],
         StatementNode::Expression { .. } => &[],

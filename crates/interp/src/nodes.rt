@@ -13,7 +13,7 @@ use crate::halt::{Halt, ended_inside};
 use crate::operation::Begun;
 use arguments::{Arguments, add_argument, no_arguments};
 use code::Code;
-use code::node::{ArgumentNode, EntryNode, LinkNode, Node, OperandNode};
+use code::node::{ArgumentNode, CallNode, EntryNode, LinkNode, Node, OperandNode};
 use data::Value;
 use ports::{Outputs, Tree};
 use std::sync::ledger::Ledger;
@@ -51,13 +51,12 @@ impl<'a, T: Tree, O: Outputs, L: Ledger> Evaluator<'a, T, O, L> {
             Node::Literal { literal, line } => Ok(self.context.literal(*line, literal)?),
             Node::List { items, line } => self.list(code, items, *line),
             Node::Dictionary { entries, line } => self.dictionary(code, entries, *line),
-            Node::Call {
-                name,
-                arguments,
-                line,
-            } => self.call(code, name, arguments, *line),
+            Node::Call { call, line } => {
+                let call: &CallNode = call;
+                self.call(code, &call.name, &call.arguments, *line)
+            }
             Node::Postfix { first, links, line } => {
-                let given = self.asked(code, *first, links, *line)?;
+                let given = self.asked(code, *first as usize, links, *line)?;
                 Ok(self.context.needed(*line, given)?)
             }
             Node::Prefix {
@@ -72,7 +71,7 @@ impl<'a, T: Tree, O: Outputs, L: Ledger> Evaluator<'a, T, O, L> {
                 first,
                 others,
                 line,
-            } => self.chain(code, *first, others, *line),
+            } => self.chain(code, *first as usize, others, *line),
             Node::Ternary {
                 test,
                 yes,

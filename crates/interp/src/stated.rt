@@ -27,7 +27,7 @@ use crate::flow::Flow;
 use crate::frames::{BlockRest, Frame, LoopHead, LoopRest};
 use crate::halt::{Halt, ended_inside};
 use code::Code;
-use code::node::{BranchNode, Node, StatementNode};
+use code::node::{BranchNode, CallNode, ForeachNode, IfNode, Node, StatementNode};
 use data::Value;
 use expressions::{Choice, check_loop};
 use ports::{Outputs, Tree};
@@ -72,34 +72,35 @@ impl<'a, T: Tree, O: Outputs, L: Ledger> Evaluator<'a, T, O, L> {
     {
         match &code.statements[number] {
             StatementNode::Assign { name, line, value } => {
-                match self.assign_value(code, *name, *line, *value) {
+                match self.assign_value(code, *name as usize, *line as usize, *value as usize) {
                     Ok(flow) => Ok(flow),
                     Err(Halt::Stops(stop)) => Err(stop),
                     Err(Halt::Enters(entry)) => self.enter_inside(entry, left, stack),
                 }
             }
             StatementNode::Append { name, line, value } => {
-                match self.append_value(code, *name, *line, *value) {
+                match self.append_value(code, *name as usize, *line as usize, *value as usize) {
                     Ok(flow) => Ok(flow),
                     Err(Halt::Stops(stop)) => Err(stop),
                     Err(Halt::Enters(entry)) => self.enter_inside(entry, left, stack),
                 }
             }
-            StatementNode::Expression { value, .. } => self.state(code, *value, left, stack),
+            StatementNode::Expression { value, .. } => self.state(
+                code,
+                *value as usize,
+                left,
+                stack,
+            ),
             StatementNode::Break { .. } => Ok(Flow::Broken),
             StatementNode::Continue { .. } => Ok(Flow::Continued),
-            StatementNode::If { branches, .. } => {
-                self.begin_branch(code, number, branches, left, stack)
+            StatementNode::If { node } => {
+                let node: &IfNode = node;
+                self.begin_branch(code, number, &node.branches, left, stack)
             }
-            StatementNode::Foreach {
-                line,
-                first,
-                second,
-                list,
-                ..
-            } => {
-                let head = loop_head(number, *line, *first, *second);
-                self.begin_loop(code, *list, head, left, stack)
+            StatementNode::Foreach { node } => {
+                let node: &ForeachNode = node;
+                let head = loop_head(number, node.line, node.first, node.second);
+                self.begin_loop(code, node.list, head, left, stack)
             }
         }
     }
@@ -177,14 +178,10 @@ impl<'a, T: Tree, O: Outputs, L: Ledger> Evaluator<'a, T, O, L> {
             stated (folder (bounds few left)) (tree_at (expressions_by table code.now) value)) code.now
             self.old.context stack.old.items result self.new.context stack.new.items }
     {
-        if let Node::Call {
-            name,
-            arguments,
-            line,
-        } = &code.nodes[value]
-        {
+        if let Node::Call { call, line } = &code.nodes[value] {
+            let call: &CallNode = call;
             stack.push(Frame::End)?;
-            match self.perform(code, *line, name, arguments) {
+            match self.perform(code, *line, &call.name, &call.arguments) {
                 Ok(way) => self.take_way(way, left, stack),
                 Err(Halt::Stops(stop)) => Err(stop),
                 Err(Halt::Enters(entry)) => self.enter_inside(entry, left, stack),
@@ -221,7 +218,7 @@ impl<'a, T: Tree, O: Outputs, L: Ledger> Evaluator<'a, T, O, L> {
             self.old.context result self.new.context }
     {
         if let Node::Postfix { first, links, line } = &code.nodes[value] {
-            self.asked(code, *first, links, *line)
+            self.asked(code, *first as usize, links, *line)
         } else {
             Ok(Some(self.form(code, value)?))
         }

@@ -1,13 +1,15 @@
 -- `range`: a list of integers.
 use Rattle.std.specs.Prelude.{ℕ, zero, suc, ◌+◌, ◌-◌, ◌/◌, nat_le, ℤ, pos, List, [], ◌∷◌}
-use Rattle.std.specs.Prelude.{Option, Some, option_and_then, unwrap_or, Result, Err, if◌then◌else◌}
+use Rattle.std.specs.Prelude.{Option, Some, option_and_then, unwrap_or, Result, Err, codes, if◌then◌else◌}
 use Rattle.data.specs.Data.{Data, integer, list, Items, no_items, item, integer_in}
 use Rattle.data.specs.Limits.{within}
 use Rattle.data.specs.declared.refusal.Refusal.{Refusal}
 use Rattle.data.specs.declared.refusal.Refusal.TheVariants as refusals
 use Rattle.arguments.specs.Arguments.{ArgumentsData}
 use Rattle.arguments.specs.Given.{argument}
-use Rattle.world.specs.Deed.{Deed, give, ◌>>=◌, answered}
+use Rattle.arguments.specs.declared.rule.Rule.TheVariants as rules
+use Rattle.world.specs.Deed.{Deed, give, ◌>>=◌}
+use Rattle.world.specs.Ruled.{answered_by}
 
 -- so many integers, from the first on
 abbrev pub integers_from : ℕ → ℕ → ℕ → Items
@@ -40,5 +42,5 @@ range_of _ a = range_answer (integer_at 0 a) (integer_at 1 a) (integer_at 2 a)
 
 unfoldable pub range : ArgumentsData → Deed (Option Data)
 range a = do
-  d ← answered (range_of a.positional a)
+  d ← answered_by rules.GoesUp (codes "range") (range_of a.positional a)
   give (Some d)

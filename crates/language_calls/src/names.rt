@@ -54,14 +54,17 @@ const LEFT_OUT: [&str; 21] = [
     "vcs_tag",
 ];
 
-/// Whether a name is a variable that stands for a thing of the run, as `meson`.
+/// Whether a name is a variable that stands for a thing of the run, as `meson`. Most names have other lengths than these.
 pub fn is_predefined(name: &str) -> bool
     ensures { result ≡ is_predefined name.now }
 {
-    matches!(
-        name,
-        "meson" | "host_machine" | "build_machine" | "target_machine"
-    )
+    match name.len() {
+        5 | 12 | 13 | 14 => matches!(
+            name,
+            "meson" | "host_machine" | "build_machine" | "target_machine"
+        ),
+        _ => false,
+    }
 }
 
 /// What such a name stands for: the object `meson`, or the machine. What the machine file says of the machine is asked by the methods of

@@ -8,7 +8,7 @@ ghost use Rattle.world.specs.Answering.{Carries};
 ghost use Rattle.world.specs.Caller.{state_of};
 ghost use Rattle.language_calls.specs.Range.{how_many, integer_at, integers_from, range, range_answer, range_of, stepped};
 
-use arguments::Arguments;
+use arguments::{Arguments, Rule};
 use basics::limits::ITEMS;
 use data::{List, Refusal, Value};
 use ports::{Outputs, Tree};
@@ -127,6 +127,7 @@ pub fn range<T: Tree, O: Outputs>(
     ensures { Carries (option_map data_of) (range (arguments_data arguments.now)) (state_of T.seen O.seen caller.now) result
         (state_of T.seen O.seen caller.now) }
 {
-    let value = caller.answered(range_of(caller.alloc, arguments)?)?;
+    let answer = range_of(caller.alloc, arguments)?;
+    let value = caller.answered_by(Rule::GoesUp, "range", answer)?;
     Ok(Some(value))
 }

@@ -1,12 +1,13 @@
 -- The entries of a map, as plain data.
-use Rattle.std.proofs.Common.{◌≡◌, ℕ, Bool, true, false, List, [], ◌∷◌, ◌++◌, Option, Some, None, String, string_bytes, refl, sym, ap, ◌∙◌}
-use Rattle.std.proofs.Common.{is_some, cond}
+use Rattle.std.proofs.Common.{◌≡◌, ℕ, Bool, true, false, List, [], ◌∷◌, ◌++◌, Option, Some, None, Result, Ok, String}
+use Rattle.std.proofs.Common.{string_bytes, refl, sym, ap, ◌∙◌, is_some, cond}
 use Rattle.std.specs.Prelude.{◌||◌, ◌&&◌, not, if◌then◌else◌, codes}
 use Rattle.std.specs.declared.alloc.Global.{Global}
 use Rattle.std.specs.Map.{lookup}
 use Rattle.std.specs.Str.{bytes_eq}
 use Rattle.std.proofs.lemmas.List.{map-append}
 use Rattle.machine_file.specs.Files.{has_key, has_name, cut_pair, takes, with_value, with_parts, with_pair, lacks_version}
+use Rattle.machine_file.specs.Misfits.{refused, NoSign, NoValue, misfit_of}
 use Rattle.machine_file.specs.Sections.{knows}
 use Rattle.machine_file.specs.Values.{Value, value_of}
 use Rattle.machine_file.specs.declared.section.SectionKind.{SectionKind}
@@ -44,36 +45,45 @@ none_from (Some x) e = absurd cc
 
 -- ---- one line of a section
 
-pub pair_none : (kind : SectionKind) (entries : List file.Entry) (line : ℕ) (text : List ℕ) → None ≡ cut_pair kind text
-    → None ≡ with_pair kind entries line text
-unfolding with_pair
-pair_none kind entries line text e = ap (with_parts kind entries line) e
+abbrev pub Added : Type 0
+Added = Result (List file.Entry) (List ℕ)
 
-pub pair_no_value : (kind : SectionKind) (entries : List file.Entry) (line : ℕ) (text key value : List ℕ)
+pub pair_none : (section : List ℕ) (kind : SectionKind) (entries : List file.Entry) (line : ℕ) (text : List ℕ) → None ≡ cut_pair kind text
+    → refused (NoSign section) ≡ with_pair section kind entries line text
+unfolding with_pair
+pair_none section kind entries line text e = ap (with_parts section kind entries line) e
+
+pub pair_no_value : (section : List ℕ) (kind : SectionKind) (entries : List file.Entry) (line : ℕ) (text key value : List ℕ)
     → Some (key, value) ≡ cut_pair kind text
-    → None ≡ value_of value → None ≡ with_pair kind entries line text
+    → None ≡ value_of value → refused (NoValue section key) ≡ with_pair section kind entries line text
 unfolding with_pair
-pair_no_value kind entries line text key value e v = ap (with_value kind entries line key) v ∙ ap (with_parts kind entries line) e
+pair_no_value section kind entries line text key value e v =
+    ap (with_value section kind entries line key) v ∙ ap (with_parts section kind entries line) e
 
-with_taken : (kind : SectionKind) (entries : List file.Entry) (line : ℕ) (text key value : List ℕ) (v : Value) (b : Bool)
+abbrev added : SectionKind → List file.Entry → ℕ → List ℕ → List ℕ → Value → Bool → Added
+added kind entries line section key v b =
+    if b then Ok (entries ++ record { key = key; value = v; line = line } ∷ []) else refused (misfit_of section kind key v)
+
+with_taken : (section : List ℕ) (kind : SectionKind) (entries : List file.Entry) (line : ℕ) (text key value : List ℕ) (v : Value) (b : Bool)
     → Some (key, value) ≡ cut_pair kind text
     → Some v ≡ value_of value → b ≡ takes kind entries key v
-    → (if b then Some (entries ++ record { key = key; value = v; line = line } ∷ []) else None) ≡ with_pair kind entries line text
+    → added kind entries line section key v b ≡ with_pair section kind entries line text
 unfolding with_pair
-with_taken kind entries line text key value v b e s t =
-    ap (λ w. if w then Some (entries ++ record { key = key; value = v; line = line } ∷ []) else None) t
-    ∙ ap (with_value kind entries line key) s ∙ ap (with_parts kind entries line) e
+with_taken section kind entries line text key value v b e s t =
+    ap (added kind entries line section key v) t
+    ∙ ap (with_value section kind entries line key) s ∙ ap (with_parts section kind entries line) e
 
-pub pair_not_taken : (kind : SectionKind) (entries : List file.Entry) (line : ℕ) (text key value : List ℕ) (v : Value)
+pub pair_not_taken : (section : List ℕ) (kind : SectionKind) (entries : List file.Entry) (line : ℕ) (text key value : List ℕ) (v : Value)
     → Some (key, value) ≡ cut_pair kind text
-    → Some v ≡ value_of value → false ≡ takes kind entries key v → None ≡ with_pair kind entries line text
-pair_not_taken kind entries line text key value v e s t = with_taken kind entries line text key value v false e s t
+    → Some v ≡ value_of value → false ≡ takes kind entries key v
+    → refused (misfit_of section kind key v) ≡ with_pair section kind entries line text
+pair_not_taken section kind entries line text key value v e s t = with_taken section kind entries line text key value v false e s t
 
-pub pair_taken : (kind : SectionKind) (entries : List file.Entry) (line : ℕ) (text key value : List ℕ) (v : Value)
+pub pair_taken : (section : List ℕ) (kind : SectionKind) (entries : List file.Entry) (line : ℕ) (text key value : List ℕ) (v : Value)
     → Some (key, value) ≡ cut_pair kind text
     → Some v ≡ value_of value → true ≡ takes kind entries key v
-    → Some (entries ++ record { key = key; value = v; line = line } ∷ []) ≡ with_pair kind entries line text
-pair_taken kind entries line text key value v e s t = with_taken kind entries line text key value v true e s t
+    → Ok (entries ++ record { key = key; value = v; line = line } ∷ []) ≡ with_pair section kind entries line text
+pair_taken section kind entries line text key value v e s t = with_taken section kind entries line text key value v true e s t
 
 -- a key that a section takes is new
 pub taken_new : (kind : SectionKind) (entries : List file.Entry) (key : List ℕ) (v : Value) → takes kind entries key v ≡ true

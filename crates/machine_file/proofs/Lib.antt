@@ -6,5 +6,6 @@ pub mod Forms
 pub mod Said
 pub mod SaysLemmas
 pub mod FirstBad
+pub mod Saying
 pub mod Looking
 pub mod Ranges

@@ -1,7 +1,8 @@
 -- What the lines so far say, in the code's own types and as plain data.
-use Rattle.std.proofs.Common.{◌≡◌, ℕ, ◌+◌, ◌<◌, ◌≤◌, Bool, false, List, [], ◌∷◌, ◌++◌, length, drop, get_or, Option, Some, None, Result, Ok}
-use Rattle.std.proofs.Common.{Err, String, string_bytes, refl, sym, ap, ◌∙◌, is_some, arith, add-one, length-drop, map, if◌then◌else◌}
+use Rattle.std.proofs.Common.{◌≡◌, ℕ, ◌+◌, ◌<◌, ◌≤◌, false, List, [], ◌∷◌, ◌++◌, length, drop, get_or, Option, Some, None, Result}
+use Rattle.std.proofs.Common.{Ok, Err, String, string_bytes, refl, sym, ap, ◌∙◌, is_some, arith, add-one, length-drop, map}
 use Rattle.std.specs.Option.{option_map, option_to_list}
+use Rattle.std.specs.Result.{result_map_both}
 use Rattle.std.specs.declared.alloc.Global.{Global}
 use Rattle.std.specs.Map.{lookup}
 use Rattle.std.specs.Str.{bytes_eq}
@@ -10,11 +11,10 @@ use Rattle.std.proofs.Math.Seq.{drop-cons}
 use Rattle.machine_file.specs.declared.machine.Section.{Section}
 use Rattle.machine_file.specs.declared.state.OpenSection.{OpenSection}
 use Rattle.machine_file.specs.declared.state.Reading.{Reading}
-use Rattle.machine_file.specs.declared.section.SectionKind.{SectionKind}
 use Rattle.machine_file.specs.Files as file
+use Rattle.machine_file.specs.Fault.{MachineFaultData, bad_line}
 use Rattle.machine_file.specs.Files.{Said, has_name, default_entries, closed, sections_said, with_section, with_pair, in_section, after}
-use Rattle.machine_file.specs.Files.{go_on, said_from, all_sections, machine_of, nothing_said}
-use Rattle.machine_file.specs.Sections.{kind_of}
+use Rattle.machine_file.specs.Files.{go_on, said_from, machine_of, nothing_said, with_entries}
 use Rattle.machine_file.specs.declared.text.Blanks.TheVariants as blanks
 use Rattle.machine_file.specs.Texts.{trimmed}
 use Rattle.machine_file.specs.View.{entries_in, sections_in, open_in, said_in}
@@ -40,62 +40,6 @@ fresh_new ended o x name e n f =
     has_name_lookup (string_bytes x.name) ended ∙ ap (λ (w : OpenSection). has_name (string_bytes w.name) (sections_in ended)) (sym same)
     ∙ ap (λ (b : List ℕ). has_name b (sections_in ended)) n ∙ f
 
-begun_if : (s : Said) (line : ℕ) (name : List ℕ) (kind : SectionKind) (b : Bool) → b ≡ has_name name (sections_said s) → b ≡ false
-    → Some (record { ended = sections_said s; open_section = Some (record { name = name; kind = kind; line = line; entries = [] }) })
-    ≡ with_section s line name (Some kind)
-begun_if s line name kind b e f =
-    ap (λ (w : Bool). if w then None else Some (record {
-      ended = sections_said s;
-      open_section = Some
-          (record { name = name; kind = kind; line = line; entries = [] });
-    })) (sym f ∙ e)
-
-pub begun : (s : Said) (line : ℕ) (name bytes : List ℕ) (kind : SectionKind) (ended : List file.Section) (entries : List file.Entry)
-    → Some kind ≡ kind_of name → ended ≡ sections_said s
-    → has_name name ended ≡ false → bytes ≡ name → entries ≡ []
-    → Some (record { ended = ended; open_section = Some (record { name = bytes; kind = kind; line = line; entries = entries }) })
-    ≡ with_section s line name (kind_of name)
-begun s line name bytes kind ended entries k e f n m =
-    ap (λ (l : List file.Section). Some (record {
-      ended = l;
-      open_section = Some
-          (record { name = bytes; kind = kind; line = line; entries = entries });
-    })) e
-    ∙ ap (λ (b : List ℕ). Some (record {
-      ended = sections_said s;
-      open_section = Some
-          (record { name = b; kind = kind; line = line; entries = entries });
-    })) n
-    ∙ ap (λ (es : List file.Entry). Some (record {
-      ended = sections_said s;
-      open_section = Some
-          (record { name = name; kind = kind; line = line; entries = es });
-    })) m
-    ∙ begun_if s line name kind (has_name name ended) (ap (has_name name) e) f
-    ∙ ap (with_section s line name) k
-
-pub in_none : (r : Reading) (line : ℕ) (text : List ℕ) → r.current ≡ None → None ≡ in_section (said_in r) line text (said_in r).open_section
-in_none r line text e = ap (λ (o : Option OpenSection). in_section (said_in r) line text (option_map open_in o)) (sym e)
-
-pub in_refused : (r : Reading) (line : ℕ) (text : List ℕ) (o : OpenSection) → r.current ≡ Some o
-    → None ≡ with_pair o.kind (entries_in o.entries.entries) line text
-    → None ≡ in_section (said_in r) line text (said_in r).open_section
-in_refused r line text o e n =
-    ap (option_map (λ (es : List file.Entry). record (said_in r) { open_section = Some (record (open_in o) { entries = es }) })) n
-    ∙ ap (λ (w : Option OpenSection). in_section (said_in r) line text (option_map open_in w)) (sym e)
-
-pub in_taken : (r : Reading) (line : ℕ) (text : List ℕ) (o : OpenSection) (es : List file.Entry) → r.current ≡ Some o
-    → Some es ≡ with_pair o.kind (entries_in o.entries.entries) line text
-    → Some (record {
-      ended = sections_in r.ended.entries;
-      open_section = Some
-          (record { name = string_bytes o.name; kind = o.kind; line = o.line; entries = es });
-    })
-    ≡ in_section (said_in r) line text (said_in r).open_section
-in_taken r line text o es e n =
-    ap (option_map (λ (w : List file.Entry). record (said_in r) { open_section = Some (record (open_in o) { entries = w }) })) n
-    ∙ ap (λ (w : Option OpenSection). in_section (said_in r) line text (option_map open_in w)) (sym e)
-
 -- ---- line by line
 
 line_at : (ls : List (List ℕ)) (n : ℕ) (d : List ℕ) → n < length ls → drop n ls ≡ get_or ls n d ∷ drop (n + 1) ls
@@ -111,7 +55,7 @@ clean_at ls n l (lt, e) =
     ∙ ap (λ (xs : List (List ℕ)). clean l ∷ xs) (sym (drop-map clean (n + 1) ls))
 
 -- one line of those that are left
-pub line_said : (ls : List (List ℕ)) (n : ℕ) (l : List ℕ) (s : Said) (r : Result Said ℕ) → said_from (drop n (map clean ls)) n s ≡ r
+pub line_said : (ls : List (List ℕ)) (n : ℕ) (l : List ℕ) (s : Said) (r : Result Said MachineFaultData) → said_from (drop n (map clean ls)) n s ≡ r
     → (n < length ls) × (l ≡ get_or ls n l)
     → go_on (said_from (drop (n + 1) (map clean ls)) (n + 1)) (n + 1) (after s (n + 1) (clean l)) ≡ r
 unfolding said_from
@@ -127,17 +71,21 @@ nothing_left ls n s l = by (drop n (map clean ls)) (omega (arith, length-drop n 
     by [] e = refl
     by (x ∷ xs) e = absurd (omega arith)
 
-pub line_refused : (ls : List (List ℕ)) (n : ℕ) (l : List ℕ) (s : Said)
+abbrev all : Result Said MachineFaultData → Result (List file.Section) MachineFaultData
+all r = result_map_both sections_said (λ fault. fault) r
+
+pub line_refused : (ls : List (List ℕ)) (n : ℕ) (l : List ℕ) (s : Said) (detail : List ℕ)
     → said_from (drop n (map clean ls)) n s ≡ said_from (map clean ls) 0 nothing_said
-    → (n < length ls) × (l ≡ get_or ls n l) → None ≡ after s (n + 1) (clean l) → Err (n + 1) ≡ machine_of (map clean ls)
+    → (n < length ls) × (l ≡ get_or ls n l) → Err detail ≡ after s (n + 1) (clean l)
+    → Err (bad_line (n + 1) detail) ≡ machine_of (map clean ls)
 unfolding machine_of
-line_refused ls n l s h at none =
-    ap all_sections (ap (go_on (said_from (drop (n + 1) (map clean ls)) (n + 1)) (n + 1)) none
+line_refused ls n l s detail h at none =
+    ap all (ap (go_on (said_from (drop (n + 1) (map clean ls)) (n + 1)) (n + 1)) none
     ∙ line_said ls n l s (said_from (map clean ls) 0 nothing_said) h at)
 
 pub line_taken : (ls : List (List ℕ)) (n : ℕ) (l : List ℕ) (s t : Said)
     → said_from (drop n (map clean ls)) n s ≡ said_from (map clean ls) 0 nothing_said
-    → (n < length ls) × (l ≡ get_or ls n l) → Some t ≡ after s (n + 1) (clean l)
+    → (n < length ls) × (l ≡ get_or ls n l) → Ok t ≡ after s (n + 1) (clean l)
     → said_from (drop (n + 1) (map clean ls)) (n + 1) t ≡ said_from (map clean ls) 0 nothing_said
 line_taken ls n l s t h at some =
     ap (go_on (said_from (drop (n + 1) (map clean ls)) (n + 1)) (n + 1)) some
@@ -148,4 +96,4 @@ pub lines_end : (ls : List (List ℕ)) (n : ℕ) (s : Said) (sections : List fil
     → length ls ≤ n → sections ≡ sections_said s → Ok sections ≡ machine_of (map clean ls)
 unfolding machine_of
 lines_end ls n s sections h l e =
-    ap (λ (ss : List file.Section). Ok ss) e ∙ ap all_sections (sym (nothing_left ls n s l) ∙ h)
+    ap (λ (ss : List file.Section). Ok ss) e ∙ ap all (sym (nothing_left ls n s l) ∙ h)

@@ -1,7 +1,18 @@
--- A fault of a machine file, as a run tells it.
-use Rattle.std.specs.Prelude.{codes}
-use Rattle.basics.specs.Faults.{FaultData, plain_fault}
-use Rattle.machine_file.specs.declared.fault.MachineFault.{MachineFault}
+-- A fault of a machine file, and how a run tells it.
+use Rattle.std.specs.Prelude.{ℕ, List, codes}
+use Rattle.basics.specs.Faults.{FaultData}
+use Rattle.basics.specs.declared.faults.refusal.Refusal.{Refusal}
+use Rattle.basics.specs.declared.faults.refusal.Refusal.TheVariants as refusals
 
-abbrev pub told : MachineFault → FaultData
-told f = plain_fault (codes "<machine file>") f.line f.refusal
+-- what is refused, the line, and what that is about
+pub record MachineFaultData : Type 0 where
+  pub refusal : Refusal
+  pub line : ℕ
+  pub detail : List ℕ
+
+-- a line that may not stand where it does
+abbrev pub bad_line : ℕ → List ℕ → MachineFaultData
+bad_line line detail = record { refusal = refusals.MachineFile; line = line; detail = detail }
+
+abbrev pub told : MachineFaultData → FaultData
+told f = record { file = codes "<machine file>"; line = f.line; refusal = f.refusal; detail = f.detail }

@@ -3,12 +3,15 @@ use Rattle.std.specs.Prelude.{ℕ, suc, Bool, false, not, ◌&&◌, List, [], �
 use Rattle.std.specs.Prelude.{if◌then◌else◌, bytes_eq}
 use Rattle.std.specs.List.{list_any}
 use Rattle.std.specs.Option.{option_map, option_to_list}
+use Rattle.std.specs.Result.{result_map_both}
 use Rattle.lexer.specs.Bytes.{equals}
 use Rattle.machine_file.specs.declared.text.Blanks.TheVariants as blanks
+use Rattle.machine_file.specs.Fault.{MachineFaultData, bad_line}
 use Rattle.machine_file.specs.Texts.{Parts, trimmed, cut_first, cut_last}
 use Rattle.machine_file.specs.Lines.{Form, Nothing, Header, Pair, form_of}
 use Rattle.machine_file.specs.Values.{Value, Text, value_of}
 use Rattle.machine_file.specs.Sections.{kind_of, knows, cuts_last}
+use Rattle.machine_file.specs.Misfits.{refused, NoSection, SectionTwice, Outside, NoSign, NoValue, misfit_of}
 use Rattle.machine_file.specs.declared.section.SectionKind.{SectionKind}
 use Rattle.machine_file.specs.declared.section.SectionKind.TheVariants as Kinds
 
@@ -63,11 +66,11 @@ abbrev pub sections_said : Said → List Section
 sections_said s = s.ended ++ option_to_list (option_map closed s.open_section)
 
 -- a section begins on this line; its name has to be one that there is, and new
-abbrev pub with_section : Said → ℕ → List ℕ → Option SectionKind → Option Said
-with_section s line name None = None
+abbrev pub with_section : Said → ℕ → List ℕ → Option SectionKind → Result Said (List ℕ)
+with_section s line name None = refused (NoSection name)
 with_section s line name (Some kind) =
-    if has_name name (sections_said s) then None
-    else Some (record {
+    if has_name name (sections_said s) then refused (SectionTwice name)
+    else Ok (record {
       ended = sections_said s;
       open_section = Some (record { name = name; kind = kind; line = line; entries = [] });
     })
@@ -82,49 +85,49 @@ cut_pair kind text =
 abbrev pub takes : SectionKind → List Entry → List ℕ → Value → Bool
 takes kind entries key v = knows kind key v && not (has_key key entries)
 
--- the entries of a section of this kind, and one more
-abbrev pub with_value : SectionKind → List Entry → ℕ → List ℕ → Option Value → Option (List Entry)
-with_value kind entries line key None = None
-with_value kind entries line key (Some v) =
-    if takes kind entries key v then Some (entries ++ record { key = key; value = v; line = line } ∷ []) else None
+-- the entries of a section of this name and kind, and one more
+abbrev pub with_value : List ℕ → SectionKind → List Entry → ℕ → List ℕ → Option Value → Result (List Entry) (List ℕ)
+with_value section kind entries line key None = refused (NoValue section key)
+with_value section kind entries line key (Some v) =
+    if takes kind entries key v then Ok (entries ++ record { key = key; value = v; line = line } ∷ [])
+    else refused (misfit_of section kind key v)
 
-abbrev pub with_parts : SectionKind → List Entry → ℕ → Option Parts → Option (List Entry)
-with_parts kind entries line None = None
-with_parts kind entries line (Some parts) = with_value kind entries line parts.0 (value_of parts.1)
+abbrev pub with_parts : List ℕ → SectionKind → List Entry → ℕ → Option Parts → Result (List Entry) (List ℕ)
+with_parts section kind entries line None = refused (NoSign section)
+with_parts section kind entries line (Some parts) = with_value section kind entries line parts.0 (value_of parts.1)
 
--- the entries of a section of this kind, and the key and value that a line gives
-unfoldable pub with_pair : SectionKind → List Entry → ℕ → List ℕ → Option (List Entry)
-with_pair kind entries line text = with_parts kind entries line (cut_pair kind text)
+-- the entries of a section of this name and kind, and the key and value that a line gives
+unfoldable pub with_pair : List ℕ → SectionKind → List Entry → ℕ → List ℕ → Result (List Entry) (List ℕ)
+with_pair section kind entries line text = with_parts section kind entries line (cut_pair kind text)
+
+-- what is said once the open section has these entries
+abbrev pub with_entries : Said → Open → List Entry → Said
+with_entries s o entries = record s { open_section = Some (record o { entries = entries }) }
 
 -- a key and its value on this line; a section has to be open
-abbrev pub in_section : Said → ℕ → List ℕ → Option Open → Option Said
-in_section s line text None = None
-in_section s line text (Some o) =
-    option_map (λ entries. record s { open_section = Some (record o { entries = entries }) }) (with_pair o.kind o.entries line text)
+abbrev pub in_section : Said → ℕ → List ℕ → Option Open → Result Said (List ℕ)
+in_section s line text None = refused Outside
+in_section s line text (Some o) = result_map_both (with_entries s o) (λ detail. detail) (with_pair o.name o.kind o.entries line text)
 
-abbrev pub after_form : Said → ℕ → Form → Option Said
-after_form s line Nothing = Some s
+abbrev pub after_form : Said → ℕ → Form → Result Said (List ℕ)
+after_form s line Nothing = Ok s
 after_form s line (Header name) = with_section s line name (kind_of name)
 after_form s line (Pair text) = in_section s line text s.open_section
 
--- what is said after one more line, of this number and without blanks at its ends, if it may stand there
-unfoldable pub after : Said → ℕ → List ℕ → Option Said
+-- what is said after one more line, of this number and without blanks at its ends, or why it may not stand there
+unfoldable pub after : Said → ℕ → List ℕ → Result Said (List ℕ)
 after s line text = after_form s line (form_of text)
 
--- the rest of the lines, or the number of the first one that may not stand where it does
-abbrev pub go_on : (Said → Result Said ℕ) → ℕ → Option Said → Result Said ℕ
-go_on rest line None = Err line
-go_on rest line (Some s) = rest s
+-- the rest of the lines, or the first one that may not stand where it does
+abbrev pub go_on : (Said → Result Said MachineFaultData) → ℕ → Result Said (List ℕ) → Result Said MachineFaultData
+go_on rest line (Err detail) = Err (bad_line line detail)
+go_on rest line (Ok s) = rest s
 
 -- what is said after these lines, which follow line number n
-unfoldable pub said_from : List (List ℕ) → ℕ → Said → Result Said ℕ
+unfoldable pub said_from : List (List ℕ) → ℕ → Said → Result Said MachineFaultData
 said_from [] n s = Ok s
 said_from (l ∷ ls) n s = go_on (said_from ls (suc n)) (suc n) (after s (suc n) l)
 
-abbrev pub all_sections : Result Said ℕ → Result (List Section) ℕ
-all_sections (Ok s) = Ok (sections_said s)
-all_sections (Err line) = Err line
-
--- the sections of a machine file of these lines, or the number of the first line up to which they begin no machine file
-unfoldable pub machine_of : List (List ℕ) → Result (List Section) ℕ
-machine_of ls = all_sections (said_from ls 0 nothing_said)
+-- the sections of a machine file of these lines, or the first line up to which they begin no machine file
+unfoldable pub machine_of : List (List ℕ) → Result (List Section) MachineFaultData
+machine_of ls = result_map_both sections_said (λ fault. fault) (said_from ls 0 nothing_said)

@@ -3,6 +3,8 @@ pub mod Lines
 pub mod Numbers
 pub mod Values
 pub mod Sections
+pub mod Misfits
+pub mod MisfitView
 pub mod Fault
 pub mod Files
 pub mod Reads

@@ -1,10 +1,12 @@
 -- What the code's own types stand for.
-use Rattle.std.specs.Prelude.{ℕ, List, map, Option, Result, Ok, Err, string_bytes, String}
+use Rattle.std.specs.Prelude.{ℕ, List, map, Option, Result, string_bytes, String}
 use Rattle.std.specs.Option.{option_map}
+use Rattle.std.specs.Result.{result_map_both}
 use denote.Ref.{Bor}
 use Rattle.std.specs.declared.alloc.Global.{Global}
 use Rattle.machine_file.specs.declared.value.MachineValue.{MachineValue}
 use Rattle.machine_file.specs.declared.value.MachineValue.TheVariants as given
+use Rattle.machine_file.specs.declared.fault.MachineFault.{MachineFault}
 use Rattle.machine_file.specs.declared.machine.Entry.{Entry}
 use Rattle.machine_file.specs.declared.machine.Section.{Section}
 use Rattle.machine_file.specs.declared.machine.Machine.{Machine}
@@ -12,6 +14,7 @@ use Rattle.machine_file.specs.declared.state.OpenSection.{OpenSection}
 use Rattle.machine_file.specs.declared.state.Reading.{Reading}
 use Rattle.machine_file.specs.declared.line.Form.{Form}
 use Rattle.machine_file.specs.declared.line.Form.TheVariants as form
+use Rattle.machine_file.specs.Fault.{MachineFaultData}
 use Rattle.machine_file.specs.Files as file
 use Rattle.machine_file.specs.Lines as line
 use Rattle.machine_file.specs.Values.{Value, Text, Integer, Boolean, Texts}
@@ -67,6 +70,16 @@ said_by ended current = record { ended = sections_in ended; open_section = optio
 abbrev pub said_in : Reading → file.Said
 said_in reading = said_by reading.ended.entries reading.current
 
-abbrev pub read_in : Result Machine ℕ → Result (List file.Section) ℕ
-read_in (Ok machine) = Ok (machine_in machine)
-read_in (Err line) = Err line
+-- what is said with one more line, or why it may not stand there
+abbrev pub more_in : Result Reading (String Global) → Result file.Said (List ℕ)
+more_in more = result_map_both said_in string_bytes more
+
+-- these entries, or why there are no more
+abbrev pub added_in : List file.Entry → Result (Unit {0}) (String Global) → Result (List file.Entry) (List ℕ)
+added_in entries added = result_map_both (λ u. entries) string_bytes added
+
+abbrev pub fault_in : MachineFault → MachineFaultData
+fault_in f = record { refusal = f.refusal; line = f.line; detail = string_bytes f.detail }
+
+abbrev pub read_in : Result Machine MachineFault → Result (List file.Section) MachineFaultData
+read_in read = result_map_both machine_in fault_in read

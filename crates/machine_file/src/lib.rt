@@ -21,6 +21,7 @@
 pub mod fault;
 mod line;
 mod machine;
+mod misfit;
 mod number;
 mod question;
 mod reading;

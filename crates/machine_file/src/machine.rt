@@ -69,14 +69,9 @@ impl Section {
 }
 
 impl Machine {
-    ghost use Rattle.std.specs.Prelude.{List, MatchResult};
-    ghost use Rattle.std.specs.Str.{IsUtf8};
-    ghost use Rattle.machine_file.specs.Answers.{Answers};
-    ghost use Rattle.machine_file.specs.Files.{Section as SectionSaid};
-    ghost use Rattle.machine_file.specs.Lines.{file_lines};
-    ghost use Rattle.machine_file.specs.Reads.{AreSections};
+    ghost use Rattle.machine_file.specs.Answers.{Answers, IsSaid, MachineSaid};
     ghost use Rattle.machine_file.specs.Lookups.{entries_at, value_at, text_or, dependency_at, check_at};
-    ghost use Rattle.machine_file.specs.View.{value_in, entries_of, machine_in, shown_section_in};
+    ghost use Rattle.machine_file.specs.View.{value_in, entries_of, machine_in, read_in, shown_section_in};
 
     /// What no file says: nothing.
     pub fn empty(alloc: Global) -> Machine
@@ -93,25 +88,21 @@ impl Machine {
         // The answer is what the lines say, or a fault at its line.
         ensures answer { IfOk result (Answers bytes.now) }
 
-        // Where the lines are a machine file, its sections are the answer, so they are no other file's.
-        ensures only { (sections : List SectionSaid) → IsUtf8 bytes.now → AreSections (file_lines bytes.now) sections
-            → IfOk result (λ answer. MatchResult answer (λ machine. machine_in machine ≡ sections) (λ _. ⊥)) }
+        // They say nothing else: no other sections, and no other fault.
+        ensures only { (said : MachineSaid) → IsSaid bytes.now said → IfOk result (λ answer. read_in answer ≡ said) }
     {
         let text = match str::from_utf8(bytes) {
             Ok(text) => text,
             Err(error) => {
-                let refusal = Refusal::NotUtf8;
                 let line = newlines(&bytes[..error.valid_up_to()]) + 1;
-                return Ok(Err(MachineFault { refusal, line }));
+                return Ok(Err(MachineFault {
+                    refusal: Refusal::NotUtf8,
+                    line,
+                    detail: String::new(alloc),
+                }));
             }
         };
-        match read_lines(alloc, text)? {
-            Ok(machine) => Ok(Ok(machine)),
-            Err(line) => {
-                let refusal = Refusal::MachineFile;
-                Ok(Err(MachineFault { refusal, line }))
-            }
-        }
+        read_lines(alloc, text)
     }
 
     /// How many sections there are.

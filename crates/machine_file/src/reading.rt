@@ -1,20 +1,24 @@
 //! Reads a machine file, line by line.
 
-ghost use Rattle.std.specs.Prelude.{◌≡◌, [], ◌∷◌, ◌++◌, false, is_some, string_bytes, IfOk, OnOk, Some, None, if◌then◌else◌};
-ghost use Rattle.std.specs.Option.{option_map};
+ghost use Rattle.std.specs.Prelude.{◌≡◌, [], ◌∷◌, ◌++◌, false, is_some, string_bytes, IfOk, OnOk};
 ghost use Rattle.indexmap.specs.IndexMap.{get_by_text};
 ghost use Rattle.machine_file.specs.Files.{has_key, has_name, takes, with_pair, lacks_version, default_entries, sections_said};
 ghost use Rattle.machine_file.specs.Files.{with_section, in_section, after, machine_of};
 ghost use Rattle.machine_file.specs.Lines.{file_lines};
 ghost use Rattle.machine_file.specs.Sections.{kind_of};
-ghost use Rattle.machine_file.specs.View.{value_in, entries_in, sections_in, said_in, read_in};
+ghost use Rattle.machine_file.specs.MisfitView.{misfit_in};
+ghost use Rattle.machine_file.specs.Misfits.{refused};
+ghost use Rattle.machine_file.specs.View.{value_in, added_in, entries_in, more_in, sections_in, said_in, read_in};
 
+use crate::fault::MachineFault;
 use crate::line::{Form, cut_pair, form_of};
 use crate::machine::{Entry, Machine, Section};
+use crate::misfit::Misfit;
 use crate::section::SectionKind;
-use crate::state::{OpenSection, Reading};
+use crate::state::{Heading, OpenSection, Reading};
 use crate::text::{Blanks, trimmed};
 use crate::value::{MachineValue, read_value};
+use basics::faults::Refusal;
 use basics::tables::{SipMap, new_map};
 use std::alloc::{AllocError, Global};
 
@@ -46,29 +50,30 @@ fn takes(
     kind.knows(key, value) && !has_key(entries, key)
 }
 
-// Puts the entry that a line gives behind those of a section of this kind; false where the line may not stand there.
+// Puts the entry that a line gives behind those of a section, or says why the line may not stand there.
 fn add_pair(
     alloc: Global,
-    kind: SectionKind,
+    heading: Heading<'_>,
     entries: &mut SipMap<String, Entry>,
     line: usize,
     text: &str,
-) -> Result<bool, AllocError>
-    ensures { IfOk result (λ added. (if added then Some (entries_in entries.new.entries) else None)
-        ≡ with_pair kind (entries_in entries.old.entries) line text.now) }
+) -> Result<Result<(), String>, AllocError>
+    ensures { IfOk result (λ added. added_in (entries_in entries.new.entries) added
+        ≡ with_pair heading.entry.name.now heading.entry.kind (entries_in entries.old.entries) line text.now) }
 {
+    let Heading { name, kind } = heading;
     let Some((key, value)) = cut_pair(kind, text) else {
-        return Ok(false);
+        return Ok(Err(Misfit::NoSign(name).words(alloc)?));
     };
     let Some(value) = read_value(alloc, value)? else {
-        return Ok(false);
+        return Ok(Err(Misfit::NoValue(name, key).words(alloc)?));
     };
     if !takes(kind, entries, key, &value) {
-        return Ok(false);
+        return Ok(Err(Misfit::of_value(name, kind, key, &value).words(alloc)?));
     }
     let key = String::from_str(alloc, key)?;
     put(entries, key, Entry { value, line })?;
-    Ok(true)
+    Ok(Ok(()))
 }
 
 // Whether this is a dependency that has no version.
@@ -123,21 +128,28 @@ fn all_sections(alloc: Global, reading: Reading) -> Result<SipMap<String, Sectio
     Ok(ended)
 }
 
-// A section begins on this line; nothing where there is no such section, or a second of this name.
+// A line may not stand where it does, for this reason.
+fn refused(alloc: Global, misfit: Misfit<'_>) -> Result<Result<Reading, String>, AllocError>
+    ensures { IfOk result (λ more. more_in more ≡ refused (misfit_in misfit.entry)) }
+{
+    Ok(Err(misfit.words(alloc)?))
+}
+
+// A section begins on this line, if there is such a section, and none of this name before.
 fn with_section(
     alloc: Global,
     reading: Reading,
     line: usize,
     name: &str,
-) -> Result<Option<Reading>, AllocError>
-    ensures { IfOk result (λ more. option_map said_in more ≡ with_section (said_in reading) line name.now (kind_of name.now)) }
+) -> Result<Result<Reading, String>, AllocError>
+    ensures { IfOk result (λ more. more_in more ≡ with_section (said_in reading) line name.now (kind_of name.now)) }
 {
     let Some(kind) = SectionKind::of(name) else {
-        return Ok(None);
+        return refused(alloc, Misfit::NoSection(name));
     };
     let ended = all_sections(alloc, reading)?;
     if has_name(&ended, name) {
-        return Ok(None);
+        return refused(alloc, Misfit::SectionTwice(name));
     }
     let current = OpenSection {
         name: String::from_str(alloc, name)?,
@@ -145,24 +157,24 @@ fn with_section(
         line,
         entries: new_map(alloc),
     };
-    Ok(Some(Reading {
+    Ok(Ok(Reading {
         ended,
         current: Some(current),
     }))
 }
 
-// A key and its value on this line; nothing where no section is open, or this one does not take them.
+// A key and its value on this line, if a section is open that takes them.
 fn in_section(
     alloc: Global,
     reading: Reading,
     line: usize,
     text: &str,
-) -> Result<Option<Reading>, AllocError>
-    ensures { IfOk result (λ more. option_map said_in more ≡ in_section (said_in reading) line text.now (said_in reading).open_section) }
+) -> Result<Result<Reading, String>, AllocError>
+    ensures { IfOk result (λ more. more_in more ≡ in_section (said_in reading) line text.now (said_in reading).open_section) }
 {
     let Reading { ended, current } = reading;
     let Some(current) = current else {
-        return Ok(None);
+        return refused(alloc, Misfit::Outside);
     };
     let OpenSection {
         name,
@@ -170,9 +182,9 @@ fn in_section(
         line: begun,
         mut entries,
     } = current;
-    let added = add_pair(alloc, kind, &mut entries, line, text)?;
-    if !added {
-        return Ok(None);
+    let heading = Heading { name: &name, kind };
+    if let Err(detail) = add_pair(alloc, heading, &mut entries, line, text)? {
+        return Ok(Err(detail));
     }
     let current = OpenSection {
         name,
@@ -180,31 +192,31 @@ fn in_section(
         line: begun,
         entries,
     };
-    Ok(Some(Reading {
+    Ok(Ok(Reading {
         ended,
         current: Some(current),
     }))
 }
 
-// What is said after one more line; nothing where the line may not stand there.
+// What is said after one more line, or why the line may not stand there.
 #[tactic(auto, unfolding(crate::specs::Files::after))]
 fn after(
     alloc: Global,
     reading: Reading,
     line: usize,
     text: &str,
-) -> Result<Option<Reading>, AllocError>
-    ensures { IfOk result (λ more. option_map said_in more ≡ after (said_in reading) line text.now) }
+) -> Result<Result<Reading, String>, AllocError>
+    ensures { IfOk result (λ more. more_in more ≡ after (said_in reading) line text.now) }
 {
     match form_of(text) {
-        Form::Nothing => Ok(Some(reading)),
+        Form::Nothing => Ok(Ok(reading)),
         Form::Header(name) => with_section(alloc, reading, line, name),
         Form::Pair(text) => in_section(alloc, reading, line, text),
     }
 }
 
-/// What the lines of a text say, or the number of the first line up to which they begin no machine file.
-pub fn read_lines(alloc: Global, text: &str) -> Result<Result<Machine, usize>, AllocError>
+/// What the lines of a text say, or the first line up to which they begin no machine file.
+pub fn read_lines(alloc: Global, text: &str) -> Result<Result<Machine, MachineFault>, AllocError>
     ensures { IfOk result (λ read. read_in read ≡ machine_of (file_lines text.now)) }
 {
     let mut reading = Reading {
@@ -214,10 +226,16 @@ pub fn read_lines(alloc: Global, text: &str) -> Result<Result<Machine, usize>, A
     let mut number = 0;
     for line in text.lines() {
         number += 1;
-        let Some(more) = after(alloc, reading, number, trimmed(Blanks::All, line))? else {
-            return Ok(Err(number));
-        };
-        reading = more;
+        match after(alloc, reading, number, trimmed(Blanks::All, line))? {
+            Ok(more) => reading = more,
+            Err(detail) => {
+                return Ok(Err(MachineFault {
+                    refusal: Refusal::MachineFile,
+                    line: number,
+                    detail,
+                }));
+            }
+        }
     }
     let sections = all_sections(alloc, reading)?;
     Ok(Ok(Machine { sections }))

@@ -73,7 +73,7 @@ impl SectionKind {
     }
 
     // What a key of this section takes, if the section knows it.
-    fn expected(self, key: &str) -> Option<Expected>
+    pub(crate) fn expected(self, key: &str) -> Option<Expected>
         ensures { result ≡ expected self key.now }
     {
         match self {
@@ -171,7 +171,8 @@ fn of_check(key: &str) -> Option<Expected>
 }
 
 impl Expected {
-    fn fits(self, value: &MachineValue) -> bool
+    // Whether a value is of the type that is taken.
+    pub(crate) fn fits(self, value: &MachineValue) -> bool
         ensures { result ≡ fits self (value_in value.now) }
     {
         match (self, value) {

@@ -17,6 +17,13 @@ pub struct OpenSection {
     pub entries: SipMap<String, Entry>,
 }
 
+/// A section by its name, and its kind.
+#[derive(Clone, Copy)]
+pub struct Heading<'a> {
+    pub name: &'a str,
+    pub kind: SectionKind,
+}
+
 /// The sections that have ended, and the one that the next line belongs to.
 #[derive(Drop)]
 pub struct Reading {

@@ -11,3 +11,4 @@ pub mod TextMethods
 pub mod Methods
 pub mod KeyOrder
 pub mod PlaceNumbers
+pub mod Takes

@@ -28,9 +28,11 @@ mod lists;
 mod methods;
 pub mod readers;
 mod stop;
+mod takes;
 mod text_methods;
 
 pub use flattening::flat_texts;
 pub use formatted::format_text;
 pub use laws::{keys_ascend, places_count};
 pub use methods::{has_method, method};
+pub use takes::takes_words;

@@ -1,6 +1,9 @@
 -- The methods of objects, by the kind of the receiver.
 use Rattle.std.specs.Prelude.{ℕ, Bool, false, List, Option, Some, is_some, Result, Err}
 use Rattle.arguments.specs.Arguments.{ArgumentsData}
+use Rattle.arguments.specs.Given.{text_at}
+use Rattle.arguments.specs.declared.rule.Rule.{Rule}
+use Rattle.arguments.specs.declared.rule.Rule.TheVariants as rules
 use Rattle.compiler_methods.specs.Methods as compilers
 use Rattle.configuration_calls.specs.Methods as configurations
 use Rattle.data.specs.Data.{Data}
@@ -8,8 +11,9 @@ use Rattle.data.specs.declared.object.Object.{Object}
 use Rattle.data.specs.declared.object.Object.TheVariants as objects
 use Rattle.data.specs.declared.refusal.Refusal.{Refusal}
 use Rattle.data.specs.declared.refusal.Refusal.TheVariants as refusal
-use Rattle.world.specs.Deed.{Deed, give, read, ◌>>=◌, answered}
+use Rattle.world.specs.Deed.{Deed, give, read, ◌>>=◌}
 use Rattle.world.specs.Fit.{fit}
+use Rattle.world.specs.Ruled.{answered_by}
 use Rattle.world.specs.World.{Facts}
 use Rattle.objects.specs.Dependencies as dependencies
 use Rattle.objects.specs.Features as features
@@ -44,12 +48,23 @@ told_of facts (objects.CustomOutput target output) name a = targets.output_answe
 told_of facts objects.Meson name a = meson.answer facts name a
 told_of facts _ name a = Err refusal.UnknownMethod
 
+-- the rule that a method asks of its receiver, or of its argument
+abbrev pub rule_of : Object → Rule
+rule_of (objects.Program p) = rules.HasProgram
+rule_of objects.Meson = rules.HasCompiler
+rule_of _ = rules.HasOneOutput
+
+-- what breaks it: the language that `meson` is asked for, or else the method of this name
+abbrev pub breaking : Object → List ℕ → ArgumentsData → List ℕ
+breaking objects.Meson name a = text_at 0 a
+breaking _ name a = name
+
 -- a method that tells of its receiver and the facts of the run alone, on arguments that its row looks at first
 unfoldable pub tell : Object → List ℕ → ArgumentsData → Deed (Option Data)
 tell o name a = do
   _ ← fit (row_of o name) a
   facts ← read
-  d ← answered (told_of facts o name a)
+  d ← answered_by (rule_of o) (breaking o name a) (told_of facts o name a)
   give (Some d)
 
 -- a method of an object on its arguments: it gives a value, or nothing

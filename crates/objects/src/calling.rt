@@ -7,7 +7,7 @@ ghost use Rattle.data.specs.View.{data_of};
 ghost use Rattle.world.specs.Answering.{Carries, HasRoom};
 ghost use Rattle.world.specs.Caller.{state_of};
 ghost use Rattle.objects.specs.Machines.{machine_method};
-ghost use Rattle.objects.specs.Methods.{has_method, object_method, tell, told_of};
+ghost use Rattle.objects.specs.Methods.{breaking, has_method, object_method, rule_of, tell, told_of};
 ghost use Rattle.objects.specs.Rows.{row_of};
 ghost use Rattle.world.specs.Store.{world_of};
 
@@ -17,7 +17,7 @@ use crate::machines::{MachineMethod, machine_answer};
 use crate::meson_object::{MesonMethod, meson_answer};
 use crate::programs::{ProgramMethod, program_answer};
 use crate::target_methods::{TargetMethod, build_answer, custom_answer, output_answer};
-use arguments::{Arguments, Kind, Row};
+use arguments::{Arguments, Kind, Row, Rule};
 use compiler_methods::{compiler_method, has_compiler_method};
 use configuration_calls::{configuration_method, has_configuration_method};
 use data::{Object, Refusal, Value};
@@ -91,6 +91,27 @@ fn row_of(object: &Object, name: &str) -> Row
     }
 }
 
+// The rule that a method asks of its receiver, or of its argument.
+fn rule_of(object: &Object) -> Rule
+    ensures { result ≡ rule_of object.now }
+{
+    match object {
+        Object::Program(_) => Rule::HasProgram,
+        Object::Meson => Rule::HasCompiler,
+        _ => Rule::HasOneOutput,
+    }
+}
+
+// What breaks it: the language that `meson` is asked for, or else the method of this name.
+fn breaking<'a>(object: &Object, name: &'a str, arguments: &'a Arguments) -> &'a str
+    ensures { result.now ≡ breaking object.now name.now (arguments_data arguments.now) }
+{
+    match object {
+        Object::Meson => arguments.text_at(0),
+        _ => name,
+    }
+}
+
 // A method that tells of its receiver and the facts of the run alone.
 fn tell<T: Tree, O: Outputs>(
     caller: &Caller<'_, T, O>,
@@ -104,7 +125,8 @@ fn tell<T: Tree, O: Outputs>(
     let row = row_of(object, name);
     caller.fit(&row, arguments)?;
     let answer = told_of(caller.alloc, caller.store, object, name, arguments)?;
-    let value = caller.answered(answer)?;
+    let text = breaking(object, name, arguments);
+    let value = caller.answered_by(rule_of(object), text, answer)?;
     Ok(Some(value))
 }
 

@@ -8,6 +8,7 @@ use Rattle.operators.specs.declared.operator.Unary.TheVariants.{Negate}
 use Rattle.operators.specs.Operations.{unary_answer, binary_answer, disabler}
 use Rattle.operators.specs.Index.{index_answer}
 use Rattle.operators.specs.Literal.{literal_answer}
+use Rattle.operators.specs.declared.literal.LiteralRefusal.TheVariants as literals
 
 -- `negsuc n` is -(n + 1)
 seven_by_minus_two : binary_answer Divide (integer (pos 7)) (integer (negsuc 1)) ≡ Ok (integer (negsuc 3))
@@ -110,8 +111,8 @@ last_output : index_answer (object (TheObject.CustomTarget 7 2)) (integer (negsu
 last_output = refl
 
 -- dictionary literals
-first_fault : literal_answer ((text (codes "a"), integer (pos 1)) ∷ (integer (pos 2), integer (pos 3)) ∷ (text (codes "a"), integer (pos 4)) ∷ []) ≡ Err refusal.Type
+first_fault : literal_answer ((text (codes "a"), integer (pos 1)) ∷ (integer (pos 2), integer (pos 3)) ∷ (text (codes "a"), integer (pos 4)) ∷ []) ≡ Err (literals.Refused refusal.Type)
 first_fault = refl
 
-key_twice : literal_answer ((text (codes "a"), integer (pos 1)) ∷ (text (codes "a"), integer (pos 4)) ∷ (integer (pos 2), integer (pos 3)) ∷ []) ≡ Err refusal.Duplicate
+key_twice : literal_answer ((text (codes "a"), integer (pos 1)) ∷ (text (codes "a"), integer (pos 4)) ∷ (integer (pos 2), integer (pos 3)) ∷ []) ≡ Err (literals.Twice (codes "a"))
 key_twice = refl

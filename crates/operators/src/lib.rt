@@ -28,7 +28,7 @@ mod parts;
 mod relations;
 mod text_sums;
 
-pub use literal::{dictionary, list, text_list};
+pub use literal::{LiteralRefusal, dictionary, list, text_list};
 pub use logic::{Left, left_side, right_side};
 pub use operations::{binary, unary};
 pub use operator::{Binary, Connective, Unary};

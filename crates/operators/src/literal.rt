@@ -7,10 +7,19 @@ ghost use Rattle.data.specs.Weight.{entries_weight};
 ghost use Rattle.data.specs.View.{data_of, items_of};
 ghost use Rattle.data.specs.Tables.{Answers};
 ghost use Rattle.operators.specs.TextLists.{items_in, text_list, texts_behind};
-ghost use Rattle.operators.specs.Literal.{with_entry, with_entries, literal_answer, pairs_of};
+ghost use Rattle.operators.specs.Literal.{with_entry, with_entries, literal_answer, pairs_of, Makes};
 
-use data::{DictionaryBuilder, List, Refusal, Value};
+use data::{DictionaryBuilder, List, Refusal, Text, Value};
 use std::alloc::{AllocError, Global};
+
+/// Why keys and values make no dictionary.
+#[derive(Drop)]
+pub enum LiteralRefusal {
+    /// This key stands before it already.
+    Twice(Text),
+    /// A key is no text, or the dictionary is past a limit.
+    Refused(Refusal),
+}
 
 /// The list of a literal's items, or E22 where it is past a limit.
 pub fn list(alloc: Global, items: Vec<Value>) -> Result<Result<Value, Refusal>, AllocError>
@@ -52,8 +61,8 @@ pub fn text_list(alloc: Global, texts: &[&str]) -> Result<Result<Value, Refusal>
 pub fn dictionary(
     alloc: Global,
     entries: Vec<(Value, Value)>,
-) -> Result<Result<Value, Refusal>, AllocError>
-    ensures { IfOk result (λ r. Answers (literal_answer (pairs_of entries.items)) r) }
+) -> Result<Result<Value, LiteralRefusal>, AllocError>
+    ensures { IfOk result (λ r. Makes (literal_answer (pairs_of entries.items)) r) }
 {
     let builder = match with_entries(alloc, entries)? {
         Ok(builder) => builder,
@@ -61,14 +70,14 @@ pub fn dictionary(
     };
     match builder.finish() {
         Ok(dictionary) => Ok(Ok(Value::of_dictionary(alloc, dictionary)?)),
-        Err(refusal) => Ok(Err(refusal)),
+        Err(refusal) => Ok(Err(LiteralRefusal::Refused(refusal))),
     }
 }
 
 fn with_entries(
     alloc: Global,
     entries: Vec<(Value, Value)>,
-) -> Result<Result<DictionaryBuilder, Refusal>, AllocError>
+) -> Result<Result<DictionaryBuilder, LiteralRefusal>, AllocError>
     ensures { IfOk result (λ r. with_entries no_entries (pairs_of entries.items) ≡ r) }
 {
     let mut builder = DictionaryBuilder::new(alloc);
@@ -85,7 +94,7 @@ fn put_entry(
     builder: &mut DictionaryBuilder,
     key: Value,
     value: Value,
-) -> Result<Result<(), Refusal>, AllocError>
+) -> Result<Result<(), LiteralRefusal>, AllocError>
     requires { entries_weight builder.old < 2 ^ 100 }
     ensures put { IfOk result (λ r. MatchResult r
         (λ _. with_entry builder.old (data_of key) (data_of value) ≡ Ok builder.new)
@@ -93,10 +102,10 @@ fn put_entry(
     ensures light { IfOk result (λ _. entries_weight builder.new ≤ entries_weight builder.old + 2 ^ 26) }
 {
     let Value::Text(key) = key else {
-        return Ok(Err(Refusal::Type));
+        return Ok(Err(LiteralRefusal::Refused(Refusal::Type)));
     };
     if builder.contains_key(&key) {
-        return Ok(Err(Refusal::Duplicate));
+        return Ok(Err(LiteralRefusal::Twice(key)));
     }
     // neither weighs so much that the sum could overflow
     let _key = key.as_str();

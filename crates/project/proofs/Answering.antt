@@ -1,5 +1,5 @@
 -- What a target is answered.
-use Rattle.std.proofs.Common.{◌≡◌, ℕ, ◌≤◌, Bool, true, false, List, [], ◌∷◌, ◌++◌, map, Result, Ok, Err, refl, sym, ap, ◌∙◌, arith, bytes_eq, ◌+◌}
+use Rattle.std.proofs.Common.{◌≡◌, ℕ, ◌≤◌, Bool, true, false, List, [], ◌∷◌, ◌++◌, Err, refl, sym, ap, ◌∙◌, arith, bytes_eq, ◌+◌}
 use Rattle.std.specs.Prelude.{◌&&◌, ◌||◌, not, if◌then◌else◌}
 use Rattle.std.specs.List.{list_all}
 use Rattle.edge.specs.Texts.{Path, holds}
@@ -7,15 +7,16 @@ use Rattle.edge.specs.Data.{EdgeData}
 use Rattle.edge.specs.Holding.{are_writable}
 use Rattle.targets.specs.Data.{SurroundingsData, SourceData, Tree, Built, Made, TargetData}
 use Rattle.targets.specs.Files.{default_paths}
-use Rattle.targets.specs.Libraries.{LinkedData, linked, linked_of, libraries_in}
-use Rattle.target_edges.specs.Edges.{edges_of, target_edges, all_edges}
+use Rattle.targets.specs.Libraries.{LinkedData, linked_of, libraries_in}
+use Rattle.target_edges.specs.Edges.{target_edges, all_edges}
 use Rattle.project.specs.Laws.{outputs_of, times, all_made, all_inside}
-use Rattle.project.specs.World.{WorldData, reserved, made_of, taken_of, known_of, is_made_in}
+use Rattle.project.specs.World.{WorldData, reserved, made_of, known_of, is_made_in}
 use Rattle.project.specs.Whole.{targets_in, IsWhole, IsNext}
 use Rattle.project.specs.Adding.{sources_of, is_made_source, is_present, target_fits, is_fit, edges_with, place_answer, target_answer, is_within}
-use Rattle.project.specs.declared.refusal.Refusal.{Refusal}
+use Rattle.project.specs.Refused.{refused}
+use Rattle.project.specs.Unheld.{unheld}
 use Rattle.project.specs.declared.refusal.Refusal.TheVariants.{Arguments, Missing, Unholdable}
-use Rattle.project.proofs.PathLists.{times-append, times_absent}
+use Rattle.project.proofs.PathLists.{times-append}
 use Rattle.project.proofs.EdgeOrder.{holds_append}
 use Rattle.project.proofs.Earlier.{back_next}
 use Rattle.project.proofs.NextMade.{next_made}
@@ -58,29 +59,29 @@ sources-same p q f xs = list_all-same (is_made_source p) (is_made_source q) (sou
 
 -- ---- the first refusal
 
-pub answer_missing : (w : WorldData) (t : TargetData) → is_fit w t ≡ true → list_all (is_present w.present) (sources_of t) ≡ false → target_answer w t ≡ Err Missing
+pub answer_missing : (w : WorldData) (t : TargetData) → is_fit w t ≡ true → list_all (is_present w.present) (sources_of t) ≡ false → target_answer w t ≡ Err (refused Missing [])
 answer_missing w t a b =
     let placed = place_answer w (outputs_of (edges_with w t)) (is_within t) in
-    let held = if are_writable (edges_with w t) then placed else Err Unholdable in
-    ap (λ x. if x then (if list_all (is_present w.present) (sources_of t) then held else Err Missing) else Err Arguments) a
-    ∙ ap (λ x. if x then held else Err Missing) b
+    let held = if are_writable (edges_with w t) then placed else Err (refused Unholdable (unheld t)) in
+    ap (λ x. if x then (if list_all (is_present w.present) (sources_of t) then held else Err (refused Missing [])) else Err (refused Arguments [])) a
+    ∙ ap (λ x. if x then held else Err (refused Missing [])) b
 
-pub answer_unholdable : (w : WorldData) (t : TargetData) → is_fit w t ≡ true → list_all (is_present w.present) (sources_of t) ≡ true → are_writable (edges_with w t) ≡ false → target_answer w t ≡ Err Unholdable
+pub answer_unholdable : (w : WorldData) (t : TargetData) → is_fit w t ≡ true → list_all (is_present w.present) (sources_of t) ≡ true → are_writable (edges_with w t) ≡ false → target_answer w t ≡ Err (refused Unholdable (unheld t))
 answer_unholdable w t a b d =
     let placed = place_answer w (outputs_of (edges_with w t)) (is_within t) in
-    let held = if are_writable (edges_with w t) then placed else Err Unholdable in
-    ap (λ x. if x then (if list_all (is_present w.present) (sources_of t) then held else Err Missing) else Err Arguments) a
-    ∙ ap (λ x. if x then held else Err Missing) b
-    ∙ ap (λ x. if x then placed else Err Unholdable) d
+    let held = if are_writable (edges_with w t) then placed else Err (refused Unholdable (unheld t)) in
+    ap (λ x. if x then (if list_all (is_present w.present) (sources_of t) then held else Err (refused Missing [])) else Err (refused Arguments [])) a
+    ∙ ap (λ x. if x then held else Err (refused Missing [])) b
+    ∙ ap (λ x. if x then placed else Err (refused Unholdable (unheld t))) d
 
 pub answer_placed : (w : WorldData) (t : TargetData) → is_fit w t ≡ true → list_all (is_present w.present) (sources_of t) ≡ true → are_writable (edges_with w t) ≡ true
     → target_answer w t ≡ place_answer w (outputs_of (edges_with w t)) (is_within t)
 answer_placed w t a b d =
     let placed = place_answer w (outputs_of (edges_with w t)) (is_within t) in
-    let held = if are_writable (edges_with w t) then placed else Err Unholdable in
-    ap (λ x. if x then (if list_all (is_present w.present) (sources_of t) then held else Err Missing) else Err Arguments) a
-    ∙ ap (λ x. if x then held else Err Missing) b
-    ∙ ap (λ x. if x then placed else Err Unholdable) d
+    let held = if are_writable (edges_with w t) then placed else Err (refused Unholdable (unheld t)) in
+    ap (λ x. if x then (if list_all (is_present w.present) (sources_of t) then held else Err (refused Missing [])) else Err (refused Arguments [])) a
+    ∙ ap (λ x. if x then held else Err (refused Missing [])) b
+    ∙ ap (λ x. if x then placed else Err (refused Unholdable (unheld t))) d
 
 -- ---- a target that fits
 

@@ -1,21 +1,22 @@
 -- Arguments of the project change nothing of custom targets.
-use Rattle.std.proofs.Common.{◌≡◌, ℕ, ◌≤◌, Bool, true, false, List, [], ◌∷◌, ◌++◌, map, Result, Ok, Err, refl, sym, ap, ◌∙◌, subst}
+use Rattle.std.proofs.Common.{◌≡◌, ◌≤◌, true, false, List, [], ◌∷◌, ◌++◌, map, Result, Ok, Err, refl, sym, ap, ◌∙◌, subst}
 use Rattle.std.specs.List.{list_any}
 use Rattle.edge.specs.Texts.{Path, Text, holds}
 use Rattle.edge.specs.Data.{EdgeData}
 use Rattle.edge.specs.Holding.{are_writable}
 use Rattle.targets.specs.Data.{SurroundingsData, TargetData, Build, Custom}
 use Rattle.targets.specs.Libraries.{LinkedData, linked}
-use Rattle.target_edges.specs.Edges.{edges_of, edges_after, all_edges}
+use Rattle.target_edges.specs.Edges.{edges_of, edges_after}
 use Rattle.project.specs.Laws.{outputs_of, times, all_made, all_inside}
 use Rattle.project.specs.World.{reserved, known_of}
 use Rattle.std.specs.Prelude.{◌&&◌, ◌||◌}
 use Rattle.std.proofs.lemmas.List.Folds.{list_any-append}
 use Rattle.project.specs.Earlier.{refers_back, all_refer_back}
 use Rattle.project.specs.Whole.{targets_in, IsWhole}
-use Rattle.project.specs.Adding.{is_build, sources_of, is_made_source, arguments_answer, after_answer}
+use Rattle.project.specs.Adding.{is_build, first_build, sources_of, is_made_source, arguments_answer, after_answer}
 use Rattle.project.specs.World.{WorldData}
-use Rattle.project.specs.declared.refusal.Refusal.{Refusal}
+use Rattle.project.specs.Refused.{RefusedData, refused}
+use Rattle.project.specs.Unheld.{unheld_word}
 use Rattle.project.specs.declared.refusal.Refusal.TheVariants.{Late, Unholdable}
 use Rattle.std.specs.Prelude.{if◌then◌else◌}
 use Rattle.std.specs.List.{list_all}
@@ -59,17 +60,25 @@ whole_with_words s ls outputs present kept cs bs w e =
 
 -- ---- what is answered
 
-pub answer_late : (w : WorldData) (words : List Text) → list_all value_held words ≡ true → list_any is_build w.targets ≡ true → arguments_answer w words ≡ Err Late
-answer_late w words a b = ap (λ x. if x then (if list_any is_build w.targets then Err Late else Ok tt) else Err Unholdable) a ∙ ap (λ x. if x then Err Late else Ok tt) b
+pub answer_late : (w : WorldData) (words : List Text) → list_all value_held words ≡ true → list_any is_build w.targets ≡ true → arguments_answer w words ≡ Err (refused Late (first_build w.targets))
+answer_late w words a b = ap (λ x. if x then (if list_any is_build w.targets then Err (refused Late (first_build w.targets)) else Ok tt) else Err (refused Unholdable (unheld_word words))) a ∙ ap (λ x. if x then Err (refused Late (first_build w.targets)) else Ok tt) b
 
 pub answer_words : (w : WorldData) (words : List Text) → list_all value_held words ≡ true → list_any is_build w.targets ≡ false → arguments_answer w words ≡ Ok tt
-answer_words w words a b = ap (λ x. if x then (if list_any is_build w.targets then Err Late else Ok tt) else Err Unholdable) a ∙ ap (λ x. if x then Err Late else Ok tt) b
+answer_words w words a b = ap (λ x. if x then (if list_any is_build w.targets then Err (refused Late (first_build w.targets)) else Ok tt) else Err (refused Unholdable (unheld_word words))) a ∙ ap (λ x. if x then Err (refused Late (first_build w.targets)) else Ok tt) b
 
-pub after_unit : (r : Result (Unit {0}) Refusal) (then_ before : WorldData) → r ≡ Ok tt → after_answer r then_ before ≡ then_
+pub after_unit : (r : Result (Unit {0}) RefusedData) (then_ before : WorldData) → r ≡ Ok tt → after_answer r then_ before ≡ then_
 after_unit r then_ before e = ap (λ x. after_answer x then_ before) e
 
-pub after_refusal : (r : Result (Unit {0}) Refusal) (why : Refusal) (then_ before : WorldData) → r ≡ Err why → after_answer r then_ before ≡ before
+pub after_refusal : (r : Result (Unit {0}) RefusedData) (why : RefusedData) (then_ before : WorldData) → r ≡ Err why → after_answer r then_ before ≡ before
 after_refusal r why then_ before e = ap (λ x. after_answer x then_ before) e
+
+-- the targets, as the code has them
+targets_are : (xs : List Linked) → targets_in (map linked_view xs) ≡ map (λ l. target_view l.target) xs
+targets_are [] = refl
+targets_are (x ∷ xs) = ap (λ ts. target_view x.target ∷ ts) (targets_are xs)
+
+pub first_is : (xs : List Linked) → first_build (map (λ l. target_view l.target) xs) ≡ first_build (targets_in (map linked_view xs))
+first_is xs = ap first_build (sym (targets_are xs))
 
 -- whether one of the targets is a build target, as the code asks it
 pub some_is : (xs : List Linked) → list_any is_build (targets_in (map linked_view xs)) ≡ list_any (λ l. is_build (target_view l.target)) xs

@@ -1,6 +1,6 @@
 -- Lists of paths.
 use Rattle.std.proofs.Common.{◌≡◌, ℕ, ◌+◌, ◌<◌, ◌≤◌, Bool, true, false, List, [], ◌∷◌, ◌++◌, length, map, take, drop, get_or, string_bytes, bytes_eq, String, refl, sym, ap, ◌∙◌, append_assoc, add-one, drop-cons, arith}
-use Rattle.std.specs.Prelude.{not, ◌&&◌, ◌||◌, if◌then◌else◌, string_eq}
+use Rattle.std.specs.Prelude.{not, ◌||◌, if◌then◌else◌, string_eq, Option, Some, None}
 use Rattle.std.specs.List.{list_any}
 use Rattle.std.specs.Global.{Global}
 use Rattle.std.proofs.lemmas.List.{take_more, map-append}
@@ -9,7 +9,7 @@ use Rattle.std.proofs.lemmas.List.Folds.{list_any-append}
 use Rattle.std.proofs.lemmas.Slice.Eq.{bytes_eq-Decides}
 use Rattle.indexmap.specs.IndexSet.{insert_key}
 use Rattle.edge.specs.Texts.{Path, texts, holds}
-use Rattle.project.specs.Laws.{all_new, times, AtMostOnce}
+use Rattle.project.specs.Laws.{first_taken, times, AtMostOnce}
 use Rattle.project.specs.Whole.{SamePaths, IsFront}
 
 pub list_any-map : {X Y : Type 0} (p : Y → Bool) (f : X → Y) (xs : List X) → list_any p (map f xs) ≡ list_any (λ x. p (f x)) xs
@@ -53,21 +53,21 @@ drop_at : (xs : List (String Global)) (i : ℕ) (d : String Global) → i < leng
 drop_at xs i d h = rw (add-one, drop-cons xs i d h) refl
 
 fresh_at : (seen : List Path) (fresh : List (String Global)) (i : ℕ) (item : String Global) → i < length fresh → item ≡ get_or fresh i item
-    → all_new seen (texts (drop i fresh)) ≡ (not (holds (string_bytes item) seen) && all_new (seen ++ string_bytes item ∷ []) (texts (drop (i + 1) fresh)))
-fresh_at seen fresh i item h at = ap (λ l. all_new seen (texts l)) (drop_at fresh i item h ∙ ap (λ x. x ∷ drop (i + 1) fresh) (sym at))
+    → first_taken seen (texts (drop i fresh)) ≡ (if holds (string_bytes item) seen then Some (string_bytes item) else first_taken (seen ++ string_bytes item ∷ []) (texts (drop (i + 1) fresh)))
+fresh_at seen fresh i item h at = ap (λ l. first_taken seen (texts l)) (drop_at fresh i item h ∙ ap (λ x. x ∷ drop (i + 1) fresh) (sym at))
 
 pub tested_more : (ks new fresh : List (String Global)) (i : ℕ) (item : String Global) → i < length fresh → item ≡ get_or fresh i item → Inserted ks new (string_bytes item)
-    → all_new (texts ks) (texts (drop i fresh)) ≡ all_new (texts new) (texts (drop (i + 1) fresh))
+    → first_taken (texts ks) (texts (drop i fresh)) ≡ first_taken (texts new) (texts (drop (i + 1) fresh))
 tested_more ks new fresh i item h at one =
     fresh_at (texts ks) fresh i item h at
-    ∙ ap (λ b. not b && all_new (texts ks ++ string_bytes item ∷ []) (texts (drop (i + 1) fresh))) one.absent
-    ∙ ap (λ l. all_new l (texts (drop (i + 1) fresh))) (sym (texts_push ks new (string_bytes item) one))
+    ∙ ap (λ b. if b then Some (string_bytes item) else first_taken (texts ks ++ string_bytes item ∷ []) (texts (drop (i + 1) fresh))) one.absent
+    ∙ ap (λ l. first_taken l (texts (drop (i + 1) fresh))) (sym (texts_push ks new (string_bytes item) one))
 
 pub tested_present : (ks fresh : List (String Global)) (i : ℕ) (item k : String Global) (added : Bool) → i < length fresh → item ≡ get_or fresh i item → string_bytes k ≡ string_bytes item
-    → added ≡ not (list_any (string_eq k) ks) → added ≡ false → all_new (texts ks) (texts (drop i fresh)) ≡ false
+    → added ≡ not (list_any (string_eq k) ks) → added ≡ false → first_taken (texts ks) (texts (drop i fresh)) ≡ Some (string_bytes item)
 tested_present ks fresh i item k added h at same was no_ =
     fresh_at (texts ks) fresh i item h at
-    ∙ ap (λ b. not b && all_new (texts ks ++ string_bytes item ∷ []) (texts (drop (i + 1) fresh)))
+    ∙ ap (λ b. if b then Some (string_bytes item) else first_taken (texts ks ++ string_bytes item ∷ []) (texts (drop (i + 1) fresh)))
     (ap (λ p. holds p (texts ks)) (sym same) ∙ sym (holds-texts k ks) ∙ not_true added (list_any (string_eq k) ks) was no_)
 
 pub added_more : (old : List Path) (ks new fresh : List (String Global)) (i : ℕ) (item : String Global) → i < length fresh → item ≡ get_or fresh i item → Inserted ks new (string_bytes item)
@@ -91,11 +91,11 @@ same_push : (xs ys : List Path) (x : Path) → SamePaths xs ys → SamePaths (xs
 same_push xs ys x same p =
     list_any-append (bytes_eq p) xs (x ∷ []) ∙ ap (λ b. b || holds p (x ∷ [])) (same p) ∙ sym (list_any-append (bytes_eq p) ys (x ∷ []))
 
-pub all_new_same : (xs ys ps : List Path) → SamePaths xs ys → all_new xs ps ≡ all_new ys ps
-all_new_same xs ys [] same = refl
-all_new_same xs ys (p ∷ ps) same =
-    ap (λ b. not b && all_new (xs ++ p ∷ []) ps) (same p)
-    ∙ ap (λ b. not (holds p ys) && b) (all_new_same (xs ++ p ∷ []) (ys ++ p ∷ []) ps (same_push xs ys p same))
+pub taken_same : (xs ys ps : List Path) → SamePaths xs ys → first_taken xs ps ≡ first_taken ys ps
+taken_same xs ys [] same = refl
+taken_same xs ys (p ∷ ps) same =
+    ap (λ b. if b then Some p else first_taken (xs ++ p ∷ []) ps) (same p)
+    ∙ ap (λ o. if holds p ys then Some p else o) (taken_same (xs ++ p ∷ []) (ys ++ p ∷ []) ps (same_push xs ys p same))
 
 pub times-append : (p : Path) (xs ys : List Path) → times p (xs ++ ys) ≡ times p xs + times p ys
 times-append p [] ys = omega arith
@@ -121,18 +121,18 @@ once_push seen x once new p =
     equal_paths : (p x : Path) → bytes_eq p x ≡ true → p ≡ x
     equal_paths p x e = (bytes_eq-Decides p x).0 e
 
-and_left : (a b : Bool) → (not a && b) ≡ true → a ≡ false
-and_left true b e = absurd cc
-and_left false b e = refl
+none_first : (b : Bool) (x : Path) (later : Option Path) → (if b then Some x else later) ≡ None → b ≡ false
+none_first true x later e = absurd cc
+none_first false x later e = refl
 
-and_right : (a b : Bool) → (not a && b) ≡ true → b ≡ true
-and_right true b e = absurd cc
-and_right false b e = e
+none_later : (b : Bool) (x : Path) (later : Option Path) → (if b then Some x else later) ≡ None → later ≡ None
+none_later true x later e = absurd cc
+none_later false x later e = e
 
-pub once_all_new : (seen ps : List Path) → AtMostOnce seen → all_new seen ps ≡ true → AtMostOnce (seen ++ ps)
-once_all_new seen [] once new = λ p. rw (times-append p seen []) (let h = once p in omega arith)
-once_all_new seen (x ∷ ps) once new =
-    let a = and_left (holds x seen) (all_new (seen ++ x ∷ []) ps) new in
-    let b = and_right (holds x seen) (all_new (seen ++ x ∷ []) ps) new in
-    λ p. let h = once_all_new (seen ++ x ∷ []) ps (once_push seen x once a) b p in
+pub once_more : (seen ps : List Path) → AtMostOnce seen → first_taken seen ps ≡ None → AtMostOnce (seen ++ ps)
+once_more seen [] once new = λ p. rw (times-append p seen []) (let h = once p in omega arith)
+once_more seen (x ∷ ps) once new =
+    let a = none_first (holds x seen) x (first_taken (seen ++ x ∷ []) ps) new in
+    let b = none_later (holds x seen) x (first_taken (seen ++ x ∷ []) ps) new in
+    λ p. let h = once_more (seen ++ x ∷ []) ps (once_push seen x once a) b p in
     let e = times-append p (seen ++ x ∷ []) ps in let f = times-append p seen (x ∷ []) in let g = times-append p seen (x ∷ ps) in omega arith

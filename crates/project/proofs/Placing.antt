@@ -1,10 +1,8 @@
 -- A project stays whole when it grows.
-use Rattle.std.proofs.Common.{◌≡◌, ℕ, ◌≤◌, Bool, true, false, List, [], ◌∷◌, ◌++◌, length, map, Result, Ok, Err, refl, sym, ap, ◌∙◌, subst, append-nil, append_assoc, bytes_eq, arith}
-use Rattle.std.specs.Prelude.{◌&&◌, ◌||◌, not, flat_map, if◌then◌else◌}
-use Rattle.std.specs.List.{list_all}
+use Rattle.std.proofs.Common.{◌≡◌, ℕ, ◌≤◌, Bool, true, false, List, [], ◌∷◌, ◌++◌, length, map, Result, Ok, Err, refl, sym, ap, ◌∙◌, subst, append-nil, append_assoc, arith}
+use Rattle.std.specs.Prelude.{◌&&◌, ◌||◌, not, is_some, Option, Some, None, option_map, OnOk, if◌then◌else◌}
 use Rattle.std.proofs.lemmas.List.{map-append}
 use Rattle.std.proofs.lemmas.List.Concat.{flat_map-append}
-use Rattle.std.proofs.lemmas.List.Folds.{list_any-append, list_all-append}
 use Rattle.edge.specs.Texts.{Path, holds, put_new}
 use Rattle.edge.specs.Data.{EdgeData}
 use Rattle.edge.specs.Holding.{are_writable, is_writable}
@@ -12,15 +10,15 @@ use Rattle.edge.specs.Paths.{is_upward, source_path}
 use Rattle.targets.specs.Data.{SurroundingsData, TargetData}
 use Rattle.targets.specs.Libraries.{LinkedData, linked, linked_after, linked_of}
 use Rattle.target_edges.specs.Edges.{edges_of, edges_after, all_edges}
-use Rattle.project.specs.Laws.{outputs_of, all_new, times, AtMostOnce, all_held, all_made, all_inside}
-use Rattle.project.specs.World.{WorldData, reserved, made_of, taken_of, known_of, taken_in}
+use Rattle.project.specs.Laws.{outputs_of, first_taken, times, all_made, all_inside}
+use Rattle.project.specs.World.{WorldData, reserved, taken_of, known_of, taken_in}
 use Rattle.project.specs.Earlier.{all_refer_back}
-use Rattle.project.specs.Whole.{SamePaths, targets_in, IsWhole, IsNext}
-use Rattle.project.specs.Adding.{place_answer, with_target, after_answer}
-use Rattle.project.specs.declared.refusal.Refusal.{Refusal}
+use Rattle.project.specs.Whole.{targets_in, IsWhole, IsNext}
+use Rattle.project.specs.Adding.{place_answer, with_target, after_answer, unless_taken}
+use Rattle.project.specs.Refused.{RefusedData, refused}
 use Rattle.project.specs.declared.refusal.Refusal.TheVariants.{Limit, Duplicate}
 use Rattle.project.specs.View.{NotesData, world_of}
-use Rattle.project.proofs.PathLists.{all_new_same, once_all_new, times-append}
+use Rattle.project.proofs.PathLists.{once_more, taken_same, times-append}
 use Rattle.project.proofs.Earlier.{back_push, back_grown}
 use Rattle.project.proofs.EdgeOrder.{both, or_cases, list_all-joined, holds_append, holds_left, holds_right, made_append, made_grown}
 
@@ -93,11 +91,11 @@ module _ (s : SurroundingsData) (ls : List LinkedData) (outputs present kept now
   taken_are : taken_of s (targets_in (ls ++ l ∷ [])) outputs ≡ reserved ++ ((outputs_of (all_edges s ts) ++ ps) ++ outputs)
   taken_are = ap (λ qs. reserved ++ (qs ++ outputs)) outputs_are
 
-  pub whole_next : all_new kept ps ≡ true → now ≡ kept ++ ps → IsWhole s (ls ++ l ∷ []) outputs present now
+  pub whole_next : first_taken kept ps ≡ None → now ≡ kept ++ ps → IsWhole s (ls ++ l ∷ []) outputs present now
   whole_next new e =
       let all = taken_of s ts outputs in
       let f = outputs_of (all_edges s ts) in
-      let once = once_all_new all ps w.once (sym (all_new_same kept all ps w.paths) ∙ new) in
+      let once = once_more all ps w.once (sym (taken_same kept all ps w.paths) ∙ new) in
       record {
         libraries =
             ap (λ k. ls ++ k ∷ []) n.libraries
@@ -129,11 +127,11 @@ module _ (s : SurroundingsData) (ls : List LinkedData) (outputs present kept now
 -- ---- an output of its own
 
 pub whole_with_output : (s : SurroundingsData) (ls : List LinkedData) (outputs present kept now : List Path) (q : Path) → IsWhole s ls outputs present kept
-    → not (is_upward q) ≡ true → all_new kept (q ∷ []) ≡ true → now ≡ kept ++ q ∷ [] → IsWhole s ls (outputs ++ q ∷ []) present now
+    → not (is_upward q) ≡ true → first_taken kept (q ∷ []) ≡ None → now ≡ kept ++ q ∷ [] → IsWhole s ls (outputs ++ q ∷ []) present now
 whole_with_output s ls outputs present kept now q w inside new e =
     let f = outputs_of (all_edges s (targets_in ls)) in
     let all = taken_of s (targets_in ls) outputs in
-    let once = once_all_new all (q ∷ []) w.once (sym (all_new_same kept all (q ∷ []) w.paths) ∙ new) in
+    let once = once_more all (q ∷ []) w.once (sym (taken_same kept all (q ∷ []) w.paths) ∙ new) in
     let is : taken_of s (targets_in ls) (outputs ++ q ∷ []) ≡ all ++ q ∷ [] = sym (append_assoc reserved (f ++ outputs) (q ∷ []) ∙ ap (λ l. reserved ++ l) (append_assoc f outputs (q ∷ []))) in
     let known = known_of s outputs present in
     record {
@@ -182,7 +180,7 @@ whole_none : (s : SurroundingsData) → IsWhole s [] [] [] reserved
 whole_none s = record {
   libraries = refl;
   paths = λ p. refl;
-  once = once_all_new [] reserved (λ p. omega arith) refl;
+  once = once_more [] reserved (λ p. omega arith) refl;
   made = refl;
   inside = refl;
   outputs_inside = refl;
@@ -199,33 +197,50 @@ whole_same s ls now_ls outputs present kept now w a b = subst (λ x. IsWhole s x
 
 -- ---- what is answered
 
-pub place_ok : (w : WorldData) (ps : List Path) (within : Bool) → all_new (taken_in w) ps ≡ true → within ≡ true → place_answer w ps within ≡ Ok (length w.targets)
-place_ok w ps within e f = ap (λ b. if b then (if within then Ok (length w.targets) else Err Limit) else Err Duplicate) e ∙ ap (λ b. if b then Ok (length w.targets) else Err Limit) f
+pub place_ok : (w : WorldData) (ps : List Path) (within : Bool) → first_taken (taken_in w) ps ≡ None → within ≡ true → place_answer w ps within ≡ Ok (length w.targets)
+place_ok w ps within e f =
+    ap (λ o. unless_taken o (if within then Ok (length w.targets) else Err (refused Limit []))) e ∙ ap (λ b. if b then Ok (length w.targets) else Err (refused Limit [])) f
 
-pub place_long : (w : WorldData) (ps : List Path) (within : Bool) → all_new (taken_in w) ps ≡ true → within ≡ false → place_answer w ps within ≡ Err Limit
-place_long w ps within e f = ap (λ b. if b then (if within then Ok (length w.targets) else Err Limit) else Err Duplicate) e ∙ ap (λ b. if b then Ok (length w.targets) else Err Limit) f
+pub place_long : (w : WorldData) (ps : List Path) (within : Bool) → first_taken (taken_in w) ps ≡ None → within ≡ false → place_answer w ps within ≡ Err (refused Limit [])
+place_long w ps within e f =
+    ap (λ o. unless_taken o (if within then Ok (length w.targets) else Err (refused Limit []))) e ∙ ap (λ b. if b then Ok (length w.targets) else Err (refused Limit [])) f
 
-pub place_twice : (w : WorldData) (ps : List Path) (within : Bool) → all_new (taken_in w) ps ≡ false → place_answer w ps within ≡ Err Duplicate
-place_twice w ps within e = ap (λ b. if b then (if within then Ok (length w.targets) else Err Limit) else Err Duplicate) e
+pub place_twice : (w : WorldData) (ps : List Path) (within : Bool) (path : Path) → first_taken (taken_in w) ps ≡ Some path → place_answer w ps within ≡ Err (refused Duplicate path)
+place_twice w ps within path e = ap (λ o. unless_taken o (if within then Ok (length w.targets) else Err (refused Limit []))) e
 
 -- what the set tells is so of the project
-pub free_is : (s : SurroundingsData) (ls : List LinkedData) (outputs present kept ps : List Path) (b : Bool) → IsWhole s ls outputs present kept → b ≡ all_new kept ps → all_new (taken_of s (targets_in ls) outputs) ps ≡ b
-free_is s ls outputs present kept ps b w e = sym (all_new_same kept (taken_of s (targets_in ls) outputs) ps w.paths) ∙ sym e
+pub free_is : (s : SurroundingsData) (ls : List LinkedData) (outputs present kept ps : List Path) (taken : Option Path) → IsWhole s ls outputs present kept → taken ≡ first_taken kept ps
+    → first_taken (taken_of s (targets_in ls) outputs) ps ≡ taken
+free_is s ls outputs present kept ps taken w e = sym (taken_same kept (taken_of s (targets_in ls) outputs) ps w.paths) ∙ sym e
 
-pub placed_kept : (kept ps now : List Path) (new within : Bool) → now ≡ (if new && within then kept ++ ps else kept) → new ≡ true → within ≡ true → now ≡ kept ++ ps
-placed_kept kept ps now new within e a b = e ∙ ap (λ x. if x && within then kept ++ ps else kept) a ∙ ap (λ x. if x then kept ++ ps else kept) b
+pub placed_kept : {X : Type 0} (kept ps now : List Path) (taken : Option X) (within : Bool) → now ≡ (if not (is_some taken) && within then kept ++ ps else kept) → taken ≡ None → within ≡ true
+    → now ≡ kept ++ ps
+placed_kept kept ps now taken within e a b = e ∙ ap (λ o. if not (is_some o) && within then kept ++ ps else kept) a ∙ ap (λ x. if x then kept ++ ps else kept) b
 
-pub placed_back : (kept ps now : List Path) (new within : Bool) → now ≡ (if new && within then kept ++ ps else kept) → new ≡ true → within ≡ false → now ≡ kept
-placed_back kept ps now new within e a b = e ∙ ap (λ x. if x && within then kept ++ ps else kept) a ∙ ap (λ x. if x then kept ++ ps else kept) b
+pub placed_back : {X : Type 0} (kept ps now : List Path) (taken : Option X) (within : Bool) → now ≡ (if not (is_some taken) && within then kept ++ ps else kept) → taken ≡ None → within ≡ false
+    → now ≡ kept
+placed_back kept ps now taken within e a b = e ∙ ap (λ o. if not (is_some o) && within then kept ++ ps else kept) a ∙ ap (λ x. if x then kept ++ ps else kept) b
 
-pub placed_twice : (kept ps now : List Path) (new within : Bool) → now ≡ (if new && within then kept ++ ps else kept) → new ≡ false → now ≡ kept
-placed_twice kept ps now new within e a = e ∙ ap (λ x. if x && within then kept ++ ps else kept) a
+pub placed_twice : {X : Type 0} (kept ps now : List Path) (taken : Option X) (within : Bool) {x : X} → now ≡ (if not (is_some taken) && within then kept ++ ps else kept) → taken ≡ Some x → now ≡ kept
+placed_twice kept ps now taken within e a = e ∙ ap (λ o. if not (is_some o) && within then kept ++ ps else kept) a
 
-pub after_ok : (r : Result ℕ Refusal) (n : ℕ) (then_ before : WorldData) → r ≡ Ok n → after_answer r then_ before ≡ then_
+-- what the set tells, where it is known whether it tells a path
+pub told_none : {X : Type 0} (f : X → Path) {taken : Option X} {o : Option Path} → option_map f taken ≡ o → taken ≡ None → None ≡ o
+told_none f is none = sym (ap (option_map f) none) ∙ is
+
+pub told_path : {X : Type 0} (f : X → Path) {taken : Option X} {x : X} {o : Option Path} → option_map f taken ≡ o → taken ≡ Some x → Some (f x) ≡ o
+told_path f is some = sym (ap (option_map f) some) ∙ is
+
+pub after_ok : (r : Result ℕ RefusedData) (n : ℕ) (then_ before : WorldData) → r ≡ Ok n → after_answer r then_ before ≡ then_
 after_ok r n then_ before e = ap (λ x. after_answer x then_ before) e
 
-pub after_err : (r : Result ℕ Refusal) (why : Refusal) (then_ before : WorldData) → r ≡ Err why → after_answer r then_ before ≡ before
+pub after_err : (r : Result ℕ RefusedData) (why : RefusedData) (then_ before : WorldData) → r ≡ Err why → after_answer r then_ before ≡ before
 after_err r why then_ before e = ap (λ x. after_answer x then_ before) e
+
+-- what is so anyway is so where it went well
+pub on_ok : {A E P : Type 0} (r : Result A E) → P → OnOk r P
+on_ok (Ok a) p = p
+on_ok (Err e) p = tt
 
 pub world_with : (s : SurroundingsData) (ls : List LinkedData) (outputs : List Path) (notes : NotesData) (l : LinkedData) (w : WorldData) → world_of s ls outputs notes ≡ w
     → world_of s (ls ++ l ∷ []) outputs notes ≡ with_target w l.target

@@ -12,11 +12,12 @@ use Rattle.targets.specs.Sources.{all_sources, is_c, has_foreign}
 use Rattle.targets.specs.Files.{path_in, file_name, link_names}
 use Rattle.targets.specs.Libraries.{LinkedData, linked, linked_of, links_libraries}
 use Rattle.target_edges.specs.Edges.{edges_of}
-use Rattle.project.specs.Laws.{outputs_of, all_new}
+use Rattle.project.specs.Laws.{first_taken, outputs_of}
+use Rattle.project.specs.Refused.{RefusedData, refused}
+use Rattle.project.specs.Unheld.{unheld, unheld_word}
 use Rattle.project.specs.World.{WorldData, AnswerData, InstallData, TestData, made_in, taken_in}
 use Rattle.project.specs.declared.fitting.ListOf.{ListOf}
 use Rattle.project.specs.declared.fitting.ListOf.TheVariants.{OfSources, OfFolders, OfCompileArgs, OfLinkArgs, OfLibraries}
-use Rattle.project.specs.declared.refusal.Refusal.{Refusal}
 use Rattle.project.specs.declared.refusal.Refusal.TheVariants.{Arguments, Missing, Unholdable, Duplicate, Limit, Late}
 
 -- ---- names (E9)
@@ -121,20 +122,27 @@ edges_with w t = edges_of w.surroundings (linked_of w.targets) (linked (linked_o
 abbrev pub with_target : WorldData → TargetData → WorldData
 with_target w t = record w { targets = w.targets ++ t ∷ [] }
 
+-- a path that is taken is refused, and else this is answered
+abbrev pub unless_taken : {X : Type 0} → (taken : Option Path) → Result X RefusedData → Result X RefusedData
+unless_taken (Some path) answer = Err (refused Duplicate path)
+unless_taken None answer = answer
+
 -- paths that nothing else makes, where the lists are short enough
-abbrev pub place_answer : WorldData → (paths : List Path) (within : Bool) → Result ℕ Refusal
-place_answer w paths within = if all_new (taken_in w) paths then (if within then Ok (length w.targets) else Err Limit) else Err Duplicate
+abbrev pub place_answer : WorldData → (paths : List Path) (within : Bool) → Result ℕ RefusedData
+place_answer w paths within =
+    unless_taken (first_taken (taken_in w) paths) (if within then Ok (length w.targets) else Err (refused Limit []))
 
 -- the number of the target, or why it is refused: the first of these
-abbrev pub target_answer : WorldData → TargetData → Result ℕ Refusal
+abbrev pub target_answer : WorldData → TargetData → Result ℕ RefusedData
 target_answer w t =
     if is_fit w t then
     (if list_all (is_present w.present) (sources_of t) then
-    (if are_writable (edges_with w t) then place_answer w (outputs_of (edges_with w t)) (is_within t) else Err Unholdable)
-    else Err Missing)
-    else Err Arguments
+    (if are_writable (edges_with w t) then place_answer w (outputs_of (edges_with w t)) (is_within t)
+    else Err (refused Unholdable (unheld t)))
+    else Err (refused Missing []))
+    else Err (refused Arguments [])
 
-abbrev pub after_answer : {X : Type 0} → Result X Refusal → (then_ before : WorldData) → WorldData
+abbrev pub after_answer : {X : Type 0} → Result X RefusedData → (then_ before : WorldData) → WorldData
 after_answer (Ok x) then_ before = then_
 after_answer (Err refusal) then_ before = before
 
@@ -165,15 +173,16 @@ edges_by_number w = edges_between w.surroundings (linked_of w.targets) (length w
 abbrev pub with_output : WorldData → Path → WorldData
 with_output w path = record w { outputs = w.outputs ++ path ∷ [] }
 
-abbrev pub place_output_answer : WorldData → Path → Result (Unit {0}) Refusal
-place_output_answer w path = if all_new (taken_in w) (path ∷ []) then Ok tt else Err Duplicate
+abbrev pub place_output_answer : WorldData → Path → Result (Unit {0}) RefusedData
+place_output_answer w path = unless_taken (first_taken (taken_in w) (path ∷ [])) (Ok tt)
 
 -- a file of the folder that nothing else makes, or why it is refused: the first of these
-abbrev pub output_answer : WorldData → (folder : Path) (name : Text) → Result (Unit {0}) Refusal
+abbrev pub output_answer : WorldData → (folder : Path) (name : Text) → Result (Unit {0}) RefusedData
 output_answer w folder name =
     if is_folder folder && is_file_name name then
-    (if path_held (path_in folder name) then place_output_answer w (path_in folder name) else Err Unholdable)
-    else Err Arguments
+    (if path_held (path_in folder name) then place_output_answer w (path_in folder name)
+    else Err (refused Unholdable (path_in folder name)))
+    else Err (refused Arguments [])
 
 -- ---- arguments of the project
 
@@ -181,8 +190,17 @@ abbrev pub is_build : TargetData → Bool
 is_build (Build t) = true
 is_build (Custom t) = false
 
-abbrev pub arguments_answer : WorldData → List Text → Result (Unit {0}) Refusal
-arguments_answer w words = if list_all value_held words then (if list_any is_build w.targets then Err Late else Ok tt) else Err Unholdable
+-- the name of the first build target
+abbrev pub first_build : List TargetData → Text
+first_build [] = []
+first_build (Build t ∷ ts) = t.name
+first_build (Custom t ∷ ts) = first_build ts
+
+abbrev pub arguments_answer : WorldData → List Text → Result (Unit {0}) RefusedData
+arguments_answer w words =
+    if list_all value_held words then
+    (if list_any is_build w.targets then Err (refused Late (first_build w.targets)) else Ok tt)
+    else Err (refused Unholdable (unheld_word words))
 
 abbrev pub with_arguments : WorldData → List Text → WorldData
 with_arguments w words = record w { surroundings = record w.surroundings { arguments = w.surroundings.arguments ++ words } }

@@ -11,10 +11,10 @@ outputs_of edges = flat_map (λ e. e.outputs) edges
 
 -- ---- once
 
--- none of the paths is one of those seen, or stands twice
-abbrev pub all_new : List Path → List Path → Bool
-all_new seen [] = true
-all_new seen (p ∷ ps) = not (holds p seen) && all_new (seen ++ p ∷ []) ps
+-- the first of the paths that is one of those seen, or stands twice
+abbrev pub first_taken : List Path → List Path → Option Path
+first_taken seen [] = None
+first_taken seen (p ∷ ps) = if holds p seen then Some p else first_taken (seen ++ p ∷ []) ps
 
 -- how often a path stands in the list
 abbrev pub times : Path → List Path → ℕ

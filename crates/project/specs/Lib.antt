@@ -1,5 +1,7 @@
 pub mod Laws
 pub mod World
+pub mod Refused
+pub mod Unheld
 pub mod Adding
 pub mod Earlier
 pub mod View

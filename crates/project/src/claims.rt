@@ -1,44 +1,51 @@
 //! The paths that a project makes.
-ghost use Rattle.std.specs.Prelude.{◌≡◌, ◌++◌, IfOk, OnErr, IsTrue, ◌&&◌, if◌then◌else◌};
+ghost use Rattle.std.specs.Prelude.{◌≡◌, ◌++◌, IfOk, OnErr, ◌&&◌, not, is_some, None, option_map, if◌then◌else◌};
 ghost use Rattle.edge.specs.Texts.{texts};
-ghost use Rattle.project.specs.Laws.{all_new};
+ghost use Rattle.project.specs.Laws.{first_taken};
 ghost use Rattle.project.specs.Whole.{IsFront};
 
 use basics::tables::SipSet;
 use std::alloc::AllocError;
 
-// Inserts each path, up to the first that is there.
-fn insert_new(paths: &mut SipSet<String>, fresh: &[String]) -> Result<bool, AllocError>
-    ensures tested { IfOk result (λ new. new ≡ all_new (texts paths.old.keys) (texts fresh.now)) }
-    ensures added { IfOk result (λ new. IsTrue new → texts paths.new.keys ≡ texts paths.old.keys ++ texts fresh.now) }
+// Inserts each path, up to the first that is there, and gives that one.
+fn insert_new<'p>(
+    paths: &mut SipSet<String>,
+    fresh: &'p [String],
+) -> Result<Option<&'p str>, AllocError>
+    ensures tested { IfOk result (λ taken. option_map (λ p. p.now) taken ≡ first_taken (texts paths.old.keys) (texts fresh.now)) }
+    ensures added { IfOk result (λ taken. taken ≡ None → texts paths.new.keys ≡ texts paths.old.keys ++ texts fresh.now) }
     ensures begins { IsFront paths.old.keys paths.new.keys }
 {
     for path in fresh {
         if !paths.insert(path.clone()?)? {
-            return Ok(false);
+            return Ok(Some(path.as_str()));
         }
     }
-    Ok(true)
+    Ok(None)
 }
 
-/// Says whether none of the paths is there already or stands twice; and adds all of them, where that is so and they are to be kept.
-pub fn claim(paths: &mut SipSet<String>, fresh: &[String], keep: bool) -> Result<bool, AllocError>
-    ensures tested { IfOk result (λ new. new ≡ all_new (texts paths.old.keys) (texts fresh.now)) }
-    ensures added { IfOk result (λ new. texts paths.new.keys
-        ≡ (if new && keep then texts paths.old.keys ++ texts fresh.now else texts paths.old.keys)) }
+/// Gives the first of the paths that is there already or stands twice; and adds all of them, where there is none and they are to be kept.
+pub fn claim<'p>(
+    paths: &mut SipSet<String>,
+    fresh: &'p [String],
+    keep: bool,
+) -> Result<Option<&'p str>, AllocError>
+    ensures tested { IfOk result (λ taken. option_map (λ p. p.now) taken ≡ first_taken (texts paths.old.keys) (texts fresh.now)) }
+    ensures added { IfOk result (λ taken. texts paths.new.keys
+        ≡ (if not (is_some taken) && keep then texts paths.old.keys ++ texts fresh.now else texts paths.old.keys)) }
     ensures err { OnErr result (paths.new.keys ≡ paths.old.keys) }
 {
     let mark = paths.len();
     match insert_new(paths, fresh) {
-        Ok(true) => {
+        Ok(None) => {
             if !keep {
                 paths.truncate(mark);
             }
-            Ok(true)
+            Ok(None)
         }
-        Ok(false) => {
+        Ok(Some(path)) => {
             paths.truncate(mark);
-            Ok(false)
+            Ok(Some(path))
         }
         Err(refused) => {
             paths.truncate(mark);

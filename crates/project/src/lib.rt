@@ -6,6 +6,7 @@ mod fitting;
 mod notes;
 mod project;
 mod refusal;
+mod unheld;
 
 pub use fitting::{has_slash, is_file_name};
 pub use notes::{Answer, Install, Test};
@@ -13,4 +14,4 @@ pub use project::{
     Project, edges_are_writable, edges_stand_in_order, needs_are_made, no_circle, outputs_differ,
     parts, targets_refer_back,
 };
-pub use refusal::Refusal;
+pub use refusal::{Refusal, Refused};

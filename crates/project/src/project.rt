@@ -10,13 +10,14 @@ ghost use Rattle.project.specs.Adding.{is_fit, target_answer, after_target, plac
 ghost use Rattle.project.specs.Adding.{output_answer, place_output_answer, with_output, with_present, with_absent, with_dependency};
 ghost use Rattle.project.specs.Adding.{with_install, with_test, edges_at, is_folder as is_folder_of, is_file_name as is_name};
 ghost use Rattle.project.specs.Adding.{edges_by_number, arguments_answer, with_arguments, with_link_arguments};
-ghost use Rattle.project.specs.Adding.{is_build as is_build_target};
+ghost use Rattle.project.specs.Adding.{first_build, is_build as is_build_target};
 ghost use Rattle.std.specs.List.{list_any};
 ghost use Rattle.edge.specs.Paths.{is_upward};
 ghost use Rattle.edge.specs.Holding.{are_writable};
 ghost use Rattle.targets.specs.Files.{path_in as path_of};
 ghost use Rattle.project.specs.Laws.{AtMostOnce, all_made, outputs_of, Reaches};
 ghost use Rattle.project.specs.World.{new_world, edges_in, known_in, taken_in};
+ghost use Rattle.project.specs.Refused.{answer_data};
 ghost use Rattle.target_edges.specs.Edges.{target_edges as target_edges_of, edges_of};
 ghost use Rattle.target_edges.specs.PartsView.{parts_edges};
 
@@ -26,7 +27,8 @@ use crate::fitting::{
     is_folder, is_within,
 };
 use crate::notes::{Answer, Install, Test};
-use crate::refusal::Refusal;
+use crate::refusal::{Refusal, Refused, refuse};
+use crate::unheld::{unheld, unheld_word};
 use basics::tables::{SipSet, new_set};
 use edge::{can_hold_path, can_hold_values, copies, strings};
 use std::alloc::{AllocError, Global};
@@ -108,7 +110,7 @@ impl Project {
     {
         let reserved = strings(alloc, &["all", "build.ninja", "meson-info/introspect.json"])?;
         let mut taken = new_set(alloc);
-        let _all_new = claim(&mut taken, &reserved, true)?;
+        let _taken = claim(&mut taken, &reserved, true)?;
         Ok(Project {
             alloc,
             surroundings: Surroundings {
@@ -154,9 +156,9 @@ impl Project {
         one: Linked,
         paths: &[String],
         within: bool,
-    ) -> Result<Result<usize, Refusal>, AllocError>
+    ) -> Result<Result<usize, Refused>, AllocError>
         requires { IsNext self.old.surroundings self.old.targets self.old.outputs self.old.present (linked_view one) (texts paths.now) }
-        ensures answer { IfOk result (λ r. r ≡ place_answer self.old (texts paths.now) within) }
+        ensures answer { IfOk result (λ r. answer_data r ≡ place_answer self.old (texts paths.now) within) }
         ensures ok { OnOk result (self.new
             ≡ after_answer (place_answer self.old (texts paths.now) within) (with_target self.old (target_view one.target)) self.old) }
         ensures err { OnErr result (self.new ≡ self.old) }
@@ -164,17 +166,17 @@ impl Project {
         let number = self.linked.len();
         self.linked.push(one)?;
         match claim(&mut self.taken, paths, within) {
-            Ok(true) => {
+            Ok(None) => {
                 if within {
                     Ok(Ok(number))
                 } else {
                     self.linked.truncate(number);
-                    Ok(Err(Refusal::Limit))
+                    refuse(self.alloc, Refusal::Limit, "")
                 }
             }
-            Ok(false) => {
+            Ok(Some(path)) => {
                 self.linked.truncate(number);
-                Ok(Err(Refusal::Duplicate))
+                refuse(self.alloc, Refusal::Duplicate, path)
             }
             Err(refused) => {
                 self.linked.truncate(number);
@@ -186,24 +188,24 @@ impl Project {
     /// Adds a target and gives its number, or answers the first of these: E9 where it does not fit, E14 where a file of the tree that it
     /// names was not looked at or is not there, E21 where `build.ninja` can't hold one of its edges, E11 where one of its paths is made
     /// by something else or stands twice, E22 where one of its lists has more than 65,536 items.
-    pub fn add_target(&mut self, target: Target) -> Result<Result<usize, Refusal>, AllocError>
-        ensures answer { IfOk result (λ r. r ≡ target_answer self.old (target_view target)) }
+    pub fn add_target(&mut self, target: Target) -> Result<Result<usize, Refused>, AllocError>
+        ensures answer { IfOk result (λ r. answer_data r ≡ target_answer self.old (target_view target)) }
         ensures ok { OnOk result (self.new ≡ after_target self.old (target_view target)) }
         ensures err { OnErr result (self.new ≡ self.old) }
     {
         let fits = self.fits(&target)?;
         if !fits {
-            return Ok(Err(Refusal::Arguments));
+            return refuse(self.alloc, Refusal::Arguments, "");
         }
         let present = has_present_sources(&self.notes.present, &target);
         if !present {
-            return Ok(Err(Refusal::Missing));
+            return refuse(self.alloc, Refusal::Missing, "");
         }
         let libraries = libraries(self.alloc, &self.linked, &target)?;
         let claims = self.claims_with(&target, &libraries)?;
         let writable = claims.writable;
         if !writable {
-            return Ok(Err(Refusal::Unholdable));
+            return refuse(self.alloc, Refusal::Unholdable, unheld(&target));
         }
         let within = is_within(&target);
         let named = default_paths(self.alloc, &target)?;
@@ -235,9 +237,9 @@ impl Project {
     }
 
     // Takes the path of an output, unless it is taken.
-    fn place_output(&mut self, path: String) -> Result<Result<(), Refusal>, AllocError>
+    fn place_output(&mut self, path: String) -> Result<Result<(), Refused>, AllocError>
         requires { not (is_upward (string_bytes path)) ≡ true }
-        ensures answer { IfOk result (λ r. r ≡ place_output_answer self.old (string_bytes path)) }
+        ensures answer { IfOk result (λ r. answer_data r ≡ place_output_answer self.old (string_bytes path)) }
         ensures ok { OnOk result (self.new
             ≡ after_answer (place_output_answer self.old (string_bytes path)) (with_output self.old (string_bytes path)) self.old) }
         ensures err { OnErr result (self.new ≡ self.old) }
@@ -246,10 +248,10 @@ impl Project {
         let number = self.outputs.len();
         self.outputs.push(path)?;
         match claim(&mut self.taken, &own, true) {
-            Ok(true) => Ok(Ok(())),
-            Ok(false) => {
+            Ok(None) => Ok(Ok(())),
+            Ok(Some(path)) => {
                 self.outputs.truncate(number);
-                Ok(Err(Refusal::Duplicate))
+                refuse(self.alloc, Refusal::Duplicate, path)
             }
             Err(refused) => {
                 self.outputs.truncate(number);
@@ -264,39 +266,39 @@ impl Project {
         &mut self,
         folder: &str,
         name: &str,
-    ) -> Result<Result<(), Refusal>, AllocError>
-        ensures answer { IfOk result (λ r. r ≡ output_answer self.old folder.now name.now) }
+    ) -> Result<Result<(), Refused>, AllocError>
+        ensures answer { IfOk result (λ r. answer_data r ≡ output_answer self.old folder.now name.now) }
         ensures ok { OnOk result (self.new
             ≡ after_answer (output_answer self.old folder.now name.now) (with_output self.old (path_of folder.now name.now)) self.old) }
         ensures err { OnErr result (self.new ≡ self.old) }
     {
         let fits = output_fits(folder, name);
         if !fits {
-            return Ok(Err(Refusal::Arguments));
+            return refuse(self.alloc, Refusal::Arguments, "");
         }
         let path = path_in(self.alloc, folder, name)?;
         let held = can_hold_path(&path);
         if !held {
-            return Ok(Err(Refusal::Unholdable));
+            return refuse(self.alloc, Refusal::Unholdable, &path);
         }
         self.place_output(path)
     }
 
     /// Adds words of `add_project_arguments` to those of all compile commands, or answers the first of these: E21 where `build.ninja`
     /// can't hold one of them, E24 where a build target was declared before.
-    pub fn add_arguments(&mut self, words: &[String]) -> Result<Result<(), Refusal>, AllocError>
-        ensures answer { IfOk result (λ r. r ≡ arguments_answer self.old (texts words.now)) }
+    pub fn add_arguments(&mut self, words: &[String]) -> Result<Result<(), Refused>, AllocError>
+        ensures answer { IfOk result (λ r. answer_data r ≡ arguments_answer self.old (texts words.now)) }
         ensures ok { OnOk result (self.new
             ≡ after_answer (arguments_answer self.old (texts words.now)) (with_arguments self.old (texts words.now)) self.old) }
         ensures err { OnErr result (self.new ≡ self.old) }
     {
         let held = can_hold_values(words);
         if !held {
-            return Ok(Err(Refusal::Unholdable));
+            return refuse(self.alloc, Refusal::Unholdable, unheld_word(words));
         }
         let late = some_build(&self.linked);
         if late {
-            return Ok(Err(Refusal::Late));
+            return refuse(self.alloc, Refusal::Late, first_build(&self.linked));
         }
         append(&mut self.surroundings.arguments, self.alloc, words)?;
         Ok(Ok(()))
@@ -307,19 +309,19 @@ impl Project {
     pub fn add_link_arguments(
         &mut self,
         words: &[String],
-    ) -> Result<Result<(), Refusal>, AllocError>
-        ensures answer { IfOk result (λ r. r ≡ arguments_answer self.old (texts words.now)) }
+    ) -> Result<Result<(), Refused>, AllocError>
+        ensures answer { IfOk result (λ r. answer_data r ≡ arguments_answer self.old (texts words.now)) }
         ensures ok { OnOk result (self.new
             ≡ after_answer (arguments_answer self.old (texts words.now)) (with_link_arguments self.old (texts words.now)) self.old) }
         ensures err { OnErr result (self.new ≡ self.old) }
     {
         let held = can_hold_values(words);
         if !held {
-            return Ok(Err(Refusal::Unholdable));
+            return refuse(self.alloc, Refusal::Unholdable, unheld_word(words));
         }
         let late = some_build(&self.linked);
         if late {
-            return Ok(Err(Refusal::Late));
+            return refuse(self.alloc, Refusal::Late, first_build(&self.linked));
         }
         append(&mut self.surroundings.link_arguments, self.alloc, words)?;
         Ok(Ok(()))
@@ -443,6 +445,19 @@ fn some_build(targets: &[Linked]) -> bool
     ensures { result ≡ list_any (λ l. is_build_target (target_view l.target)) targets.now }
 {
     targets.iter().any(|linked| is_build(&linked.target))
+}
+
+// The name of the first build target.
+fn first_build(targets: &[Linked]) -> &str
+    ensures { result.now ≡ first_build (map (λ l. target_view l.target) targets.now) }
+{
+    for linked in targets {
+        match &linked.target {
+            Target::Build(target) => return target.name.as_str(),
+            Target::Custom(_) => {}
+        }
+    }
+    ""
 }
 
 // Whether `configure_file` may make a file of the folder and the name.

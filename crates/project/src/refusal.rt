@@ -1,3 +1,8 @@
+//! Why a project does not take what it is given, and what that is about. The words are made only where something is refused.
+ghost use Rattle.std.specs.Prelude.{◌≡◌, IfOk, Err as Refuses, string_bytes};
+ghost use Rattle.project.specs.Refused.{answer_data, refused, words_of};
+
+use std::alloc::{AllocError, Global};
 use thiserror::Error;
 
 /// Why a project does not take what it is given.
@@ -22,4 +27,38 @@ pub enum Refusal {
     /// E24: arguments of the project behind a build target.
     #[error("arguments added after a target")]
     Late,
+}
+
+/// A refusal, and what it is about.
+#[derive(Drop)]
+pub struct Refused {
+    pub why: Refusal,
+    /// What it is about, in words.
+    pub detail: String,
+}
+
+impl Refusal {
+    // What it says of a path, of a word or of the name of a target.
+    fn words(self, alloc: Global, text: &str) -> Result<String, AllocError>
+        ensures { IfOk result (λ words. string_bytes words ≡ words_of self text.now) }
+    {
+        match self {
+            Refusal::Arguments | Refusal::Missing => Ok(String::new(alloc)),
+            Refusal::Unholdable => format!(in alloc; "'{text}': has what Ninja can't hold"),
+            Refusal::Duplicate => format!(in alloc; "output '{text}': stands already"),
+            Refusal::Limit => {
+                String::from_str(alloc, "a list of the target: has more than 65,536 items")
+            }
+            Refusal::Late => format!(in alloc; "target '{text}': stands before"),
+        }
+    }
+}
+
+/// Refuses for this text.
+#[tactic(auto, unfolding(crate::specs::Refused::refused))]
+pub fn refuse<A>(alloc: Global, why: Refusal, text: &str) -> Result<Result<A, Refused>, AllocError>
+    ensures { IfOk result (λ answer. answer_data answer ≡ Refuses (refused why text.now)) }
+{
+    let detail = why.words(alloc, text)?;
+    Ok(Err(Refused { why, detail }))
 }

@@ -1,5 +1,5 @@
 -- The keyword `default_options` of `project`: texts `NAME=VALUE`, or a dictionary of values, which are taken as they are printed.
-use Rattle.std.specs.Prelude.{ℕ, List, [], ◌∷◌, ◌++◌, map, codes, Option, unwrap_or, option_and_then, Result, Ok}
+use Rattle.std.specs.Prelude.{ℕ, List, [], ◌∷◌, ◌++◌, map, codes, Option, unwrap_or, option_and_then, Result, Ok, Err}
 use Rattle.data.specs.Data.{Items, no_items, item, Entries, no_entries, entry_values, entries_in, keys_in}
 use Rattle.data.specs.declared.refusal.Refusal.{Refusal as OperationRefusal}
 use Rattle.arguments.specs.Arguments.{ArgumentsData}
@@ -28,6 +28,17 @@ entries_given a = unwrap_or (dictionary_given a) no_entries
 -- the values of that dictionary, as they are printed
 abbrev pub printed_values : ArgumentsData → Result (List (List ℕ)) OperationRefusal
 printed_values a = printed_all (entry_values (entries_given a))
+
+-- this name where its value can't be printed, else what others say
+abbrev pub unless_printed : Result (List ℕ) OperationRefusal → (name others : List ℕ) → List ℕ
+unless_printed (Ok t) name others = others
+unless_printed (Err refusal) name others = name
+
+-- the name of the first value that can't be printed
+abbrev pub first_unprinted : (names : List (List ℕ)) → (values : Items) → List ℕ
+first_unprinted [] ds = []
+first_unprinted (n ∷ ns) no_items = []
+first_unprinted (n ∷ ns) (item d ds) = unless_printed (printed d) n (first_unprinted ns ds)
 
 -- keys with printed values
 abbrev pub entry_defaults : List (List ℕ) → List (List ℕ) → List Default

@@ -10,6 +10,8 @@ use Rattle.data.specs.declared.refusal.Refusal.{Refusal as OperationRefusal}
 use Rattle.basics.specs.declared.faults.refusal.Refusal.TheVariants as refusals
 use Rattle.arguments.specs.Arguments.{ArgumentsData}
 use Rattle.arguments.specs.Given.{text_at}
+use Rattle.arguments.specs.Rules.{broken}
+use Rattle.arguments.specs.declared.rule.Rule.TheVariants as rules
 use Rattle.option_values.specs.Values.{Value, Text, Boolean, Combo, Integer, Array, Feature as FeatureValue}
 use Rattle.option_values.specs.declared.kind.FeatureState.{FeatureState}
 use Rattle.option_values.specs.declared.kind.FeatureState.TheVariants as states
@@ -32,7 +34,7 @@ as_data (FeatureValue state) = Ok (object (objects.Feature (feature_of state)))
 
 -- the value of the option with a name, where there is such an option
 unfoldable pub given : List ℕ → Option Value → Deed (Option Data)
-given name None = refuse refusals.OptionValue name
+given name None = refuse refusals.OptionValue (broken rules.IsOption name)
 given name (Some value) = do
   d ← answered (as_data value)
   give (Some d)

@@ -1,18 +1,19 @@
 -- `project`.
-use Rattle.std.specs.Prelude.{ℕ, not, List, [], ◌∷◌, ◌++◌, Option, None, codes, unwrap_or, option_and_then, if◌then◌else◌}
+use Rattle.std.specs.Prelude.{ℕ, not, List, [], ◌∷◌, ◌++◌, Option, Some, None, codes, unwrap_or, option_and_then, if◌then◌else◌}
 use Rattle.std.specs.Prelude.{Result, Ok, Err, refl}
-use Rattle.std.specs.List.{list_all}
 use Rattle.std.specs.Str.{bytes_eq}
-use Rattle.data.specs.Data.{Data, text_in}
-use Rattle.basics.specs.declared.faults.refusal.Refusal.{Refusal}
+use Rattle.data.specs.Data.{Data, entry_values, keys_in, text_in}
+use Rattle.data.specs.declared.refusal.Refusal.{Refusal as OperationRefusal}
 use Rattle.basics.specs.declared.faults.refusal.Refusal.TheVariants as refusals
 use Rattle.arguments.specs.Arguments.{ArgumentsData}
 use Rattle.arguments.specs.Given.{keyword, text_at, texts, texts_from}
+use Rattle.arguments.specs.Rules.{broken}
+use Rattle.arguments.specs.declared.rule.Rule.TheVariants as rules
 use Rattle.definition_files.specs.Details.{refuse_about}
 use Rattle.options.specs.Faults.{OptionFaultData, file_of, line_of}
 use Rattle.options.specs.Resolves.{Resolution}
 use Rattle.options.specs.Settings.{Setting}
-use Rattle.project_calls.specs.Defaults.{printed_values}
+use Rattle.project_calls.specs.Defaults.{entries_given, first_unprinted, printed_values}
 use Rattle.project_calls.specs.OptionFile.{option_file}
 use Rattle.project_calls.specs.Entries.{entries_in}
 use Rattle.project_calls.specs.Flags.{flags_in}
@@ -20,18 +21,38 @@ use Rattle.project_calls.specs.Programs.{ProgramsData, programs}
 use Rattle.project_calls.specs.Resolution.{resolution}
 use Rattle.targets.specs.Data.{FactsData}
 use Rattle.world.specs.World.{Facts, with_options}
-use Rattle.world.specs.Deed.{Deed, give, need, read, change, begin_project, ◌>>=◌, answered, fitting, say}
+use Rattle.world.specs.Deed.{Deed, give, refuse, need, read, change, begin_project, ◌>>=◌, say}
+use Rattle.world.specs.Operation.{of_operation}
 
 -- what stands behind the name
 abbrev pub texts_behind : ArgumentsData → List (List ℕ)
 texts_behind a = texts_from 1 a
 
+-- the first language that is not C
+abbrev pub other_language : List (List ℕ) → Option (List ℕ)
+other_language [] = None
+other_language (l ∷ ls) = if bytes_eq l (codes "c") then other_language ls else Some l
+
+-- no language beside C
+unfoldable pub c_alone : Option (List ℕ) → Deed (Unit {0})
+c_alone None = give tt
+c_alone (Some language) = refuse refusals.LeftOut (broken rules.IsC language)
+
 -- the languages of a project: at least one, and none but C
-abbrev pub languages_refusal : List (List ℕ) → Result (Unit {0}) Refusal
-languages_refusal [] = Err refusals.ProjectCall
-languages_refusal (l ∷ ls) = if list_all (bytes_eq (codes "c")) (l ∷ ls) then Ok tt else Err refusals.LeftOut
+unfoldable pub languages_taken : List (List ℕ) → Deed (Unit {0})
+languages_taken [] = refuse refusals.ProjectCall (codes "'project': names no language")
+languages_taken (l ∷ ls) = c_alone (other_language (l ∷ ls))
 
 -- ---- the options
+
+-- values as they are printed, or a refusal by this name
+unfoldable pub printed_or : Result (List (List ℕ)) OperationRefusal → List ℕ → Deed (List (List ℕ))
+printed_or (Ok texts) name = give texts
+printed_or (Err refusal) name = refuse (of_operation refusal) (broken rules.IsPrinted name)
+
+-- the values of a dictionary of defaults as they are printed, or a refusal by the name of the first that can't be
+unfoldable pub defaults_printed : ArgumentsData → Deed (List (List ℕ))
+defaults_printed a = printed_or (printed_values a) (first_unprinted (keys_in (entries_given a)) (entry_values (entries_given a)))
 
 -- the user is warned of names that no option has
 unfoldable pub warned : List (List ℕ) → Deed (Unit {0})
@@ -79,8 +100,8 @@ begin a path r = do
 -- the first call: its arguments, the option file, the options
 unfoldable pub first_project : ArgumentsData → Deed (Option Data)
 first_project a = do
-  printed ← answered (printed_values a)
-  _ ← fitting (languages_refusal (texts_behind a))
+  printed ← defaults_printed a
+  _ ← languages_taken (texts_behind a)
   file ← option_file
   options ← resolution a printed file.declared
   _ ← begin a file.path options
@@ -91,5 +112,5 @@ first_project a = do
 unfoldable pub project : ArgumentsData → Deed (Option Data)
 project a = do
   facts ← read
-  _ ← need (not facts.is_begun) refusals.ProjectCall []
+  _ ← need (not facts.is_begun) refusals.ProjectCall (codes "'project': was called before")
   first_project a

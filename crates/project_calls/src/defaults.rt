@@ -6,7 +6,8 @@ ghost use Rattle.data.specs.View.{data_of, items_of};
 ghost use Rattle.option_values.specs.View.{strings_in};
 ghost use Rattle.options.specs.Verdicts.{Assignment};
 ghost use Rattle.options.specs.View.{defaults_in};
-ghost use Rattle.project_calls.specs.Defaults.{dictionary_given, entries_given, entry_defaults, printed_all};
+ghost use Rattle.project_calls.specs.Defaults.{dictionary_given, entries_given, entry_defaults, first_unprinted};
+ghost use Rattle.project_calls.specs.Defaults.{printed_all};
 ghost use Rattle.project_calls.specs.DefaultsView.{answer_in};
 
 use arguments::Arguments;
@@ -61,6 +62,27 @@ pub fn printed_all(
         }
     }
     Ok(Ok(texts))
+}
+
+/// The name of the first of these values that can't be printed.
+#[tactic(auto, using(crate::proofs::Unprinted::next_unprinted, crate::proofs::Unprinted::no_names_left, crate::proofs::Unprinted::no_values_left))]
+pub fn first_unprinted<'n>(
+    alloc: Global,
+    names: &'n [Text],
+    values: &[Value],
+) -> Result<&'n str, AllocError>
+    ensures { IfOk result (λ name. name.now ≡ first_unprinted names.now (items_of values.now)) }
+{
+    for (i, value) in values.iter().enumerate() {
+        let Some(name) = names.get(i) else {
+            return Ok("");
+        };
+        match printed(alloc, value)? {
+            Ok(_) => {}
+            Err(_) => return Ok(name.as_str()),
+        }
+    }
+    Ok("")
 }
 
 /// The defaults that a call gives: texts, and keys with the printed values of theirs.

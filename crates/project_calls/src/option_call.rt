@@ -7,7 +7,7 @@ ghost use Rattle.world.specs.Caller.{state_of};
 ghost use Rattle.project_calls.specs.GetOption.{get_option};
 
 use crate::values::as_data;
-use arguments::Arguments;
+use arguments::{Arguments, Rule};
 use basics::faults::Refusal;
 use data::Value;
 use ports::{Outputs, Tree};
@@ -28,6 +28,6 @@ pub fn get_option<T: Tree, O: Outputs>(
             let value = caller.answered(answer)?;
             Ok(Some(value))
         }
-        None => caller.refuse(Refusal::OptionValue, name),
+        None => caller.refuse_for(Refusal::OptionValue, Rule::IsOption, name),
     }
 }

@@ -1,6 +1,5 @@
 //! `project`.
-ghost use Rattle.std.specs.Prelude.{◌≡◌, ◌++◌, [], codes, map, option_map, string_bytes, unwrap_or, IfOk, bytes_eq};
-ghost use Rattle.std.specs.List.{list_all};
+ghost use Rattle.std.specs.Prelude.{◌≡◌, ◌++◌, codes, map, option_map, string_bytes, unwrap_or, IfOk};
 ghost use Rattle.data.specs.Data.{text_in};
 ghost use Rattle.data.specs.View.{data_of};
 ghost use Rattle.arguments.specs.Arguments.{arguments_data};
@@ -9,52 +8,51 @@ ghost use Rattle.options.specs.View.{options_in, outcome_in, resolved_in};
 ghost use Rattle.targets.specs.View.{facts_view};
 ghost use Rattle.world.specs.Answering.{Carries, HasRoom};
 ghost use Rattle.world.specs.Caller.{state_of};
-ghost use Rattle.world.specs.Deed.{answered, fitting};
 ghost use Rattle.world.specs.Store.{world_of};
-ghost use Rattle.project_calls.specs.Defaults.{printed_values};
 ghost use Rattle.project_calls.specs.DefaultsView.{strings_of};
-ghost use Rattle.project_calls.specs.Project.{begin, facts_of, first_project, languages_refusal, project};
-ghost use Rattle.project_calls.specs.Project.{settled, texts_behind, version_of, warned};
+ghost use Rattle.project_calls.specs.Project.{begin, c_alone, defaults_printed, facts_of, first_project, languages_taken, other_language};
+ghost use Rattle.project_calls.specs.Project.{project, settled, texts_behind, version_of, warned};
 ghost use Rattle.project_calls.specs.ProgramsView.{programs_in};
 
 use crate::declaring::option_file;
-use crate::defaults::{printed_all, values_given};
+use crate::defaults::{first_unprinted, keys_given, printed_all, values_given};
 use crate::flags::flags_of;
 use crate::programs::{Programs, ask_programs};
 use crate::resolution::resolution;
 use crate::shown_options::option_entries;
-use arguments::Arguments;
+use arguments::{Arguments, Rule};
 use basics::faults::Refusal;
 use data::Value;
 use options::{OptionFault, Options, Resolved};
 use ports::{Outputs, Tree};
 use std::alloc::{AllocError, Global};
 use targets::Facts;
-use world::{Caller, Stop, Store};
+use world::{Caller, Stop, Store, of_operation};
 
-// The languages of a project: at least one, and none but C.
-fn check_languages(languages: &[&str]) -> Result<(), Refusal>
-    ensures { result ≡ languages_refusal (map (λ l. l.now) languages.now) }
-{
-    if languages.is_empty() {
-        return Err(Refusal::ProjectCall);
-    }
-    if are_c(languages) {
-        Ok(())
-    } else {
-        Err(Refusal::LeftOut)
-    }
-}
-
-fn are_c(languages: &[&str]) -> bool
-    ensures { result ≡ list_all (bytes_eq (codes "c")) (map (λ l. l.now) languages.now) }
+// The first language that is not C.
+fn other_language<'a>(languages: &[&'a str]) -> Option<&'a str>
+    ensures { option_map (λ l. l.now) result ≡ other_language (map (λ l. l.now) languages.now) }
 {
     for language in languages {
         if *language != "c" {
-            return false;
+            return Some(*language);
         }
     }
-    true
+    None
+}
+
+// Refuses a language beside C.
+fn refuse_other<T: Tree, O: Outputs>(
+    caller: &Caller<'_, T, O>,
+    language: Option<&str>,
+) -> Result<(), Stop>
+    ensures { Carries (λ u. u) (c_alone (option_map (λ l. l.now) language.entry)) (state_of T.seen O.seen caller.now) result
+        (state_of T.seen O.seen caller.now) }
+{
+    match language {
+        None => Ok(()),
+        Some(language) => caller.refuse_for(Refusal::LeftOut, Rule::IsC, language),
+    }
 }
 
 // Warns the user of names that no option has.
@@ -163,29 +161,48 @@ fn begin<T: Tree, O: Outputs>(
     caller.begin(facts)
 }
 
-// The values of a dictionary of defaults, as they are printed.
+// The values of a dictionary of defaults, as they are printed, or a refusal by the name of the first that can't be.
 fn printed_defaults<T: Tree, O: Outputs>(
     caller: &Caller<'_, T, O>,
     arguments: &Arguments,
 ) -> Result<Vec<String>, Stop>
-    ensures { Carries strings_of (answered (printed_values (arguments_data arguments.now))) (state_of T.seen O.seen caller.now) result
+    ensures { Carries strings_of (defaults_printed (arguments_data arguments.now)) (state_of T.seen O.seen caller.now) result
         (state_of T.seen O.seen caller.now) }
 {
-    let answer = printed_all(caller.alloc, values_given(arguments))?;
-    caller.answered(answer)
+    let (keys, values) = (keys_given(arguments), values_given(arguments));
+    let answer = printed_all(caller.alloc, values)?;
+    match answer {
+        Ok(texts) => Ok(texts),
+        Err(refusal) => {
+            let name = first_unprinted(caller.alloc, keys, values)?;
+            caller.refuse_for(of_operation(refusal), Rule::IsPrinted, name)
+        }
+    }
 }
 
-// Refuses languages other than C.
+// Refuses a project of no language, and languages other than C.
 fn require_c<T: Tree, O: Outputs>(
     caller: &Caller<'_, T, O>,
     arguments: &Arguments,
 ) -> Result<(), Stop>
-    ensures { Carries (λ u. u) (fitting (languages_refusal (texts_behind (arguments_data arguments.now))))
-        (state_of T.seen O.seen caller.now)
+    ensures { Carries (λ u. u) (languages_taken (texts_behind (arguments_data arguments.now))) (state_of T.seen O.seen caller.now)
         result (state_of T.seen O.seen caller.now) }
 {
     let languages = arguments.texts_behind(caller.alloc, 1)?;
-    caller.fitting(check_languages(&languages))
+    check_languages(caller, &languages)
+}
+
+fn check_languages<T: Tree, O: Outputs>(
+    caller: &Caller<'_, T, O>,
+    languages: &[&str],
+) -> Result<(), Stop>
+    ensures { Carries (λ u. u) (languages_taken (map (λ l. l.now) languages.now)) (state_of T.seen O.seen caller.now) result
+        (state_of T.seen O.seen caller.now) }
+{
+    match languages {
+        [] => caller.refuse(Refusal::ProjectCall, "'project': names no language"),
+        _ => refuse_other(caller, other_language(languages)),
+    }
 }
 
 // The first call.
@@ -215,6 +232,10 @@ pub fn project<T: Tree, O: Outputs>(
         (state_of T.seen O.seen caller.new) }
 {
     let is_begun = caller.store.is_begun();
-    caller.need(!is_begun, Refusal::ProjectCall, "")?;
+    caller.need(
+        !is_begun,
+        Refusal::ProjectCall,
+        "'project': was called before",
+    )?;
     first_project(caller, arguments)
 }

@@ -1,16 +1,22 @@
--- Which rule is broken by arguments that say nothing to install or no dependency, and by which text or keyword.
+-- Which rule is broken by arguments that say nothing to install, no dependency or nothing to run, and by which text or keyword.
 use Rattle.std.specs.Prelude.{ℕ, List, [], ◌∷◌, Option, Some, None, codes}
 use Rattle.arguments.specs.Arguments.{ArgumentsData}
+use Rattle.arguments.specs.Given.{argument, text_at}
 use Rattle.arguments.specs.Leaves.{leaves_from, leaves_named}
 use Rattle.arguments.specs.declared.rule.Rule.{Rule}
 use Rattle.arguments.specs.declared.rule.Rule.TheVariants as rules
-use Rattle.edge.specs.Texts.{Path}
+use Rattle.data.specs.Data.{Data, object}
+use Rattle.data.specs.declared.object.Object.{Object}
+use Rattle.data.specs.declared.object.Object.TheVariants as objects
+use Rattle.edge.specs.Texts.{Path, Text}
 use Rattle.named_sources.specs.Folders.{folders_in, folders_of}
 use Rattle.named_sources.specs.Sources.{NamedData, built, source_of, sources_of, tree}
 use Rattle.named_sources.specs.Unnamed.{first_unnamed, unless_named}
+use Rattle.resources.specs.Testing.{environment_breach}
 use Rattle.resource_calls.specs.Destinations.{FoldersData, install_of}
 use Rattle.resource_calls.specs.OwnLists.{libraries_of}
 use Rattle.resource_calls.specs.Place.{PlaceData}
+use Rattle.resource_calls.specs.TestCommands.{command_given}
 use Rattle.resource_calls.specs.declared.destinations.Sort.{Sort}
 
 -- a rule, and the text or the keyword that breaks it
@@ -53,3 +59,22 @@ folder_breach place a (Some folders) = library_breach place a (libraries_of plac
 abbrev pub lists_breach : PlaceData → ArgumentsData → Breach
 lists_breach place a =
     folder_breach place a (folders_of place.source_root place.folder (leaves_named (codes "include_directories") a))
+
+-- ---- what a test runs
+
+-- a program was not found; what else can't run is a library
+abbrev pub object_rule : Object → Rule
+object_rule (objects.Program p) = rules.RunsProgram
+object_rule _ = rules.RunsNoLibrary
+
+abbrev pub program_rule : Option Data → Rule
+program_rule (Some (object o)) = object_rule o
+program_rule _ = rules.RunsNoLibrary
+
+abbrev pub command_breach : ArgumentsData → Option (List Text) → Breach
+command_breach a None = (program_rule (argument 1 a), text_at 0 a)
+command_breach a (Some command) = environment_breach a
+
+-- the name of a test that can't run, or else what says no variable
+abbrev pub run_breach : PlaceData → ArgumentsData → Breach
+run_breach place a = command_breach a (command_given place a)

@@ -1,14 +1,15 @@
 -- `test`: a program that the project is tested by.
-use Rattle.std.specs.Prelude.{ℤ, pos, false, Option, None, ok_or, codes, Result, Ok, Err}
+use Rattle.std.specs.Prelude.{ℤ, pos, false, Option, None, codes, Result, Ok, Err}
 use Rattle.arguments.specs.Arguments.{ArgumentsData}
 use Rattle.arguments.specs.Given.{flag, integer_of, text_at, texts}
 use Rattle.data.specs.Data.{Data}
 use Rattle.data.specs.declared.refusal.Refusal.{Refusal}
-use Rattle.basics.specs.declared.faults.refusal.Refusal.TheVariants as refusals
 use Rattle.project.specs.World.{TestData}
 use Rattle.resources.specs.Testing.{seconds_of}
 use Rattle.world.specs.Declaring.{add_test}
-use Rattle.world.specs.Deed.{Deed, give, read, ◌>>=◌, answered, fitting}
+use Rattle.world.specs.Deed.{Deed, give, read, ◌>>=◌, answered}
+use Rattle.world.specs.Ruled.{ruled}
+use Rattle.resource_calls.specs.Breaches.{run_breach}
 use Rattle.resource_calls.specs.Place.{place_of}
 use Rattle.resource_calls.specs.TestCommands.{RunData, run_of}
 
@@ -16,7 +17,7 @@ use Rattle.resource_calls.specs.TestCommands.{RunData, run_of}
 unfoldable pub said_run : ArgumentsData → Deed RunData
 said_run a = do
   facts ← read
-  fitting (ok_or (run_of (place_of facts) a) refusals.Arguments)
+  ruled (run_of (place_of facts) a) (run_breach (place_of facts) a).0 (run_breach (place_of facts) a).1
 
 abbrev pub test_of : ArgumentsData → RunData → ℤ → TestData
 test_of a run seconds = record {

@@ -1,18 +1,24 @@
-//! Which rule is broken by arguments that say nothing to install or no dependency: it is looked for only where a call is refused.
-ghost use Rattle.std.specs.Prelude.{◌≡◌, IfOk, codes, map, string_bytes};
+//! Which rule is broken by arguments that say nothing to install, no dependency or nothing to run: it is looked for only where a call is
+//! refused.
+ghost use Rattle.std.specs.Prelude.{◌≡◌, IfOk, codes, map, option_map, string_bytes};
 ghost use Rattle.arguments.specs.Arguments.{arguments_data};
 ghost use Rattle.arguments.specs.Leaves.{leaves_named};
+ghost use Rattle.data.specs.View.{data_of};
 ghost use Rattle.named_sources.specs.SourcesView.{named_view};
-ghost use Rattle.resource_calls.specs.Breaches.{first_homeless, install_breach, library_breach, lists_breach, path_said};
+ghost use Rattle.resource_calls.specs.Breaches.{first_homeless, install_breach, library_breach, lists_breach, object_rule};
+ghost use Rattle.resource_calls.specs.Breaches.{path_said, program_rule, run_breach};
 ghost use Rattle.resource_calls.specs.DestinationsView.{folders_view};
 ghost use Rattle.resource_calls.specs.OwnLists.{libraries_of};
 ghost use Rattle.resource_calls.specs.PlaceView.{place_view};
 
+use crate::commands::command_given;
 use crate::destinations::{Folders, Sort, install_of};
 use crate::own_lists::libraries_of;
 use crate::place::Place;
 use arguments::{Arguments, Rule};
+use data::{Object, Value};
 use named_sources::{NamedSource, folders_of, sources_of, unnamed_folder, unnamed_source};
+use resources::environment_breach;
 use std::alloc::{AllocError, Global};
 
 fn path_said(alloc: Global, named: &NamedSource) -> Result<String, AllocError>
@@ -101,5 +107,37 @@ pub fn lists_breach<'v>(
             Ok((Rule::NamesFolder, text))
         }
         Some(_) => library_breach(place, arguments),
+    }
+}
+
+// A program was not found; what else can't run is a library.
+fn object_rule(object: &Object) -> Rule
+    ensures { result ≡ object_rule object.now }
+{
+    match object {
+        Object::Program(_) => Rule::RunsProgram,
+        _ => Rule::RunsNoLibrary,
+    }
+}
+
+fn program_rule(program: Option<&Value>) -> Rule
+    ensures { result ≡ program_rule (option_map (λ v. data_of v.now) program.entry) }
+{
+    match program {
+        Some(Value::Object(object)) => object_rule(object),
+        _ => Rule::RunsNoLibrary,
+    }
+}
+
+/// Of a call of `test`: the rule, and the text that breaks it.
+pub fn run_breach(place: &Place<'_>, arguments: &Arguments) -> Result<(Rule, String), AllocError>
+    ensures { IfOk result (λ b. (b.0, string_bytes b.1) ≡ run_breach (place_view place.now) (arguments_data arguments.now)) }
+{
+    match command_given(place, arguments)? {
+        None => {
+            let name = String::from_str(place.alloc, arguments.text_at(0))?;
+            Ok((program_rule(arguments.argument(1)), name))
+        }
+        Some(_) => environment_breach(place.alloc, arguments),
     }
 }

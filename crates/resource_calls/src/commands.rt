@@ -215,8 +215,8 @@ fn words_behind(
 
 // ---- what runs
 
-// The program and its arguments.
-fn command_given(
+/// The program and its arguments. None where it can't run.
+pub fn command_given(
     place: &Place<'_>,
     arguments: &Arguments,
 ) -> Result<Option<Vec<String>>, AllocError>

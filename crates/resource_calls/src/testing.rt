@@ -8,10 +8,10 @@ ghost use Rattle.world.specs.Caller.{state_of};
 ghost use Rattle.resource_calls.specs.TestCommandsView.{run_view};
 ghost use Rattle.resource_calls.specs.Tests.{said_run, seconds_given, test, test_given};
 
+use crate::breaches::run_breach;
 use crate::commands::{Run, run_of};
 use crate::place::place_of;
 use arguments::Arguments;
-use basics::faults::Refusal;
 use data::Value;
 use ports::{Outputs, Tree};
 use project::Test;
@@ -29,7 +29,13 @@ fn said_run<T: Tree, O: Outputs>(
 {
     let place = place_of(caller);
     let found = run_of(&place, arguments)?;
-    caller.fitting(found.ok_or(Refusal::Arguments))
+    match found {
+        Some(run) => Ok(run),
+        None => {
+            let breach = run_breach(&place, arguments)?;
+            caller.refuse_by(breach.0, breach.1.as_str())
+        }
+    }
 }
 
 // The seconds that the keyword `timeout` says, else 30.

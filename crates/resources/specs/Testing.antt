@@ -7,6 +7,8 @@ use Rattle.data.specs.declared.refusal.Refusal.{Refusal}
 use Rattle.data.specs.declared.refusal.Refusal.TheVariants as refusal
 use Rattle.arguments.specs.Arguments.{ArgumentsData}
 use Rattle.arguments.specs.Given.{keyword, texts}
+use Rattle.arguments.specs.declared.rule.Rule.{Rule}
+use Rattle.arguments.specs.declared.rule.Rule.TheVariants as rules
 
 -- ---- seconds
 
@@ -47,3 +49,29 @@ environment_by _ ts = assignments ts
 -- the variables that the keyword `env` gives, as texts `NAME=VALUE`: a dictionary of texts, or such texts; none where it is neither (E9)
 abbrev pub environment : ArgumentsData → Option (List (List ℕ))
 environment a = environment_by (keyword (codes "env") a) (texts (codes "env") a)
+
+-- ---- what is none of these
+
+-- this name where its value is no text, else what others say
+abbrev pub unless_text : Option (List ℕ) → (name others : List ℕ) → List ℕ
+unless_text None name others = name
+unless_text (Some t) name others = others
+
+-- the name of the first value that is no text
+abbrev pub first_textless : (names : List (List ℕ)) → (values : Items) → List ℕ
+first_textless [] ds = []
+first_textless (n ∷ ns) no_items = []
+first_textless (n ∷ ns) (item d ds) = unless_text (text_in d) n (first_textless ns ds)
+
+-- the first text that says no name and value
+abbrev pub first_unassigned : List (List ℕ) → List ℕ
+first_unassigned [] = []
+first_unassigned (t ∷ ts) = if is_assignment t then first_unassigned ts else t
+
+abbrev pub environment_breach_by : Option Data → List (List ℕ) → Rule × List ℕ
+environment_breach_by (Some (dictionary es)) ts = (rules.TakesText, first_textless (keys_in es) (entry_values es))
+environment_breach_by _ ts = (rules.IsAssignment, first_unassigned ts)
+
+-- where `env` gives no variables: the rule, and the text or the name that breaks it
+abbrev pub environment_breach : ArgumentsData → Rule × List ℕ
+environment_breach a = environment_breach_by (keyword (codes "env") a) (texts (codes "env") a)

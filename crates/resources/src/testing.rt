@@ -4,9 +4,10 @@ ghost use Rattle.std.specs.List.{list_all};
 ghost use Rattle.arguments.specs.Arguments.{arguments_data};
 ghost use Rattle.data.specs.View.{items_of};
 ghost use Rattle.resources.specs.TestingView.{strings_of};
-ghost use Rattle.resources.specs.Testing.{assigned_behind, assignment, assignments, environment, is_assignment, seconds_of};
+ghost use Rattle.resources.specs.Testing.{assigned_behind, assignment, assignments, environment, environment_breach, first_textless};
+ghost use Rattle.resources.specs.Testing.{first_unassigned, is_assignment, seconds_of};
 
-use arguments::Arguments;
+use arguments::{Arguments, Rule};
 use data::{Refusal, Text, Value};
 use std::alloc::{AllocError, Global};
 
@@ -89,5 +90,54 @@ pub fn environment(alloc: Global, arguments: &Arguments) -> Result<Option<Vec<St
             assigned(alloc, dictionary.keys(), dictionary.values())
         }
         _ => Ok(assignments(arguments.texts(alloc, "env")?)),
+    }
+}
+
+// The name of the first of these values that is no text.
+#[tactic(auto, using(crate::proofs::Assigned::next_textless, crate::proofs::Assigned::no_names_textless, crate::proofs::Assigned::no_values_textless))]
+fn first_textless<'n>(names: &'n [Text], values: &[Value]) -> &'n str
+    ensures { result.now ≡ first_textless names.now (items_of values.now) }
+{
+    for (i, value) in values.iter().enumerate() {
+        let Some(name) = names.get(i) else {
+            return "";
+        };
+        match value.as_text() {
+            Some(_) => {}
+            None => return name.as_str(),
+        }
+    }
+    ""
+}
+
+// The first text that says no name and value.
+fn first_unassigned(texts: &[String]) -> &str
+    ensures { result.now ≡ first_unassigned (map string_bytes texts.now) }
+{
+    for text in texts {
+        if !is_assignment(text.as_str()) {
+            return text.as_str();
+        }
+    }
+    ""
+}
+
+/// Where `environment` gives none: the rule, and the text or the name that breaks it.
+pub fn environment_breach(
+    alloc: Global,
+    arguments: &Arguments,
+) -> Result<(Rule, String), AllocError>
+    ensures { IfOk result (λ b. (b.0, string_bytes b.1) ≡ environment_breach (arguments_data arguments.now)) }
+{
+    match arguments.keyword("env") {
+        Some(Value::Dictionary(dictionary)) => {
+            let name = first_textless(dictionary.keys(), dictionary.values());
+            Ok((Rule::TakesText, String::from_str(alloc, name)?))
+        }
+        _ => {
+            let texts = arguments.texts(alloc, "env")?;
+            let text = String::from_str(alloc, first_unassigned(&texts))?;
+            Ok((Rule::IsAssignment, text))
+        }
     }
 }

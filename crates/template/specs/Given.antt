@@ -9,7 +9,8 @@ use Rattle.template.specs.Template.{Agrees, template_fault, template_steps}
 
 -- The tree told a size, none where the template is absent, and then gave these bytes: none behind the size, which is 0 where none was told,
 -- and all of the file, unless a line was refused before. What was written and answered is that of a template with just these bytes.
-pub record Passed {T : Type 0} (tells : T → List ℕ → Option ℕ → T → Type 0) (gives : T → List ℕ → ℕ → ℕ → List ℕ → T → Type 0) (entries : Entries)
+pub record Passed {T : Type 0} (tells : T → List ℕ → Option ℕ → T → Type 0) (gives : T → List ℕ → ℕ → ℕ → List ℕ → T → Type 0)
+    (entries : Entries)
     (path : List ℕ) (tree_old tree_new : T) (out_old out_new : OutputState) (result : Result (Unit {0}) PassStop) : Type 0 where
   pub size : Option ℕ
   pub tree : T
@@ -30,7 +31,8 @@ UnlessFailed (Err Device) A = Unit {0}
 -- ---- for the contracts of private functions
 
 -- one call gave these bytes of a file from a place on, none of them behind the size; or the place is the size, and there was no call
-pub data Gave {T : Type 0} (gives : T → List ℕ → ℕ → ℕ → List ℕ → T → Type 0) (path : List ℕ) (size at : ℕ) (old : T) : List ℕ → T → Type 0 where
+pub data Gave {T : Type 0} (gives : T → List ℕ → ℕ → ℕ → List ℕ → T → Type 0) (path : List ℕ) (size at : ℕ) (old : T)
+    : List ℕ → T → Type 0 where
   called : (piece : List ℕ) (room : ℕ) (new : T) → 0 < room → at + room ≤ size → gives old path at room piece new → length piece ≤ room
       → Gave gives path size at old piece new
   past : size ≤ at → Gave gives path size at old [] old

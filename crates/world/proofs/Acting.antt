@@ -5,7 +5,8 @@ use Rattle.edge.specs.Texts.{Path, Text}
 use Rattle.ports.specs.Outputs.{OutputState}
 use Rattle.ports.specs.Tree.{TreeState}
 use Rattle.project.specs.Adding.{output_answer}
-use Rattle.project.specs.declared.refusal.Refusal.{Refusal as ProjectRefusal}
+use Rattle.project.specs.Refused.{answer_data}
+use Rattle.project.specs.declared.refusal.Refused.{Refused}
 use Rattle.world.specs.Answering.{Acts, Carries, HasRoom, State, IsAllowed, seen_at}
 use Rattle.world.specs.Deed.{Deed, Files, perform}
 use Rattle.world.specs.Gives.{Gives}
@@ -76,22 +77,22 @@ room_after r p = record {
 
 -- ---- a path is taken
 
-acts_answered : (answer : Result (Unit {0}) ProjectRefusal) {s : State} {result : Result (Unit {0}) Stop} → IsAllowed s.world answer result → Acts (λ (u : Unit {0}). u) (λ files. taken_by answer) s result s
+acts_answered : (answer : Result (Unit {0}) Refused) {s : State} {result : Result (Unit {0}) Stop} → IsAllowed s.world answer result → Acts (λ (u : Unit {0}). u) (λ files. taken_by (answer_data answer)) s result s
 acts_answered (Ok u) is = acts_of (carries_same is (carries_give {view = λ (v : Unit {0}). v} {a = u} refl))
-acts_answered (Err refusal) is = acts_of (carries_refuse is)
+acts_answered (Err refused) is = acts_of (carries_refuse is)
 
 -- the project answered, and took the path where it did not refuse it
-pub acts_taken : (folder : Path) (name : Text) {w w1 : World} {names names1 : List (List ℕ)} {tree : TreeState} {out : OutputState} {lent : ℕ × ℕ × ℕ} {answer : Result (Unit {0}) ProjectRefusal} {result : Result (Unit {0}) Stop}
-    → answer ≡ output_answer w.facts.project folder name → w1 ≡ changing (declaring (after_output folder name)) w → names1 ≡ names → IsAllowed w1 answer result
+pub acts_taken : (folder : Path) (name : Text) {w w1 : World} {names names1 : List (List ℕ)} {tree : TreeState} {out : OutputState} {lent : ℕ × ℕ × ℕ} (answer : Result (Unit {0}) Refused) {result : Result (Unit {0}) Stop}
+    → answer_data answer ≡ output_answer w.facts.project folder name → w1 ≡ changing (declaring (after_output folder name)) w → names1 ≡ names → IsAllowed w1 answer result
     → Acts (λ (u : Unit {0}). u) (λ files. taken folder name) (record { world = w; names = names; tree = tree; out = out; lent = lent }) result (record { world = w1; names = names1; tree = tree; out = out; lent = lent })
-acts_taken folder name {w = w} {w1 = w1} {names = names} {names1 = names1} {tree = tree} {out = out} {lent = lent} {answer = answer} {result = result} is changed named allows =
+acts_taken folder name {w = w} {w1 = w1} {names = names} {names1 = names1} {tree = tree} {out = out} {lent = lent} answer {result = result} is changed named allows =
     let s : State = record { world = w1; names = names; tree = tree; out = out; lent = lent } in
-    let p : Acts (λ (u : Unit {0}). u) (λ files. taken_by answer) s result s = acts_answered answer allows in
+    let p : Acts (λ (u : Unit {0}). u) (λ files. taken_by (answer_data answer)) s result s = acts_answered answer allows in
     record {
       gives = λ files n h.
           subst (λ a. Gives (λ (u : Unit {0}). u) (taken_by a (changing (declaring (after_output folder name)) w)) result w1 (seen out n names) (seen out n names1)) is
-          (subst (λ v. Gives (λ (u : Unit {0}). u) (taken_by answer v) result w1 (seen out n names) (seen out n names1)) changed
-          (subst (λ ns. Gives (λ (u : Unit {0}). u) (taken_by answer w1) result w1 (seen out n names) (seen out n ns)) (sym named) (p.gives files n h)));
+          (subst (λ v. Gives (λ (u : Unit {0}). u) (taken_by (answer_data answer) v) result w1 (seen out n names) (seen out n names1)) changed
+          (subst (λ ns. Gives (λ (u : Unit {0}). u) (taken_by (answer_data answer) w1) result w1 (seen out n names) (seen out n ns)) (sym named) (p.gives files n h)));
       stays = stays_here tree;
       device = record { tree = p.device.tree; out = p.device.out; sum = p.device.sum };
       same = refl;

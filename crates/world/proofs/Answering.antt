@@ -17,7 +17,9 @@ use Rattle.world.specs.Store.{changing}
 use Rattle.world.specs.Run.{ran, Done}
 use Rattle.world.specs.Gives.{Gives, Ends, failures_after}
 use Rattle.world.specs.Deed.{Files, Deed, give, refuse, tell, say, begin_project, consult, read, change, then, perform, answered, fitting, need, there}
-use Rattle.world.specs.Answering.{State, seen_at, HasRoom, Fails, Carries, Refuses, IsAnswered, IsFitting, Views}
+use Rattle.world.specs.Answering.{State, seen_at, HasRoom, Fails, Carries, Refuses, IsAnswered, IsAnsweredBy, IsFitting, Views}
+use Rattle.world.specs.Ruled.{answered_by}
+use Rattle.arguments.specs.declared.rule.Rule.{Rule}
 use Rattle.world.proofs.Follow.{stopped_later, failed_later, ended_later, refused_later, gives_later, begun, done, device_stops, failures_after-refusal, wanted_grown}
 use Rattle.world.proofs.Holding.{holds_later, stays_here, stays_on}
 use Rattle.world.proofs.Marks.{none_added, same_front, grown_added}
@@ -267,6 +269,13 @@ pub carries_value : (given : Result Data OperationRefusal) (answer : Result Valu
     → Answers given answer → IsAnswered s.world answer result → Carries data_of (answered given) s result s
 carries_value given (Ok x) v is = carries_answered given (Ok x) v is
 carries_value given (Err e) v is = carries_answered given (Err e) v is
+
+-- a value, or the refusal that a rule is told of
+pub carries_value_by : (rule : Rule) (text : List ℕ) (given : Result Data OperationRefusal) (answer : Result Value OperationRefusal) {s : State} {result : Result Value Stop}
+    → Answers given answer → IsAnsweredBy s.world rule text answer result → Carries data_of (answered_by rule text given) s result s
+unfolding answered_by
+carries_value_by rule text given (Ok x) {s = s} v is = carries_same is (subst (λ g. Carries data_of (answered_by rule text g) s (Ok x) s) (sym v) (carries_give refl))
+carries_value_by rule text given (Err e) {s = s} {result = result} v is = subst (λ g. Carries data_of (answered_by rule text g) s result s) (sym v) (carries_refuse is)
 
 -- what a test of arguments answers
 pub carries_fitting : {A B : Type 0} {view : B → A} (given : Result A Refusal) (answer : Result B Refusal) {s : State} {result : Result B Stop}

@@ -9,7 +9,7 @@ use Rattle.ports.specs.Outputs.{Step, Opens, Puts, Closes, Logs, Faults, closing
 use Rattle.project.specs.Adding.{after_answer, output_answer, with_output}
 use Rattle.project.specs.Laws.{all_held}
 use Rattle.project.specs.World.{WorldData}
-use Rattle.project.specs.declared.refusal.Refusal.{Refusal as ProjectRefusal}
+use Rattle.project.specs.Refused.{RefusedData}
 use Rattle.project.proofs.EdgeOrder.{holds_append, holds_left, holds_right, or_cases, or_left, or_right}
 use Rattle.targets.specs.Files.{path_in}
 use Rattle.world.specs.Deed.{Files, Deed, give, refuse, tell, ask, consult, read, change, begin_project, make, then as follows, perform}
@@ -147,7 +147,7 @@ taken-keeps before path (ran (Done b) w ms) keeps closes = λ name p h.
 taken-keeps before path (ran (Faulted f) w ms) keeps closes = tt
 
 -- the project answers so
-answered-keeps : {B : Type 0} (answer : Result (Unit {0}) ProjectRefusal) (path : Path) (w : World) (next : Act B) → ((v : World) → Keeps (outputs v) (next v)) → ((v : World) → ClosesPath path (next v))
+answered-keeps : {B : Type 0} (answer : Result (Unit {0}) RefusedData) (path : Path) (w : World) (next : Act B) → ((v : World) → Keeps (outputs v) (next v)) → ((v : World) → ClosesPath path (next v))
     → Keeps (outputs w) (follow (taken_by answer (with_facts w (with_project (after_answer answer (with_output w.facts.project path) w.facts.project) w.facts))) (λ _. next))
 answered-keeps (Ok _) path w next keeps closes =
     let v : World = with_facts w (with_project (with_output w.facts.project path) w.facts) in taken-keeps (outputs w) path (next v) (keeps v) (closes v)

@@ -7,7 +7,7 @@ use Rattle.basics.specs.Faults.{FaultData}
 use Rattle.ports.specs.Outputs.{Step, closing, opening}
 use Rattle.ports.specs.Tree.{file_at}
 use Rattle.project.specs.Adding.{output_answer}
-use Rattle.project.specs.declared.refusal.Refusal.{Refusal as ProjectRefusal}
+use Rattle.project.specs.Refused.{RefusedData}
 use Rattle.targets.specs.Files.{path_in}
 use Rattle.world.specs.Making.{Filling, after_output, given_up, taken, taken_by, telling, written}
 use Rattle.world.specs.Store.{changing}
@@ -38,7 +38,7 @@ ends_of-told : (ss : List Step) → ends_of (map Told ss) ≡ 0
 ends_of-told [] = refl
 ends_of-told (s ∷ ss) = ends_of-told ss
 
-taken_by-ends : (answer : Result (Unit {0}) ProjectRefusal) (w : World) → ends_of (marks_of (taken_by answer w)) ≡ 0
+taken_by-ends : (answer : Result (Unit {0}) RefusedData) (w : World) → ends_of (marks_of (taken_by answer w)) ≡ 0
 taken_by-ends (Ok _) w = refl
 taken_by-ends (Err refusal) w = refl
 

@@ -6,7 +6,7 @@ use Rattle.ports.specs.Tree.{file_at}
 use Rattle.machine_file.specs.Files.{Section}
 use Rattle.machine_file.specs.Questions.{Question, answer_to}
 use Rattle.project.specs.Adding.{output_answer}
-use Rattle.project.specs.declared.refusal.Refusal.{Refusal as ProjectRefusal}
+use Rattle.project.specs.Refused.{RefusedData}
 use Rattle.targets.specs.Files.{path_in}
 use Rattle.world.specs.Making.{Filling, after_output, filled, given_up, taken, taken_by, telling, written}
 use Rattle.world.specs.Store.{changing}
@@ -147,12 +147,12 @@ asks question = record {
 
 -- ---- an output
 
-taken_by-over : (answer : Result (Unit {0}) ProjectRefusal) (n : List Section) (w : World) → taken_by answer (over n w) ≡ ran_over n (taken_by answer w)
+taken_by-over : (answer : Result (Unit {0}) RefusedData) (n : List Section) (w : World) → taken_by answer (over n w) ≡ ran_over n (taken_by answer w)
 taken_by-over (Ok _) n w = refl
 taken_by-over (Err refusal) n w = refl
 
 -- the world is that in which the project has answered
-pub world_taken : (answer : Result (Unit {0}) ProjectRefusal) (w : World) → world_after (taken_by answer w) ≡ w
+pub world_taken : (answer : Result (Unit {0}) RefusedData) (w : World) → world_after (taken_by answer w) ≡ w
 world_taken (Ok _) w = refl
 world_taken (Err refusal) w = refl
 

@@ -6,7 +6,7 @@ use Rattle.basics.specs.Faults.{FaultData}
 use Rattle.ports.specs.Outputs.{Step, closing, opening}
 use Rattle.project.specs.Adding.{after_answer, output_answer, with_output}
 use Rattle.project.specs.World.{WorldData}
-use Rattle.project.specs.declared.refusal.Refusal.{Refusal as ProjectRefusal}
+use Rattle.project.specs.Refused.{RefusedData}
 use Rattle.targets.specs.Files.{path_in}
 use Rattle.edge.specs.Texts.{Path, first_kept, holds, put_all_new, put_new}
 use Rattle.world.specs.Deed.{Files, Deed, give, refuse, tell, ask, consult, read, change, begin_project, make, then as follows, perform}
@@ -98,7 +98,7 @@ follow-notes files (ran (Faulted f) w ms) next notes later = notes
 -- ---- an output
 
 -- it leaves alone what is noted, where it is taken and where it is refused
-noted_kept : (answer : Result (Unit {0}) ProjectRefusal) (p : WorldData) (path : Path) → noted_in (after_answer answer (with_output p path) p) ≡ noted_in p
+noted_kept : (answer : Result (Unit {0}) RefusedData) (p : WorldData) (path : Path) → noted_in (after_answer answer (with_output p path) p) ≡ noted_in p
 noted_kept (Ok _) p path = refl
 noted_kept (Err refusal) p path = refl
 

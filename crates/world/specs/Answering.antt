@@ -1,10 +1,10 @@
 -- What the answer of a call says of its deed or its plan, in a world and over devices.
-use Rattle.std.specs.Prelude.{◌≡◌, ℕ, ◌+◌, ◌<◌, ◌≤◌, ◌^◌, List, [], Result, Ok, Err}
+use Rattle.std.specs.Prelude.{◌≡◌, ℕ, ◌+◌, ◌<◌, ◌≤◌, ◌^◌, List, [], Result, Ok, Err, string_bytes}
 use Rattle.ports.specs.Outputs.{OutputState}
 use Rattle.ports.specs.Tree.{TreeState, Stays}
 use Rattle.data.specs.declared.refusal.Refusal.{Refusal as OperationRefusal}
 use Rattle.basics.specs.Faults.{FaultData}
-use Rattle.project.specs.declared.refusal.Refusal.{Refusal as ProjectRefusal}
+use Rattle.project.specs.declared.refusal.Refused.{Refused}
 use Rattle.template.specs.declared.config.SetStop.{SetStop}
 use Rattle.template.specs.declared.config.SetStop.TheVariants as set_stops
 use Rattle.world.specs.Operation.{of_operation, of_project}
@@ -13,6 +13,8 @@ use Rattle.world.specs.World.{World, fault_here}
 use Rattle.world.specs.Trace.{Seen, seen}
 use Rattle.world.specs.Gives.{Gives, Holds, Continues, IsRefusal, failures_after}
 use Rattle.world.specs.Deed.{Files, Deed, perform}
+use Rattle.world.specs.Ruled.{broken_by}
+use Rattle.arguments.specs.declared.rule.Rule.{Rule}
 use Rattle.basics.specs.declared.faults.refusal.Refusal.{Refusal}
 use Rattle.basics.specs.declared.faults.refusal.Refusal.TheVariants as refusals
 use Rattle.world.specs.declared.stop.Stop.{Stop}
@@ -76,15 +78,20 @@ abbrev pub IsAnswered : {B : Type 0} → World → Result B OperationRefusal →
 IsAnswered w (Ok x) result = result ≡ Ok x
 IsAnswered w (Err refusal) result = Refuses (fault_here w (of_operation refusal) []) result
 
+-- an operation's answer is handed on, or its refusal, with this rule where it is of the arguments
+abbrev pub IsAnsweredBy : {B : Type 0} → World → Rule → List ℕ → Result B OperationRefusal → Result B Stop → Type 0
+IsAnsweredBy w rule text (Ok x) result = result ≡ Ok x
+IsAnsweredBy w rule text (Err refusal) result = Refuses (fault_here w (of_operation refusal) (broken_by rule text refusal)) result
+
 -- what a test of arguments answers is handed on, or its refusal
 abbrev pub IsFitting : {B : Type 0} → World → Result B Refusal → Result B Stop → Type 0
 IsFitting w (Ok x) result = result ≡ Ok x
 IsFitting w (Err refusal) result = Refuses (fault_here w refusal []) result
 
--- what the project answers is handed on, or its refusal
-abbrev pub IsAllowed : {B : Type 0} → World → Result B ProjectRefusal → Result B Stop → Type 0
+-- what the project answers is handed on, or its refusal, with what that is about
+abbrev pub IsAllowed : {B : Type 0} → World → Result B Refused → Result B Stop → Type 0
 IsAllowed w (Ok x) result = result ≡ Ok x
-IsAllowed w (Err refusal) result = Refuses (fault_here w (of_project refusal) []) result
+IsAllowed w (Err refused) result = Refuses (fault_here w (of_project refused.why) (string_bytes refused.detail)) result
 
 -- a change of configuration data was made, or the call is refused since they are frozen, or no memory was left
 abbrev pub IsConfigured : World → Result (Unit {0}) SetStop → Result (Unit {0}) Stop → Type 0

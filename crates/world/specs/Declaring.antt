@@ -1,28 +1,28 @@
 -- Deeds that declare what a project has.
-use Rattle.std.specs.Prelude.{◌≡◌, ℕ, List, [], Result, Ok, Err, refl}
+use Rattle.std.specs.Prelude.{◌≡◌, ℕ, List, Result, Ok, Err, refl}
 use Rattle.edge.specs.Texts.{Text}
 use Rattle.project.specs.Adding.{after_answer, after_target, arguments_answer, target_answer, with_arguments, with_dependency}
 use Rattle.project.specs.Adding.{with_install, with_link_arguments, with_target, with_test}
 use Rattle.project.specs.World.{WorldData, AnswerData, InstallData, TestData}
-use Rattle.project.specs.declared.refusal.Refusal.{Refusal as ProjectRefusal}
+use Rattle.project.specs.Refused.{RefusedData}
 use Rattle.targets.specs.Data.{TargetData}
 use Rattle.world.specs.Operation.{of_project}
 use Rattle.world.specs.World.{KeepsPaths, declaring, paths_in}
 use Rattle.world.specs.Deed.{Deed, give, refuse, read, change, ◌>>=◌}
 
--- what the project answers is given, or its refusal
-unfoldable pub allowed : {A : Type 0} → Result A ProjectRefusal → Deed A
+-- what the project answers is given, or its refusal, with what that is about
+unfoldable pub allowed : {A : Type 0} → Result A RefusedData → Deed A
 allowed (Ok a) = give a
-allowed (Err refusal) = refuse (of_project refusal) []
+allowed (Err refused) = refuse (of_project refused.why) refused.detail
 
 -- an answer leaves the paths alone where it does so that is not refused
-abbrev pub after_answer-keeps : {A : Type 0} (answer : Result A ProjectRefusal) (after before : WorldData)
+abbrev pub after_answer-keeps : {A : Type 0} (answer : Result A RefusedData) (after before : WorldData)
     → paths_in after ≡ paths_in before → paths_in (after_answer answer after before) ≡ paths_in before
 after_answer-keeps (Ok a) after before same = same
-after_answer-keeps (Err refusal) after before same = refl
+after_answer-keeps (Err refused) after before same = refl
 
 -- the project answers, and is afterwards this of what it was
-unfoldable pub declared : {A : Type 0} → (answer : WorldData → Result A ProjectRefusal) → (after : WorldData → WorldData)
+unfoldable pub declared : {A : Type 0} → (answer : WorldData → Result A RefusedData) → (after : WorldData → WorldData)
     → KeepsPaths after → Deed A
 declared answer after keeps = do
   facts ← read

@@ -1,11 +1,11 @@
 -- How an output of `configure_file` is made: its path is taken, and later it is opened, filled and closed.
-use Rattle.std.specs.Prelude.{◌≡◌, List, [], map, Option, Some, None, Result, Ok, Err}
+use Rattle.std.specs.Prelude.{◌≡◌, List, map, Option, Some, None, Result, Ok, Err}
 use Rattle.edge.specs.Texts.{Path, Text}
 use Rattle.basics.specs.Faults.{FaultData}
 use Rattle.ports.specs.Outputs.{Step, closing, name_after, opening}
 use Rattle.project.specs.Adding.{after_answer, output_answer, with_output}
 use Rattle.project.specs.World.{WorldData}
-use Rattle.project.specs.declared.refusal.Refusal.{Refusal as ProjectRefusal}
+use Rattle.project.specs.Refused.{RefusedData}
 use Rattle.targets.specs.Files.{path_in}
 use Rattle.world.specs.Operation.{of_project}
 use Rattle.world.specs.Run.{Act, ran, Done, fails, follow, pure}
@@ -42,10 +42,10 @@ written path filling w = follow (telling (opening path) w) (λ _ v. follow (fill
 abbrev pub after_output : Path → Text → WorldData → WorldData
 after_output folder name p = after_answer (output_answer p folder name) (with_output p (path_in folder name)) p
 
--- what the project answers is done, or its refusal
-abbrev pub taken_by : Result (Unit {0}) ProjectRefusal → Act (Unit {0})
+-- what the project answers is done, or its refusal, with what that is about
+abbrev pub taken_by : Result (Unit {0}) RefusedData → Act (Unit {0})
 taken_by (Ok _) w = pure tt w
-taken_by (Err refusal) w = fails (fault_here w (of_project refusal) []) w
+taken_by (Err refused) w = fails (fault_here w (of_project refused.why) refused.detail) w
 
 -- the path of a file of the folder is taken, or refused as the project does
 abbrev pub taken : Path → Text → Act (Unit {0})

@@ -9,6 +9,7 @@ ghost use Rattle.grammar.specs.ReadingExpressions.{expr_at};
 ghost use Rattle.grammar.specs.ReadingStatements.{GivesLine, begins_block, body_at, branch_at, conditional_at, ends_line, foreach_at, in_body, leave_at, maybe_at, names_at, otherwise_at, parts_at, plain_at, second_at, set_at, set_tree, sign_of, simple_at, stmt_at};
 ghost use Rattle.grammar.specs.Tree.{BreakTree, ContinueTree, branch_of, statement_of};
 
+use super::expression::boxed;
 use super::{Parser, fitted, put};
 use crate::stop::{ReadError, Stop};
 use crate::tree::{Branch, Expression, Statement};
@@ -16,8 +17,8 @@ use lexer::token::{Kind, Token};
 use std::alloc::Global;
 
 // What gives a name a value, or adds one to what it has.
-fn set<'a>(name: Token<'a>, adds: bool, value: Expression<'a>) -> Statement<'a>
-    ensures { statement_of result ≡ set_tree adds name.entry.text.now name.entry.line (expression_of value.entry) }
+fn set<'a>(name: Token<'a>, adds: bool, value: Box<Expression<'a>>) -> Statement<'a>
+    ensures { statement_of result ≡ set_tree adds name.entry.text.now name.entry.line (expression_of value.entry.value) }
 {
     if adds {
         Statement::Append {
@@ -90,6 +91,7 @@ impl<'a> Parser<'_, 'a> {
         let name = self.take(Kind::Name)?;
         self.take(if adds { Kind::PlusAssign } else { Kind::Assign })?;
         let value = self.expression(alloc, levels)?;
+        let value = boxed(alloc, value)?;
         Ok(set(name, adds, value))
     }
 
@@ -232,13 +234,12 @@ impl<'a> Parser<'_, 'a> {
         let (first, second) = self.names()?;
         let round = self.branch(alloc, true, levels)?;
         let round = self.closed(Kind::EndForeach, round)?;
+        let round = boxed(alloc, round)?;
         Ok(Statement::Foreach {
             line: word.line,
             first,
             second,
-            list: round.condition,
-            list_line: round.line,
-            body: round.body,
+            round,
         })
     }
 

@@ -14,7 +14,7 @@ use crate::caller::Caller;
 use crate::stop::Stop;
 use basics::faults::Refusal;
 use ports::{Outputs, Tree};
-use project::{Answer, Install, Test};
+use project::{Answer, Install, Refused, Test};
 use targets::{Facts, Target};
 
 /// The refusal that one of the project is.
@@ -34,13 +34,13 @@ pub fn of_project(refusal: project::Refusal) -> Refusal
 impl<'a, T: Tree, O: Outputs> Caller<'a, T, O> {
     ghost use Rattle.world.specs.Caller.{state_of};
 
-    /// What the project answered, or the stop of its refusal.
-    pub fn allowed<A>(&self, answer: Result<A, project::Refusal>) -> Result<A, Stop>
+    /// What the project answered, or the stop of its refusal, with what that is about.
+    pub fn allowed<A>(&self, answer: Result<A, Refused>) -> Result<A, Stop>
         ensures { IsAllowed (world_of self.now.store.now) answer result }
     {
         match answer {
             Ok(value) => Ok(value),
-            Err(refusal) => self.refuse(of_project(refusal), ""),
+            Err(refused) => self.refuse(of_project(refused.why), refused.detail.as_str()),
         }
     }
 

@@ -1,12 +1,13 @@
 //! Refuses a call that breaks a rule.
 ghost use Rattle.arguments.specs.Rules.{broken};
 ghost use Rattle.basics.specs.declared.faults.refusal.Refusal.TheVariants.{Arguments as ArgumentsRefused};
-ghost use Rattle.world.specs.Answering.{Carries, Refuses};
+ghost use Rattle.world.specs.Answering.{Carries, IsAnsweredBy, Refuses};
 ghost use Rattle.world.specs.Ruled.{obeyed};
 ghost use Rattle.world.specs.Store.{world_of};
 ghost use Rattle.world.specs.World.{fault_here};
 
 use crate::caller::Caller;
+use crate::operation::of_operation;
 use crate::stop::Stop;
 use arguments::Rule;
 use basics::faults::Refusal;
@@ -15,12 +16,35 @@ use ports::{Outputs, Tree};
 impl<'a, T: Tree, O: Outputs> Caller<'a, T, O> {
     ghost use Rattle.world.specs.Caller.{state_of};
 
-    /// Refuses the call, since this text breaks the rule, or the keyword of this name. The words are made only here.
+    /// Refuses the call as this, since this text breaks the rule. The words are made only here.
+    pub fn refuse_for<A>(&self, refusal: Refusal, rule: Rule, text: &str) -> Result<A, Stop>
+        ensures { Refuses (fault_here (world_of self.now.store.now) refusal (broken rule text.now)) result }
+    {
+        let detail = rule.broken(self.alloc, text)?;
+        self.refuse(refusal, detail.as_str())
+    }
+
+    /// Refuses the call's arguments, since this text breaks the rule, or the keyword of this name.
     pub fn refuse_by<A>(&self, rule: Rule, text: &str) -> Result<A, Stop>
         ensures { Refuses (fault_here (world_of self.now.store.now) ArgumentsRefused (broken rule text.now)) result }
     {
-        let detail = rule.broken(self.alloc, text)?;
-        self.refuse(Refusal::Arguments, detail.as_str())
+        self.refuse_for(Refusal::Arguments, rule, text)
+    }
+
+    /// What an operation on values answered, or the stop of its refusal; where that is of the arguments, this text breaks the rule.
+    pub fn answered_by<A>(
+        &self,
+        rule: Rule,
+        text: &str,
+        answer: Result<A, data::Refusal>,
+    ) -> Result<A, Stop>
+        ensures { IsAnsweredBy (world_of self.now.store.now) rule text.now answer result }
+    {
+        match answer {
+            Ok(value) => Ok(value),
+            Err(data::Refusal::Arguments) => self.refuse_by(rule, text),
+            Err(refusal) => self.refuse(of_operation(refusal), ""),
+        }
     }
 
     /// Refuses the call unless the rule is kept, which else this text breaks, or the keyword of this name.

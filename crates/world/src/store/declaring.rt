@@ -3,6 +3,7 @@ ghost use Rattle.std.specs.Prelude.{◌≡◌, IfOk, OnOk, string_bytes};
 ghost use Rattle.edge.specs.Texts.{put_all_new, texts};
 ghost use Rattle.project.specs.Adding.{after_target, arguments_answer, output_answer, target_answer, with_dependency, with_install};
 ghost use Rattle.project.specs.Adding.{with_test};
+ghost use Rattle.project.specs.Refused.{answer_data};
 ghost use Rattle.project.specs.View.{answer_view, install_view, test_view};
 ghost use Rattle.project.specs.World.{WorldData};
 ghost use Rattle.targets.specs.View.{facts_view, target_view};
@@ -12,7 +13,7 @@ ghost use Rattle.world.specs.Store.{changing, world_of};
 ghost use Rattle.world.specs.World.{begun, begun_project, declaring, looking};
 
 use crate::store::Store;
-use project::{Answer, Install, Project, Refusal, Test};
+use project::{Answer, Install, Project, Refused, Test};
 use std::alloc::{AllocError, Global};
 use targets::{Facts, Target};
 
@@ -90,8 +91,8 @@ impl Store {
     // ---- what is declared
 
     /// Adds a target and gives its number, or answers why the project refuses it.
-    pub fn add_target(&mut self, target: Target) -> Result<Result<usize, Refusal>, AllocError>
-        ensures answer { IfOk result (λ r. r ≡ target_answer self.old.project (target_view target)) }
+    pub fn add_target(&mut self, target: Target) -> Result<Result<usize, Refused>, AllocError>
+        ensures answer { IfOk result (λ r. answer_data r ≡ target_answer self.old.project (target_view target)) }
         ensures world { OnOk result (world_of self.new
             ≡ changing (declaring (λ p. after_target p (target_view target))) (world_of self.old)) }
         ensures names { self.new.names ≡ self.old.names }
@@ -104,8 +105,8 @@ impl Store {
         &mut self,
         folder: &str,
         name: &str,
-    ) -> Result<Result<(), Refusal>, AllocError>
-        ensures answer { IfOk result (λ r. r ≡ output_answer self.old.project folder.now name.now) }
+    ) -> Result<Result<(), Refused>, AllocError>
+        ensures answer { IfOk result (λ r. answer_data r ≡ output_answer self.old.project folder.now name.now) }
         ensures world { OnOk result (world_of self.new ≡ changing (declaring (after_output folder.now name.now)) (world_of self.old)) }
         ensures names { self.new.names ≡ self.old.names }
     {
@@ -113,8 +114,8 @@ impl Store {
     }
 
     /// Adds words to those of all compile commands, or answers why the project refuses them.
-    pub fn add_arguments(&mut self, words: &[String]) -> Result<Result<(), Refusal>, AllocError>
-        ensures answer { IfOk result (λ r. r ≡ arguments_answer self.old.project (texts words.now)) }
+    pub fn add_arguments(&mut self, words: &[String]) -> Result<Result<(), Refused>, AllocError>
+        ensures answer { IfOk result (λ r. answer_data r ≡ arguments_answer self.old.project (texts words.now)) }
         ensures world { OnOk result (world_of self.new ≡ changing (declaring (after_arguments (texts words.now))) (world_of self.old)) }
         ensures names { self.new.names ≡ self.old.names }
     {
@@ -125,8 +126,8 @@ impl Store {
     pub fn add_link_arguments(
         &mut self,
         words: &[String],
-    ) -> Result<Result<(), Refusal>, AllocError>
-        ensures answer { IfOk result (λ r. r ≡ arguments_answer self.old.project (texts words.now)) }
+    ) -> Result<Result<(), Refused>, AllocError>
+        ensures answer { IfOk result (λ r. answer_data r ≡ arguments_answer self.old.project (texts words.now)) }
         ensures world { OnOk result (world_of self.new
             ≡ changing (declaring (after_link_arguments (texts words.now))) (world_of self.old)) }
         ensures names { self.new.names ≡ self.old.names }

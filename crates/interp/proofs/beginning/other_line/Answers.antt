@@ -1,5 +1,7 @@
-use Rattle.std.proofs.Common.{◌<◌, length, ap, sym, ◌∙◌, arith, rules}
+use Rattle.std.proofs.Common.{◌<◌, length, Some, ap, sym, ◌∙◌, arith, rules}
 use Rattle.std.proofs.lemmas.Grind.{common_steps}
+use Rattle.code.specs.declared.node.ForeachNode.{ForeachNode}
+use Rattle.code.specs.declared.node.IfNode.{IfNode}
 use Rattle.code.specs.declared.node.StatementNode.TheVariants as flat
 use Rattle.interp.specs.Beginnings.{line_unless, other_line}
 use Rattle.expressions.specs.Codes.{expressions_by}
@@ -41,7 +43,7 @@ pub returns-in-Continue : goal.returns-in-Continue
 returns-in-Continue c = λ names. sym (ap other_line (statement_is names c.args.code.now c.args.number c.index.result.now (flat.Continue c.in-Continue.line) c.requires c.index.ensures c.in-Continue.is))
 
 pub returns-in-If : goal.returns-in-If
-returns-in-If c = λ names. sym (ap other_line (statement_is names c.args.code.now c.args.number c.index.result.now (flat.If c.in-If.line c.in-If.branches c.in-If.otherwise) c.requires c.index.ensures c.in-If.is))
+returns-in-If c = λ names. ap (λ (x : IfNode). Some x.line) c.deref.ensures ∙ sym (ap other_line (statement_is names c.args.code.now c.args.number c.index.result.now (flat.If c.in-If.node) c.requires c.index.ensures c.in-If.is))
 
 pub returns-in-Foreach : goal.returns-in-Foreach
-returns-in-Foreach c = λ names. sym (ap other_line (statement_is names c.args.code.now c.args.number c.index.result.now (flat.Foreach c.in-Foreach.line c.in-Foreach.first c.in-Foreach.second c.in-Foreach.list c.in-Foreach.list_line c.in-Foreach.body) c.requires c.index.ensures c.in-Foreach.is))
+returns-in-Foreach c = λ names. ap (λ (x : ForeachNode). Some x.line) c.deref-in-Foreach.ensures ∙ sym (ap other_line (statement_is names c.args.code.now c.args.number c.index.result.now (flat.Foreach c.in-Foreach.node) c.requires c.index.ensures c.in-Foreach.is))

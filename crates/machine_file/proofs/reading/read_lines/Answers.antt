@@ -1,39 +1,22 @@
-use Rattle.std.proofs.Common.{◌≡◌, ◌∙◌, ◌+◌, ◌<◌, ◌≤◌, ℕ, List, None, length, get_or, refl, sym, ap, subst, arith}
-use Rattle.std.specs.Option.{option_map}
+use Rattle.std.proofs.Common.{◌≡◌, ◌∙◌, ◌+◌, ◌<◌, ◌≤◌, ℕ, length, get_or, sym, ap, subst, arith}
 use Rattle.std.specs.Str.Lines.{lines}
 use Rattle.std.proofs.lemmas.Iterator.Consumers.{YieldsList-turn, YieldsList-end}
 use Rattle.std.proofs.lemmas.Iterator.Splits.{YieldsList-from_lines}
 use Rattle.std.proofs.lemmas.List.{length_push}
-use Rattle.machine_file.specs.Files as file
-use Rattle.machine_file.specs.Files.{after, said_from, nothing_said}
-use Rattle.machine_file.specs.Lines.{file_lines}
-use Rattle.machine_file.specs.View.{sections_in, said_in, said_by}
+use Rattle.machine_file.specs.Files.{after}
+use Rattle.machine_file.specs.View.{more_in, sections_in, said_in, said_by}
 use Rattle.machine_file.proofs.Said.{line_refused, line_taken, lines_end}
 use Rattle.machine_file.proofs.reading.read_lines.Goals as goal
 
-pub loop-line-init : goal.loop-line-init
-loop-line-init c = record {
-  fresh = λ o e. absurd cc;
-  counted = refl;
-  said = ap (λ (es : List file.Section). said_from (file_lines c.args.text.now) 0 (record { ended = es; open_section = None }))
-      (ap sections_in c.new_map.ensures.entries);
-}
-
-pub invariant_of-reading : goal.invariant_of-reading
-invariant_of-reading c = record { fresh = c.loop-line.invariant.fresh }
-
-pub invariant_of-reading-2 : goal.invariant_of-reading-2
-invariant_of-reading-2 c = record { fresh = c.loop-line.invariant.fresh }
-
-pub returns-in_default : goal.returns-in_default
-returns-in_default c =
+pub returns-in-Err : goal.returns-in-Err
+returns-in-Err c =
     let turn = YieldsList-turn (YieldsList-from_lines c.args.text.now cc) c.loop-line.yielded _ c.loop-line.yielded_by _ _ c.in-Some.line
     c.in-Some.is c.next.ensures.steps in
     let at = subst (λ (n : ℕ). (n < length (lines c.args.text.now))
     × (c.in-Some.line.now ≡ get_or (lines c.args.text.now) n c.in-Some.line.now)) (sym c.loop-line.invariant.counted) turn in
     line_refused (lines c.args.text.now) c.loop-line.number c.in-Some.line.now
-    (said_by c.loop-line.reading.0.entries c.loop-line.reading.1.0) c.loop-line.invariant.said at
-    (ap (option_map said_in) (sym c.in_default.is) ∙ c.in_ok-more.ensures
+    (said_by c.loop-line.reading.0.entries c.loop-line.reading.1.0) c.in-Err.detail.bytes.items c.loop-line.invariant.said at
+    (ap more_in (sym c.in-Err.is) ∙ c.in_ok-more.ensures
     ∙ ap (after (said_by c.loop-line.reading.0.entries c.loop-line.reading.1.0) (c.loop-line.number + 1)) c.trimmed.ensures)
 
 pub loop-line-preserved : goal.loop-line-preserved
@@ -43,11 +26,11 @@ loop-line-preserved c =
     let at = subst (λ (n : ℕ). (n < length (lines c.args.text.now))
     × (c.in-Some.line.now ≡ get_or (lines c.args.text.now) n c.in-Some.line.now)) (sym c.loop-line.invariant.counted) turn in
     record {
-      fresh = c.in-Some-2.more.fresh;
+      fresh = c.in-Ok.more.fresh;
       counted = omega (arith, length_push c.loop-line.yielded c.in-Some.line, c.loop-line.invariant.counted);
       said = line_taken (lines c.args.text.now) c.loop-line.number c.in-Some.line.now
-          (said_by c.loop-line.reading.0.entries c.loop-line.reading.1.0) (said_in c.in-Some-2.more) c.loop-line.invariant.said at
-          (ap (option_map said_in) (sym c.in-Some-2.is) ∙ c.in_ok-more.ensures
+          (said_by c.loop-line.reading.0.entries c.loop-line.reading.1.0) (said_in c.in-Ok.more) c.loop-line.invariant.said at
+          (ap more_in (sym c.in-Ok.is) ∙ c.in_ok-more.ensures
           ∙ ap (after (said_by c.loop-line.reading.0.entries c.loop-line.reading.1.0) (c.loop-line.number + 1)) c.trimmed.ensures);
     }
 

@@ -1,11 +1,12 @@
-use Rattle.std.proofs.Common.{sym, ◌∙◌}
+use Rattle.std.proofs.Common.{Some, sym, ap, ◌∙◌}
 use Rattle.edge.specs.Texts.{texts}
 use Rattle.project.proofs.PathLists.{inserted, tested_more, tested_present, added_more, begins_more}
 use Rattle.project.proofs.claims.insert_new.Goals as goal
 
 pub returns-then-not-branch-clause-tested : goal.returns-then-not-branch-clause-tested
 returns-then-not-branch-clause-tested c =
-    sym (c.loop-path.invariant.tested
+    ap Some c.as_str.ensures.value
+    ∙ sym (c.loop-path.invariant.tested
     ∙ tested_present c.loop-path.paths.keys c.args.fresh.now c.loop-path.path-index c.path-item.result c.in_ok-clone.field-0 c.in_ok-insert.field-0
     c.loop-path-test.true c.path-item.is c.in_ok-clone.ensures.cases c.in_ok-insert.ensures.added c.if-not-branch.true)
 

@@ -8,7 +8,7 @@ pub returns-in-None : goal.returns-in-None
 unfolding get_option given
 returns-in-None g c =
     carries_read (carries_as (ap (given c.text_at-name.result.now) c.in-None.ensures
-    ∙ ap (λ n. given n (value_named c.args.caller.now.store.now.options n)) c.text_at-name.ensures) (carries_refuse c.refuse.ensures))
+    ∙ ap (λ n. given n (value_named c.args.caller.now.store.now.options n)) c.text_at-name.ensures) (carries_refuse c.refuse_for.ensures))
 
 pub returns-in_err-answer-in-Some : goal.returns-in_err-answer-in-Some
 returns-in_err-answer-in-Some g c = carries_none c.from_residual.ensures.1

@@ -1,5 +1,5 @@
-use Rattle.std.proofs.Common.{[], ap}
-use Rattle.std.specs.Prelude.{not}
+use Rattle.std.proofs.Common.{ap}
+use Rattle.std.specs.Prelude.{codes, not}
 use Rattle.basics.specs.declared.faults.refusal.Refusal.TheVariants as refusals
 use Rattle.project_calls.specs.Project.{project}
 use Rattle.world.specs.Deed.{need}
@@ -9,11 +9,11 @@ use Rattle.project_calls.proofs.project_call.project.Goals as goal
 pub returns-in_err-need : goal.returns-in_err-need
 unfolding project
 returns-in_err-need g c =
-    carries_read (carries_stop (carries_as (ap (λ b. need (not b) refusals.ProjectCall []) c.is_begun-is_begun.ensures) c.in_err-need.ensures)
+    carries_read (carries_stop (carries_as (ap (λ b. need (not b) refusals.ProjectCall (codes "'project': was called before")) c.is_begun-is_begun.ensures) c.in_err-need.ensures)
     c.from_residual.ensures.1)
 
 pub returns : goal.returns
 unfolding project
 returns g c =
-    carries_read (carries_then (carries_as (ap (λ b. need (not b) refusals.ProjectCall []) c.is_begun-is_begun.ensures) c.in_ok-need.ensures)
+    carries_read (carries_then (carries_as (ap (λ b. need (not b) refusals.ProjectCall (codes "'project': was called before")) c.is_begun-is_begun.ensures) c.in_ok-need.ensures)
     c.first_project.ensures)

@@ -1,11 +1,13 @@
-use Rattle.std.proofs.Common.{sym, ap, ◌∙◌, ◌&&◌, length, map, nat_lt, option_map}
+use Rattle.std.proofs.Common.{sym, ap, ◌∙◌, ◌&&◌, length, map, nat_lt, option_map, string_bytes, subst}
+use Rattle.std.specs.Prelude.{IsTrue}
+use Rattle.code.specs.declared.node.CallNode.{CallNode}
 use Rattle.std.specs.List.{list_all}
 use Rattle.grammar.specs.ExpressionTree.{ExpressionTree, ListTree, DictionaryTree, FunctionTree, PostfixTree, PrefixTree, ChainTree, TernaryTree, arguments, entries, expressions, links, operands, expression_of, entry_of, argument_of, operand_of, link_of}
 use Rattle.code.specs.Nodes.{tree_at, entry_at, argument_at, operand_at, link_at, entry_within, argument_within, operand_within, link_within}
 use Rattle.code.specs.Draft.{trees_in}
 use Rattle.code.proofs.Trees.{and_both}
 use Rattle.code.proofs.Parts.{grows_same, grows_trans, stands_more, parts_step, parts_end, keeps_number, keeps_entry, keeps_argument, keeps_operand, keeps_link}
-use Rattle.code.proofs.Made.{entry_is, argument_is, operand_is, stands_as, name_made, literal_made, list_made, dictionary_made, call_made, postfix_made, prefix_made, chain_made, ternary_made}
+use Rattle.code.proofs.Made.{entry_is, argument_is, operand_is, stands_as, stands_so, name_made, literal_made, list_made, dictionary_made, call_made, postfix_made, prefix_made, chain_made, ternary_made}
 use Rattle.code.proofs.draft.Draft.+flatten.Goals as goal
 
 pub list-loop-item-preserved : goal.list-loop-item-preserved
@@ -211,14 +213,18 @@ pub call-returns-in_err-arguments-clause-grows : goal.call-returns-in_err-argume
 call-returns-in_err-arguments-clause-grows t c = c.arguments.ensures.grows
 
 pub call-push-requires : goal.call-push-requires
-call-push-requires t c = c.in_ok-arguments.ensures.parts.within
+call-push-requires t c = subst (λ (x : CallNode). IsTrue (list_all (argument_within (length (trees_in c.arguments.new.self))) x.arguments.items)) (sym c.in_ok-call.ensures.ok) c.in_ok-arguments.ensures.parts.within
 
 pub call-returns-clause-grows : goal.call-returns-clause-grows
 call-returns-clause-grows t c = grows_trans c.args.self.now c.arguments.new.self c.push.new.self c.arguments.ensures.grows c.push.ensures.grows
 
+pub call-returns-in_err-call-clause-grows : goal.call-returns-in_err-call-clause-grows
+call-returns-in_err-call-clause-grows t c = c.arguments.ensures.grows
+
 pub call-returns-clause-stands : goal.call-returns-clause-stands
 call-returns-clause-stands t c = stands_as c.push.result (trees_in c.push.new.self) _ _ c.push.ensures.stands
-    (ap (λ n. FunctionTree n (arguments (map (argument_at (trees_in c.arguments.new.self)) c.in_ok-arguments.arguments.items)) c.args.line) c.in_ok-name.ensures.ok
+    (ap (λ (x : CallNode). FunctionTree (string_bytes x.name) (arguments (map (argument_at (trees_in c.arguments.new.self)) x.arguments.items)) c.args.line) c.in_ok-call.ensures.ok
+    ∙ ap (λ n. FunctionTree n (arguments (map (argument_at (trees_in c.arguments.new.self)) c.in_ok-arguments.arguments.items)) c.args.line) c.in_ok-name.ensures.ok
     ∙ ap (λ l. FunctionTree c.args.name.now (arguments l) c.args.line) c.in_ok-arguments.ensures.parts.are)
 
 pub prefix-returns-in_err-value-clause-grows : goal.prefix-returns-in_err-value-clause-grows
@@ -233,13 +239,16 @@ prefix-returns-clause-grows t c = grows_trans c.args.self.now c.expression.new.s
 pub prefix-returns-clause-stands : goal.prefix-returns-clause-stands
 prefix-returns-clause-stands t c = stands_as c.push.result (trees_in c.push.new.self) _ _ c.push.ensures.stands (ap (λ e. PrefixTree c.args.prefix e c.args.line) c.in_ok-value.ensures.stands.is)
 
+pub postfix-returns-in_err-head-clause-grows : goal.postfix-returns-in_err-head-clause-grows
+postfix-returns-in_err-head-clause-grows t c = c.expression.ensures.grows
+
 pub postfix-returns-in_err-first-clause-grows : goal.postfix-returns-in_err-first-clause-grows
 postfix-returns-in_err-first-clause-grows t c = c.expression.ensures.grows
 
 pub postfix-push-requires-2 : goal.postfix-push-requires-2
 postfix-push-requires-2 t c =
     let ts = trees_in c.loop-link.self in
-    let first = stands_more (trees_in c.expression.new.self) ts c.in_ok-first.first (expression_of c.args.first.now) c.loop-link.invariant.later.trees c.in_ok-first.ensures.stands in
+    let first = stands_more (trees_in c.expression.new.self) ts c.in_ok-first.first (expression_of c.args.first.now) c.loop-link.invariant.later.trees (stands_so (trees_in c.expression.new.self) c.in_ok-first.first c.in_ok-head.head (expression_of c.args.first.now) c.in_ok-first.ensures c.in_ok-head.ensures.stands) in
     and_both (nat_lt c.in_ok-first.first (length ts)) (list_all (link_within (length ts)) c.loop-link.nodes.items) first.within c.loop-link.invariant.parts.within
 
 pub postfix-returns-clause-grows : goal.postfix-returns-clause-grows
@@ -248,12 +257,15 @@ postfix-returns-clause-grows t c = grows_trans c.args.self.now c.loop-link.self 
 pub postfix-returns-clause-stands : goal.postfix-returns-clause-stands
 postfix-returns-clause-stands t c =
     let ts = trees_in c.loop-link.self in
-    let first = stands_more (trees_in c.expression.new.self) ts c.in_ok-first.first (expression_of c.args.first.now) c.loop-link.invariant.later.trees c.in_ok-first.ensures.stands in
+    let first = stands_more (trees_in c.expression.new.self) ts c.in_ok-first.first (expression_of c.args.first.now) c.loop-link.invariant.later.trees (stands_so (trees_in c.expression.new.self) c.in_ok-first.first c.in_ok-head.head (expression_of c.args.first.now) c.in_ok-first.ensures c.in_ok-head.ensures.stands) in
     let all = parts_end link_within link_at keeps_link link_of c.args.links.now c.loop-link.link-index ts c.loop-link.nodes.items c.loop-link-test.false
     c.loop-link.invariant.parts in
     stands_as c.push-2.result (trees_in c.push-2.new.self) _ _ c.push-2.ensures.stands
     (ap (λ e. PostfixTree e (links (map (link_at ts) c.loop-link.nodes.items)) c.args.line) first.is
     ∙ ap (λ l. PostfixTree (expression_of c.args.first.now) (links l) c.args.line) all.are)
+
+pub chain-returns-in_err-head-clause-grows : goal.chain-returns-in_err-head-clause-grows
+chain-returns-in_err-head-clause-grows t c = c.expression.ensures.grows
 
 pub chain-returns-in_err-first-clause-grows : goal.chain-returns-in_err-first-clause-grows
 chain-returns-in_err-first-clause-grows t c = c.expression.ensures.grows
@@ -266,7 +278,7 @@ chain-returns-in_err-push-clause-grows t c =
 pub chain-push-requires-2 : goal.chain-push-requires-2
 chain-push-requires-2 t c =
     let ts = trees_in c.loop-operand.self in
-    let first = stands_more (trees_in c.expression.new.self) ts c.in_ok-first.first (expression_of c.args.first.now) c.loop-operand.invariant.later.trees c.in_ok-first.ensures.stands in
+    let first = stands_more (trees_in c.expression.new.self) ts c.in_ok-first.first (expression_of c.args.first.now) c.loop-operand.invariant.later.trees (stands_so (trees_in c.expression.new.self) c.in_ok-first.first c.in_ok-head.head (expression_of c.args.first.now) c.in_ok-first.ensures c.in_ok-head.ensures.stands) in
     and_both (nat_lt c.in_ok-first.first (length ts)) (list_all (operand_within (length ts)) c.loop-operand.nodes.items) first.within c.loop-operand.invariant.parts.within
 
 pub chain-returns-clause-grows : goal.chain-returns-clause-grows
@@ -275,7 +287,7 @@ chain-returns-clause-grows t c = grows_trans c.args.self.now c.loop-operand.self
 pub chain-returns-clause-stands : goal.chain-returns-clause-stands
 chain-returns-clause-stands t c =
     let ts = trees_in c.loop-operand.self in
-    let first = stands_more (trees_in c.expression.new.self) ts c.in_ok-first.first (expression_of c.args.first.now) c.loop-operand.invariant.later.trees c.in_ok-first.ensures.stands in
+    let first = stands_more (trees_in c.expression.new.self) ts c.in_ok-first.first (expression_of c.args.first.now) c.loop-operand.invariant.later.trees (stands_so (trees_in c.expression.new.self) c.in_ok-first.first c.in_ok-head.head (expression_of c.args.first.now) c.in_ok-first.ensures c.in_ok-head.ensures.stands) in
     let all = parts_end operand_within operand_at keeps_operand operand_of c.args.others.now c.loop-operand.operand-index ts c.loop-operand.nodes.items
     c.loop-operand-test.false c.loop-operand.invariant.parts in
     stands_as c.push-2.result (trees_in c.push-2.new.self) _ _ c.push-2.ensures.stands

@@ -1,14 +1,16 @@
-use Rattle.std.proofs.Common.{refl, map, nat_lt, length, sym, ap, ◌∙◌}
+use Rattle.std.proofs.Common.{refl, map, nat_lt, length, option_map, sym, ap, ◌∙◌}
 use Rattle.std.specs.List.{list_all}
 use Rattle.grammar.specs.ExpressionTree.{ExpressionTree, expression_of}
-use Rattle.grammar.specs.Tree.{IfTree, branches, statement_of, branch_of, statements}
+use Rattle.grammar.specs.declared.tree.Expression.{Expression}
+use Rattle.grammar.specs.declared.tree.Branch.{Branch}
+use Rattle.grammar.specs.Tree.{AssignTree, AppendTree, ForeachTree, IfTree, branches, statement_of, branch_of, statements}
 use Rattle.code.specs.declared.node.StatementNode.TheVariants as flat
 use Rattle.code.specs.Draft.{trees_in}
 use Rattle.code.specs.Statements.{statement_at, statement_tree, branch_within}
 use Rattle.code.specs.FileDraft.{statements_in}
 use Rattle.code.proofs.Parts.{stands_more}
 use Rattle.code.proofs.Trees.{and_both}
-use Rattle.code.proofs.Placed.{extends_trans, are_step, branches_step, branches_more, branch_is, statement_as, if_made, assign_made, append_made, value_made, break_made, continue_made, each_made}
+use Rattle.code.proofs.Placed.{extends_trans, are_step, parts_are, parts_within, branches_step, branches_more, branch_is, statement_as, if_made, assign_made, append_made, value_made, break_made, continue_made, each_made}
 use Rattle.code.proofs.file_draft.FileDraft.+flatten_statement.Goals as goal
 
 pub conditional-returns-in_err-branches-clause-extends : goal.conditional-returns-in_err-branches-clause-extends
@@ -23,9 +25,14 @@ conditional-push-requires t c =
     let new = c.body.new.self in
     let parts = branches_more c.branches.new.self new c.in_ok-branches.branches.items (map branch_of c.args.branches.now)
     c.body.ensures.extends c.in_ok-branches.ensures.are in
-    and_both (list_all (branch_within (length (trees_in new.draft)) (length (statements_in new))) c.in_ok-branches.branches.items)
+    parts_within (length new.draft.names) (length (trees_in new.draft)) (length (statements_in new)) c.in_ok-node.node _ c.in_ok-node.ensures.ok
+    (and_both (list_all (branch_within (length (trees_in new.draft)) (length (statements_in new))) c.in_ok-branches.branches.items)
     (list_all (λ i. nat_lt i (length (statements_in new))) c.in_ok-otherwise.otherwise.items) parts.within
-    c.in_ok-otherwise.ensures.are.within
+    c.in_ok-otherwise.ensures.are.within)
+
+pub conditional-returns-in_err-node-clause-extends : goal.conditional-returns-in_err-node-clause-extends
+conditional-returns-in_err-node-clause-extends t c =
+    extends_trans c.args.self.now c.branches.new.self c.body.new.self c.branches.ensures.extends c.body.ensures.extends
 
 pub conditional-returns-clause-extends : goal.conditional-returns-clause-extends
 conditional-returns-clause-extends t c =
@@ -39,19 +46,20 @@ conditional-returns-clause-is t c =
     c.body.ensures.extends c.in_ok-branches.ensures.are in
     statement_as c.push.result c.push.new.self
     (statement_tree new.draft.names (trees_in new.draft) (statements_in new)
-    (flat.If c.args.line c.in_ok-branches.branches c.in_ok-otherwise.otherwise))
+    (flat.If c.in_ok-node.node))
     (IfTree c.args.line (branches (map branch_of c.args.branches.now)) (statements (map statement_of c.args.otherwise.now))) c.push.ensures.is
-    (ap (λ l. IfTree c.args.line (branches l) (statements (map (statement_at (statements_in new)) c.in_ok-otherwise.otherwise.items))) parts.are
+    (parts_are new.draft.names (trees_in new.draft) (statements_in new) c.in_ok-node.node _ c.in_ok-node.ensures.ok
+    ∙ ap (λ l. IfTree c.args.line (branches l) (statements (map (statement_at (statements_in new)) c.in_ok-otherwise.otherwise.items))) parts.are
     ∙ ap (λ l. IfTree c.args.line (branches (map branch_of c.args.branches.now)) (statements l)) c.in_ok-otherwise.ensures.are.are)
 
 pub statement-returns-in-If-clause-is : goal.statement-returns-in-If-clause-is
 statement-returns-in-If-clause-is t c =
     statement_as c.conditional.result c.conditional.new.self
-    (IfTree c.in-If.line (branches (map branch_of c.deref.result.now)) (statements (map statement_of c.deref-in-If.result.now)))
+    (IfTree c.in-If.line (branches (map branch_of c.deref-in-If.result.now)) (statements (map statement_of c.deref-in-If-2.result.now)))
     (statement_of c.args.statement.now) c.conditional.ensures.is
     (if_made c.args.statement.now c.in-If.line c.in-If.branches c.in-If.otherwise
-    (map branch_of c.deref.result.now) (map statement_of c.deref-in-If.result.now) c.deref.result.now c.deref-in-If.result.now
-    c.in-If.is c.deref.ensures.value c.deref-in-If.ensures.value refl refl)
+    (map branch_of c.deref-in-If.result.now) (map statement_of c.deref-in-If-2.result.now) c.deref-in-If.result.now c.deref-in-If-2.result.now
+    c.in-If.is c.deref-in-If.ensures.value c.deref-in-If-2.ensures.value refl refl)
 
 pub body-loop-statement-preserved : goal.body-loop-statement-preserved
 body-loop-statement-preserved t c =
@@ -93,14 +101,16 @@ statement-returns-in-Assign-clause-extends t c = c.assign.ensures.extends
 
 pub statement-returns-in-Assign-clause-is : goal.statement-returns-in-Assign-clause-is
 statement-returns-in-Assign-clause-is t c = statement_as c.assign.result c.assign.new.self _ (statement_of c.args.statement.now) c.assign.ensures.is
-    (assign_made c.args.statement.now c.in-Assign.line c.in-Assign.name c.in-Assign.value c.in-Assign.is)
+    (ap (λ (e : Expression). AssignTree c.in-Assign.name.now c.in-Assign.line (expression_of e)) c.deref.ensures
+    ∙ assign_made c.args.statement.now c.in-Assign.line c.in-Assign.name c.in-Assign.value c.in-Assign.is)
 
 pub statement-returns-in-Append-clause-extends : goal.statement-returns-in-Append-clause-extends
 statement-returns-in-Append-clause-extends t c = c.assign-in-Append.ensures.extends
 
 pub statement-returns-in-Append-clause-is : goal.statement-returns-in-Append-clause-is
 statement-returns-in-Append-clause-is t c = statement_as c.assign-in-Append.result c.assign-in-Append.new.self _ (statement_of c.args.statement.now) c.assign-in-Append.ensures.is
-    (append_made c.args.statement.now c.in-Append.line c.in-Append.name c.in-Append.value c.in-Append.is)
+    (ap (λ (e : Expression). AppendTree c.in-Append.name.now c.in-Append.line (expression_of e)) c.deref-in-Append.ensures
+    ∙ append_made c.args.statement.now c.in-Append.line c.in-Append.name c.in-Append.value c.in-Append.is)
 
 pub statement-returns-in-Expression-clause-extends : goal.statement-returns-in-Expression-clause-extends
 statement-returns-in-Expression-clause-extends t c = c.value.ensures.extends
@@ -138,8 +148,11 @@ statement-returns-in_ok-body-in-Foreach-clause-extends t c =
 
 pub statement-returns-in_ok-body-in-Foreach-clause-is : goal.statement-returns-in_ok-body-in-Foreach-clause-is
 statement-returns-in_ok-body-in-Foreach-clause-is t c = statement_as c.foreach.result c.foreach.new.self _ (statement_of c.args.statement.now) c.foreach.ensures.is
-    (each_made c.args.statement.now c.in-Foreach.line c.in-Foreach.first c.in-Foreach.second c.in-Foreach.list c.in-Foreach.list_line c.in-Foreach.body
-    c.deref-in-Foreach.result.now (map (statement_at (statements_in c.body.new.self)) c.in_ok-body-in-Foreach.body.items) c.in-Foreach.is c.deref-in-Foreach.ensures.value c.in_ok-body-in-Foreach.ensures.are.are)
+    (ap (λ (b : Branch). ForeachTree c.in-Foreach.line c.in-Foreach.first.now (option_map (λ n. n.now) c.in-Foreach.second) (expression_of b.condition) b.line
+    (statements (map (statement_at (statements_in c.body.new.self)) c.in_ok-body-in-Foreach.body.items))) c.deref-round.ensures
+    ∙ each_made c.args.statement.now c.in-Foreach.line c.in-Foreach.first c.in-Foreach.second c.in-Foreach.round
+    c.deref-in-Foreach.result.now (map (statement_at (statements_in c.body.new.self)) c.in_ok-body-in-Foreach.body.items) c.in-Foreach.is
+    (c.deref-in-Foreach.ensures.value ∙ ap (λ (b : Branch). b.body.items) c.deref-round.ensures) c.in_ok-body-in-Foreach.ensures.are.are)
 
 pub body-returns-in_err-number-clause-extends : goal.body-returns-in_err-number-clause-extends
 body-returns-in_err-number-clause-extends t c =

@@ -17,13 +17,17 @@ pub returns-in_err-name-clause-extends : goal.returns-in_err-name-clause-extends
 returns-in_err-name-clause-extends c =
     extends_trans c.args.self.now c.expression.new.self c.name.new.self c.expression.ensures.extends c.name.ensures.extends
 
+pub returns-in_err-node-clause-extends : goal.returns-in_err-node-clause-extends
+returns-in_err-node-clause-extends c =
+    extends_trans c.args.self.now c.expression.new.self c.name.new.self c.expression.ensures.extends c.name.ensures.extends
+
 pub push-requires : goal.push-requires
 push-requires c =
     let new = c.name.new.self in
     let value = stands_more (trees_in c.expression.new.self.draft) (trees_in new.draft) c.in_ok-value.value (expression_of c.args.value.now)
     c.name.ensures.extends.draft.trees c.in_ok-value.ensures.stands in
     subst (λ (x : StatementNode). IsTrue (statement_within (length new.draft.names) (length (trees_in new.draft)) (length (statements_in new)) x))
-    (sym c.set.ensures)
+    (sym c.in_ok-node.ensures)
     (set_within c.args.adds (length new.draft.names) (length (trees_in new.draft)) (length (statements_in new)) c.in_ok-name.name c.args.line
     c.in_ok-value.value c.in_ok-name.ensures.within value.within)
 
@@ -38,8 +42,8 @@ returns-clause-is c =
     let value = stands_more (trees_in c.expression.new.self.draft) (trees_in new.draft) c.in_ok-value.value (expression_of c.args.value.now)
     c.name.ensures.extends.draft.trees c.in_ok-value.ensures.stands in
     statement_as c.push.result c.push.new.self
-    (statement_tree new.draft.names (trees_in new.draft) (statements_in new) c.set.result)
+    (statement_tree new.draft.names (trees_in new.draft) (statements_in new) c.in_ok-node.node)
     (set_tree c.args.adds c.args.name.now c.args.line (expression_of c.args.value.now)) c.push.ensures.is
-    (ap (statement_tree new.draft.names (trees_in new.draft) (statements_in new)) c.set.ensures
+    (ap (statement_tree new.draft.names (trees_in new.draft) (statements_in new)) c.in_ok-node.ensures
     ∙ set_is c.args.adds new.draft.names (trees_in new.draft) (statements_in new) c.in_ok-name.name c.args.line c.in_ok-value.value
     c.args.name.now (expression_of c.args.value.now) c.in_ok-name.ensures.is value.is)

@@ -1,4 +1,4 @@
-use Rattle.std.proofs.Common.{map, nat_lt, length, refl, option_map}
+use Rattle.std.proofs.Common.{map, nat_lt, length, refl, option_map, ◌∙◌}
 use Rattle.std.specs.List.{list_all}
 use Rattle.grammar.specs.ExpressionTree.{expression_of}
 use Rattle.grammar.specs.Tree.{ForeachTree, statements}
@@ -8,7 +8,7 @@ use Rattle.code.specs.Draft.{trees_in}
 use Rattle.code.specs.Statements.{name_at, statement_at, statement_tree, second_within}
 use Rattle.code.specs.FileDraft.{AreStatements, statements_in}
 use Rattle.code.proofs.Parts.{stands_more}
-use Rattle.code.proofs.Placed.{extends_trans, are_more, and_three, foreach_made, statement_as}
+use Rattle.code.proofs.Placed.{extends_trans, are_more, and_three, each_is, each_within, foreach_made, statement_as}
 use Rattle.code.proofs.StatementTrees.{name_kept}
 use Rattle.code.proofs.file_draft.FileDraft.foreach.Goals as goal
 
@@ -28,9 +28,10 @@ push-requires c =
     let body : AreStatements new c.args.body.items (map (statement_at (statements_in old)) c.args.body.items) =
     are_more old new c.args.body.items (map (statement_at (statements_in old)) c.args.body.items) whole record
     { within = c.requires; are = refl } in
-    and_three (nat_lt c.in_ok-first.first (length new.draft.names)) (second_within (length new.draft.names) c.in_ok-second.second)
+    each_within (length new.draft.names) (length (trees_in new.draft)) (length (statements_in new)) c.in_ok-node.node _ c.in_ok-node.ensures.ok
+    (and_three (nat_lt c.in_ok-first.first (length new.draft.names)) (second_within (length new.draft.names) c.in_ok-second.second)
     (nat_lt c.in_ok-list.list (length (trees_in new.draft)))
-    (list_all (λ i. nat_lt i (length (statements_in new))) c.args.body.items) first.0 c.in_ok-second.ensures.within list.within body.within
+    (list_all (λ i. nat_lt i (length (statements_in new))) c.args.body.items) first.0 c.in_ok-second.ensures.within list.within body.within)
 
 pub returns-clause-is : goal.returns-clause-is
 returns-clause-is c =
@@ -50,11 +51,12 @@ returns-clause-is c =
     { within = c.requires; are = refl } in
     statement_as c.push.result c.push.new.self
     (statement_tree new.draft.names (trees_in new.draft) (statements_in new)
-    (flat.Foreach c.args.line c.in_ok-first.first c.in_ok-second.second c.in_ok-list.list c.args.list_line c.args.body))
+    (flat.Foreach c.in_ok-node.node))
     (ForeachTree c.args.line c.args.first.now (option_map (λ n. n.now) c.args.second) (expression_of c.args.list.now) c.args.list_line
     (statements (map (statement_at (statements_in old)) c.args.body.items)))
     c.push.ensures.is
-    (foreach_made c.args.line c.args.list_line (name_at new.draft.names c.in_ok-first.first) c.args.first.now
+    (each_is new.draft.names (trees_in new.draft) (statements_in new) c.in_ok-node.node _ c.in_ok-node.ensures.ok
+    ∙ foreach_made c.args.line c.args.list_line (name_at new.draft.names c.in_ok-first.first) c.args.first.now
     (option_map (name_at new.draft.names) c.in_ok-second.second) (option_map (λ n. n.now) c.args.second)
     (tree_at (trees_in new.draft) c.in_ok-list.list) (expression_of c.args.list.now)
     (map (statement_at (statements_in new)) c.args.body.items) (map (statement_at (statements_in old)) c.args.body.items)
@@ -69,6 +71,11 @@ returns-in_err-first-clause-extends c =
 
 pub returns-in_err-second-clause-extends : goal.returns-in_err-second-clause-extends
 returns-in_err-second-clause-extends c =
+    extends_trans c.args.self.now c.expression.new.self c.second_name.new.self c.expression.ensures.extends
+    (extends_trans c.expression.new.self c.name.new.self c.second_name.new.self c.name.ensures.extends c.second_name.ensures.extends)
+
+pub returns-in_err-node-clause-extends : goal.returns-in_err-node-clause-extends
+returns-in_err-node-clause-extends c =
     extends_trans c.args.self.now c.expression.new.self c.second_name.new.self c.expression.ensures.extends
     (extends_trans c.expression.new.self c.name.new.self c.second_name.new.self c.name.ensures.extends c.second_name.ensures.extends)
 

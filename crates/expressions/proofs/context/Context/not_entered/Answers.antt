@@ -2,6 +2,8 @@ use Rattle.std.proofs.Common.{[], ap, ◌∙◌, sym, refl}
 use Rattle.std.specs.Prelude.{bytes_eq, nat_lt, not}
 use Rattle.std.specs.List.{list_any}
 use Rattle.std.proofs.lemmas.Bool.{lt-ltb, le-ltb}
+use Rattle.arguments.specs.Rules.{broken}
+use Rattle.arguments.specs.declared.rule.Rule.TheVariants as rules
 use Rattle.basics.specs.declared.faults.refusal.Refusal.TheVariants as refusals
 use Rattle.expressions.proofs.Evaluating.{given_give}
 use Rattle.expressions.proofs.Opening.{given_lack, given_need}
@@ -9,16 +11,16 @@ use Rattle.expressions.proofs.context.Context.not_entered.Goals as goal
 
 pub returns-then-is_entered-clause-gives : goal.returns-then-is_entered-clause-gives
 returns-then-is_entered-clause-gives g c = λ files h.
-    given_lack _ refusals.Subdir [] (ap not (ap (λ f. list_any (bytes_eq f) c.args.self.now.store.now.entered) (sym c.deref.ensures) ∙ sym c.is_entered.ensures ∙ c.if-is_entered.true)) h
-    c.line-line.ensures c.refuse.ensures
+    given_lack _ refusals.Subdir (broken rules.IsNew c.args.text.now) (ap not (ap (λ f. list_any (bytes_eq f) c.args.self.now.store.now.entered) (sym c.deref.ensures) ∙ sym c.is_entered.ensures ∙ c.if-is_entered.true)) h
+    refl c.refuse_folder.ensures
 
 pub returns-then-entered-lt-FOLDERS-clause-gives : goal.returns-then-entered-lt-FOLDERS-clause-gives
 returns-then-entered-lt-FOLDERS-clause-gives g c = λ files h.
-    given_need _ refusals.Subdir [] (ap not (ap (λ f. list_any (bytes_eq f) c.args.self.now.store.now.entered) (sym c.deref.ensures) ∙ sym c.is_entered.ensures ∙ c.if-is_entered.false))
+    given_need _ refusals.Subdir (broken rules.IsNew c.args.text.now) (ap not (ap (λ f. list_any (bytes_eq f) c.args.self.now.store.now.entered) (sym c.deref.ensures) ∙ sym c.is_entered.ensures ∙ c.if-is_entered.false))
     (given_need _ refusals.Limit [] (ap (λ n. nat_lt n 4096) (sym c.entered.ensures) ∙ lt-ltb c.entered.result 4096 c.if-entered-lt-FOLDERS.true) (given_give h refl))
 
 pub returns-else-entered-lt-FOLDERS-clause-gives : goal.returns-else-entered-lt-FOLDERS-clause-gives
 returns-else-entered-lt-FOLDERS-clause-gives g c = λ files h.
-    given_need _ refusals.Subdir [] (ap not (ap (λ f. list_any (bytes_eq f) c.args.self.now.store.now.entered) (sym c.deref.ensures) ∙ sym c.is_entered.ensures ∙ c.if-is_entered.false))
+    given_need _ refusals.Subdir (broken rules.IsNew c.args.text.now) (ap not (ap (λ f. list_any (bytes_eq f) c.args.self.now.store.now.entered) (sym c.deref.ensures) ∙ sym c.is_entered.ensures ∙ c.if-is_entered.false))
     (given_lack _ refusals.Limit [] (ap (λ n. nat_lt n 4096) (sym c.entered.ensures) ∙ le-ltb c.entered.result 4096 c.if-entered-lt-FOLDERS.false) h
-    c.line-line.ensures c.refuse-else-entered-lt-FOLDERS.ensures)
+    c.line.ensures c.refuse.ensures)

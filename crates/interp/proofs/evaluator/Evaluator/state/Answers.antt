@@ -1,6 +1,7 @@
 use Rattle.std.proofs.Common.{◌≤◌, ℕ, List, [], ◌∷◌, ◌++◌, Ok, Err, length, map, string_bytes, sym, ap, subst, refl, ◌∙◌, arith}
 use Rattle.code.specs.Nodes.{argument_at}
 use Rattle.code.specs.declared.node.ArgumentNode.{ArgumentNode}
+use Rattle.code.specs.declared.node.CallNode.{CallNode}
 use Rattle.code.specs.declared.node.Node.TheVariants as nodes
 use Rattle.grammar.specs.ExpressionTree.{ExpressionTree, arguments}
 use Rattle.world.specs.Plan.{next}
@@ -23,10 +24,12 @@ use Rattle.interp.proofs.evaluator.Evaluator.state.Goals as goal
 
 pub perform-requires-clause-here : goal.perform-requires-clause-here
 perform-requires-clause-here g c =
-    let reach : above above_argument c.in-Call.arguments.items ≤ c.args.value = arguments_reach c.args.value c.in-Call.arguments.items
-    (parts_at c.args.code.now c.args.value c.index.result.now (nodes.Call c.in-Call.name c.in-Call.arguments c.in-Call.line) c.requires.here c.index.ensures c.in-Call.is) in
-    let near : above above_argument c.in-Call.arguments.items ≤ length c.args.code.now.nodes.items = omega (arith, reach, c.requires.here) in
-    subst (λ (xs : List ArgumentNode). above above_argument xs ≤ length c.args.code.now.nodes.items) (sym c.deref-in-Call.ensures.value) near
+    let items = c.in-Call.call.value.arguments.items in
+    let reach : above above_argument items ≤ c.args.value = arguments_reach c.args.value items
+    (parts_at c.args.code.now c.args.value c.index.result.now (nodes.Call c.in-Call.call c.in-Call.line) c.requires.here c.index.ensures c.in-Call.is) in
+    let near : above above_argument items ≤ length c.args.code.now.nodes.items = omega (arith, reach, c.requires.here) in
+    subst (λ (xs : List ArgumentNode). above above_argument xs ≤ length c.args.code.now.nodes.items)
+    (sym (c.deref-in-Call.ensures.value ∙ ap (λ (x : CallNode). x.arguments.items) c.deref-call.ensures)) near
 
 pub returns-in_err-push-clause-gives : goal.returns-in_err-push-clause-gives
 returns-in_err-push-clause-gives g c = λ few files rests table hold stacked made.
@@ -34,44 +37,47 @@ returns-in_err-push-clause-gives g c = λ few files rests table hold stacked mad
 
 pub returns-in-Ok-clause-gives : goal.returns-in-Ok-clause-gives
 returns-in-Ok-clause-gives g c = λ few files rests table hold stacked made.
-    let tree = call_at table c.args.code.now c.args.value c.index.result.now c.in-Call.name c.in-Call.arguments c.in-Call.line c.requires.here c.index.ensures c.in-Call.is in
+    let tree = call_at table c.args.code.now c.args.value c.index.result.now c.in-Call.call c.in-Call.line c.requires.here c.index.ensures c.in-Call.is in
     let into = folder (bounds few c.args.left) in
     let fs = c.args.stack.now.items in
     let gs = c.push.new.self.items in
     let two = stacked_top fs gs rests frames.End End c.in_ok-push.ensures.items stacked refl in
     let ts = expressions_by table c.args.code.now in
     let done = λ (n : List ℕ) (xs : List ArgumentNode). performed into c.in-Call.line n (arguments (map (argument_at ts) xs)) in
-    let same = ap (λ (n : List ℕ). done n c.deref-in-Call.result.now) c.deref.ensures ∙ ap (done (string_bytes c.in-Call.name)) c.deref-in-Call.ensures.value in
-    let whole = behind_top rests End (next (done (string_bytes c.in-Call.name) c.in-Call.arguments.items) (λ w. by_way into w)) ∙ ap (λ (t : ExpressionTree). behind_all rests (stated into t)) (sym tree) in
+    let same = ap (λ (n : List ℕ). done n c.deref-in-Call.result.now) c.deref.ensures ∙ ap (done (string_bytes c.deref-call.result.now.name)) c.deref-in-Call.ensures.value
+    ∙ ap (λ (x : CallNode). done (string_bytes x.name) x.arguments.items) c.deref-call.ensures in
+    let whole = behind_top rests End (next (done (string_bytes c.in-Call.call.value.name) c.in-Call.call.value.arguments.items) (λ w. by_way into w)) ∙ ap (λ (t : ExpressionTree). behind_all rests (stated into t)) (sym tree) in
     let p = given_as same (c.in-Ok.ensures.gives files (bounds few c.args.left) ts hold (reads_at refl made)).comes in
     moves_as whole (moves_then c.take_way.result (leads_under (rests ++ End ∷ []) (leads_next {view = way_view} {others = λ w. by_way into w} p))
     (c.take_way.ensures.gives few files (rests ++ End ∷ []) p.holds (stacked_on gs (rests ++ End ∷ []) p.gives.written.names two)))
 
 pub returns-in-Err-Stops-clause-gives : goal.returns-in-Err-Stops-clause-gives
 returns-in-Err-Stops-clause-gives g c = λ few files rests table hold stacked made.
-    let tree = call_at table c.args.code.now c.args.value c.index.result.now c.in-Call.name c.in-Call.arguments c.in-Call.line c.requires.here c.index.ensures c.in-Call.is in
+    let tree = call_at table c.args.code.now c.args.value c.index.result.now c.in-Call.call c.in-Call.line c.requires.here c.index.ensures c.in-Call.is in
     let into = folder (bounds few c.args.left) in
     let fs = c.args.stack.now.items in
     let gs = c.push.new.self.items in
     let two = stacked_top fs gs rests frames.End End c.in_ok-push.ensures.items stacked refl in
     let ts = expressions_by table c.args.code.now in
     let done = λ (n : List ℕ) (xs : List ArgumentNode). performed into c.in-Call.line n (arguments (map (argument_at ts) xs)) in
-    let same = ap (λ (n : List ℕ). done n c.deref-in-Call.result.now) c.deref.ensures ∙ ap (done (string_bytes c.in-Call.name)) c.deref-in-Call.ensures.value in
-    let whole = behind_top rests End (next (done (string_bytes c.in-Call.name) c.in-Call.arguments.items) (λ w. by_way into w)) ∙ ap (λ (t : ExpressionTree). behind_all rests (stated into t)) (sym tree) in
+    let same = ap (λ (n : List ℕ). done n c.deref-in-Call.result.now) c.deref.ensures ∙ ap (done (string_bytes c.deref-call.result.now.name)) c.deref-in-Call.ensures.value
+    ∙ ap (λ (x : CallNode). done (string_bytes x.name) x.arguments.items) c.deref-call.ensures in
+    let whole = behind_top rests End (next (done (string_bytes c.in-Call.call.value.name) c.in-Call.call.value.arguments.items) (λ w. by_way into w)) ∙ ap (λ (t : ExpressionTree). behind_all rests (stated into t)) (sym tree) in
     let p = given_as same (halted_stops c.in-Err-Stops.field-0-is (c.in-Err-Stops.ensures.gives files (bounds few c.args.left) ts hold (reads_at refl made))) in
     moves_as whole (moves_given gs (rests ++ End ∷ []) (Err c.in-Err-Stops.stop) two (given_stop p refl))
 
 pub returns-in-Err-Enters-clause-gives : goal.returns-in-Err-Enters-clause-gives
 returns-in-Err-Enters-clause-gives g c = λ few files rests table hold stacked made.
-    let tree = call_at table c.args.code.now c.args.value c.index.result.now c.in-Call.name c.in-Call.arguments c.in-Call.line c.requires.here c.index.ensures c.in-Call.is in
+    let tree = call_at table c.args.code.now c.args.value c.index.result.now c.in-Call.call c.in-Call.line c.requires.here c.index.ensures c.in-Call.is in
     let into = folder (bounds few c.args.left) in
     let fs = c.args.stack.now.items in
     let gs = c.push.new.self.items in
     let two = stacked_top fs gs rests frames.End End c.in_ok-push.ensures.items stacked refl in
     let ts = expressions_by table c.args.code.now in
     let done = λ (n : List ℕ) (xs : List ArgumentNode). performed into c.in-Call.line n (arguments (map (argument_at ts) xs)) in
-    let same = ap (λ (n : List ℕ). done n c.deref-in-Call.result.now) c.deref.ensures ∙ ap (done (string_bytes c.in-Call.name)) c.deref-in-Call.ensures.value in
-    let whole = behind_top rests End (next (done (string_bytes c.in-Call.name) c.in-Call.arguments.items) (λ w. by_way into w)) ∙ ap (λ (t : ExpressionTree). behind_all rests (stated into t)) (sym tree) in
+    let same = ap (λ (n : List ℕ). done n c.deref-in-Call.result.now) c.deref.ensures ∙ ap (done (string_bytes c.deref-call.result.now.name)) c.deref-in-Call.ensures.value
+    ∙ ap (λ (x : CallNode). done (string_bytes x.name) x.arguments.items) c.deref-call.ensures in
+    let whole = behind_top rests End (next (done (string_bytes c.in-Call.call.value.name) c.in-Call.call.value.arguments.items) (λ w. by_way into w)) ∙ ap (λ (t : ExpressionTree). behind_all rests (stated into t)) (sym tree) in
     let l = leads_other same (halted_enters c.in-Err-Enters.field-0-is (c.in-Err-Enters.ensures.gives files (bounds few c.args.left) ts hold (reads_at refl made))) in
     moves_as whole (moves_then c.enter_inside.result (leads_under (rests ++ End ∷ []) (leads_left (bounds few c.args.left) c.in-Err-Enters.entry {others = λ w. by_way into w} l))
     (c.enter_inside.ensures.gives few files (rests ++ End ∷ []) l.holds (stacked_on gs (rests ++ End ∷ []) l.continues.written.names two)))

@@ -1,16 +1,18 @@
-use Rattle.std.proofs.Common.{◌≡◌, true, false, List, ◌++◌, map, sym, ap, ◌∙◌}
+use Rattle.std.proofs.Common.{◌≡◌, true, false, List, ◌++◌, map, Err, sym, ap, ◌∙◌}
 use Rattle.std.specs.List.{list_any, list_all}
+use Rattle.std.proofs.lemmas.Result.{IfOk-weaker}
 use Rattle.edge.specs.Texts.{Text, texts}
 use Rattle.edge.specs.Holding.{value_held}
-use Rattle.targets.specs.Data.{TargetData}
 use Rattle.targets.specs.View.{surroundings_view, linked_view, target_view}
 use Rattle.targets.specs.declared.linking.Linked.{Linked}
 use Rattle.project.specs.World.{WorldData}
 use Rattle.project.specs.View.{world_of}
 use Rattle.project.specs.NotesView.{notes_view}
-use Rattle.project.specs.Adding.{is_build, arguments_answer, with_link_arguments}
+use Rattle.project.specs.Adding.{is_build, first_build, arguments_answer, with_link_arguments}
+use Rattle.project.specs.Refused.{answer_data, refused}
 use Rattle.project.specs.declared.refusal.Refusal.TheVariants.{Late}
-use Rattle.project.proofs.Arguments.{with_words, whole_with_words, answer_late, answer_words, after_unit, after_refusal, some_is}
+use Rattle.project.proofs.Arguments.{with_words, whole_with_words, answer_late, answer_words, after_unit, after_refusal, first_is, some_is}
+use Rattle.project.proofs.Placing.{on_ok}
 use Rattle.project.proofs.project.Project.add_link_arguments.Goals as goal
 
 pub returns-then-late-clause-answer : goal.returns-then-late-clause-answer
@@ -21,7 +23,11 @@ returns-then-late-clause-answer c =
     let some : list_any is_build w.targets ≡ true =
     ap (λ (x : WorldData). list_any is_build x.targets) (sym c.self.view_is) ∙ some_is c.self.inside.linked.items
     ∙ ap (list_any (λ (l : Linked). is_build (target_view l.target))) (sym c.deref.ensures.value) ∙ sym c.some_build-late.ensures ∙ c.if-late.true in
-    sym (answer_late w words held some)
+    let first : c.first_build.result.now ≡ first_build w.targets =
+    c.first_build.ensures ∙ ap (λ (ls : List Linked). first_build (map (λ l. target_view l.target) ls)) c.deref-then-late.ensures.value
+    ∙ first_is c.self.inside.linked.items ∙ ap (λ (x : WorldData). first_build x.targets) c.self.view_is in
+    IfOk-weaker c.refuse-then-late.result (λ r. answer_data r ≡ Err (refused Late c.first_build.result.now)) (λ r. answer_data r ≡ arguments_answer w words)
+    (λ r e. e ∙ ap (λ n. Err (refused Late n)) first ∙ sym (answer_late w words held some)) c.refuse-then-late.ensures
 
 pub returns-then-late-clause-ok : goal.returns-then-late-clause-ok
 returns-then-late-clause-ok c =
@@ -31,7 +37,7 @@ returns-then-late-clause-ok c =
     let some : list_any is_build w.targets ≡ true =
     ap (λ (x : WorldData). list_any is_build x.targets) (sym c.self.view_is) ∙ some_is c.self.inside.linked.items
     ∙ ap (list_any (λ (l : Linked). is_build (target_view l.target))) (sym c.deref.ensures.value) ∙ sym c.some_build-late.ensures ∙ c.if-late.true in
-    sym (after_refusal (arguments_answer w words) Late (with_link_arguments w words) w (answer_late w words held some))
+    on_ok c.refuse-then-late.result (sym (after_refusal (arguments_answer w words) (refused Late (first_build w.targets)) (with_link_arguments w words) w (answer_late w words held some)))
 
 pub invariant_of-self : goal.invariant_of-self
 invariant_of-self c =

@@ -1,19 +1,18 @@
-use Rattle.std.proofs.Common.{◌≡◌, true, false, map, OnOk, refl, sym, ap, ◌∙◌, subst}
+use Rattle.std.proofs.Common.{◌≡◌, true, false, [], map, Err, OnOk, refl, sym, ap, ◌∙◌, subst}
 use Rattle.std.specs.List.{list_all}
 use Rattle.std.proofs.lemmas.Result.{IfOk-weaker}
-use Rattle.edge.specs.Texts.{Path, texts}
-use Rattle.edge.specs.Data.{EdgeData}
+use Rattle.edge.specs.Texts.{texts}
 use Rattle.edge.specs.Holding.{are_writable}
-use Rattle.targets.specs.Data.{TargetData}
-use Rattle.targets.specs.Libraries.{LinkedData, linked_of, libraries_in}
-use Rattle.targets.specs.View.{surroundings_view, linked_view, target_view}
+use Rattle.targets.specs.Libraries.{linked_of, libraries_in}
+use Rattle.targets.specs.View.{linked_view, target_view}
 use Rattle.target_edges.specs.Edges.{target_edges}
 use Rattle.project.specs.Laws.{outputs_of}
 use Rattle.project.specs.World.{WorldData}
-use Rattle.project.specs.Whole.{IsWhole, IsNext}
-use Rattle.project.specs.Adding.{sources_of, is_present, is_fit, edges_with, is_within, place_answer, target_answer, with_target, after_answer}
+use Rattle.project.specs.Adding.{sources_of, is_present, is_fit, edges_with, place_answer, target_answer, with_target, after_answer}
+use Rattle.project.specs.Refused.{answer_data, refused}
 use Rattle.project.specs.declared.refusal.Refusal.TheVariants.{Missing, Unholdable}
 use Rattle.project.proofs.Answering.{answer_missing, answer_unholdable, answer_placed, edges_are, next_ready}
+use Rattle.project.proofs.Placing.{on_ok}
 use Rattle.project.proofs.project.Project.add_target.Goals as goal
 
 pub returns-then-not-present-clause-answer : goal.returns-then-not-present-clause-answer
@@ -23,7 +22,8 @@ returns-then-not-present-clause-answer c =
     let fit : is_fit w t ≡ true = sym c.in_ok-fits.ensures ∙ c.if-not-fits.false in
     let there : list_all (is_present w.present) (sources_of t) ≡ false =
     ap (λ (x : WorldData). list_all (is_present x.present) (sources_of t)) (sym c.self.view_is) ∙ sym c.has_present_sources-present.ensures ∙ c.if-not-present.true in
-    sym (answer_missing w t fit there)
+    IfOk-weaker c.refuse-then-not-present.result (λ r. answer_data r ≡ Err (refused Missing [])) (λ r. answer_data r ≡ target_answer w t)
+    (λ r e. e ∙ sym (answer_missing w t fit there)) c.refuse-then-not-present.ensures
 
 pub returns-then-not-present-clause-ok : goal.returns-then-not-present-clause-ok
 returns-then-not-present-clause-ok c =
@@ -32,7 +32,7 @@ returns-then-not-present-clause-ok c =
     let fit : is_fit w t ≡ true = sym c.in_ok-fits.ensures ∙ c.if-not-fits.false in
     let there : list_all (is_present w.present) (sources_of t) ≡ false =
     ap (λ (x : WorldData). list_all (is_present x.present) (sources_of t)) (sym c.self.view_is) ∙ sym c.has_present_sources-present.ensures ∙ c.if-not-present.true in
-    sym (ap (λ r. after_answer r (with_target w t) w) (answer_missing w t fit there))
+    on_ok c.refuse-then-not-present.result (sym (ap (λ r. after_answer r (with_target w t) w) (answer_missing w t fit there)))
 
 pub returns-then-not-writable-clause-answer : goal.returns-then-not-writable-clause-answer
 returns-then-not-writable-clause-answer c =
@@ -49,7 +49,9 @@ returns-then-not-writable-clause-answer c =
     let made : target_edges w.surroundings (linked_of w.targets) c.deref-2.result.now t ≡ es =
     ap (λ x. target_edges w.surroundings (linked_of w.targets) x t) c.deref-2.ensures.value in
     let held : are_writable es ≡ false = ap are_writable (sym made) ∙ sym c.in_ok-claims.ensures.writable ∙ c.if-not-writable.true in
-    sym (answer_unholdable w t fit there (ap are_writable (sym (edges_are w t ns es libs refl)) ∙ held))
+    IfOk-weaker c.refuse-then-not-writable.result (λ r. answer_data r ≡ Err (refused Unholdable c.unheld.result.now)) (λ r. answer_data r ≡ target_answer w t)
+    (λ r e. e ∙ ap (λ n. Err (refused Unholdable n)) c.unheld.ensures ∙ sym (answer_unholdable w t fit there (ap are_writable (sym (edges_are w t ns es libs refl)) ∙ held)))
+    c.refuse-then-not-writable.ensures
 
 pub returns-then-not-writable-clause-ok : goal.returns-then-not-writable-clause-ok
 returns-then-not-writable-clause-ok c =
@@ -66,7 +68,7 @@ returns-then-not-writable-clause-ok c =
     let made : target_edges w.surroundings (linked_of w.targets) c.deref-2.result.now t ≡ es =
     ap (λ x. target_edges w.surroundings (linked_of w.targets) x t) c.deref-2.ensures.value in
     let held : are_writable es ≡ false = ap are_writable (sym made) ∙ sym c.in_ok-claims.ensures.writable ∙ c.if-not-writable.true in
-    sym (ap (λ r. after_answer r (with_target w t) w) (answer_unholdable w t fit there (ap are_writable (sym (edges_are w t ns es libs refl)) ∙ held)))
+    on_ok c.refuse-then-not-writable.result (sym (ap (λ r. after_answer r (with_target w t) w) (answer_unholdable w t fit there (ap are_writable (sym (edges_are w t ns es libs refl)) ∙ held))))
 
 pub place-requires : goal.place-requires
 place-requires c =
@@ -106,7 +108,7 @@ returns-clause-answer c =
     ap (λ p. place_answer w p c.is_within-within.result) (paths ∙ ap outputs_of (edges_are w t ns es libs refl))
     ∙ ap (λ b. place_answer w (outputs_of (edges_with w t)) b) c.is_within-within.ensures
     ∙ sym (answer_placed w t fit there (ap are_writable (sym (edges_are w t ns es libs refl)) ∙ held)) in
-    IfOk-weaker c.place.result (λ r. r ≡ place_answer w (texts c.deref-3.result.now) c.is_within-within.result) (λ r. r ≡ target_answer w t) (λ r e. e ∙ is) c.place.ensures.answer
+    IfOk-weaker c.place.result (λ r. answer_data r ≡ place_answer w (texts c.deref-3.result.now) c.is_within-within.result) (λ r. answer_data r ≡ target_answer w t) (λ r e. e ∙ is) c.place.ensures.answer
 
 pub returns-clause-ok : goal.returns-clause-ok
 returns-clause-ok c =

@@ -1,18 +1,19 @@
-use Rattle.std.proofs.Common.{◌≡◌, ℕ, true, false, List, [], ◌∷◌, ◌++◌, length, map, Ok, Err, sym, ap, ◌∙◌, subst, rules, arith}
+use Rattle.std.proofs.Common.{◌≡◌, List, [], ◌∷◌, ◌++◌, length, map, Some, None, Ok, Err, sym, ap, ◌∙◌, subst, rules, arith}
 use Rattle.std.proofs.lemmas.Grind.{common_steps}
 use Rattle.std.proofs.lemmas.List.{map-append, length-map}
-use Rattle.edge.specs.Texts.{Path, texts}
-use Rattle.targets.specs.Data.{TargetData}
+use Rattle.std.proofs.lemmas.Result.{IfOk-weaker}
+use Rattle.edge.specs.Texts.{texts}
 use Rattle.targets.specs.Libraries.{LinkedData}
-use Rattle.targets.specs.View.{surroundings_view, linked_view, target_view}
-use Rattle.project.specs.Laws.{all_new}
+use Rattle.targets.specs.View.{surroundings_view, linked_view}
+use Rattle.project.specs.Laws.{first_taken}
 use Rattle.project.specs.World.{WorldData, taken_in}
 use Rattle.project.specs.View.{world_of}
 use Rattle.project.specs.NotesView.{notes_view}
 use Rattle.project.specs.Whole.{IsWhole, IsNext}
 use Rattle.project.specs.Adding.{place_answer, with_target}
+use Rattle.project.specs.Refused.{answer_data, refused}
 use Rattle.project.specs.declared.refusal.Refusal.TheVariants.{Limit, Duplicate}
-use Rattle.project.proofs.Placing.{whole_next, whole_same, free_is, place_ok, place_long, place_twice, placed_kept, placed_back, placed_twice, after_ok, after_err, world_with}
+use Rattle.project.proofs.Placing.{whole_next, whole_same, free_is, place_ok, place_long, place_twice, placed_kept, placed_back, placed_twice, after_ok, after_err, on_ok, told_none, told_path, world_with}
 use Rattle.project.proofs.project.Project.place.Goals as goal
 
 pub invariant_of-self-then-within : goal.invariant_of-self-then-within
@@ -28,8 +29,8 @@ invariant_of-self-then-within c =
     let next = subst (λ (x : WorldData). IsNext x.surroundings x.targets x.outputs x.present l ps) (sym c.self.view_is) c.requires in
     let pushed : map linked_view c.push.new.self.items ≡ ls ++ l ∷ [] = ap (map linked_view) c.in_ok-push.ensures.items ∙ map-append linked_view c.self.inside.linked.items (c.args.one ∷ []) in
     subst (λ (x : List LinkedData). IsWhole s x outputs notes.present now) (sym pushed)
-    (whole_next s ls outputs notes.present kept now l ps c.self.invariant next (sym c.in-Ok-true.ensures.tested ∙ c.in-Ok-true.field-0-test)
-    (placed_kept kept ps now c.in-Ok-true.field-0 c.args.within c.in-Ok-true.ensures.added c.in-Ok-true.field-0-test c.if-within.true))
+    (whole_next s ls outputs notes.present kept now l ps c.self.invariant next (sym (told_none _ c.in-Ok-None.ensures.tested c.in-Ok-None.field-0-is))
+    (placed_kept kept ps now c.in-Ok-None.field-0 c.args.within c.in-Ok-None.ensures.added c.in-Ok-None.field-0-is c.if-within.true))
 
 pub invariant_of-self-else-within : goal.invariant_of-self-else-within
 invariant_of-self-else-within c =
@@ -44,10 +45,10 @@ invariant_of-self-else-within c =
     let back : map linked_view c.truncate.new.self.items ≡ ls =
     let is : c.truncate.new.self.items ≡ c.self.inside.linked.items = grind (arith, common_steps) in ap (map linked_view) is in
     whole_same s ls (map linked_view c.truncate.new.self.items) outputs notes.present kept now c.self.invariant back
-    (placed_back kept ps now c.in-Ok-true.field-0 c.args.within c.in-Ok-true.ensures.added c.in-Ok-true.field-0-test c.if-within.false)
+    (placed_back kept ps now c.in-Ok-None.field-0 c.args.within c.in-Ok-None.ensures.added c.in-Ok-None.field-0-is c.if-within.false)
 
-pub invariant_of-self-in-Ok-false : goal.invariant_of-self-in-Ok-false
-invariant_of-self-in-Ok-false c =
+pub invariant_of-self-in-Ok-Some : goal.invariant_of-self-in-Ok-Some
+invariant_of-self-in-Ok-Some c =
     let s = surroundings_view c.self.inside.surroundings in
     let ls = map linked_view c.self.inside.linked.items in
     let outputs = texts c.self.inside.outputs.items in
@@ -56,10 +57,10 @@ invariant_of-self-in-Ok-false c =
     let now = texts c.claim.new.paths.keys in
     let l = linked_view c.args.one in
     let ps = texts c.args.paths.now in
-    let back : map linked_view c.truncate-in-Ok-false.new.self.items ≡ ls =
-    let is : c.truncate-in-Ok-false.new.self.items ≡ c.self.inside.linked.items = grind (arith, common_steps) in ap (map linked_view) is in
-    whole_same s ls (map linked_view c.truncate-in-Ok-false.new.self.items) outputs notes.present kept now c.self.invariant back
-    (placed_twice kept ps now c.in-Ok-false.field-0 c.args.within c.in-Ok-false.ensures.added c.in-Ok-false.field-0-test)
+    let back : map linked_view c.truncate-in-Ok-Some.new.self.items ≡ ls =
+    let is : c.truncate-in-Ok-Some.new.self.items ≡ c.self.inside.linked.items = grind (arith, common_steps) in ap (map linked_view) is in
+    whole_same s ls (map linked_view c.truncate-in-Ok-Some.new.self.items) outputs notes.present kept now c.self.invariant back
+    (placed_twice kept ps now c.in-Ok-Some.field-0 c.args.within c.in-Ok-Some.ensures.added c.in-Ok-Some.field-0-is)
 
 pub invariant_of-self-in-Err : goal.invariant_of-self-in-Err
 invariant_of-self-in-Err c =
@@ -83,8 +84,8 @@ returns-then-within-clause-answer c =
     let l = linked_view c.args.one in
     let ps = texts c.args.paths.now in
     let w = c.args.self.now in
-    let free : all_new (taken_in w) ps ≡ true =
-    ap (λ (x : WorldData). all_new (taken_in x) ps) (sym c.self.view_is) ∙ free_is s ls outputs notes.present kept ps true c.self.invariant (sym c.in-Ok-true.field-0-test ∙ c.in-Ok-true.ensures.tested) in
+    let free : first_taken (taken_in w) ps ≡ None =
+    ap (λ (x : WorldData). first_taken (taken_in x) ps) (sym c.self.view_is) ∙ free_is s ls outputs notes.present kept ps None c.self.invariant (told_none _ c.in-Ok-None.ensures.tested c.in-Ok-None.field-0-is) in
     let count : c.len-number.result ≡ length w.targets =
     let n : c.len-number.result ≡ length c.self.inside.linked.items = search rules in
     n ∙ sym (length-map c.self.inside.linked.items linked_view) ∙ sym (length-map ls (λ (k : LinkedData). k.target)) ∙ ap (λ (x : WorldData). length x.targets) c.self.view_is in
@@ -100,8 +101,8 @@ returns-then-within-clause-ok c =
     let l = linked_view c.args.one in
     let ps = texts c.args.paths.now in
     let w = c.args.self.now in
-    let free : all_new (taken_in w) ps ≡ true =
-    ap (λ (x : WorldData). all_new (taken_in x) ps) (sym c.self.view_is) ∙ free_is s ls outputs notes.present kept ps true c.self.invariant (sym c.in-Ok-true.field-0-test ∙ c.in-Ok-true.ensures.tested) in
+    let free : first_taken (taken_in w) ps ≡ None =
+    ap (λ (x : WorldData). first_taken (taken_in x) ps) (sym c.self.view_is) ∙ free_is s ls outputs notes.present kept ps None c.self.invariant (told_none _ c.in-Ok-None.ensures.tested c.in-Ok-None.field-0-is) in
     let pushed : map linked_view c.push.new.self.items ≡ ls ++ l ∷ [] = ap (map linked_view) c.in_ok-push.ensures.items ∙ map-append linked_view c.self.inside.linked.items (c.args.one ∷ []) in
     ap (λ x. world_of s x outputs notes) pushed ∙ world_with s ls outputs notes l w c.self.view_is
     ∙ sym (after_ok (place_answer w ps c.args.within) (length w.targets) (with_target w l.target) w (place_ok w ps c.args.within free c.if-within.true))
@@ -116,9 +117,10 @@ returns-else-within-clause-answer c =
     let l = linked_view c.args.one in
     let ps = texts c.args.paths.now in
     let w = c.args.self.now in
-    let free : all_new (taken_in w) ps ≡ true =
-    ap (λ (x : WorldData). all_new (taken_in x) ps) (sym c.self.view_is) ∙ free_is s ls outputs notes.present kept ps true c.self.invariant (sym c.in-Ok-true.field-0-test ∙ c.in-Ok-true.ensures.tested) in
-    sym (place_long w ps c.args.within free c.if-within.false)
+    let free : first_taken (taken_in w) ps ≡ None =
+    ap (λ (x : WorldData). first_taken (taken_in x) ps) (sym c.self.view_is) ∙ free_is s ls outputs notes.present kept ps None c.self.invariant (told_none _ c.in-Ok-None.ensures.tested c.in-Ok-None.field-0-is) in
+    IfOk-weaker c.refuse.result (λ r. answer_data r ≡ Err (refused Limit [])) (λ r. answer_data r ≡ place_answer w ps c.args.within)
+    (λ r e. e ∙ sym (place_long w ps c.args.within free c.if-within.false)) c.refuse.ensures
 
 pub returns-else-within-clause-ok : goal.returns-else-within-clause-ok
 returns-else-within-clause-ok c =
@@ -130,15 +132,15 @@ returns-else-within-clause-ok c =
     let l = linked_view c.args.one in
     let ps = texts c.args.paths.now in
     let w = c.args.self.now in
-    let free : all_new (taken_in w) ps ≡ true =
-    ap (λ (x : WorldData). all_new (taken_in x) ps) (sym c.self.view_is) ∙ free_is s ls outputs notes.present kept ps true c.self.invariant (sym c.in-Ok-true.field-0-test ∙ c.in-Ok-true.ensures.tested) in
+    let free : first_taken (taken_in w) ps ≡ None =
+    ap (λ (x : WorldData). first_taken (taken_in x) ps) (sym c.self.view_is) ∙ free_is s ls outputs notes.present kept ps None c.self.invariant (told_none _ c.in-Ok-None.ensures.tested c.in-Ok-None.field-0-is) in
     let back : map linked_view c.truncate.new.self.items ≡ ls =
     let is : c.truncate.new.self.items ≡ c.self.inside.linked.items = grind (arith, common_steps) in ap (map linked_view) is in
-    ap (λ x. world_of s x outputs notes) back ∙ c.self.view_is
-    ∙ sym (after_err (place_answer w ps c.args.within) Limit (with_target w l.target) w (place_long w ps c.args.within free c.if-within.false))
+    on_ok c.refuse.result (ap (λ x. world_of s x outputs notes) back ∙ c.self.view_is
+    ∙ sym (after_err (place_answer w ps c.args.within) (refused Limit []) (with_target w l.target) w (place_long w ps c.args.within free c.if-within.false)))
 
-pub returns-in-Ok-false-clause-answer : goal.returns-in-Ok-false-clause-answer
-returns-in-Ok-false-clause-answer c =
+pub returns-in-Ok-Some-clause-answer : goal.returns-in-Ok-Some-clause-answer
+returns-in-Ok-Some-clause-answer c =
     let s = surroundings_view c.self.inside.surroundings in
     let ls = map linked_view c.self.inside.linked.items in
     let outputs = texts c.self.inside.outputs.items in
@@ -147,12 +149,13 @@ returns-in-Ok-false-clause-answer c =
     let l = linked_view c.args.one in
     let ps = texts c.args.paths.now in
     let w = c.args.self.now in
-    let free : all_new (taken_in w) ps ≡ false =
-    ap (λ (x : WorldData). all_new (taken_in x) ps) (sym c.self.view_is) ∙ free_is s ls outputs notes.present kept ps false c.self.invariant (sym c.in-Ok-false.field-0-test ∙ c.in-Ok-false.ensures.tested) in
-    sym (place_twice w ps c.args.within free)
+    let free : first_taken (taken_in w) ps ≡ Some c.in-Ok-Some.path.now =
+    ap (λ (x : WorldData). first_taken (taken_in x) ps) (sym c.self.view_is) ∙ free_is s ls outputs notes.present kept ps (Some c.in-Ok-Some.path.now) c.self.invariant (told_path _ c.in-Ok-Some.ensures.tested c.in-Ok-Some.field-0-is) in
+    IfOk-weaker c.refuse-in-Ok-Some.result (λ r. answer_data r ≡ Err (refused Duplicate c.in-Ok-Some.path.now)) (λ r. answer_data r ≡ place_answer w ps c.args.within)
+    (λ r e. e ∙ sym (place_twice w ps c.args.within c.in-Ok-Some.path.now free)) c.refuse-in-Ok-Some.ensures
 
-pub returns-in-Ok-false-clause-ok : goal.returns-in-Ok-false-clause-ok
-returns-in-Ok-false-clause-ok c =
+pub returns-in-Ok-Some-clause-ok : goal.returns-in-Ok-Some-clause-ok
+returns-in-Ok-Some-clause-ok c =
     let s = surroundings_view c.self.inside.surroundings in
     let ls = map linked_view c.self.inside.linked.items in
     let outputs = texts c.self.inside.outputs.items in
@@ -161,9 +164,9 @@ returns-in-Ok-false-clause-ok c =
     let l = linked_view c.args.one in
     let ps = texts c.args.paths.now in
     let w = c.args.self.now in
-    let free : all_new (taken_in w) ps ≡ false =
-    ap (λ (x : WorldData). all_new (taken_in x) ps) (sym c.self.view_is) ∙ free_is s ls outputs notes.present kept ps false c.self.invariant (sym c.in-Ok-false.field-0-test ∙ c.in-Ok-false.ensures.tested) in
-    let back : map linked_view c.truncate-in-Ok-false.new.self.items ≡ ls =
-    let is : c.truncate-in-Ok-false.new.self.items ≡ c.self.inside.linked.items = grind (arith, common_steps) in ap (map linked_view) is in
-    ap (λ x. world_of s x outputs notes) back ∙ c.self.view_is
-    ∙ sym (after_err (place_answer w ps c.args.within) Duplicate (with_target w l.target) w (place_twice w ps c.args.within free))
+    let free : first_taken (taken_in w) ps ≡ Some c.in-Ok-Some.path.now =
+    ap (λ (x : WorldData). first_taken (taken_in x) ps) (sym c.self.view_is) ∙ free_is s ls outputs notes.present kept ps (Some c.in-Ok-Some.path.now) c.self.invariant (told_path _ c.in-Ok-Some.ensures.tested c.in-Ok-Some.field-0-is) in
+    let back : map linked_view c.truncate-in-Ok-Some.new.self.items ≡ ls =
+    let is : c.truncate-in-Ok-Some.new.self.items ≡ c.self.inside.linked.items = grind (arith, common_steps) in ap (map linked_view) is in
+    on_ok c.refuse-in-Ok-Some.result (ap (λ x. world_of s x outputs notes) back ∙ c.self.view_is
+    ∙ sym (after_err (place_answer w ps c.args.within) (refused Duplicate c.in-Ok-Some.path.now) (with_target w l.target) w (place_twice w ps c.args.within c.in-Ok-Some.path.now free)))

@@ -1,5 +1,6 @@
 use Rattle.std.proofs.Common.{◌≡◌, ap, subst, IfOk}
 use Rattle.project.specs.Adding.{after_target, target_answer}
+use Rattle.project.specs.Refused.{answer_data}
 use Rattle.project.specs.World.{WorldData}
 use Rattle.targets.specs.View.{target_view}
 use Rattle.world.specs.World.{declaring}
@@ -10,7 +11,7 @@ use Rattle.world.proofs.store.Store.add_target.Goals as goal
 
 pub returns-clause-answer : goal.returns-clause-answer
 returns-clause-answer c =
-    subst (λ (k : Kept). IfOk c.add_target.result (λ r. r ≡ target_answer k.project (target_view c.args.target))) c.self.view_is c.add_target.ensures.answer
+    subst (λ (k : Kept). IfOk c.add_target.result (λ r. answer_data r ≡ target_answer k.project (target_view c.args.target))) c.self.view_is c.add_target.ensures.answer
 
 pub returns-clause-world : goal.returns-clause-world
 returns-clause-world c =

@@ -1,0 +1,47 @@
+//! What the refusals of operations on values are about. The words are made only where a run ends.
+ghost use Rattle.std.specs.Prelude.{◌≡◌, IfOk, map, string_bytes};
+ghost use Rattle.data.specs.View.{data_of};
+ghost use Rattle.expressions.specs.Details.{key_twice, method_detail, method_words};
+
+use arguments::values_words;
+use data::{Refusal, Value};
+use methods::takes_words;
+use std::alloc::{AllocError, Global};
+
+/// That this key of a dictionary stands before it already.
+pub fn key_twice(alloc: Global, key: &str) -> Result<String, AllocError>
+    ensures { IfOk result (λ text. string_bytes text ≡ key_twice key.now) }
+{
+    format!(in alloc; "key '{key}': stands twice")
+}
+
+// What the method of a name takes, and what it got: `contains: takes one text, and got an integer`.
+fn method_words(
+    alloc: Global,
+    receiver: &Value,
+    name: &str,
+    values: &[Value],
+) -> Result<String, AllocError>
+    ensures { IfOk result (λ text. string_bytes text ≡ method_words (data_of receiver.now) name.now (map data_of values.now)) }
+{
+    let takes = takes_words(receiver, name);
+    let got = values_words(alloc, values)?;
+    format!(in alloc; "{name}: takes {takes}, and got {got}")
+}
+
+/// Of a method's arguments what it takes and what it got; of its other refusals nothing.
+pub fn method_detail(
+    alloc: Global,
+    receiver: &Value,
+    name: &str,
+    values: &[Value],
+    refusal: Refusal,
+) -> Result<String, AllocError>
+    ensures { IfOk result (λ text. string_bytes text
+        ≡ method_detail (data_of receiver.now) name.now (map data_of values.now) refusal) }
+{
+    match refusal {
+        Refusal::Arguments => method_words(alloc, receiver, name, values),
+        _ => Ok(String::new(alloc)),
+    }
+}
