@@ -53,7 +53,6 @@ rule_words rules.IsC = codes "is not C"
 rule_words rules.IsOption = codes "there is none"
 rule_words rules.IsBelow = codes "is none below the present one"
 rule_words rules.IsNew = codes "was entered before"
-rule_words rules.ComesFirst = codes "stands in place of a call of 'project'"
 
 -- a text, or a keyword by its name, breaks a rule
 abbrev pub broken : Rule → List ℕ → List ℕ

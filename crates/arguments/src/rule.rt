@@ -73,8 +73,6 @@ pub enum Rule {
     IsBelow,
     /// The folder was not entered.
     IsNew,
-    /// The call begins the root's definition file.
-    ComesFirst,
 }
 
 impl Rule {
@@ -135,7 +133,6 @@ impl Rule {
             Rule::IsOption => "there is none",
             Rule::IsBelow => "is none below the present one",
             Rule::IsNew => "was entered before",
-            Rule::ComesFirst => "stands in place of a call of 'project'",
         }
     }
 

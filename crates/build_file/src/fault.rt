@@ -14,10 +14,10 @@ fn write_detail<O: Outputs>(fault: &Fault, out: &mut O) -> Result<(), DeviceFaul
     requires { HasRoom (O.seen out.old).failures }
     ensures { Writes (O.seen out.old) (detail_steps (fault_view fault.now)) (ended result) (O.seen out.new) }
 {
-    match fault.refusal.detail_sign() {
+    match fault.refusal().detail_sign() {
         Some(sign) => {
             fault_all(out, sign.as_bytes())?;
-            fault_all(out, fault.detail.as_bytes())
+            fault_all(out, fault.detail().as_bytes())
         }
         None => Ok(()),
     }
@@ -33,7 +33,7 @@ fn write_text<O: Outputs>(fault: &Fault, out: &mut O) -> Result<(), DeviceFault>
     fault_all(out, b"E")?;
     fault_all(out, digits.format(fault.number()).as_bytes())?;
     fault_all(out, b" ")?;
-    fault_all(out, fault.refusal.words().as_bytes())?;
+    fault_all(out, fault.refusal().words().as_bytes())?;
     write_detail(fault, out)
 }
 
@@ -43,9 +43,9 @@ fn write_line<O: Outputs>(fault: &Fault, out: &mut O) -> Result<(), DeviceFault>
     ensures { Writes (O.seen out.old) (line_steps (fault_view fault.now)) (ended result) (O.seen out.new) }
 {
     let mut digits = Buffer::new();
-    fault_all(out, fault.file.as_bytes())?;
+    fault_all(out, fault.file().as_bytes())?;
     fault_all(out, b":")?;
-    fault_all(out, digits.format(fault.line).as_bytes())?;
+    fault_all(out, digits.format(fault.line()).as_bytes())?;
     fault_all(out, b": ERROR: ")?;
     write_text(fault, out)?;
     fault_all(out, b"\n")

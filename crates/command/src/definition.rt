@@ -1,6 +1,6 @@
 //! The command line, as `clap` is told of it.
 ghost use Rattle.std.specs.Prelude.{◌≡◌, IfOk, false};
-ghost use Rattle.clap.specs.Words.{app_of, rule_of};
+ghost use Rattle.clap.specs.Words.{app_of, rule_of, with_subcommand};
 ghost use Rattle.command.specs.CommandLine.{folder_rule, has_globals, machine_file_rule, meson_app, option_rule, task_app};
 
 use clap::{Arg, ArgAction, Command};
@@ -14,25 +14,38 @@ pub(crate) fn command<'a>(alloc: Global) -> Result<Command<'a>, AllocError>
         .about("Configures a C project for Ninja.")
         .disable_help_subcommand(true)
         .subcommand_required(true);
-    let setup = task(
+    let named = bare.bin_name("meson")?;
+    let first = with_task(
         alloc,
+        named,
         "setup",
         "Configures a build of the project in this folder.",
     )?;
-    let questions = task(
+    let second = with_task(
         alloc,
+        first,
         "questions",
         "Tells what a setup asks of the machine, and writes nothing.",
     )?;
-    let fault = task(
+    with_task(
         alloc,
+        second,
         "fault",
         "Tells the fault of a setup and what it is about, and writes nothing.",
-    )?;
-    let named = bare.bin_name("meson")?;
-    let first = named.subcommand(setup)?;
-    let second = first.subcommand(questions)?;
-    second.subcommand(fault)
+    )
+}
+
+// The same with a task more.
+fn with_task<'a>(
+    alloc: Global,
+    whole: Command<'a>,
+    name: &'a str,
+    about: &'a str,
+) -> Result<Command<'a>, AllocError>
+    ensures { IfOk result (λ command. app_of command ≡ with_subcommand (app_of whole.entry) (task_app name.now).top) }
+{
+    let one = task(alloc, name, about)?;
+    whole.subcommand(one)
 }
 
 // `-D NAME=VALUE`, as often as wanted.

@@ -32,7 +32,7 @@ fn tell_detail<O: Outputs>(fault: &Fault, out: &mut O) -> Status
     requires { HasRoom (O.seen out.old).failures }
     ensures { Concludes (detail_told (fault_view fault.now)) result (O.seen out.old) (O.seen out.new) }
 {
-    match log_line(fault.detail.as_str(), out) {
+    match log_line(fault.detail(), out) {
         Ok(()) => Status::Fault,
         Err(_) => Status::Device,
     }

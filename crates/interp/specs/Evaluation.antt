@@ -62,7 +62,8 @@ defined few = do
 abbrev pub definitions : Plan (Unit {0})
 definitions = defined false
 
--- the definition files are evaluated where the machine file has sections; its fault is at its line of `<machine file>`, with what it is about
+-- the definition files are evaluated where the machine file has sections; its fault is at its line of `<machine file>`, with what it is
+-- about
 abbrev pub evaluation : Bool → MachineSaid → Plan (Unit {0})
 evaluation few (Ok sections) = defined few
 evaluation few (Err fault) = deed (refuse_about (codes "<machine file>") fault.line fault.refusal fault.detail)

@@ -23,7 +23,7 @@ pub enum Halt {
     /// The run stops.
     Stops(Stop),
     /// The expression is left for a folder, and is refused behind it.
-    Enters(Inside),
+    Enters(Box<Inside>),
 }
 
 impl From<Stop> for Halt {
@@ -59,18 +59,15 @@ impl<T: Drop> From<AllocFailed<T>> for Halt {
 }
 
 // The same with one rule more behind it.
-fn deeper(entry: Inside) -> Halt
+fn deeper(entry: Box<Inside>) -> Halt
     ensures { IsDeeper entry result }
 {
-    let Inside { text, line, rules } = entry;
-    if rules == usize::MAX {
+    let mut entry = entry;
+    if entry.rules == usize::MAX {
         return Halt::Stops(Stop::Memory);
     }
-    Halt::Enters(Inside {
-        text,
-        line,
-        rules: rules + 1,
-    })
+    entry.rules += 1;
+    Halt::Enters(entry)
 }
 
 /// Ticks where the rule of a node has ended, by a value or by a fault. Where its expression was left for a folder it ends behind that.

@@ -76,11 +76,14 @@ impl<'a, T: Tree, O: Outputs, L: Ledger> Evaluator<'a, T, O, L> {
         }
         match self.subdir(line, arguments)? {
             Way::Ends(_) => Ok(self.context.refuse(line, Refusal::Type, "")?),
-            Way::Enters(text) => Err(Halt::Enters(Inside {
-                text,
-                line,
-                rules: 0,
-            })),
+            Way::Enters(text) => {
+                let entry = Inside {
+                    text,
+                    line,
+                    rules: 0,
+                };
+                Err(Halt::Enters(Box::new(self.context.alloc, entry)?))
+            }
         }
     }
 
@@ -88,7 +91,7 @@ impl<'a, T: Tree, O: Outputs, L: Ledger> Evaluator<'a, T, O, L> {
     /// is refused, and the rules of the expression end.
     pub fn enter_inside(
         &mut self,
-        entry: Inside,
+        entry: Box<Inside>,
         left: usize,
         stack: &mut Vec<Frame>,
     ) -> Result<Flow, Stop>

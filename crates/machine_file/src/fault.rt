@@ -20,14 +20,9 @@ pub struct MachineFault {
 
 impl MachineFault {
     /// The fault as a run tells it: its file is `<machine file>`.
-    pub fn told(self, alloc: Global) -> Result<Fault, AllocError>
-        ensures { IfOk result (λ fault. fault_view fault ≡ told (fault_in self)) }
+    pub fn told(&self, alloc: Global) -> Result<Fault, AllocError>
+        ensures { IfOk result (λ fault. fault_view fault ≡ told (fault_in self.now)) }
     {
-        Ok(Fault {
-            file: String::from_str(alloc, "<machine file>")?,
-            line: self.line,
-            refusal: self.refusal,
-            detail: self.detail,
-        })
+        Fault::new(alloc, "<machine file>", self.line, self.refusal, &self.detail)
     }
 }

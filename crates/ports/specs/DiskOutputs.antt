@@ -1,5 +1,6 @@
 -- What outputs on a disk are seen as. Whether a disk keeps what it said it took no program can know. So what was taken, and whether the
--- list of it is kept, are closed here: whoever uses the outputs can't show that they tell, and not that they don't. It is for the user to say.
+-- list of it is kept, are closed here: whoever uses the outputs can't show that they tell, and not that they don't. It is for the user to
+-- say.
 pub mod Closed
 use Rattle.std.specs.Prelude.{ℕ, Bool, false, List, [], Option, option_map, string_bytes}
 use Rattle.ports.specs.Outputs.{OutputState}
