@@ -1,5 +1,5 @@
 -- Calls inside of an expression one after another, against their plans.
-use Rattle.std.proofs.Common.{◌≡◌, ℕ, zero, suc, ◌+◌, List, [], ◌∷◌, ◌++◌, add-one, string_bytes, Result, Ok, Err, IsErrAnd, refl, sym, ap, subst, ◌∙◌}
+use Rattle.std.proofs.Common.{◌≡◌, ℕ, zero, suc, ◌+◌, List, [], ◌∷◌, ◌++◌, add-one, string_bytes, Result, Ok, Err, IsErrAnd, Box, Global, refl, sym, ap, subst, ◌∙◌}
 use Rattle.basics.specs.Faults.{FaultData}
 use Rattle.basics.specs.declared.faults.refusal.Refusal.{Refusal}
 use Rattle.basics.specs.declared.faults.refusal.Refusal.TheVariants as refusals
@@ -17,7 +17,7 @@ use Rattle.expressions.specs.Contexts.{Stand, Given, Leads}
 use Rattle.interp.specs.Bounds.{Bounds}
 use Rattle.interp.specs.Evaluates.{HaltsTo, Comes}
 use Rattle.interp.specs.Folders.{folder}
-use Rattle.interp.specs.Inside.{Deepens, RuleEnds, ended_all, enters, inside}
+use Rattle.interp.specs.Inside.{HaltEnds, IsDeeper, RuleEnds, ended_all, enters, inside}
 use Rattle.interp.specs.declared.flow.Flow.{Flow}
 use Rattle.interp.specs.declared.halt.Halt.{Halt}
 use Rattle.interp.specs.declared.halt.Halt.TheVariants as halts
@@ -76,7 +76,7 @@ leads_left {A = A} {B = B} {files = files} left entry {others = others} {s1 = s1
   holds = l.holds;
 }
 
-leads_rule : {A : Type 0} {files : Files} {p q : Plan A} {s0 s1 : Stand} → Leads files p s0 q s1 → Leads files (ruled p) s0 (ruled q) s1
+pub leads_rule : {A : Type 0} {files : Files} {p q : Plan A} {s0 s1 : Stand} → Leads files p s0 q s1 → Leads files (ruled p) s0 (ruled q) s1
 leads_rule {files = files} {q = q} {s1 = s1} l = record {
   continues = record {
     made = l.continues.made;
@@ -101,14 +101,14 @@ pub halted_stops : {A B : Type 0} {view : B → A} {files : Files} {left : Bound
 halted_stops {files = files} {left = left} {p = p} {s0 = s0} {s1 = s1} e h = subst (λ d. HaltsTo files left p s0 d s1) e h.comes
 
 -- it was left for a folder
-pub halted_enters : {A B : Type 0} {view : B → A} {files : Files} {left : Bounds} {p : Plan A} {s0 s1 : Stand} {halt : Halt} {entry : Inside} → halt ≡ halts.Enters entry
-    → Comes view files left p s0 (Err halt) s1 → Leads files p s0 (inside left entry) s1
+pub halted_enters : {A B : Type 0} {view : B → A} {files : Files} {left : Bounds} {p : Plan A} {s0 s1 : Stand} {halt : Halt} {entry : Box Inside Global} → halt ≡ halts.Enters entry
+    → Comes view files left p s0 (Err halt) s1 → Leads files p s0 (inside left entry.value) s1
 halted_enters {files = files} {left = left} {p = p} {s0 = s0} {s1 = s1} e h = subst (λ d. HaltsTo files left p s0 d s1) e h.comes
 
 pub halts_then : {A B : Type 0} (files : Files) (left : Bounds) (p : Plan A) (others : A → Plan B) (s0 s1 : Stand) (halt : Halt)
     → HaltsTo files left p s0 halt s1 → HaltsTo files left (next p others) s0 halt s1
 halts_then files left p others s0 s1 (halts.Stops stop) h = given_stop h refl
-halts_then files left p others s0 s1 (halts.Enters entry) h = leads_left left entry h
+halts_then files left p others s0 s1 (halts.Enters entry) h = leads_left left entry.value h
 
 pub halts_end : {A : Type 0} (files : Files) (left : Bounds) (whole rest : Plan A) (s0 s s1 : Stand) (halt : Halt) → Leads files whole s0 rest s
     → HaltsTo files left rest s halt s1 → HaltsTo files left whole s0 halt s1
@@ -187,13 +187,23 @@ ruled-inside : {A : Type 0} (left : Bounds) (entry : Inside)
 ruled-inside left entry = ap (λ n. ended_all n (enters left entry)) (sym (add-one entry.rules))
 
 -- the expression was left before it
-rule-left : {A B : Type 0} (view : B → A) {files : Files} (left : Bounds) {p : Plan A} {s0 s1 : Stand} (entry : Inside) (result : Result B Halt)
-    → Deepens entry result → Leads files p s0 (inside left entry) s1 → Comes view files left (ruled p) s0 result s1
-rule-left view left entry (Ok x) d l = absurd d
-rule-left view {files = files} left {p = p} {s0 = s0} {s1 = s1} entry (Err (halts.Stops stop)) d l =
-    record { comes = subst (λ e. HaltsTo files left (ruled p) s0 (halts.Stops e) s1) (sym d) (leads_end (leads_rule l) (given_none l.holds refl)) }
-rule-left view {files = files} left {p = p} {s0 = s0} {s1 = s1} entry (Err (halts.Enters other)) d l =
-    record { comes = subst (λ e. HaltsTo files left (ruled p) s0 (halts.Enters e) s1) (sym d) (leads_as (ruled-inside left entry) (leads_rule l)) }
+rule-left : {A : Type 0} {files : Files} (left : Bounds) {p : Plan A} {s0 s1 : Stand} (entry : Inside) (halt : Halt)
+    → IsDeeper entry halt → Leads files p s0 (inside left entry) s1 → HaltsTo files left (ruled p) s0 halt s1
+rule-left {A = A} {files = files} left {p = p} {s0 = s0} {s1 = s1} entry (halts.Stops stop) d l =
+    subst (λ e. Given {B = A} (λ a. a) files (ruled p) s0 (Err e) s1) (sym d) (leads_end (leads_rule l) (given_none l.holds refl))
+rule-left {files = files} left {p = p} {s0 = s0} {s1 = s1} entry (halts.Enters other) d l =
+    subst (λ (e : Inside). Leads files (ruled p) s0 (inside left e) s1) (sym d) (leads_as (ruled-inside left entry) (leads_rule l))
+
+-- an expression that halts
+rule-halted : (A : Type 0) (files : Files) (left : Bounds) (p : Plan A) (s0 : Stand) (w : World) (names : List (List ℕ)) (tree : TreeState) (out : OutputState) (n m : ℕ) (halt now : Halt)
+    → HaltEnds halt n now m → HaltsTo files left p s0 halt (record { world = w; names = names; tree = tree; out = out; ticks = n })
+    → HaltsTo files left (ruled p) s0 now (record { world = w; names = names; tree = tree; out = out; ticks = m })
+rule-halted A files left p s0 w names tree out n m (halts.Stops stop) now r h =
+    subst (λ d. HaltsTo files left (ruled p) s0 d (record { world = w; names = names; tree = tree; out = out; ticks = m })) (sym r.0)
+    (given_rule (r.1 ∙ ap (λ k. n + k) (ended-same (Unit {0}) A stop)) h)
+rule-halted A files left p s0 w names tree out n m (halts.Enters entry) now r h =
+    subst (λ k. HaltsTo files left (ruled p) s0 now (record { world = w; names = names; tree = tree; out = out; ticks = k })) (sym r.1)
+    (rule-left left entry.value now r.0 h)
 
 -- the rule of a node
 pub comes_rule : {A B : Type 0} {view : B → A} {files : Files} {left : Bounds} {p : Plan A} {s0 : Stand} {w : World} {names : List (List ℕ)} {tree : TreeState} {out : OutputState} {n m : ℕ} (answer result : Result B Halt)
@@ -202,9 +212,6 @@ pub comes_rule : {A B : Type 0} {view : B → A} {files : Files} {left : Bounds}
 comes_rule {view = view} {files = files} {left = left} {p = p} {s0 = s0} {w = w} {names = names} {tree = tree} {out = out} {m = m} (Ok x) result r h =
     subst (λ y. Comes view files left (ruled p) s0 y (record { world = w; names = names; tree = tree; out = out; ticks = m })) (sym r.0)
     (record { comes = given_rule r.1 h.comes })
-comes_rule {A = A} {view = view} {files = files} {left = left} {p = p} {s0 = s0} {w = w} {names = names} {tree = tree} {out = out} {n = n} {m = m} (Err (halts.Stops stop)) result r h =
-    subst (λ y. Comes view files left (ruled p) s0 y (record { world = w; names = names; tree = tree; out = out; ticks = m })) (sym r.0)
-    (record { comes = given_rule (r.1 ∙ ap (λ k. n + k) (ended-same (Unit {0}) A stop)) h.comes })
-comes_rule {view = view} {files = files} {left = left} {p = p} {s0 = s0} {w = w} {names = names} {tree = tree} {out = out} (Err (halts.Enters entry)) result r h =
-    subst (λ k. Comes view files left (ruled p) s0 result (record { world = w; names = names; tree = tree; out = out; ticks = k })) (sym r.1)
-    (rule-left view left entry result r.0 h.comes)
+comes_rule (Err halt) (Ok x) r h = absurd r
+comes_rule {A = A} {files = files} {left = left} {p = p} {s0 = s0} {w = w} {names = names} {tree = tree} {out = out} {n = n} {m = m} (Err halt) (Err now) r h =
+    record { comes = rule-halted A files left p s0 w names tree out n m halt now r h.comes }

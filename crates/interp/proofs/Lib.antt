@@ -3,12 +3,12 @@ mod Closing
 pub mod Coming
 mod Costs
 mod Depending
+pub mod Doing
 mod Examples
 pub mod Ending
 pub mod Looping
 pub mod Machines
 mod Noting
-pub mod Operating
 mod Pairs
 mod Paths
 pub mod Places

@@ -2,7 +2,7 @@
 use Rattle.std.proofs.Common.{◌≡◌, Bool, ℕ, zero, suc, ◌+◌, List, [], ◌∷◌, ◌++◌, Result, Ok, Err, IsErrAnd, drop, length, refl, sym, subst, ap, ◌∙◌, option_map, arith}
 use Rattle.code.specs.Draft.{IsFront}
 use Rattle.code.specs.declared.code.Code.{Code}
-use Rattle.code.specs.Statements.{name_at, statement_at}
+use Rattle.code.specs.Statements.{name_at}
 use Rattle.basics.specs.declared.faults.refusal.Refusal.TheVariants as refusals
 use Rattle.world.specs.Deed.{Files}
 use Rattle.world.specs.Gives.{Gives, Holds, is_ended}
@@ -14,13 +14,13 @@ use Rattle.world.specs.declared.stop.Stop.{Stop}
 use Rattle.world.specs.declared.stop.Stop.TheVariants as stops
 use Rattle.world.proofs.Follow.{after-nil, done}
 use Rattle.world.proofs.Marks.{front_of_front, none_added, same_front}
-use Rattle.expressions.specs.Codes.{block_by, statements_by}
+use Rattle.expressions.specs.Codes.{block_by}
 use Rattle.interp.specs.Blocks.{statements_of}
 use Rattle.expressions.specs.Contexts.{Stand, Given, seen_of, Leads}
 use Rattle.interp.specs.Bounds.{bounds}
 use Rattle.interp.specs.Folders.{folder}
 use Rattle.expressions.specs.Rounds.{Round}
-use Rattle.interp.specs.Statements.{after_round, do_all, does, on_next, rounds_of}
+use Rattle.interp.specs.Statements.{after_round, do_all, on_next, rounds_of}
 use Rattle.interp.specs.declared.flow.Flow.{Flow}
 use Rattle.interp.specs.declared.flow.Flow.TheVariants.{Next}
 use Rattle.interp.specs.declared.frames.BlockRest.{BlockRest}
@@ -341,38 +341,34 @@ left_here {below = below} {file' = file'} {below' = below'} {line = line} a b d 
 pub made_now : {c d : Code} {names : List (List ℕ)} → c ≡ d → d.names ≡ length names → Made c names names
 made_now {names = names} e n = record { front = same_front names; known = omega (arith, ap (λ (x : Code). x.names) e, n) }
 
--- the next statement of a block is put on the stack, and the end of its rule
-pub moves_statement : (few : Bool) (fs gs hs : List Frame) (rs : List Rest) (b : BlockRest) {files : Files} {s0 s1 : Stand} {result : Result Flow Stop} {ks : List Frame} {c : Code} {numbers : List ℕ} {number : ℕ} (table : List (List ℕ))
-    → numbers ≡ number ∷ drop b.at (statements_of c b.block) → b.code.value ≡ c → gs ≡ fs ++ frames.Block b ∷ [] → hs ≡ gs ++ frames.End ∷ []
+-- the rest of a block is put on the stack, and the end of the rule of the statement before it
+pub moves_statement : (few : Bool) (fs gs hs : List Frame) (rs : List Rest) (b : BlockRest) (p : Plan Flow) {files : Files} {s0 s1 : Stand} {result : Result Flow Stop} {ks : List Frame} {c : Code} (table : List (List ℕ))
+    → b.code.value ≡ c → gs ≡ fs ++ frames.Block b ∷ [] → hs ≡ gs ++ frames.End ∷ []
     → Stacked s0.names fs rs → Made c s0.names table
-    → ((rests : List Rest) → Stacked s0.names hs rests → Moves files (behind_all rests (does (folder (bounds few b.left)) few (statement_at (statements_by table c) number))) s0 result ks s1)
-    → Moves files (behind_all rs (do_all (folder (bounds few b.left)) few (block_by table c numbers))) s0 result ks s1
-moves_statement few fs gs hs rs b {s0 = s0} {c = c} {numbers = numbers} {number = number} table are same put end h made step =
+    → ((rests : List Rest) → Stacked s0.names hs rests → Moves files (behind_all rests p) s0 result ks s1)
+    → Moves files (behind_all rs (next (ruled p) (λ flow. on_next flow (do_all (folder (bounds few b.left)) few (block_by table c (drop b.at (statements_of c b.block))))))) s0 result ks s1
+moves_statement few fs gs hs rs b p {s0 = s0} {c = c} table same put end h made step =
     let o : Rest = Others (bounds few b.left) (block_by table c (drop b.at (statements_of c b.block))) in
     let m : Made b.code.value s0.names table = subst (λ (d : Code). Made d s0.names table) (sym same) made in
     let is : o ≡ Others (bounds few b.left) (others_by table b) = ap (λ (d : Code). Others (bounds few b.left) (block_by table d (drop b.at (statements_of d b.block)))) (sym same) in
     let one = stacked_top fs gs rs (frames.Block b) o put h (record { table = table; made = m; few = few; is = is }) in
     let two = stacked_top gs hs (rs ++ o ∷ []) frames.End End end one refl in
-    moves_as (behind_two rs o End (does (folder (bounds few b.left)) few (statement_at (statements_by table c) number))
-    ∙ ap (λ (ns : List ℕ). behind_all rs (do_all (folder (bounds few b.left)) few (block_by table c ns))) (sym are))
-    (step ((rs ++ o ∷ []) ++ End ∷ []) two)
+    moves_as (behind_two rs o End p) (step ((rs ++ o ∷ []) ++ End ∷ []) two)
 
--- so is the next round of a loop, whose variables take their values first
-pub moves_round : (few : Bool) (fs gs hs : List Frame) (rs : List Rest) (l : LoopRest) {files : Files} {s0 s1 : Stand} {result : Result Flow Stop} {ks : List Frame} {c : Code} {left : List Round} {r : Round} (table : List (List ℕ))
-    → left ≡ r ∷ rounds_left l → l.code.value ≡ c → gs ≡ fs ++ frames.Loop l ∷ [] → hs ≡ gs ++ frames.End ∷ []
+-- so are the rounds of a loop behind one
+pub moves_round : (few : Bool) (fs gs hs : List Frame) (rs : List Rest) (l : LoopRest) (p : Plan Flow) {files : Files} {s0 s1 : Stand} {result : Result Flow Stop} {ks : List Frame} {c : Code} (table : List (List ℕ))
+    → l.code.value ≡ c → gs ≡ fs ++ frames.Loop l ∷ [] → hs ≡ gs ++ frames.End ∷ []
     → Stacked s0.names fs rs → Made c s0.names table
-    → ((rests : List Rest) → Stacked s0.names hs rests → Moves files (behind_all rests (round_by table c (bounds few l.left) l.head r)) s0 result ks s1)
-    → Moves files (behind_all rs (rounds_of (round_by table c (bounds few l.left) l.head) left)) s0 result ks s1
-moves_round few fs gs hs rs l {s0 = s0} {c = c} {left = left} {r = r} table are same put end h made step =
+    → ((rests : List Rest) → Stacked s0.names hs rests → Moves files (behind_all rests p) s0 result ks s1)
+    → Moves files (behind_all rs (next (ruled p) (λ flow. after_round flow (rounds_of (round_by table c (bounds few l.left) l.head) (rounds_left l))))) s0 result ks s1
+moves_round few fs gs hs rs l p {s0 = s0} {c = c} table same put end h made step =
     let o : Rest = Rounds (bounds few l.left) l.head.line (name_at table l.head.first) (option_map (name_at table) l.head.second) (block_by table c (statements_of c l.head.body)) (rounds_left l) in
     let m : Made l.code.value s0.names table = subst (λ (d : Code). Made d s0.names table) (sym same) made in
     let is : o ≡ rounds_rest few table l =
     ap (λ (d : Code). Rounds (bounds few l.left) l.head.line (name_at table l.head.first) (option_map (name_at table) l.head.second) (block_by table d (statements_of d l.head.body)) (rounds_left l)) (sym same) in
     let one = stacked_top fs gs rs (frames.Loop l) o put h (record { table = table; made = m; few = few; is = is }) in
     let two = stacked_top gs hs (rs ++ o ∷ []) frames.End End end one refl in
-    moves_as (behind_two rs o End (round_by table c (bounds few l.left) l.head r)
-    ∙ ap (λ (xs : List Round). behind_all rs (rounds_of (round_by table c (bounds few l.left) l.head) xs)) (sym are))
-    (step ((rs ++ o ∷ []) ++ End ∷ []) two)
+    moves_as (behind_two rs o End p) (step ((rs ++ o ∷ []) ++ End ∷ []) two)
 
 -- the same code
 pub made_as : {c d : Code} {names table : List (List ℕ)} → c ≡ d → Made c names table → Made d names table

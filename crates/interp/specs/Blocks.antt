@@ -1,11 +1,19 @@
 -- Lists of statements in the code of a file.
-use Rattle.std.specs.Prelude.{ℕ, zero, suc, List, [], ◌∷◌, slice_index_or}
+use Rattle.std.specs.Prelude.{ℕ, zero, suc, ◌<◌, Bool, true, false, List, [], ◌∷◌, length, slice_index_or, Option, Some, None, Result, Ok, Err}
 use Rattle.code.specs.declared.code.Code.{Code}
 use Rattle.code.specs.declared.node.BranchNode.{BranchNode}
 use Rattle.code.specs.declared.node.StatementNode.{StatementNode}
 use Rattle.code.specs.declared.node.StatementNode.TheVariants as flat
 use Rattle.interp.specs.declared.block.Block.{Block}
 use Rattle.interp.specs.declared.block.Block.TheVariants as blocks
+use Rattle.interp.specs.declared.flow.Flow.{Flow}
+use Rattle.interp.specs.declared.flow.Flow.TheVariants.{Next, Continued, Broken, Finished}
+use Rattle.interp.specs.declared.halt.Halt.{Halt}
+use Rattle.interp.specs.declared.touring.Tour.{Tour}
+use Rattle.interp.specs.declared.touring.Tour.TheVariants as tours
+use Rattle.interp.specs.declared.walking.Walk.{Walk}
+use Rattle.interp.specs.declared.walking.Walk.TheVariants as walks
+use Rattle.world.specs.declared.stop.Stop.{Stop}
 
 -- the statements of a branch, or of `else` where there is no such branch
 abbrev pub branch_or : List ℕ → List BranchNode → ℕ → List ℕ
@@ -30,3 +38,54 @@ node_at c i = slice_index_or c.statements.items i (flat.Break 0)
 abbrev pub statements_of : Code → Block → List ℕ
 statements_of c blocks.File = c.body.items
 statements_of c (blocks.Part statement part) = part_of (node_at c statement) part
+
+-- ---- statements that need the stack
+
+-- an `if`, a loop, or an expression, since a call may enter a folder
+abbrev pub IsDeep : StatementNode → Type 0
+IsDeep (flat.If node) = Unit {0}
+IsDeep (flat.Foreach node) = Unit {0}
+IsDeep (flat.Expression value line) = Unit {0}
+IsDeep (flat.Assign name line value) = ⊥
+IsDeep (flat.Append name line value) = ⊥
+IsDeep (flat.Break line) = ⊥
+IsDeep (flat.Continue line) = ⊥
+
+-- nothing was done of one of these alone
+abbrev pub DeepIfNone : StatementNode → Result (Option Flow) Halt → Type 0
+DeepIfNone node (Ok None) = IsDeep node
+DeepIfNone node (Ok (Some flow)) = Unit {0}
+DeepIfNone node (Err halt) = Unit {0}
+
+abbrev pub BeginsDeep : Code → Result Walk Stop → Type 0
+BeginsDeep c (Ok (walks.Begins number at)) = (number < length c.statements.items) × IsDeep (node_at c number)
+BeginsDeep c (Ok (walks.Ends flow)) = Unit {0}
+BeginsDeep c (Ok (walks.Enters entry at)) = Unit {0}
+BeginsDeep c (Err stop) = Unit {0}
+
+abbrev pub ToursDeep : Code → Result Tour Stop → Type 0
+ToursDeep c (Ok (tours.Ends flow)) = Unit {0}
+ToursDeep c (Ok (tours.Stands walk at)) = BeginsDeep c (Ok walk)
+ToursDeep c (Err stop) = Unit {0}
+
+-- ---- how statements end
+
+abbrev pub is_next : Flow → Bool
+is_next Next = true
+is_next Continued = false
+is_next Broken = false
+is_next Finished = false
+
+-- after a round the next one follows
+abbrev pub goes_round : Flow → Bool
+goes_round Next = true
+goes_round Continued = true
+goes_round Broken = false
+goes_round Finished = false
+
+-- or the loop ends
+abbrev pub behind_loop : Flow → Flow
+behind_loop Next = Next
+behind_loop Continued = Next
+behind_loop Broken = Next
+behind_loop Finished = Finished

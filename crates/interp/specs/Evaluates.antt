@@ -21,7 +21,7 @@ use Rattle.interp.specs.Inside.{failures_inside, inside}
 -- the call stopped as the plan does; or it was left for a folder, so that the whole plan is from here on what is done of that
 abbrev pub HaltsTo : {A : Type 0} → Files → Bounds → Plan A → Stand → Halt → Stand → Type 0
 HaltsTo {A = A} files left plan old (halts.Stops stop) new = Given {B = A} (λ a. a) files plan old (Err stop) new
-HaltsTo files left plan old (halts.Enters entry) new = Leads files plan old (inside left entry) new
+HaltsTo files left plan old (halts.Enters entry) new = Leads files plan old (inside left entry.value) new
 
 abbrev pub ComesTo : {A B : Type 0} → (B → A) → Files → Bounds → Plan A → Stand → Result B Halt → Stand → Type 0
 ComesTo view files left plan old (Ok x) new = Given view files plan old (Ok x) new

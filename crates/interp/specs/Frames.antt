@@ -1,8 +1,8 @@
 -- What is left to do of statements that have begun, frame by frame.
-use Rattle.std.specs.Prelude.{◌≡◌, Bool, ℕ, zero, suc, ◌+◌, ◌≤◌, List, [], ◌∷◌, drop, length, map, option_map, Option, Some, None, Result}
+use Rattle.std.specs.Prelude.{◌≡◌, Bool, ℕ, zero, suc, ◌+◌, ◌≤◌, List, [], ◌∷◌, ◌++◌, drop, length, map, option_map, Option, Some, None, Result}
 use Rattle.std.specs.Prelude.{Ok, Err, string_bytes, refl}
 use Rattle.code.specs.Draft.{IsFront}
-use Rattle.code.specs.Statements.{branch_at, name_at}
+use Rattle.code.specs.Statements.{branch_at, name_at, statement_at}
 use Rattle.code.specs.declared.code.Code.{Code}
 use Rattle.code.specs.declared.node.BranchNode.{BranchNode}
 use Rattle.data.specs.View.{data_of}
@@ -18,22 +18,28 @@ use Rattle.world.specs.World.{with_place}
 use Rattle.world.specs.declared.stop.Stop.{Stop}
 use Rattle.world.specs.declared.stop.Stop.TheVariants as stops
 use Rattle.expressions.specs.declared.context.Context.{Context}
+use Rattle.interp.specs.declared.block.Block.{Block}
 use Rattle.interp.specs.declared.flow.Flow.{Flow}
 use Rattle.interp.specs.declared.flow.Flow.TheVariants.{Next}
 use Rattle.interp.specs.declared.halt.Halt.{Halt}
+use Rattle.interp.specs.declared.touring.Tour.{Tour}
+use Rattle.interp.specs.declared.touring.Tour.TheVariants as tours
+use Rattle.interp.specs.declared.walking.Walk.{Walk}
+use Rattle.interp.specs.declared.walking.Walk.TheVariants as walks
 use Rattle.interp.specs.declared.frames.BlockRest.{BlockRest}
 use Rattle.interp.specs.declared.frames.LoopHead.{LoopHead}
 use Rattle.interp.specs.declared.frames.LoopRest.{LoopRest}
 use Rattle.interp.specs.declared.frames.Frame.{Frame}
 use Rattle.interp.specs.declared.frames.Frame.TheVariants as frames
-use Rattle.expressions.specs.Codes.{block_by}
+use Rattle.expressions.specs.Codes.{block_by, statements_by}
 use Rattle.interp.specs.Blocks.{statements_of}
 use Rattle.expressions.specs.Contexts.{Stand, Given, Leads, stand_of}
 use Rattle.interp.specs.Evaluates.{HaltsTo, Reads}
 use Rattle.interp.specs.Bounds.{Bounds, bounds}
 use Rattle.interp.specs.Folders.{folder}
+use Rattle.interp.specs.Inside.{inside}
 use Rattle.expressions.specs.Rounds.{rounds_in, Round}
-use Rattle.interp.specs.Statements.{after_round, branches_of, do_all, on_next, rounds_of}
+use Rattle.interp.specs.Statements.{after_round, branches_of, do_all, does, on_next, rounds_of}
 use Rattle.expressions.specs.Assignments.{bound}
 
 -- ---- what is left
@@ -175,10 +181,53 @@ pub record Stepped (files : Files) (whole : Plan Flow) (old : Stand) (result : R
     (now : Stand) : Type 0 where
   pub steps : StepsTo files whole old result fs now
 
--- the number at a place, none behind the last
-abbrev pub NumberAt : List ℕ → ℕ → Option ℕ → Type 0
-NumberAt numbers at None = drop at numbers ≡ []
-NumberAt numbers at (Some number) = drop at numbers ≡ number ∷ drop (at + 1) numbers
+-- ---- what is done where it stands
+
+-- what a statement does was done; or nothing was, since it needs the stack
+abbrev pub DoneTo : Files → Bounds → Plan Flow → Stand → Result (Option Flow) Halt → Stand → Type 0
+DoneTo files left plan old (Ok (Some flow)) now = Given (λ (f : Flow). f) files plan old (Ok flow) now
+DoneTo files left plan old (Ok None) now = Leads files plan old plan now
+DoneTo files left plan old (Err halt) now = HaltsTo files left plan old halt now
+
+pub record DoneHere (files : Files) (left : Bounds) (plan : Plan Flow) (old : Stand) (result : Result (Option Flow) Halt)
+    (now : Stand) : Type 0 where
+  pub done : DoneTo files left plan old result now
+
+-- what a statement does, by its number, and what is left of a block from a place on
+pub record Parts : Type 1 where
+  pub begun : ℕ → Plan Flow
+  pub rest : ℕ → Plan Flow
+
+abbrev pub parts_by : List (List ℕ) → Code → Bounds → Block → Parts
+parts_by table c left block = record {
+  begun = λ number. does (folder left) left.few (statement_at (statements_by table c) number);
+  rest = λ at. do_all (folder left) left.few (block_by table c (drop at (statements_of c block)));
+}
+
+-- what is left of statements: nothing; or one, and the rest behind it; or a folder that is entered, and the rest behind that
+abbrev pub walk_left : Parts → Bounds → Walk → Plan Flow
+walk_left parts left (walks.Ends flow) = give flow
+walk_left parts left (walks.Begins number at) = ruled (parts.begun number) >>= λ flow. on_next flow (parts.rest at)
+walk_left parts left (walks.Enters entry at) = ruled (inside left entry.value) >>= λ flow. on_next flow (parts.rest at)
+
+-- from here on the whole plan is this one; or it stopped
+abbrev pub LeadsOr : {X : Type 0} → (X → Plan Flow) → Files → Plan Flow → Stand → Result X Stop → Stand → Type 0
+LeadsOr rest files whole old (Ok x) now = Leads files whole old (rest x) now
+LeadsOr rest files whole old (Err stop) now = Given {B = Flow} (λ f. f) files whole old (Err stop) now
+
+pub record Rested {X : Type 0} (rest : X → Plan Flow) (files : Files) (whole : Plan Flow) (old : Stand) (result : Result X Stop)
+    (now : Stand) : Type 0 where
+  pub rested : LeadsOr rest files whole old result now
+
+-- what is left of rounds: nothing; or what is left of one, and the rounds behind it
+abbrev pub tour_left : Parts → Bounds → (ℕ → Plan Flow) → Tour → Plan Flow
+tour_left parts left rounds (tours.Ends flow) = give flow
+tour_left parts left rounds (tours.Stands walk at) = ruled (walk_left parts left walk) >>= λ flow. after_round flow (rounds at)
+
+-- a frame and the end of a rule are put on a stack, or no memory is left
+abbrev pub Lays : List Frame → Frame → Result (Unit {0}) Stop → List Frame → Type 0
+Lays before frame (Ok u) after = after ≡ (before ++ frame ∷ []) ++ frames.End ∷ []
+Lays before frame (Err stop) after = stop ≡ stops.Memory
 
 -- how far a branch reaches: its condition
 abbrev pub above_branch : BranchNode → ℕ
@@ -227,6 +276,29 @@ module _ {T O L : Type 0} where
       (files : Files) (rests : List Rest) (rest : Rest) → Holds (tree old.tree.now) files
       → Stacked old.store.now.names before rests → Means old.store.now.names frame rest
       → Stepped files (behind_all rests (behind rest (give flow))) (stand_of tree out old) result after (stand_of tree out new)
+
+  -- the call does what this plan does, where it needs no stack
+  abbrev pub DoesHere : (T → TreeState) → (O → OutputState) → (List (List ℕ) → Bounds → Plan Flow) → Code
+      → Context T O L → Result (Option Flow) Halt → Context T O L → Type 0
+  DoesHere tree out plan code old result new =
+      (files : Files) (left : Bounds) (table : List (List ℕ)) → Holds (tree old.tree.now) files → Made code old.store.now.names table
+      → DoneHere files left (plan table left) (stand_of tree out old) result (stand_of tree out new)
+
+  -- so of statements of a block
+  abbrev pub Walks : (T → TreeState) → (O → OutputState) → (List (List ℕ) → Bounds → Plan Flow) → Block → Code
+      → Context T O L → Result Walk Stop → Context T O L → Type 0
+  Walks tree out plan block code old result new =
+      (files : Files) (left : Bounds) (table : List (List ℕ)) → Holds (tree old.tree.now) files → Made code old.store.now.names table
+      → Rested (walk_left (parts_by table code left block) left) files (plan table left) (stand_of tree out old) result
+      (stand_of tree out new)
+
+  -- so of the rounds of a loop with this head from one on
+  abbrev pub Tours : (T → TreeState) → (O → OutputState) → LoopHead → List Round → ℕ → Code
+      → Context T O L → Result Tour Stop → Context T O L → Type 0
+  Tours tree out head all from code old result new =
+      (files : Files) (left : Bounds) (table : List (List ℕ)) → Holds (tree old.tree.now) files → Made code old.store.now.names table
+      → Rested (tour_left (parts_by table code left head.body) left (λ at. rounds_of (round_by table code left head) (drop at all))) files
+      (rounds_of (round_by table code left head) (drop from all)) (stand_of tree out old) result (stand_of tree out new)
 
   -- the call chooses of the parts of an `if` with these branches
   abbrev pub ChoosesOf : (T → TreeState) → (O → OutputState) → List BranchNode → Code

@@ -29,17 +29,18 @@ inside left entry = ended_all entry.rules (enters left entry)
 -- one rule more ends behind it, unless no number counts them
 abbrev pub IsDeeper : Inside → Halt → Type 0
 IsDeeper entry (halts.Stops stop) = stop ≡ stops.Memory
-IsDeeper entry (halts.Enters now) = now ≡ record { text = entry.text; line = entry.line; rules = entry.rules + 1 }
+IsDeeper entry (halts.Enters now) = now.value ≡ record { text = entry.text; line = entry.line; rules = entry.rules + 1 }
 
-abbrev pub Deepens : {B : Type 0} → Inside → Result B Halt → Type 0
-Deepens entry (Ok x) = ⊥
-Deepens entry (Err halt) = IsDeeper entry halt
+-- the rule of a node whose expression was halted
+abbrev pub HaltEnds : Halt → ℕ → Halt → ℕ → Type 0
+HaltEnds (halts.Stops stop) old now new = (now ≡ halts.Stops stop) × (new ≡ old + is_ended {B = Unit {0}} (Err stop))
+HaltEnds (halts.Enters entry) old now new = IsDeeper entry.value now × (new ≡ old)
 
 -- the rule of a node: the counter is raised where it has ended, and where the expression was left it is still to end
 abbrev pub RuleEnds : {B : Type 0} → Result B Halt → ℕ → Result B Halt → ℕ → Type 0
 RuleEnds (Ok x) old result new = (result ≡ Ok x) × (new ≡ old + 1)
-RuleEnds (Err (halts.Stops stop)) old result new = (result ≡ Err (halts.Stops stop)) × (new ≡ old + is_ended {B = Unit {0}} (Err stop))
-RuleEnds (Err (halts.Enters entry)) old result new = Deepens entry result × (new ≡ old)
+RuleEnds (Err halt) old (Ok x) new = ⊥
+RuleEnds (Err halt) old (Err now) new = HaltEnds halt old now new
 
 -- ---- devices
 

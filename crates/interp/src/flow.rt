@@ -1,4 +1,6 @@
 //! How statements end.
+ghost use Rattle.std.specs.Prelude.{◌≡◌};
+ghost use Rattle.interp.specs.Blocks.{behind_loop, goes_round, is_next};
 
 /// How a statement ends.
 #[derive(Clone, Copy)]
@@ -11,4 +13,42 @@ pub enum Flow {
     Broken,
     /// The file is left.
     Finished,
+}
+
+impl Flow {
+    /// Whether the next statement follows.
+    pub fn is_next(self) -> bool
+        ensures { result ≡ is_next self }
+    {
+        match self {
+            Flow::Next => true,
+            Flow::Continued => false,
+            Flow::Broken => false,
+            Flow::Finished => false,
+        }
+    }
+
+    /// Whether the next round of a loop follows, after a round.
+    pub fn goes_round(self) -> bool
+        ensures { result ≡ goes_round self }
+    {
+        match self {
+            Flow::Next => true,
+            Flow::Continued => true,
+            Flow::Broken => false,
+            Flow::Finished => false,
+        }
+    }
+
+    /// How a loop ends that a round has left.
+    pub fn behind_loop(self) -> Flow
+        ensures { result ≡ behind_loop self }
+    {
+        match self {
+            Flow::Next => Flow::Next,
+            Flow::Continued => Flow::Next,
+            Flow::Broken => Flow::Next,
+            Flow::Finished => Flow::Finished,
+        }
+    }
 }

@@ -1,8 +1,9 @@
 //! Why an expression came to no value.
 ghost use Rattle.std.specs.Prelude.{◌≡◌, ℕ};
-ghost use Rattle.interp.specs.Inside.{IsDeeper, RuleEnds, failures_inside};
+ghost use Rattle.interp.specs.Inside.{HaltEnds, IsDeeper, RuleEnds, failures_halted, failures_inside};
 
 use std::alloc::{AllocError, AllocFailed};
+use std::mem;
 use std::sync::ledger::Ledger;
 use world::{Steps, Stop};
 
@@ -60,7 +61,7 @@ impl<T: Drop> From<AllocFailed<T>> for Halt {
 
 // The same with one rule more behind it.
 fn deeper(entry: Box<Inside>) -> Halt
-    ensures { IsDeeper entry result }
+    ensures { IsDeeper entry.value result }
 {
     let mut entry = entry;
     if entry.rules == usize::MAX {
@@ -70,22 +71,34 @@ fn deeper(entry: Box<Inside>) -> Halt
     Halt::Enters(entry)
 }
 
+// The same of a rule that ends: it ticks by a fault, and stands behind a folder that its expression was left for.
+#[cold]
+fn halted<L: Ledger>(halt: Halt, steps: &mut Steps<L>) -> Halt
+    ensures ends { HaltEnds halt steps.old result steps.new }
+    ensures quiet { (n : ℕ) → failures_halted n result ≡ failures_halted n halt }
+{
+    match halt {
+        Halt::Stops(Stop::Refused(fault)) => {
+            steps.tick();
+            Halt::Stops(Stop::Refused(fault))
+        }
+        Halt::Stops(Stop::Device) => Halt::Stops(Stop::Device),
+        Halt::Stops(Stop::Memory) => Halt::Stops(Stop::Memory),
+        Halt::Enters(entry) => deeper(entry),
+    }
+}
+
 /// Ticks where the rule of a node has ended, by a value or by a fault. Where its expression was left for a folder it ends behind that.
-pub fn ended_inside<A, L: Ledger>(answer: Result<A, Halt>, steps: &mut Steps<L>) -> Result<A, Halt>
-    ensures ends { RuleEnds answer steps.old result steps.new }
-    ensures quiet { (n : ℕ) → failures_inside n result ≡ failures_inside n answer }
+/// The answer stays where it is.
+pub fn ended_inside<A, L: Ledger>(answer: &mut Result<A, Halt>, steps: &mut Steps<L>)
+    ensures ends { RuleEnds answer.old steps.old answer.new steps.new }
+    ensures quiet { (n : ℕ) → failures_inside n answer.new ≡ failures_inside n answer.old }
 {
     match answer {
-        Ok(value) => {
-            steps.tick();
-            Ok(value)
+        Ok(_) => steps.tick(),
+        Err(halt) => {
+            let old = mem::replace(halt, Halt::Stops(Stop::Memory));
+            *halt = halted(old, steps);
         }
-        Err(Halt::Stops(Stop::Refused(fault))) => {
-            steps.tick();
-            Err(Halt::Stops(Stop::Refused(fault)))
-        }
-        Err(Halt::Stops(Stop::Device)) => Err(Halt::Stops(Stop::Device)),
-        Err(Halt::Stops(Stop::Memory)) => Err(Halt::Stops(Stop::Memory)),
-        Err(Halt::Enters(entry)) => Err(deeper(entry)),
     }
 }

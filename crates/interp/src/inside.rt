@@ -98,13 +98,14 @@ impl<'a, T: Tree, O: Outputs, L: Ledger> Evaluator<'a, T, O, L> {
         requires room { HasRoom T.seen O.seen self.old.context }
         ensures same { Same self.old.context self.new.context }
         ensures device { Fails T.seen O.seen self.old.context result self.new.context }
-        ensures gives { (few : Bool) → Acts T.seen O.seen (inside (bounds few left) entry)
+        ensures gives { (few : Bool) → Acts T.seen O.seen (inside (bounds few left) entry.value)
             self.old.context stack.old.items result self.new.context stack.new.items }
     {
-        for _rule in 0..entry.rules {
+        let Inside { text, line, rules } = Box::into_inner(entry);
+        for _rule in 0..rules {
             stack.push(Frame::End)?;
         }
-        stack.push(Frame::Refuses(entry.line))?;
-        self.enter(&entry.text, left, stack)
+        stack.push(Frame::Refuses(line))?;
+        self.enter(&text, left, stack)
     }
 }

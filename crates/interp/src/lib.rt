@@ -8,6 +8,10 @@
 //! of frames. The definition is plain: it does what the file does, and refuses. What stands in the expression behind the call never comes,
 //! so nothing else of it has to be kept.
 //!
+//! **Plain statements are done where they stand.** Of a block, and of the rounds of a loop, all is done in place up to the first statement
+//! that needs the stack of frames: an `if`, a loop, or an expression that is a call, which may enter a folder. Only then the rest of the
+//! block, and the other rounds, come on the stack. A loop over plain statements puts nothing there.
+//!
 //! **What an evaluation is given.** [`evaluate`] is lent the settings and the bytes of the machine file. Its world keeps settings of its
 //! own, so they are copied once for a run, and callers keep theirs.
 #![tactic(auto)]
@@ -28,7 +32,9 @@ mod nodes;
 mod operation;
 mod running;
 mod stated;
+mod touring;
 mod unwinding;
+mod walking;
 
 pub use evaluation::{Inputs, definitions, evaluate, read_machine};
 pub use evaluator::Evaluator;

@@ -10,11 +10,12 @@ ghost use Rattle.interp.specs.Parts.{above, above_number, above_entry, above_arg
 
 use crate::evaluator::Evaluator;
 use crate::halt::{Halt, ended_inside};
-use crate::operation::Begun;
 use arguments::{Arguments, add_argument, no_arguments};
 use code::Code;
 use code::node::{ArgumentNode, CallNode, EntryNode, LinkNode, Node, OperandNode};
 use data::Value;
+use expressions::{Meaning, meaning_of};
+use operators::{Left, right_side};
 use ports::{Outputs, Tree};
 use std::sync::ledger::Ledger;
 
@@ -32,8 +33,9 @@ impl<'a, T: Tree, O: Outputs, L: Ledger> Evaluator<'a, T, O, L> {
         ensures gives { Evaluates T.seen O.seen data_of (λ into ts. ruled (value_of into (tree_at ts node))) code.now
             self.old.context result self.new.context }
     {
-        let answer = self.form(code, node);
-        ended_inside(answer, self.context.steps)
+        let mut answer = self.form(code, node);
+        ended_inside(&mut answer, self.context.steps);
+        answer
     }
 
     /// The same, before its rule has ended.
@@ -83,6 +85,7 @@ impl<'a, T: Tree, O: Outputs, L: Ledger> Evaluator<'a, T, O, L> {
 
     // `[first, second]`
     #[cycle(eval)]
+    #[inline(never)]
     fn list(&mut self, code: &Code, items: &[usize], line: usize) -> Result<Value, Halt>
         requires here { above above_number items.now ≤ length code.now.nodes.items }
         requires room { HasRoom T.seen O.seen self.old.context }
@@ -101,6 +104,7 @@ impl<'a, T: Tree, O: Outputs, L: Ledger> Evaluator<'a, T, O, L> {
 
     // `{key : value, key : value}`
     #[cycle(eval)]
+    #[inline(never)]
     fn dictionary(&mut self, code: &Code, entries: &[EntryNode], line: usize) -> Result<Value, Halt>
         requires here { above above_entry entries.now ≤ length code.now.nodes.items }
         requires room { HasRoom T.seen O.seen self.old.context }
@@ -120,6 +124,7 @@ impl<'a, T: Tree, O: Outputs, L: Ledger> Evaluator<'a, T, O, L> {
 
     // `name(argument, name: argument)`, which has to give a value.
     #[cycle(eval)]
+    #[inline(never)]
     fn call(
         &mut self,
         code: &Code,
@@ -230,22 +235,31 @@ impl<'a, T: Tree, O: Outputs, L: Ledger> Evaluator<'a, T, O, L> {
     {
         let mut value = self.eval(code, first)?;
         for operand in others {
-            let begun = self.begun(line, operand.operator, value)?;
-            let half = match begun {
-                Begun::Decided(whole) => {
+            let connective = match meaning_of(operand.operator) {
+                Meaning::Combines(operator) => {
+                    let right = self.eval(code, operand.value)?;
+                    value = self.combined(line, operator, value, right)?;
+                    continue;
+                }
+                Meaning::Connects(connective) => connective,
+            };
+            let said = self.decided(line, connective, value)?;
+            match said {
+                Left::Decides(whole) => {
                     value = whole;
                     continue;
                 }
-                Begun::Waits(half) => half,
-            };
+                Left::Open => {}
+            }
             let right = self.eval(code, operand.value)?;
-            value = self.completed(line, half, right)?;
+            value = self.context.answered(line, right_side(right))?;
         }
         Ok(value)
     }
 
     // `test ? yes : no`
     #[cycle(eval)]
+    #[inline(never)]
     fn ternary(
         &mut self,
         code: &Code,

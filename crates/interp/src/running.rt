@@ -1,37 +1,35 @@
 //! The statements of a file and of those that it enters, on one stack of frames.
-ghost use Rattle.std.specs.Prelude.{Bool, ◌≡◌, ◌<◌, ◌+◌, ◌^◌, IfSome, OnSome, length};
+ghost use Rattle.std.specs.Prelude.{Bool, ◌≡◌, ℕ, Ok, length};
+ghost use Rattle.world.specs.Gives.{failures_after};
 ghost use Rattle.interp.specs.Bounds.{bounds};
 ghost use Rattle.expressions.specs.Codes.{file_by};
-ghost use Rattle.interp.specs.Blocks.{statements_of};
+ghost use Rattle.interp.specs.Blocks.{BeginsDeep};
 ghost use Rattle.interp.specs.Folders.{folder};
-ghost use Rattle.interp.specs.Frames.{Does, NumberAt, Steps, Turns, others_by, round_by, rounds_left};
+ghost use Rattle.interp.specs.Frames.{Does, Lays, Steps, Turns, others_by, parts_by, round_by, rounds_left, walk_left};
 ghost use Rattle.interp.specs.Statements.{after_round, do_all, on_next, rounds_of};
 
-use crate::block::{Block, statements_of};
+use crate::block::Block;
 use crate::evaluator::Evaluator;
 use crate::flow::Flow;
 use crate::frames::{BlockRest, Frame, LoopRest};
+use crate::touring::Tour;
 use crate::unwinding::unwind;
+use crate::walking::Walk;
 use basics::faults::Refusal;
 use code::Code;
-use expressions::round_at;
 use ports::{Outputs, Tree};
 use std::rc::Rc;
 use std::sync::ledger::Ledger;
 use world::Stop;
 
-// The number of the statement at a place of a block, none behind the last.
-fn number_at(code: &Code, block: Block, at: usize) -> Option<usize>
-    ensures is { NumberAt (statements_of code.now block) at result }
-    ensures room { OnSome result (at + 1 < 2 ^ 64) }
-    ensures within { IfSome result (λ number. number < length code.now.statements.items) }
+// Puts a frame on the stack, and the end of a rule.
+fn lay(stack: &mut Vec<Frame>, frame: Frame) -> Result<(), Stop>
+    ensures lays { Lays stack.old.items frame result stack.new.items }
+    ensures quiet { (n : ℕ) → failures_after n result ≡ n }
 {
-    let numbers = statements_of(code, block);
-    if at < numbers.len() {
-        Some(numbers[at])
-    } else {
-        None
-    }
+    stack.push(frame)?;
+    stack.push(Frame::End)?;
+    Ok(())
 }
 
 impl<'a, T: Tree, O: Outputs, L: Ledger> Evaluator<'a, T, O, L> {
@@ -109,15 +107,15 @@ impl<'a, T: Tree, O: Outputs, L: Ledger> Evaluator<'a, T, O, L> {
             self.old.context stack.old.items result self.new.context stack.new.items }
     {
         match flow {
-            Flow::Next => self.next_statement(rest, stack),
+            Flow::Next => self.next_statements(rest, stack),
             Flow::Continued => Ok(Flow::Continued),
             Flow::Broken => Ok(Flow::Broken),
             Flow::Finished => Ok(Flow::Finished),
         }
     }
 
-    // The next statement of a block begins.
-    fn next_statement(&mut self, rest: BlockRest, stack: &mut Vec<Frame>) -> Result<Flow, Stop>
+    // The statements of a block that are left, up to one that needs the stack.
+    fn next_statements(&mut self, rest: BlockRest, stack: &mut Vec<Frame>) -> Result<Flow, Stop>
         requires room { HasRoom T.seen O.seen self.old.context }
         ensures same { Same self.old.context self.new.context }
         ensures device { Fails T.seen O.seen self.old.context result self.new.context }
@@ -127,20 +125,55 @@ impl<'a, T: Tree, O: Outputs, L: Ledger> Evaluator<'a, T, O, L> {
         let BlockRest {
             code,
             block,
-            at,
+            at: from,
             left,
         } = rest;
-        let Some(number) = number_at(&code, block, at) else {
-            return Ok(Flow::Next);
-        };
-        stack.push(Frame::Block(BlockRest {
-            code: code.clone()?,
-            block,
-            at: at + 1,
-            left,
-        }))?;
-        stack.push(Frame::End)?;
-        self.begin(&code, number, left, stack)
+        match self.walk(&code, block, from) {
+            Ok(walk) => self.go_into(walk, code, block, left, stack),
+            Err(stop) => Err(stop),
+        }
+    }
+
+    // What is left of a block: the statement that needs the stack, or the folder that is entered, and the rest behind it.
+    fn go_into(
+        &mut self,
+        walk: Walk,
+        code: Rc<Code>,
+        block: Block,
+        left: usize,
+        stack: &mut Vec<Frame>,
+    ) -> Result<Flow, Stop>
+        requires deep { BeginsDeep code.value (Ok walk) }
+        requires room { HasRoom T.seen O.seen self.old.context }
+        ensures same { Same self.old.context self.new.context }
+        ensures device { Fails T.seen O.seen self.old.context result self.new.context }
+        ensures gives { (few : Bool) → Does T.seen O.seen (λ table.
+            walk_left (parts_by table code.value (bounds few left) block) (bounds few left) walk) code.value
+            self.old.context stack.old.items result self.new.context stack.new.items }
+    {
+        match walk {
+            Walk::Ends(flow) => Ok(flow),
+            Walk::Begins { number, at } => {
+                let others = BlockRest {
+                    code: code.clone()?,
+                    block,
+                    at,
+                    left,
+                };
+                lay(stack, Frame::Block(others))?;
+                self.begin(&code, number, left, stack)
+            }
+            Walk::Enters { entry, at } => {
+                let others = BlockRest {
+                    code,
+                    block,
+                    at,
+                    left,
+                };
+                lay(stack, Frame::Block(others))?;
+                self.enter_inside(entry, left, stack)
+            }
+        }
     }
 
     // After a round.
@@ -153,15 +186,15 @@ impl<'a, T: Tree, O: Outputs, L: Ledger> Evaluator<'a, T, O, L> {
             self.old.context stack.old.items result self.new.context stack.new.items }
     {
         match flow {
-            Flow::Next => self.next_round(rest, stack),
-            Flow::Continued => self.next_round(rest, stack),
+            Flow::Next => self.next_rounds(rest, stack),
+            Flow::Continued => self.next_rounds(rest, stack),
             Flow::Broken => Ok(Flow::Next),
             Flow::Finished => Ok(Flow::Finished),
         }
     }
 
-    // The next round of a loop begins.
-    fn next_round(&mut self, rest: LoopRest, stack: &mut Vec<Frame>) -> Result<Flow, Stop>
+    // The rounds of a loop that are left, up to a statement that needs the stack.
+    fn next_rounds(&mut self, rest: LoopRest, stack: &mut Vec<Frame>) -> Result<Flow, Stop>
         requires room { HasRoom T.seen O.seen self.old.context }
         ensures same { Same self.old.context self.new.context }
         ensures device { Fails T.seen O.seen self.old.context result self.new.context }
@@ -169,32 +202,27 @@ impl<'a, T: Tree, O: Outputs, L: Ledger> Evaluator<'a, T, O, L> {
             rounds_of (round_by table rest.code.value (bounds few rest.left) rest.head) (rounds_left rest)) rest.code.value
             self.old.context stack.old.items result self.new.context stack.new.items }
     {
-        let Some(round) = round_at(&rest.whole, rest.at)? else {
-            return Ok(Flow::Next);
-        };
         let LoopRest {
             code,
             head,
             whole,
-            at,
+            at: from,
             left,
         } = rest;
-        stack.push(Frame::Loop(LoopRest {
-            code: code.clone()?,
-            head,
-            whole,
-            at: at + 1,
-            left,
-        }))?;
-        stack.push(Frame::End)?;
-        self.context
-            .bind(head.line, head.first, head.second, round)?;
-        stack.push(Frame::Block(BlockRest {
-            code,
-            block: head.body,
-            at: 0,
-            left,
-        }))?;
-        Ok(Flow::Next)
+        match self.tour(&code, &head, &whole, from) {
+            Ok(Tour::Ends(flow)) => Ok(flow),
+            Ok(Tour::Stands { walk, at }) => {
+                let others = LoopRest {
+                    code: code.clone()?,
+                    head,
+                    whole,
+                    at,
+                    left,
+                };
+                lay(stack, Frame::Loop(others))?;
+                self.go_into(walk, code, head.body, left, stack)
+            }
+            Err(stop) => Err(stop),
+        }
     }
 }

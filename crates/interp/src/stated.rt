@@ -9,7 +9,7 @@ ghost use Rattle.interp.specs.Bounds.{bounds};
 ghost use Rattle.interp.specs.Acting.{way_view};
 ghost use Rattle.interp.specs.Entering.{by_way};
 ghost use Rattle.expressions.specs.Codes.{block_by, expressions_by, statements_by};
-ghost use Rattle.interp.specs.Blocks.{branch_or, statements_of};
+ghost use Rattle.interp.specs.Blocks.{IsDeep, branch_or, node_at, statements_of};
 ghost use Rattle.interp.specs.Expressions.{given_by, value_of};
 ghost use Rattle.interp.specs.Folders.{folder};
 ghost use Rattle.interp.specs.Frames.{Acts, ChoosesOf, Does, above_branch, round_by};
@@ -54,7 +54,8 @@ impl<'a, T: Tree, O: Outputs, L: Ledger> Evaluator<'a, T, O, L> {
     ghost use Rattle.expressions.specs.Contexts.{Answers, Fails, HasRoom, Same};
     ghost use Rattle.interp.specs.Evaluates.{Evaluates, FailsInside};
 
-    /// Begins the statement with this number, whose end is on the stack; so many more folders may stand inside one another.
+    /// Begins the statement with this number, whose end is on the stack, and puts its parts on it; so many more folders may stand inside
+    /// one another.
     pub fn begin(
         &mut self,
         code: &Rc<Code>,
@@ -63,6 +64,7 @@ impl<'a, T: Tree, O: Outputs, L: Ledger> Evaluator<'a, T, O, L> {
         stack: &mut Vec<Frame>,
     ) -> Result<Flow, Stop>
         requires there { number < length code.now.value.statements.items }
+        requires deep { IsDeep (node_at code.now.value number) }
         requires room { HasRoom T.seen O.seen self.old.context }
         ensures same { Same self.old.context self.new.context }
         ensures device { Fails T.seen O.seen self.old.context result self.new.context }
@@ -71,28 +73,12 @@ impl<'a, T: Tree, O: Outputs, L: Ledger> Evaluator<'a, T, O, L> {
             code.now.value self.old.context stack.old.items result self.new.context stack.new.items }
     {
         match &code.statements[number] {
-            StatementNode::Assign { name, line, value } => {
-                match self.assign_value(code, *name as usize, *line as usize, *value as usize) {
-                    Ok(flow) => Ok(flow),
-                    Err(Halt::Stops(stop)) => Err(stop),
-                    Err(Halt::Enters(entry)) => self.enter_inside(entry, left, stack),
-                }
-            }
-            StatementNode::Append { name, line, value } => {
-                match self.append_value(code, *name as usize, *line as usize, *value as usize) {
-                    Ok(flow) => Ok(flow),
-                    Err(Halt::Stops(stop)) => Err(stop),
-                    Err(Halt::Enters(entry)) => self.enter_inside(entry, left, stack),
-                }
-            }
             StatementNode::Expression { value, .. } => self.state(
                 code,
                 *value as usize,
                 left,
                 stack,
             ),
-            StatementNode::Break { .. } => Ok(Flow::Broken),
-            StatementNode::Continue { .. } => Ok(Flow::Continued),
             StatementNode::If { node } => {
                 let node: &IfNode = node;
                 self.begin_branch(code, number, &node.branches, left, stack)
@@ -102,64 +88,8 @@ impl<'a, T: Tree, O: Outputs, L: Ledger> Evaluator<'a, T, O, L> {
                 let head = loop_head(number, node.line, node.first, node.second);
                 self.begin_loop(code, node.list, head, left, stack)
             }
+            _ => unreachable!(),
         }
-    }
-
-    // `name = value`
-    fn assign_value(
-        &mut self,
-        code: &Code,
-        name: usize,
-        line: usize,
-        value: usize,
-    ) -> Result<Flow, Halt>
-        requires here { value < length code.now.nodes.items }
-        requires room { HasRoom T.seen O.seen self.old.context }
-        ensures same { Same self.old.context self.new.context }
-        ensures device { FailsInside T.seen O.seen self.old.context result self.new.context }
-        ensures gives { name < length self.old.context.store.now.names → Evaluates T.seen O.seen (λ f. f) (λ into ts.
-            next (ruled (value_of into (tree_at ts value))) (λ d. next (own d) (λ e. next (assigned line
-            (name_at self.old.context.store.now.names name) e) (λ _. give Next)))) code.now self.old.context result self.new.context }
-    {
-        let value = self.eval(code, value)?;
-        let own = self.context.own(value)?;
-        self.context.assign(line, name, own)?;
-        Ok(Flow::Next)
-    }
-
-    // `name += value`
-    fn append_value(
-        &mut self,
-        code: &Code,
-        name: usize,
-        line: usize,
-        value: usize,
-    ) -> Result<Flow, Halt>
-        requires here { value < length code.now.nodes.items }
-        requires room { HasRoom T.seen O.seen self.old.context }
-        ensures same { Same self.old.context self.new.context }
-        ensures device { FailsInside T.seen O.seen self.old.context result self.new.context }
-        ensures gives { name < length self.old.context.store.now.names → Evaluates T.seen O.seen (λ f. f) (λ into ts.
-            next (appended line (name_at self.old.context.store.now.names name) (ruled (value_of into (tree_at ts value))))
-            (λ _. give Next)) code.now self.old.context result self.new.context }
-    {
-        self.append(code, name, line, value)?;
-        Ok(Flow::Next)
-    }
-
-    // The variable of a number takes the sum of what it has and the value of an expression.
-    fn append(&mut self, code: &Code, number: usize, line: usize, value: usize) -> Result<(), Halt>
-        requires here { value < length code.now.nodes.items }
-        requires room { HasRoom T.seen O.seen self.old.context }
-        ensures same { Same self.old.context self.new.context }
-        ensures device { FailsInside T.seen O.seen self.old.context result self.new.context }
-        ensures gives { number < length self.old.context.store.now.names → Evaluates T.seen O.seen (λ u. u) (λ into ts. appended line
-            (name_at self.old.context.store.now.names number) (ruled (value_of into (tree_at ts value))))
-            code.now self.old.context result self.new.context }
-    {
-        let _ = self.context.variable(number, line)?;
-        let right = self.eval(code, value)?;
-        Ok(self.context.add(line, number, right)?)
     }
 
     // An expression alone: a call may enter a folder, and what others give is let go.
@@ -192,35 +122,6 @@ impl<'a, T: Tree, O: Outputs, L: Ledger> Evaluator<'a, T, O, L> {
                 Err(Halt::Stops(stop)) => Err(stop),
                 Err(Halt::Enters(entry)) => self.enter_inside(entry, left, stack),
             }
-        }
-    }
-
-    // What an expression gives that is a statement and no call of a function: its last method may give nothing.
-    fn alone(&mut self, code: &Code, value: usize) -> Result<Option<Value>, Halt>
-        requires here { value < length code.now.nodes.items }
-        requires room { HasRoom T.seen O.seen self.old.context }
-        ensures same { Same self.old.context self.new.context }
-        ensures device { FailsInside T.seen O.seen self.old.context result self.new.context }
-        ensures gives { Evaluates T.seen O.seen (option_map data_of) (λ into ts. ruled (given_by into (tree_at ts value))) code.now
-            self.old.context result self.new.context }
-    {
-        let answer = self.given(code, value);
-        ended_inside(answer, self.context.steps)
-    }
-
-    // The same, before its rule has ended.
-    fn given(&mut self, code: &Code, value: usize) -> Result<Option<Value>, Halt>
-        requires here { value < length code.now.nodes.items }
-        requires room { HasRoom T.seen O.seen self.old.context }
-        ensures same { Same self.old.context self.new.context }
-        ensures device { FailsInside T.seen O.seen self.old.context result self.new.context }
-        ensures gives { Evaluates T.seen O.seen (option_map data_of) (λ into ts. given_by into (tree_at ts value)) code.now
-            self.old.context result self.new.context }
-    {
-        if let Node::Postfix { first, links, line } = &code.nodes[value] {
-            self.asked(code, *first as usize, links, *line)
-        } else {
-            Ok(Some(self.form(code, value)?))
         }
     }
 

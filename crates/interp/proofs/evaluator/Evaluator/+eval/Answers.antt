@@ -1,4 +1,4 @@
-use Rattle.std.proofs.Common.{ℕ, suc, ◌≤◌, max, Bool, true, false, List, [], ◌∷◌, map, get_or, Option, Some, option_map, refl, string_bytes, sym, ap, ◌∙◌, arith, rules}
+use Rattle.std.proofs.Common.{ℕ, suc, ◌+◌, ◌≤◌, max, Bool, true, false, List, [], ◌∷◌, drop, map, get_or, Option, Err, Some, option_map, refl, string_bytes, sym, ap, ◌∙◌, arith, rules}
 use Rattle.grammar.specs.ExpressionTree.{ListTree, DictionaryTree, FunctionTree, PostfixTree, ChainTree, expressions, entries, arguments, links, operands}
 use Rattle.grammar.specs.declared.tree.Operator.TheVariants as flatop
 use Rattle.code.specs.declared.node.Node.TheVariants as flat
@@ -15,18 +15,21 @@ use Rattle.operators.specs.Literal.{pairs_of}
 use Rattle.arguments.specs.Arguments.{arguments_data, no_arguments}
 use Rattle.world.specs.Plan.{ruled, next}
 use Rattle.interp.specs.Expressions.{arguments_of, chain_of, entries_of, link_of, links_of, method_called, method_of, value_of, values_of}
-use Rattle.expressions.specs.Forms.{chosen, listed, paired, variable}
+use Rattle.operators.specs.declared.logic.Left.{Left}
+use Rattle.expressions.specs.Forms.{chosen, combined, listed, paired, unless_decided, variable}
+use Rattle.expressions.specs.declared.meaning.Meaning.{Meaning}
+use Rattle.interp.specs.Operations.{left_view}
+use Rattle.interp.specs.declared.halt.Halt.TheVariants as halts
 use Rattle.interp.specs.Parts.{above, above_number, above_entry, above_argument, above_operand, above_link}
 use Rattle.interp.specs.Folders.{folder}
 use Rattle.interp.proofs.Coming.{comes_as, comes_end, comes_given, comes_halt, comes_halt_inside, comes_last, comes_none, comes_rule, comes_stop, comes_then}
-use Rattle.expressions.proofs.Evaluating.{given_as, given_give, given_then, leads_as, leads_end, leads_inside, leads_on, leads_start, leads_within, next_is, next_item, no_item}
-use Rattle.interp.proofs.Operating.{goes_on}
+use Rattle.expressions.proofs.Evaluating.{given_as, given_give, given_then, leads_as, leads_end, leads_inside, leads_on, leads_start, next_is, next_item, no_item}
 use Rattle.interp.proofs.Pairs.{pairs_of-push}
 use Rattle.interp.proofs.Reading.{reads_on, opened, parts_at, name_of, number_reach, first_reach, three_reach, numbers_reach, entries_reach, arguments_reach, operands_reach, links_reach}
 use Rattle.interp.proofs.evaluator.Evaluator.+eval.Goals as goal
 
 pub eval-returns-clause-gives : goal.eval-returns-clause-gives
-eval-returns-clause-gives g t c = λ files left ts hold reads. comes_rule c.form-answer.result c.ended_inside.result c.ended_inside.ensures.ends (c.form-answer.ensures.gives files left ts hold reads)
+eval-returns-clause-gives g t c = λ files left ts hold reads. comes_rule c.form-answer.result c.ended_inside.new.answer c.ended_inside.ensures.ends (c.form-answer.ensures.gives files left ts hold reads)
 
 pub call-returns-in_err-function-clause-gives : goal.call-returns-in_err-function-clause-gives
 call-returns-in_err-function-clause-gives g t c = λ files left ts hold reads. comes_stop (c.in_err-function.ensures.gives files hold) c.from_residual.ensures.1
@@ -282,33 +285,66 @@ chain-returns-in_err-value-clause-gives g t c = λ files left ts hold reads. com
 pub chain-loop-operand-init : goal.chain-loop-operand-init
 chain-loop-operand-init g t c = record { same = search rules; tree = search rules; out = search rules; done = λ files left ts hold reads. leads_on (leads_start hold) (c.in_ok-value.ensures.gives files left ts hold reads).comes }
 
-pub chain-returns-in_err-begun-clause-gives : goal.chain-returns-in_err-begun-clause-gives
-chain-returns-in_err-begun-clause-gives g t c = λ files left ts hold reads.
+pub chain-returns-in_err-right-in-Combines-clause-gives : goal.chain-returns-in_err-right-in-Combines-clause-gives
+chain-returns-in_err-right-in-Combines-clause-gives g t c = λ files left ts hold reads.
     let led = leads_as (ap (λ ys. chain_of (folder left) c.args.line (data_of c.loop-operand.value) (operands ys)) (next_item (operand_at ts) c.args.others.now c.loop-operand.operand-index (record { operator = flatop.Or; value = 0 }) c.loop-operand-test.true)) (c.loop-operand.invariant.done files left ts hold reads) in
-    comes_end led (comes_stop {view = data_of} (c.in_err-begun.ensures.gives files left (tree_at ts (get_or c.args.others.now c.loop-operand.operand-index (record { operator = flatop.Or; value = 0 })).value) led.holds) c.from_residual-in_err-begun.ensures.1)
+    let half = leads_as (ap (λ (m : Meaning). next (combined c.args.line m (data_of c.loop-operand.value) (ruled (value_of (folder left) (tree_at ts (get_or c.args.others.now c.loop-operand.operand-index (record { operator = flatop.Or; value = 0 })).value)))) (λ d. chain_of (folder left) c.args.line d (operands (map (operand_at ts) (drop (c.loop-operand.operand-index + 1) c.args.others.now))))) (sym c.in-Combines.ensures)) led in
+    comes_end half (comes_halt_inside (c.in_err-right-in-Combines.ensures.gives files left ts half.holds (reads_on reads half.continues.written.names)) c.from_residual-in_err-right-in-Combines.ensures.1)
 
-pub chain-returns-in_err-right-clause-gives : goal.chain-returns-in_err-right-clause-gives
-chain-returns-in_err-right-clause-gives g t c = λ files left ts hold reads.
+pub chain-returns-in_err-value-in-Combines-clause-gives : goal.chain-returns-in_err-value-in-Combines-clause-gives
+chain-returns-in_err-value-in-Combines-clause-gives g t c = λ files left ts hold reads.
     let led = leads_as (ap (λ ys. chain_of (folder left) c.args.line (data_of c.loop-operand.value) (operands ys)) (next_item (operand_at ts) c.args.others.now c.loop-operand.operand-index (record { operator = flatop.Or; value = 0 }) c.loop-operand-test.true)) (c.loop-operand.invariant.done files left ts hold reads) in
-    let half = leads_within led (goes_on files c.args.line _ _ _ c.in-Waits.is (c.in_ok-begun.ensures.gives files left (tree_at ts (get_or c.args.others.now c.loop-operand.operand-index (record { operator = flatop.Or; value = 0 })).value) led.holds)) in
-    comes_end half (comes_halt_inside (c.in_err-right.ensures.gives files left ts half.holds (reads_on reads half.continues.written.names)) c.from_residual-in_err-right.ensures.1)
+    let half = leads_as (ap (λ (m : Meaning). next (combined c.args.line m (data_of c.loop-operand.value) (ruled (value_of (folder left) (tree_at ts (get_or c.args.others.now c.loop-operand.operand-index (record { operator = flatop.Or; value = 0 })).value)))) (λ d. chain_of (folder left) c.args.line d (operands (map (operand_at ts) (drop (c.loop-operand.operand-index + 1) c.args.others.now))))) (sym c.in-Combines.ensures)) led in
+    let whole = leads_inside half (c.in_ok-right-in-Combines.ensures.gives files left ts half.holds (reads_on reads half.continues.written.names)).comes in
+    comes_end whole (comes_stop (c.in_err-value-in-Combines.ensures.gives files whole.holds) c.from_residual-in_err-value-in-Combines.ensures.1)
 
-pub chain-returns-in_err-value-2-clause-gives : goal.chain-returns-in_err-value-2-clause-gives
-chain-returns-in_err-value-2-clause-gives g t c = λ files left ts hold reads.
-    let led = leads_as (ap (λ ys. chain_of (folder left) c.args.line (data_of c.loop-operand.value) (operands ys)) (next_item (operand_at ts) c.args.others.now c.loop-operand.operand-index (record { operator = flatop.Or; value = 0 }) c.loop-operand-test.true)) (c.loop-operand.invariant.done files left ts hold reads) in
-    let half = leads_within led (goes_on files c.args.line _ _ _ c.in-Waits.is (c.in_ok-begun.ensures.gives files left (tree_at ts (get_or c.args.others.now c.loop-operand.operand-index (record { operator = flatop.Or; value = 0 })).value) led.holds)) in
-    let whole = leads_inside half (c.in_ok-right.ensures.gives files left ts half.holds (reads_on reads half.continues.written.names)).comes in
-    comes_end whole (comes_stop (c.in_err-value-2.ensures.gives files whole.holds) c.from_residual-in_err-value-2.ensures.1)
-
-pub chain-loop-operand-preserved-in-Decided : goal.chain-loop-operand-preserved-in-Decided
-chain-loop-operand-preserved-in-Decided g t c = record {
+pub chain-loop-operand-preserved-in-Combines : goal.chain-loop-operand-preserved-in-Combines
+chain-loop-operand-preserved-in-Combines g t c = record {
   same = search rules;
   tree = search rules;
   out = search rules;
   done = λ files left ts hold reads.
       let led = leads_as (ap (λ ys. chain_of (folder left) c.args.line (data_of c.loop-operand.value) (operands ys)) (next_item (operand_at ts) c.args.others.now c.loop-operand.operand-index (record { operator = flatop.Or; value = 0 }) c.loop-operand-test.true)) (c.loop-operand.invariant.done files left ts hold reads) in
-      leads_on led (goes_on files c.args.line _ _ _ c.in-Decided.is (c.in_ok-begun.ensures.gives files left (tree_at ts (get_or c.args.others.now c.loop-operand.operand-index (record { operator = flatop.Or; value = 0 })).value) led.holds));
+      let half = leads_as (ap (λ (m : Meaning). next (combined c.args.line m (data_of c.loop-operand.value) (ruled (value_of (folder left) (tree_at ts (get_or c.args.others.now c.loop-operand.operand-index (record { operator = flatop.Or; value = 0 })).value)))) (λ d. chain_of (folder left) c.args.line d (operands (map (operand_at ts) (drop (c.loop-operand.operand-index + 1) c.args.others.now))))) (sym c.in-Combines.ensures)) led in
+      let whole = leads_inside half (c.in_ok-right-in-Combines.ensures.gives files left ts half.holds (reads_on reads half.continues.written.names)).comes in
+      leads_on whole (c.in_ok-value-in-Combines.ensures.gives files whole.holds);
 }
+
+pub chain-returns-in_err-said-clause-gives : goal.chain-returns-in_err-said-clause-gives
+chain-returns-in_err-said-clause-gives g t c = λ files left ts hold reads.
+    let led = leads_as (ap (λ ys. chain_of (folder left) c.args.line (data_of c.loop-operand.value) (operands ys)) (next_item (operand_at ts) c.args.others.now c.loop-operand.operand-index (record { operator = flatop.Or; value = 0 }) c.loop-operand-test.true)) (c.loop-operand.invariant.done files left ts hold reads) in
+    let half = leads_as (ap (λ (m : Meaning). next (combined c.args.line m (data_of c.loop-operand.value) (ruled (value_of (folder left) (tree_at ts (get_or c.args.others.now c.loop-operand.operand-index (record { operator = flatop.Or; value = 0 })).value)))) (λ d. chain_of (folder left) c.args.line d (operands (map (operand_at ts) (drop (c.loop-operand.operand-index + 1) c.args.others.now))))) (sym c.in-Connects.ensures)) led in
+    comes_end half (comes_halt_inside {view = left_view} (comes_last {result = Err (halts.Stops c.in_err-said.field-0.0)} (c.in_err-said.ensures.gives files half.holds) refl) c.from_residual-in_err-said.ensures.1)
+
+pub chain-loop-operand-preserved-in-Decides : goal.chain-loop-operand-preserved-in-Decides
+chain-loop-operand-preserved-in-Decides g t c = record {
+  same = search rules;
+  tree = search rules;
+  out = search rules;
+  done = λ files left ts hold reads.
+      let led = leads_as (ap (λ ys. chain_of (folder left) c.args.line (data_of c.loop-operand.value) (operands ys)) (next_item (operand_at ts) c.args.others.now c.loop-operand.operand-index (record { operator = flatop.Or; value = 0 }) c.loop-operand-test.true)) (c.loop-operand.invariant.done files left ts hold reads) in
+      let half = leads_as (ap (λ (m : Meaning). next (combined c.args.line m (data_of c.loop-operand.value) (ruled (value_of (folder left) (tree_at ts (get_or c.args.others.now c.loop-operand.operand-index (record { operator = flatop.Or; value = 0 })).value)))) (λ d. chain_of (folder left) c.args.line d (operands (map (operand_at ts) (drop (c.loop-operand.operand-index + 1) c.args.others.now))))) (sym c.in-Connects.ensures)) led in
+      let one = leads_inside half (c.in_ok-said.ensures.gives files half.holds) in
+      let said = leads_as (ap (λ (l : Left). next (unless_decided c.args.line (left_view l) (ruled (value_of (folder left) (tree_at ts (get_or c.args.others.now c.loop-operand.operand-index (record { operator = flatop.Or; value = 0 })).value)))) (λ d. chain_of (folder left) c.args.line d (operands (map (operand_at ts) (drop (c.loop-operand.operand-index + 1) c.args.others.now))))) c.in-Decides.is) one in
+      leads_on said (given_give {view = λ (d : Data). d} one.holds refl);
+}
+
+pub chain-returns-in_err-right-clause-gives : goal.chain-returns-in_err-right-clause-gives
+chain-returns-in_err-right-clause-gives g t c = λ files left ts hold reads.
+    let led = leads_as (ap (λ ys. chain_of (folder left) c.args.line (data_of c.loop-operand.value) (operands ys)) (next_item (operand_at ts) c.args.others.now c.loop-operand.operand-index (record { operator = flatop.Or; value = 0 }) c.loop-operand-test.true)) (c.loop-operand.invariant.done files left ts hold reads) in
+    let half = leads_as (ap (λ (m : Meaning). next (combined c.args.line m (data_of c.loop-operand.value) (ruled (value_of (folder left) (tree_at ts (get_or c.args.others.now c.loop-operand.operand-index (record { operator = flatop.Or; value = 0 })).value)))) (λ d. chain_of (folder left) c.args.line d (operands (map (operand_at ts) (drop (c.loop-operand.operand-index + 1) c.args.others.now))))) (sym c.in-Connects.ensures)) led in
+    let one = leads_inside half (c.in_ok-said.ensures.gives files half.holds) in
+    let said = leads_as (ap (λ (l : Left). next (unless_decided c.args.line (left_view l) (ruled (value_of (folder left) (tree_at ts (get_or c.args.others.now c.loop-operand.operand-index (record { operator = flatop.Or; value = 0 })).value)))) (λ d. chain_of (folder left) c.args.line d (operands (map (operand_at ts) (drop (c.loop-operand.operand-index + 1) c.args.others.now))))) c.in-Open.is) one in
+    comes_end said (comes_halt_inside (c.in_err-right.ensures.gives files left ts said.holds (reads_on reads said.continues.written.names)) c.from_residual-in_err-right.ensures.1)
+
+pub chain-returns-in_err-value-2-clause-gives : goal.chain-returns-in_err-value-2-clause-gives
+chain-returns-in_err-value-2-clause-gives g t c = λ files left ts hold reads.
+    let led = leads_as (ap (λ ys. chain_of (folder left) c.args.line (data_of c.loop-operand.value) (operands ys)) (next_item (operand_at ts) c.args.others.now c.loop-operand.operand-index (record { operator = flatop.Or; value = 0 }) c.loop-operand-test.true)) (c.loop-operand.invariant.done files left ts hold reads) in
+    let half = leads_as (ap (λ (m : Meaning). next (combined c.args.line m (data_of c.loop-operand.value) (ruled (value_of (folder left) (tree_at ts (get_or c.args.others.now c.loop-operand.operand-index (record { operator = flatop.Or; value = 0 })).value)))) (λ d. chain_of (folder left) c.args.line d (operands (map (operand_at ts) (drop (c.loop-operand.operand-index + 1) c.args.others.now))))) (sym c.in-Connects.ensures)) led in
+    let one = leads_inside half (c.in_ok-said.ensures.gives files half.holds) in
+    let said = leads_as (ap (λ (l : Left). next (unless_decided c.args.line (left_view l) (ruled (value_of (folder left) (tree_at ts (get_or c.args.others.now c.loop-operand.operand-index (record { operator = flatop.Or; value = 0 })).value)))) (λ d. chain_of (folder left) c.args.line d (operands (map (operand_at ts) (drop (c.loop-operand.operand-index + 1) c.args.others.now))))) c.in-Open.is) one in
+    let whole = leads_inside said (c.in_ok-right.ensures.gives files left ts said.holds (reads_on reads said.continues.written.names)).comes in
+    comes_end whole (comes_stop (c.in_err-value-2.ensures.gives _ c.right_side.ensures files whole.holds) c.from_residual-in_err-value-2.ensures.1)
 
 pub chain-loop-operand-preserved : goal.chain-loop-operand-preserved
 chain-loop-operand-preserved g t c = record {
@@ -317,9 +353,11 @@ chain-loop-operand-preserved g t c = record {
   out = search rules;
   done = λ files left ts hold reads.
       let led = leads_as (ap (λ ys. chain_of (folder left) c.args.line (data_of c.loop-operand.value) (operands ys)) (next_item (operand_at ts) c.args.others.now c.loop-operand.operand-index (record { operator = flatop.Or; value = 0 }) c.loop-operand-test.true)) (c.loop-operand.invariant.done files left ts hold reads) in
-      let half = leads_within led (goes_on files c.args.line _ _ _ c.in-Waits.is (c.in_ok-begun.ensures.gives files left (tree_at ts (get_or c.args.others.now c.loop-operand.operand-index (record { operator = flatop.Or; value = 0 })).value) led.holds)) in
-      let whole = leads_inside half (c.in_ok-right.ensures.gives files left ts half.holds (reads_on reads half.continues.written.names)).comes in
-      leads_on whole (c.in_ok-value-2.ensures.gives files whole.holds);
+      let half = leads_as (ap (λ (m : Meaning). next (combined c.args.line m (data_of c.loop-operand.value) (ruled (value_of (folder left) (tree_at ts (get_or c.args.others.now c.loop-operand.operand-index (record { operator = flatop.Or; value = 0 })).value)))) (λ d. chain_of (folder left) c.args.line d (operands (map (operand_at ts) (drop (c.loop-operand.operand-index + 1) c.args.others.now))))) (sym c.in-Connects.ensures)) led in
+      let one = leads_inside half (c.in_ok-said.ensures.gives files half.holds) in
+      let said = leads_as (ap (λ (l : Left). next (unless_decided c.args.line (left_view l) (ruled (value_of (folder left) (tree_at ts (get_or c.args.others.now c.loop-operand.operand-index (record { operator = flatop.Or; value = 0 })).value)))) (λ d. chain_of (folder left) c.args.line d (operands (map (operand_at ts) (drop (c.loop-operand.operand-index + 1) c.args.others.now))))) c.in-Open.is) one in
+      let whole = leads_inside said (c.in_ok-right.ensures.gives files left ts said.holds (reads_on reads said.continues.written.names)).comes in
+      leads_on whole (c.in_ok-value-2.ensures.gives _ c.right_side.ensures files whole.holds);
 }
 
 pub chain-returns-clause-gives : goal.chain-returns-clause-gives

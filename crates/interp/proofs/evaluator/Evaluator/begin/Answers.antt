@@ -30,25 +30,8 @@ use Rattle.interp.proofs.Coming.{halted_enters, halted_stops}
 use Rattle.expressions.proofs.Evaluating.{given_as, given_give, leads_other}
 use Rattle.interp.proofs.Spelling.{branches_reach, named, node_is, parts_of, reads_at, spelled}
 use Rattle.interp.proofs.Stack.{leads_under, made_as, moves_as, moves_given, moves_then, stacked_on}
+use Rattle.interp.proofs.Doing.{deep_as, deep_only}
 use Rattle.interp.proofs.evaluator.Evaluator.begin.Goals as goal
-
-pub assign_value-requires-clause-here : goal.assign_value-requires-clause-here
-assign_value-requires-clause-here g c =
-    let code = c.args.code.now.value in
-    let at = c.index.ensures ∙ ap (λ (d : Code). get_or d.statements.items c.args.number c.index.result.now) c.deref.ensures in
-    let node = flat.Assign c.in-Assign.name c.in-Assign.line c.in-Assign.value in
-    let parts = parts_of code c.args.number c.index.result.now node c.requires.there at c.in-Assign.is in
-    let m = length code.nodes.items in
-    subst (λ (d : Code). c.in-Assign.value < length d.nodes.items) (sym c.deref-in-Assign.ensures) (less c.in-Assign.value m (both_true (nat_lt c.in-Assign.name code.names) (nat_lt c.in-Assign.value m) parts).1)
-
-pub append_value-requires-clause-here : goal.append_value-requires-clause-here
-append_value-requires-clause-here g c =
-    let code = c.args.code.now.value in
-    let at = c.index.ensures ∙ ap (λ (d : Code). get_or d.statements.items c.args.number c.index.result.now) c.deref.ensures in
-    let node = flat.Append c.in-Append.name c.in-Append.line c.in-Append.value in
-    let parts = parts_of code c.args.number c.index.result.now node c.requires.there at c.in-Append.is in
-    let m = length code.nodes.items in
-    subst (λ (d : Code). c.in-Append.value < length d.nodes.items) (sym c.deref-in-Append.ensures) (less c.in-Append.value m (both_true (nat_lt c.in-Append.name code.names) (nat_lt c.in-Append.value m) parts).1)
 
 pub state-requires-clause-here : goal.state-requires-clause-here
 state-requires-clause-here g c =
@@ -114,88 +97,6 @@ begin_loop-requires-clause-second g c =
     subst (λ (h : LoopHead). IsTrue (second_within k h.second)) (sym c.loop_head-head.ensures)
     (subst (λ (x : ForeachNode). IsTrue (second_within k x.second)) (sym c.deref-node-in-Foreach.ensures) q.0)
 
-pub returns-in-Ok-clause-gives : goal.returns-in-Ok-clause-gives
-returns-in-Ok-clause-gives g c = λ few files rests table hold stacked made.
-    let code = c.args.code.now.value in
-    let at = c.index.ensures ∙ ap (λ (d : Code). get_or d.statements.items c.args.number c.index.result.now) c.deref.ensures in
-    let node = flat.Assign c.in-Assign.name c.in-Assign.line c.in-Assign.value in
-    let tree = spelled table code c.args.number c.index.result.now node c.requires.there at c.in-Assign.is in
-    let whole = ap (λ (t : StatementTree). behind_all rests (does (folder (bounds few c.args.left)) few t)) tree in
-    let parts = parts_of code c.args.number c.index.result.now node c.requires.there at c.in-Assign.is in
-    let m = length code.nodes.items in
-    let name = named made c.in-Assign.name (both_true (nat_lt c.in-Assign.name code.names) (nat_lt c.in-Assign.value m) parts).0 in
-    let same = ap (λ (n : List ℕ). next (ruled (value_of (folder (bounds few c.args.left)) (tree_at (expressions_by table code) c.in-Assign.value))) (λ (d : Data). next (own d) (λ (e : Data). next (assigned c.in-Assign.line n e) (λ _. give flows.Next)))) name.1 in
-    moves_as whole (moves_given c.args.stack.now.items rests (Ok c.in-Ok.flow) stacked (given_as same (c.in-Ok.ensures.gives name.0 files (bounds few c.args.left) (expressions_by table code) hold (reads_at c.deref-in-Assign.ensures made)).comes))
-
-pub returns-in-Err-Stops-clause-gives : goal.returns-in-Err-Stops-clause-gives
-returns-in-Err-Stops-clause-gives g c = λ few files rests table hold stacked made.
-    let code = c.args.code.now.value in
-    let at = c.index.ensures ∙ ap (λ (d : Code). get_or d.statements.items c.args.number c.index.result.now) c.deref.ensures in
-    let node = flat.Assign c.in-Assign.name c.in-Assign.line c.in-Assign.value in
-    let tree = spelled table code c.args.number c.index.result.now node c.requires.there at c.in-Assign.is in
-    let whole = ap (λ (t : StatementTree). behind_all rests (does (folder (bounds few c.args.left)) few t)) tree in
-    let parts = parts_of code c.args.number c.index.result.now node c.requires.there at c.in-Assign.is in
-    let m = length code.nodes.items in
-    let name = named made c.in-Assign.name (both_true (nat_lt c.in-Assign.name code.names) (nat_lt c.in-Assign.value m) parts).0 in
-    let same = ap (λ (n : List ℕ). next (ruled (value_of (folder (bounds few c.args.left)) (tree_at (expressions_by table code) c.in-Assign.value))) (λ (d : Data). next (own d) (λ (e : Data). next (assigned c.in-Assign.line n e) (λ _. give flows.Next)))) name.1 in
-    moves_as whole (moves_given c.args.stack.now.items rests (Err c.in-Err-Stops.stop) stacked (given_as same (halted_stops c.in-Err-Stops.field-0-is (c.in-Err-Stops.ensures.gives name.0 files (bounds few c.args.left) (expressions_by table code) hold (reads_at c.deref-in-Assign.ensures made)))))
-
-pub returns-in-Err-Enters-clause-gives : goal.returns-in-Err-Enters-clause-gives
-returns-in-Err-Enters-clause-gives g c = λ few files rests table hold stacked made.
-    let code = c.args.code.now.value in
-    let at = c.index.ensures ∙ ap (λ (d : Code). get_or d.statements.items c.args.number c.index.result.now) c.deref.ensures in
-    let node = flat.Assign c.in-Assign.name c.in-Assign.line c.in-Assign.value in
-    let tree = spelled table code c.args.number c.index.result.now node c.requires.there at c.in-Assign.is in
-    let whole = ap (λ (t : StatementTree). behind_all rests (does (folder (bounds few c.args.left)) few t)) tree in
-    let parts = parts_of code c.args.number c.index.result.now node c.requires.there at c.in-Assign.is in
-    let m = length code.nodes.items in
-    let name = named made c.in-Assign.name (both_true (nat_lt c.in-Assign.name code.names) (nat_lt c.in-Assign.value m) parts).0 in
-    let same = ap (λ (n : List ℕ). next (ruled (value_of (folder (bounds few c.args.left)) (tree_at (expressions_by table code) c.in-Assign.value))) (λ (d : Data). next (own d) (λ (e : Data). next (assigned c.in-Assign.line n e) (λ _. give flows.Next)))) name.1 in
-    let l = leads_other same (halted_enters c.in-Err-Enters.field-0-is (c.in-Err-Enters.ensures.gives name.0 files (bounds few c.args.left) (expressions_by table code) hold (reads_at c.deref-in-Assign.ensures made))) in
-    moves_as whole (moves_then c.enter_inside.result (leads_under rests l)
-    (c.enter_inside.ensures.gives few files rests l.holds (stacked_on c.args.stack.now.items rests l.continues.written.names stacked)))
-
-pub returns-in-Ok-append_value-clause-gives : goal.returns-in-Ok-append_value-clause-gives
-returns-in-Ok-append_value-clause-gives g c = λ few files rests table hold stacked made.
-    let code = c.args.code.now.value in
-    let at = c.index.ensures ∙ ap (λ (d : Code). get_or d.statements.items c.args.number c.index.result.now) c.deref.ensures in
-    let node = flat.Append c.in-Append.name c.in-Append.line c.in-Append.value in
-    let tree = spelled table code c.args.number c.index.result.now node c.requires.there at c.in-Append.is in
-    let whole = ap (λ (t : StatementTree). behind_all rests (does (folder (bounds few c.args.left)) few t)) tree in
-    let parts = parts_of code c.args.number c.index.result.now node c.requires.there at c.in-Append.is in
-    let m = length code.nodes.items in
-    let name = named made c.in-Append.name (both_true (nat_lt c.in-Append.name code.names) (nat_lt c.in-Append.value m) parts).0 in
-    let same = ap (λ (n : List ℕ). next (appended c.in-Append.line n (ruled (value_of (folder (bounds few c.args.left)) (tree_at (expressions_by table code) c.in-Append.value)))) (λ _. give flows.Next)) name.1 in
-    moves_as whole (moves_given c.args.stack.now.items rests (Ok c.in-Ok-append_value.flow) stacked (given_as same (c.in-Ok-append_value.ensures.gives name.0 files (bounds few c.args.left) (expressions_by table code) hold (reads_at c.deref-in-Append.ensures made)).comes))
-
-pub returns-in-Err-Stops-append_value-clause-gives : goal.returns-in-Err-Stops-append_value-clause-gives
-returns-in-Err-Stops-append_value-clause-gives g c = λ few files rests table hold stacked made.
-    let code = c.args.code.now.value in
-    let at = c.index.ensures ∙ ap (λ (d : Code). get_or d.statements.items c.args.number c.index.result.now) c.deref.ensures in
-    let node = flat.Append c.in-Append.name c.in-Append.line c.in-Append.value in
-    let tree = spelled table code c.args.number c.index.result.now node c.requires.there at c.in-Append.is in
-    let whole = ap (λ (t : StatementTree). behind_all rests (does (folder (bounds few c.args.left)) few t)) tree in
-    let parts = parts_of code c.args.number c.index.result.now node c.requires.there at c.in-Append.is in
-    let m = length code.nodes.items in
-    let name = named made c.in-Append.name (both_true (nat_lt c.in-Append.name code.names) (nat_lt c.in-Append.value m) parts).0 in
-    let same = ap (λ (n : List ℕ). next (appended c.in-Append.line n (ruled (value_of (folder (bounds few c.args.left)) (tree_at (expressions_by table code) c.in-Append.value)))) (λ _. give flows.Next)) name.1 in
-    moves_as whole (moves_given c.args.stack.now.items rests (Err c.in-Err-Stops-append_value.stop) stacked (given_as same (halted_stops c.in-Err-Stops-append_value.field-0-is (c.in-Err-Stops-append_value.ensures.gives name.0 files (bounds few c.args.left) (expressions_by table code) hold (reads_at c.deref-in-Append.ensures made)))))
-
-pub returns-in-Err-Enters-append_value-clause-gives : goal.returns-in-Err-Enters-append_value-clause-gives
-returns-in-Err-Enters-append_value-clause-gives g c = λ few files rests table hold stacked made.
-    let code = c.args.code.now.value in
-    let at = c.index.ensures ∙ ap (λ (d : Code). get_or d.statements.items c.args.number c.index.result.now) c.deref.ensures in
-    let node = flat.Append c.in-Append.name c.in-Append.line c.in-Append.value in
-    let tree = spelled table code c.args.number c.index.result.now node c.requires.there at c.in-Append.is in
-    let whole = ap (λ (t : StatementTree). behind_all rests (does (folder (bounds few c.args.left)) few t)) tree in
-    let parts = parts_of code c.args.number c.index.result.now node c.requires.there at c.in-Append.is in
-    let m = length code.nodes.items in
-    let name = named made c.in-Append.name (both_true (nat_lt c.in-Append.name code.names) (nat_lt c.in-Append.value m) parts).0 in
-    let same = ap (λ (n : List ℕ). next (appended c.in-Append.line n (ruled (value_of (folder (bounds few c.args.left)) (tree_at (expressions_by table code) c.in-Append.value)))) (λ _. give flows.Next)) name.1 in
-    let l = leads_other same (halted_enters c.in-Err-Enters-append_value.field-0-is (c.in-Err-Enters-append_value.ensures.gives name.0 files (bounds few c.args.left) (expressions_by table code) hold (reads_at c.deref-in-Append.ensures made))) in
-    moves_as whole (moves_then c.enter_inside-in-Err-Enters-append_value.result (leads_under rests l)
-    (c.enter_inside-in-Err-Enters-append_value.ensures.gives few files rests l.holds (stacked_on c.args.stack.now.items rests l.continues.written.names stacked)))
-
 pub returns-in-Expression-clause-gives : goal.returns-in-Expression-clause-gives
 returns-in-Expression-clause-gives g c = λ few files rests table hold stacked made.
     let code = c.args.code.now.value in
@@ -205,24 +106,6 @@ returns-in-Expression-clause-gives g c = λ few files rests table hold stacked m
     let whole = ap (λ (t : StatementTree). behind_all rests (does (folder (bounds few c.args.left)) few t)) tree in
     moves_as (ap (λ (d : Code). behind_all rests (stated (folder (bounds few c.args.left)) (tree_at (expressions_by table d) c.in-Expression.value))) c.deref-in-Expression.ensures ∙ whole)
     (c.state.ensures.gives few files rests table hold stacked (made_as (sym c.deref-in-Expression.ensures) made))
-
-pub returns-in-Break-clause-gives : goal.returns-in-Break-clause-gives
-returns-in-Break-clause-gives g c = λ few files rests table hold stacked made.
-    let code = c.args.code.now.value in
-    let at = c.index.ensures ∙ ap (λ (d : Code). get_or d.statements.items c.args.number c.index.result.now) c.deref.ensures in
-    let node = flat.Break c.in-Break.line in
-    let tree = spelled table code c.args.number c.index.result.now node c.requires.there at c.in-Break.is in
-    let whole = ap (λ (t : StatementTree). behind_all rests (does (folder (bounds few c.args.left)) few t)) tree in
-    moves_as whole (moves_given c.args.stack.now.items rests (Ok flows.Broken) stacked (given_give hold refl))
-
-pub returns-in-Continue-clause-gives : goal.returns-in-Continue-clause-gives
-returns-in-Continue-clause-gives g c = λ few files rests table hold stacked made.
-    let code = c.args.code.now.value in
-    let at = c.index.ensures ∙ ap (λ (d : Code). get_or d.statements.items c.args.number c.index.result.now) c.deref.ensures in
-    let node = flat.Continue c.in-Continue.line in
-    let tree = spelled table code c.args.number c.index.result.now node c.requires.there at c.in-Continue.is in
-    let whole = ap (λ (t : StatementTree). behind_all rests (does (folder (bounds few c.args.left)) few t)) tree in
-    moves_as whole (moves_given c.args.stack.now.items rests (Ok flows.Continued) stacked (given_give hold refl))
 
 pub returns-in-If-clause-gives : goal.returns-in-If-clause-gives
 returns-in-If-clause-gives g c = λ few files rests table hold stacked made.
@@ -256,3 +139,9 @@ returns-in-Foreach-clause-gives g c = λ few files rests table hold stacked made
     ∙ ap (λ (ns : List ℕ). behind_all rests (next (ruled (value_of (folder (bounds few c.args.left)) (tree_at (expressions_by table code) l.list)))
     (λ d. walked few l.line (one_round (bounds few c.args.left) l.line (name_at table l.first) (option_map (name_at table) l.second) (block_by table code ns)) (looped (option_map (name_at table) l.second) d)))) (ap (λ (x : StatementNode). part_of x 0) is) ∙ whole)
     (c.begin_loop.ensures.gives few files rests table hold stacked made)
+
+pub unreachable-requires : goal.unreachable-requires
+unreachable-requires g c =
+    let code = c.args.code.now.value in
+    let at = c.index.ensures ∙ ap (λ (d : Code). get_or d.statements.items c.args.number c.index.result.now) c.deref.ensures in
+    deep_only c.index.result.now (deep_as (sym (node_is code c.args.number c.index.result.now c.index.result.now c.requires.there at refl)) c.requires.deep) c.in_default.not-If c.in_default.not-Foreach c.in_default.not-Expression

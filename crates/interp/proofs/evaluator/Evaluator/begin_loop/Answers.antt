@@ -23,7 +23,7 @@ returns-in-Err-Stops-clause-gives g c = λ few files rests table hold stacked ma
 pub returns-in-Err-Enters-clause-gives : goal.returns-in-Err-Enters-clause-gives
 returns-in-Err-Enters-clause-gives g c = λ few files rests table hold stacked made.
     let l = halted_enters c.in-Err-Enters.field-0-is (c.in-Err-Enters.ensures.gives files (bounds few c.args.left) (expressions_by table c.args.code.now.value) hold (reads_at c.deref.ensures made)) in
-    moves_then c.enter_inside.result (leads_under rests (leads_left (bounds few c.args.left) c.in-Err-Enters.entry l))
+    moves_then c.enter_inside.result (leads_under rests (leads_left (bounds few c.args.left) c.in-Err-Enters.entry.value l))
     (rw c.in-Err-Enters.field-0-is at (c.enter_inside.ensures.gives few files rests l.holds (stacked_on c.args.stack.now.items rests l.continues.written.names stacked)))
 
 pub returns-in-Err-clause-gives : goal.returns-in-Err-clause-gives

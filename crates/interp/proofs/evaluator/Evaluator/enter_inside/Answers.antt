@@ -4,7 +4,8 @@ use Rattle.world.specs.Plan.{next, refuse}
 use Rattle.interp.specs.Bounds.{bounds}
 use Rattle.interp.specs.Folders.{folder}
 use Rattle.interp.specs.Frames.{Refuses, behind_all}
-use Rattle.interp.specs.Inside.{ended_all}
+use Rattle.interp.specs.Inside.{ended_all, inside}
+use Rattle.interp.specs.declared.halt.Inside.{Inside}
 use Rattle.interp.specs.declared.frames.Frame.{Frame}
 use Rattle.interp.specs.declared.frames.Frame.TheVariants as frames
 use Rattle.expressions.proofs.Evaluating.{leads_start}
@@ -28,13 +29,14 @@ returns-in_err-push-2-clause-gives g c = λ few files rests hold stacked. moves_
 
 pub returns-clause-gives : goal.returns-clause-gives
 returns-clause-gives g c = λ few files rests hold stacked.
-    let n = c.args.entry.rules in
+    let n = c.into_inner-text.result.rules in
     let fs = c.args.stack.now.items in
     let ends = stacked_ends fs rests n stacked in
     let end : c.loop-rule._rule ≡ n = omega (arith, c.loop-rule-test.false, c.loop-rule.auto._rule-end) in
     let all = c.loop-rule.invariant.pushed ∙ ap (over_ends fs) end in
-    let top = stacked_top (over_ends fs n) c.push-2.new.self.items (under_ends rests n) (frames.Refuses c.args.entry.line) (Refuses c.args.entry.line)
-    (c.in_ok-push-2.ensures.items ∙ ap (λ (gs : List Frame). gs ++ frames.Refuses c.args.entry.line ∷ []) all) ends refl in
-    moves_as (behind_top (under_ends rests n) (Refuses c.args.entry.line) _ ∙ behind_ends rests n _
-    ∙ ap (λ (t : List ℕ). behind_all rests (ended_all n (next (folder (bounds few c.args.left) t) (λ _. refuse c.args.entry.line refusals.Type [])))) c.deref.ensures)
-    (c.enter.ensures.gives few files (under_ends rests n ++ Refuses c.args.entry.line ∷ []) hold top)
+    let top = stacked_top (over_ends fs n) c.push-2.new.self.items (under_ends rests n) (frames.Refuses c.into_inner-text.result.line) (Refuses c.into_inner-text.result.line)
+    (c.in_ok-push-2.ensures.items ∙ ap (λ (gs : List Frame). gs ++ frames.Refuses c.into_inner-text.result.line ∷ []) all) ends refl in
+    moves_as (behind_top (under_ends rests n) (Refuses c.into_inner-text.result.line) _ ∙ behind_ends rests n _
+    ∙ ap (λ (t : List ℕ). behind_all rests (ended_all n (next (folder (bounds few c.args.left) t) (λ _. refuse c.into_inner-text.result.line refusals.Type [])))) c.deref.ensures
+    ∙ ap (λ (e : Inside). behind_all rests (inside (bounds few c.args.left) e)) c.into_inner-text.ensures)
+    (c.enter.ensures.gives few files (under_ends rests n ++ Refuses c.into_inner-text.result.line ∷ []) hold top)

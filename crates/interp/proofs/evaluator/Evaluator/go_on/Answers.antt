@@ -12,7 +12,7 @@ use Rattle.interp.proofs.evaluator.Evaluator.go_on.Goals as goal
 pub returns-in-Next-clause-gives : goal.returns-in-Next-clause-gives
 returns-in-Next-clause-gives g c = λ few files rests table hold stacked made.
     moves_as (ap (λ (f : Flow). behind_all rests (on_next f (do_all (folder (bounds few c.args.rest.left)) few (others_by table c.args.rest)))) (sym c.in-Next.is))
-    (c.next_statement.ensures.gives few files rests table hold stacked made)
+    (c.next_statements.ensures.gives few files rests table hold stacked made)
 
 pub returns-in-Continued-clause-gives : goal.returns-in-Continued-clause-gives
 returns-in-Continued-clause-gives g c = λ few files rests table hold stacked made.

@@ -11,12 +11,12 @@ use Rattle.interp.proofs.evaluator.Evaluator.go_round.Goals as goal
 pub returns-in-Next-clause-gives : goal.returns-in-Next-clause-gives
 returns-in-Next-clause-gives g c = λ few files rests table hold stacked made.
     moves_as (ap (λ (f : Flow). behind_all rests (after_round f (rounds_of (round_by table c.args.rest.code.value (bounds few c.args.rest.left) c.args.rest.head) (rounds_left c.args.rest)))) (sym c.in-Next.is))
-    (c.next_round.ensures.gives few files rests table hold stacked made)
+    (c.next_rounds.ensures.gives few files rests table hold stacked made)
 
 pub returns-in-Continued-clause-gives : goal.returns-in-Continued-clause-gives
 returns-in-Continued-clause-gives g c = λ few files rests table hold stacked made.
     moves_as (ap (λ (f : Flow). behind_all rests (after_round f (rounds_of (round_by table c.args.rest.code.value (bounds few c.args.rest.left) c.args.rest.head) (rounds_left c.args.rest)))) (sym c.in-Continued.is))
-    (c.next_round-in-Continued.ensures.gives few files rests table hold stacked made)
+    (c.next_rounds-in-Continued.ensures.gives few files rests table hold stacked made)
 
 pub returns-in-Broken-clause-gives : goal.returns-in-Broken-clause-gives
 returns-in-Broken-clause-gives g c = λ few files rests table hold stacked made.

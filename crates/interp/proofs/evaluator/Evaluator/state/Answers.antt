@@ -79,7 +79,7 @@ returns-in-Err-Enters-clause-gives g c = λ few files rests table hold stacked m
     ∙ ap (λ (x : CallNode). done (string_bytes x.name) x.arguments.items) c.deref-call.ensures in
     let whole = behind_top rests End (next (done (string_bytes c.in-Call.call.value.name) c.in-Call.call.value.arguments.items) (λ w. by_way into w)) ∙ ap (λ (t : ExpressionTree). behind_all rests (stated into t)) (sym tree) in
     let l = leads_other same (halted_enters c.in-Err-Enters.field-0-is (c.in-Err-Enters.ensures.gives files (bounds few c.args.left) ts hold (reads_at refl made))) in
-    moves_as whole (moves_then c.enter_inside.result (leads_under (rests ++ End ∷ []) (leads_left (bounds few c.args.left) c.in-Err-Enters.entry {others = λ w. by_way into w} l))
+    moves_as whole (moves_then c.enter_inside.result (leads_under (rests ++ End ∷ []) (leads_left (bounds few c.args.left) c.in-Err-Enters.entry.value {others = λ w. by_way into w} l))
     (c.enter_inside.ensures.gives few files (rests ++ End ∷ []) l.holds (stacked_on gs (rests ++ End ∷ []) l.continues.written.names two)))
 
 pub returns-in-Ok-alone-clause-gives : goal.returns-in-Ok-alone-clause-gives
@@ -101,5 +101,5 @@ returns-in-Err-Enters-alone-clause-gives g c = λ few files rests table hold sta
     let ts = expressions_by table c.args.code.now in
     let whole = ap (behind_all rests) (stated_at (folder (bounds few c.args.left)) table c.args.code.now c.args.value c.index.result.now c.requires.here c.index.ensures c.in_default.not-Call) in
     let l = halted_enters c.in-Err-Enters-alone.field-0-is (c.in-Err-Enters-alone.ensures.gives files (bounds few c.args.left) ts hold (reads_at refl made)) in
-    moves_as whole (moves_then c.enter_inside-in-Err-Enters-alone.result (leads_under rests (leads_left (bounds few c.args.left) c.in-Err-Enters-alone.entry l))
+    moves_as whole (moves_then c.enter_inside-in-Err-Enters-alone.result (leads_under rests (leads_left (bounds few c.args.left) c.in-Err-Enters-alone.entry.value l))
     (c.enter_inside-in-Err-Enters-alone.ensures.gives few files rests l.holds (stacked_on c.args.stack.now.items rests l.continues.written.names stacked)))

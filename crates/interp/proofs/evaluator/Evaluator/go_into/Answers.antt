@@ -1,0 +1,56 @@
+use Rattle.std.proofs.Common.{Ok, sym, ap, refl}
+use Rattle.code.specs.Statements.{statement_at}
+use Rattle.interp.specs.Bounds.{bounds}
+use Rattle.expressions.specs.Codes.{statements_by}
+use Rattle.interp.specs.Folders.{folder}
+use Rattle.interp.specs.Frames.{behind_all, parts_by, walk_left}
+use Rattle.interp.specs.Inside.{inside}
+use Rattle.interp.specs.Statements.{does}
+use Rattle.interp.specs.declared.walking.Walk.{Walk}
+use Rattle.interp.specs.declared.frames.Frame.TheVariants as frames
+use Rattle.expressions.proofs.Evaluating.{given_give, leads_start}
+use Rattle.interp.proofs.Doing.{begins_deep, memory_is}
+use Rattle.interp.proofs.Stack.{moves_as, moves_given, moves_none, moves_statement}
+use Rattle.interp.proofs.evaluator.Evaluator.go_into.Goals as goal
+
+pub returns-in-Ends-clause-gives : goal.returns-in-Ends-clause-gives
+returns-in-Ends-clause-gives g c = λ few files rests table hold stacked made.
+    let left = bounds few c.args.left in
+    moves_as (ap (λ (w : Walk). behind_all rests (walk_left (parts_by table c.args.code.value left c.args.block) left w)) (sym c.in-Ends.is))
+    (moves_given c.args.stack.now.items rests (Ok c.in-Ends.flow) stacked (given_give hold refl))
+
+pub begin-requires-clause-there : goal.begin-requires-clause-there
+begin-requires-clause-there g c = (begins_deep c.args.code.value c.args.walk c.in-Begins.number c.in-Begins.at c.in-Begins.is c.requires.deep).0
+
+pub begin-requires-clause-deep : goal.begin-requires-clause-deep
+begin-requires-clause-deep g c = (begins_deep c.args.code.value c.args.walk c.in-Begins.number c.in-Begins.at c.in-Begins.is c.requires.deep).1
+
+pub returns-in_err-clone-in-Begins-clause-gives : goal.returns-in_err-clone-in-Begins-clause-gives
+returns-in_err-clone-in-Begins-clause-gives g c = λ few files rests table hold stacked made.
+    moves_none c.from_residual.result c.args.stack.now.items (leads_start hold) c.from_residual.ensures.1
+
+pub returns-in_err-lay-in-Begins-clause-gives : goal.returns-in_err-lay-in-Begins-clause-gives
+returns-in_err-lay-in-Begins-clause-gives g c = λ few files rests table hold stacked made.
+    moves_none c.from_residual-in_err-lay-in-Begins.result c.lay.new.stack.items (leads_start hold) (memory_is c.from_residual-in_err-lay-in-Begins.result c.in_err-lay-in-Begins.ensures.lays c.from_residual-in_err-lay-in-Begins.ensures.1)
+
+pub returns-in_ok-lay-in-Begins-clause-gives : goal.returns-in_ok-lay-in-Begins-clause-gives
+returns-in_ok-lay-in-Begins-clause-gives g c = λ few files rests table hold stacked made.
+    let left = bounds few c.args.left in
+    let fs = c.args.stack.now.items in
+    moves_as (ap (λ (w : Walk). behind_all rests (walk_left (parts_by table c.args.code.value left c.args.block) left w)) (sym c.in-Begins.is))
+    (moves_statement few fs _ c.lay.new.stack.items rests _ (does (folder left) few (statement_at (statements_by table c.args.code.value) c.in-Begins.number)) table
+    c.in_ok-clone-in-Begins.ensures.cases refl c.in_ok-lay-in-Begins.ensures.lays stacked made
+    (λ rs s. c.begin.ensures.gives few files rs table hold s made))
+
+pub returns-in_err-lay-in-Enters-clause-gives : goal.returns-in_err-lay-in-Enters-clause-gives
+returns-in_err-lay-in-Enters-clause-gives g c = λ few files rests table hold stacked made.
+    moves_none c.from_residual-in_err-lay-in-Enters.result c.lay-in-Enters.new.stack.items (leads_start hold) (memory_is c.from_residual-in_err-lay-in-Enters.result c.in_err-lay-in-Enters.ensures.lays c.from_residual-in_err-lay-in-Enters.ensures.1)
+
+pub returns-in_ok-lay-in-Enters-clause-gives : goal.returns-in_ok-lay-in-Enters-clause-gives
+returns-in_ok-lay-in-Enters-clause-gives g c = λ few files rests table hold stacked made.
+    let left = bounds few c.args.left in
+    let fs = c.args.stack.now.items in
+    moves_as (ap (λ (w : Walk). behind_all rests (walk_left (parts_by table c.args.code.value left c.args.block) left w)) (sym c.in-Enters.is))
+    (moves_statement few fs _ c.lay-in-Enters.new.stack.items rests _ (inside left c.in-Enters.entry.value) table
+    refl refl c.in_ok-lay-in-Enters.ensures.lays stacked made
+    (λ rs s. c.enter_inside.ensures.gives few files rs hold s))

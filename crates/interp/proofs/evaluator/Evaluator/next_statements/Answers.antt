@@ -1,0 +1,34 @@
+use Rattle.std.proofs.Common.{ℕ, List, drop, Ok, Err, sym, ap, refl, ◌∙◌}
+use Rattle.code.specs.declared.code.Code.{Code}
+use Rattle.interp.specs.Bounds.{bounds}
+use Rattle.expressions.specs.Codes.{block_by}
+use Rattle.interp.specs.Blocks.{statements_of}
+use Rattle.interp.specs.Folders.{folder}
+use Rattle.interp.specs.Frames.{behind_all, parts_by, walk_left}
+use Rattle.interp.specs.Statements.{do_all}
+use Rattle.expressions.proofs.Evaluating.{leads_as}
+use Rattle.interp.proofs.Doing.{begins_of}
+use Rattle.interp.proofs.Stack.{leads_under, made_as, made_on, moves_as, moves_given, moves_then, stacked_on}
+use Rattle.interp.proofs.evaluator.Evaluator.next_statements.Goals as goal
+
+pub go_into-requires-clause-deep : goal.go_into-requires-clause-deep
+go_into-requires-clause-deep g c = begins_of c.in-Ok.walk c.deref.ensures c.in-Ok.ensures.deep
+
+pub returns-in-Ok-clause-gives : goal.returns-in-Ok-clause-gives
+returns-in-Ok-clause-gives g c = λ few files rests table hold stacked made.
+    let rest = c.args.rest in
+    let left = bounds few rest.left in
+    let whole = ap (λ (d : Code). behind_all rests (do_all (folder left) few (block_by table d (drop rest.at (statements_of d rest.block))))) c.deref.ensures in
+    let w = c.in-Ok.ensures.gives files left table hold (made_as (sym c.deref.ensures) made) in
+    let l = leads_as (ap (λ (d : Code). walk_left (parts_by table d left rest.block) left c.in-Ok.walk) c.deref.ensures) w.rested in
+    let names = l.continues.written.names in
+    moves_as whole (moves_then c.go_into.result (leads_under rests l)
+    (c.go_into.ensures.gives few files rests table l.holds (stacked_on c.args.stack.now.items rests names stacked) (made_on names made)))
+
+pub returns-in-Err-clause-gives : goal.returns-in-Err-clause-gives
+returns-in-Err-clause-gives g c = λ few files rests table hold stacked made.
+    let rest = c.args.rest in
+    let left = bounds few rest.left in
+    let whole = ap (λ (d : Code). behind_all rests (do_all (folder left) few (block_by table d (drop rest.at (statements_of d rest.block))))) c.deref.ensures in
+    let w = c.in-Err.ensures.gives files left table hold (made_as (sym c.deref.ensures) made) in
+    moves_as whole (moves_given c.args.stack.now.items rests (Err c.in-Err.stop) stacked w.rested)

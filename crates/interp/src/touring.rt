@@ -1,0 +1,84 @@
+//! Rounds of a loop that are done where they stand.
+ghost use Rattle.std.specs.Prelude.{◌≤◌, IsTrue, drop, length, nat_lt};
+ghost use Rattle.code.specs.Statements.{second_within};
+ghost use Rattle.data.specs.View.{data_of};
+ghost use Rattle.expressions.specs.Rounds.{round_data, rounds_in};
+ghost use Rattle.interp.specs.Blocks.{BeginsDeep, ToursDeep};
+ghost use Rattle.interp.specs.Frames.{Tours, Walks, round_by};
+ghost use Rattle.interp.specs.Statements.{rounds_of};
+
+use crate::evaluator::Evaluator;
+use crate::flow::Flow;
+use crate::frames::LoopHead;
+use crate::walking::Walk;
+use code::Code;
+use data::Value;
+use expressions::{Round, round_at};
+use ports::{Outputs, Tree};
+use std::sync::ledger::Ledger;
+use world::{Stop, ended};
+
+/// How far the rounds of a loop were done.
+#[derive(Drop)]
+pub enum Tour {
+    /// To their end, or until one of them left the loop.
+    Ends(Flow),
+    /// As far as a round was done, which goes on so, and then other rounds follow from one on.
+    Stands { walk: Walk, at: usize },
+}
+
+impl<'a, T: Tree, O: Outputs, L: Ledger> Evaluator<'a, T, O, L> {
+    ghost use Rattle.expressions.specs.Contexts.{Fails, HasRoom, Same};
+
+    /// Does the rounds of a loop over a value from one on, as far as they need no stack.
+    pub fn tour(
+        &mut self,
+        code: &Code,
+        head: &LoopHead,
+        whole: &Value,
+        from: usize,
+    ) -> Result<Tour, Stop>
+        requires first { IsTrue (nat_lt head.now.first code.now.names) }
+        requires second { IsTrue (second_within code.now.names head.now.second) }
+        requires few { length (rounds_in (data_of whole.now)) ≤ 65536 }
+        requires room { HasRoom T.seen O.seen self.old.context }
+        ensures same { Same self.old.context self.new.context }
+        ensures device { Fails T.seen O.seen self.old.context result self.new.context }
+        ensures deep { ToursDeep code.now result }
+        ensures gives { Tours T.seen O.seen head.now (rounds_in (data_of whole.now)) from code.now
+            self.old.context result self.new.context }
+    {
+        for at in from..65_536 {
+            let Some(round) = round_at(whole, at)? else {
+                return Ok(Tour::Ends(Flow::Next));
+            };
+            match self.walk_round(code, head, round) {
+                Ok(Walk::Ends(flow)) => {
+                    self.context.steps.tick();
+                    if !flow.goes_round() {
+                        return Ok(Tour::Ends(flow.behind_loop()));
+                    }
+                }
+                Ok(walk) => return Ok(Tour::Stands { walk, at: at + 1 }),
+                Err(stop) => return ended(Err(stop), self.context.steps),
+            }
+        }
+        Ok(Tour::Ends(Flow::Next))
+    }
+
+    // A round: its variables take their values, and then its statements are done.
+    fn walk_round(&mut self, code: &Code, head: &LoopHead, round: Round) -> Result<Walk, Stop>
+        requires first { IsTrue (nat_lt head.now.first code.now.names) }
+        requires second { IsTrue (second_within code.now.names head.now.second) }
+        requires room { HasRoom T.seen O.seen self.old.context }
+        ensures same { Same self.old.context self.new.context }
+        ensures device { Fails T.seen O.seen self.old.context result self.new.context }
+        ensures deep { BeginsDeep code.now result }
+        ensures gives { Walks T.seen O.seen (λ table left. round_by table code.now left head.now (round_data round)) head.now.body code.now
+            self.old.context result self.new.context }
+    {
+        self.context
+            .bind(head.line, head.first, head.second, round)?;
+        self.walk(code, head.body, 0)
+    }
+}
