@@ -5,7 +5,7 @@ use Rattle.serde_json.specs.Data.{Members}
 use Rattle.targets.specs.Data.{OptionData, text, boolean, integer, texts, OptionEntryData, TargetData, Build, Custom}
 use Rattle.targets.specs.Files.{file_path, output_paths}
 use Rattle.project.specs.World.{WorldData, AnswerData, InstallData, TestData}
-use Rattle.introspection.specs.Document.{option_value, option_entry, type_name, dependency_entry, with_installed, definition_file, kind_name, target_entry, test_entry, document_of}
+use Rattle.introspection.specs.Document.{option_value, option_entry, type_name, build_options, dependency_entry, dependencies, with_installed, installed_files, project_info, definition_file, kind_name, target_entry, test_entry, tests, document_of}
 use Rattle.introspection.proofs.Shape.{IsPlain, ArePlain, none, nothing, next, plain_string, plain_boolean, plain_integer, plain_list, plain_strings, plain_object, plain_put, plain_fields}
 
 plain_option_value : (o : OptionData) → IsPlain 1 (option_value o)
@@ -54,16 +54,31 @@ plain_test t =
     (next (codes "suite") (plain_strings t.suites)
     (next (codes "timeout") (plain_integer t.timeout) nothing))))))
 
+pub plain_options : (w : WorldData) → IsPlain 3 (build_options w)
+plain_options w = plain_list option_entry w.surroundings.facts.options plain_option
+
+pub plain_dependencies : (w : WorldData) → IsPlain 3 (dependencies w)
+plain_dependencies w = plain_list dependency_entry w.dependencies plain_dependency
+
+pub plain_installed : (w : WorldData) → IsPlain 3 (installed_files w)
+plain_installed w = plain_object (plain_installs w.installs none)
+
+pub plain_info : (w : WorldData) → IsPlain 3 (project_info w)
+plain_info w =
+    let f = w.surroundings.facts in
+    plain_fields (next (codes "license") (plain_strings f.license) (next (codes "name") (plain_string f.name) (next (codes "version") (plain_string f.version) nothing)))
+
+pub plain_tests : (w : WorldData) → IsPlain 3 (tests w)
+plain_tests w = plain_list test_entry w.tests plain_test
+
 pub plain_document : (w : WorldData) → IsPlain 4 (document_of w)
 unfolding document_of
 plain_document w =
-    let f = w.surroundings.facts in
     plain_fields
-    (next (codes "buildoptions") (plain_list option_entry f.options plain_option)
+    (next (codes "buildoptions") (plain_options w)
     (next (codes "buildsystem_files") (plain_fields (next (codes "absent") (plain_strings w.absent) (next (codes "present") (plain_strings w.present) nothing)))
-    (next (codes "dependencies") (plain_list dependency_entry w.dependencies plain_dependency)
-    (next (codes "installed") (plain_object (plain_installs w.installs none))
-    (next (codes "projectinfo")
-    (plain_fields (next (codes "license") (plain_strings f.license) (next (codes "name") (plain_string f.name) (next (codes "version") (plain_string f.version) nothing))))
+    (next (codes "dependencies") (plain_dependencies w)
+    (next (codes "installed") (plain_installed w)
+    (next (codes "projectinfo") (plain_info w)
     (next (codes "targets") (plain_list target_entry w.targets plain_target)
-    (next (codes "tests") (plain_list test_entry w.tests plain_test) nothing)))))))
+    (next (codes "tests") (plain_tests w) nothing)))))))

@@ -3,3 +3,4 @@ pub mod Fields
 pub mod MembersView
 pub mod Questions
 pub mod QuestionsView
+pub mod Pieces

@@ -1,13 +1,16 @@
 //! The document, part by part.
-ghost use Rattle.std.specs.Prelude.{◌≡◌, IfOk, map, fold, string_bytes, Some};
-ghost use Rattle.serde_json.specs.Data.{object, no_members};
-ghost use Rattle.serde_json.specs.Read.{read};
+ghost use Rattle.std.specs.Prelude.{◌≡◌, ◌≤◌, ◌++◌, IfOk, map, false, fold, string_bytes, Some};
+ghost use Rattle.serde_json.specs.Data.{depth, object, no_members};
+ghost use Rattle.serde_json.specs.Read.{max_depth, read};
 ghost use Rattle.serde_json.specs.View.{view};
+ghost use Rattle.serde_json.specs.Written.{compact_text, has_float};
 ghost use Rattle.project.specs.View.{install_view};
-ghost use Rattle.introspection.specs.Document.{build_options, dependencies, document_of, document_text, files_read, installed_files};
+ghost use Rattle.introspection.specs.Document.{build_options, dependencies, document_of, document_text, installed_files};
 ghost use Rattle.introspection.specs.Document.{project_info, targets, tests, with_installed};
+ghost use Rattle.introspection.specs.Pieces.{files_text, whole_text, PartsRead, Reads};
 
 use crate::shown::{Shown, list_of, object_of, strings};
+use crate::writing::{push_list, push_strings};
 use project::{Install, Project};
 use serde_json::{Map, Value, put};
 use std::alloc::{AllocError, Global};
@@ -16,17 +19,6 @@ fn build_options(alloc: Global, project: &Project) -> Result<Value, AllocError>
     ensures { IfOk result (λ v. view v ≡ build_options project.now) }
 {
     list_of(alloc, &project.facts().options)
-}
-
-fn files_read(alloc: Global, project: &Project) -> Result<Value, AllocError>
-    ensures { IfOk result (λ v. view v ≡ files_read project.now) }
-{
-    let absent = strings(alloc, project.absent())?;
-    let present = strings(alloc, project.present())?;
-    object_of(
-        alloc,
-        vec![in alloc; ("absent", absent), ("present", present)]?,
-    )
 }
 
 fn dependencies(alloc: Global, project: &Project) -> Result<Value, AllocError>
@@ -68,42 +60,101 @@ fn project_info(alloc: Global, project: &Project) -> Result<Value, AllocError>
     )
 }
 
-fn targets(alloc: Global, project: &Project) -> Result<Value, AllocError>
-    ensures { IfOk result (λ v. view v ≡ targets project.now) }
-{
-    list_of(alloc, project.targets())
-}
-
 fn tests(alloc: Global, project: &Project) -> Result<Value, AllocError>
     ensures { IfOk result (λ v. view v ≡ tests project.now) }
 {
     list_of(alloc, project.tests())
 }
 
-/// The introspection document of the project.
-#[tactic(auto, unfolding(crate::specs::Document::document_of))]
-pub fn introspect(alloc: Global, project: &Project) -> Result<Value, AllocError>
-    ensures { IfOk result (λ v. view v ≡ document_of project.now) }
+// ---- the text
+
+// Appends a value that is read from its own text.
+fn push_value(text: &mut String, alloc: Global, value: &Value) -> Result<(), AllocError>
+    ensures text { IfOk result (λ _. has_float (view value.now) ≡ false
+        → string_bytes text.new ≡ string_bytes text.old ++ compact_text (view value.now)) }
+    ensures reads { IfOk result (λ _. has_float (view value.now) ≡ false → depth (view value.now) ≤ max_depth
+        → Reads (view value.now)) }
+{
+    let written = value.to_string(alloc)?;
+    text.push_str(&written)
+}
+
+fn push_options(text: &mut String, alloc: Global, project: &Project) -> Result<(), AllocError>
+    ensures text { IfOk result (λ _. string_bytes text.new ≡ string_bytes text.old ++ compact_text (build_options project.now)) }
+    ensures reads { IfOk result (λ _. Reads (build_options project.now)) }
 {
     let options = build_options(alloc, project)?;
-    let files = files_read(alloc, project)?;
+    push_value(text, alloc, &options)
+}
+
+fn push_files(text: &mut String, alloc: Global, project: &Project) -> Result<(), AllocError>
+    ensures { IfOk result (λ _. string_bytes text.new ≡ string_bytes text.old ++ files_text project.now) }
+{
+    text.push_str("{\"absent\":")?;
+    push_strings(text, alloc, project.absent())?;
+    text.push_str(",\"present\":")?;
+    push_strings(text, alloc, project.present())?;
+    text.push_str("}")
+}
+
+fn push_dependencies(text: &mut String, alloc: Global, project: &Project) -> Result<(), AllocError>
+    ensures text { IfOk result (λ _. string_bytes text.new ≡ string_bytes text.old ++ compact_text (dependencies project.now)) }
+    ensures reads { IfOk result (λ _. Reads (dependencies project.now)) }
+{
     let dependencies = dependencies(alloc, project)?;
+    push_value(text, alloc, &dependencies)
+}
+
+fn push_installed(text: &mut String, alloc: Global, project: &Project) -> Result<(), AllocError>
+    ensures text { IfOk result (λ _. string_bytes text.new ≡ string_bytes text.old ++ compact_text (installed_files project.now)) }
+    ensures reads { IfOk result (λ _. Reads (installed_files project.now)) }
+{
     let installed = installed_files(alloc, project)?;
+    push_value(text, alloc, &installed)
+}
+
+fn push_info(text: &mut String, alloc: Global, project: &Project) -> Result<(), AllocError>
+    ensures text { IfOk result (λ _. string_bytes text.new ≡ string_bytes text.old ++ compact_text (project_info project.now)) }
+    ensures reads { IfOk result (λ _. Reads (project_info project.now)) }
+{
     let info = project_info(alloc, project)?;
-    let targets = targets(alloc, project)?;
+    push_value(text, alloc, &info)
+}
+
+fn push_targets(text: &mut String, alloc: Global, project: &Project) -> Result<(), AllocError>
+    ensures { IfOk result (λ _. string_bytes text.new ≡ string_bytes text.old ++ compact_text (targets project.now)) }
+{
+    push_list(text, alloc, project.targets())
+}
+
+fn push_tests(text: &mut String, alloc: Global, project: &Project) -> Result<(), AllocError>
+    ensures text { IfOk result (λ _. string_bytes text.new ≡ string_bytes text.old ++ compact_text (tests project.now)) }
+    ensures reads { IfOk result (λ _. Reads (tests project.now)) }
+{
     let tests = tests(alloc, project)?;
-    object_of(
-        alloc,
-        vec![in alloc;
-            ("buildoptions", options),
-            ("buildsystem_files", files),
-            ("dependencies", dependencies),
-            ("installed", installed),
-            ("projectinfo", info),
-            ("targets", targets),
-            ("tests", tests),
-        ]?,
-    )
+    push_value(text, alloc, &tests)
+}
+
+fn whole_text(alloc: Global, project: &Project) -> Result<String, AllocError>
+    ensures text { IfOk result (λ s. string_bytes s ≡ whole_text project.now) }
+    ensures reads { IfOk result (λ _. PartsRead project.now) }
+{
+    let mut text = String::from_str(alloc, "{\"buildoptions\":")?;
+    push_options(&mut text, alloc, project)?;
+    text.push_str(",\"buildsystem_files\":")?;
+    push_files(&mut text, alloc, project)?;
+    text.push_str(",\"dependencies\":")?;
+    push_dependencies(&mut text, alloc, project)?;
+    text.push_str(",\"installed\":")?;
+    push_installed(&mut text, alloc, project)?;
+    text.push_str(",\"projectinfo\":")?;
+    push_info(&mut text, alloc, project)?;
+    text.push_str(",\"targets\":")?;
+    push_targets(&mut text, alloc, project)?;
+    text.push_str(",\"tests\":")?;
+    push_tests(&mut text, alloc, project)?;
+    text.push_str("}")?;
+    Ok(text)
 }
 
 /// The text of the introspection document, with no space between its parts. A reader of JSON reads it as the document.
@@ -111,6 +162,5 @@ pub fn document_text(alloc: Global, project: &Project) -> Result<String, AllocEr
     ensures text { IfOk result (λ s. string_bytes s ≡ document_text project.now) }
     ensures reads_back { IfOk result (λ s. read (string_bytes s) ≡ Some (document_of project.now)) }
 {
-    let document = introspect(alloc, project)?;
-    document.to_string(alloc)
+    whole_text(alloc, project)
 }

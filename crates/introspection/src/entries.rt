@@ -1,12 +1,16 @@
 //! What each part of the document shows of one option, dependency, target or test.
-ghost use Rattle.std.specs.Prelude.{◌≡◌, IfOk, string_bytes};
+ghost use Rattle.std.specs.Prelude.{◌≡◌, ◌++◌, IfOk, string_bytes};
+ghost use Rattle.edge.specs.Texts.{texts};
 ghost use Rattle.serde_json.specs.View.{view};
+ghost use Rattle.serde_json.specs.Written.{compact_text};
 ghost use Rattle.targets.specs.View.{build_view, custom_view, option_entry_view, option_view, target_view};
 ghost use Rattle.project.specs.View.{answer_view, test_view};
 ghost use Rattle.introspection.specs.Document.{build_entry, custom_entry, definition_file, dependency_entry};
+ghost use Rattle.introspection.specs.Pieces.{entry_text};
 ghost use Rattle.introspection.specs.Document.{kind_name, option_entry, option_value, target_entry, test_entry, type_name};
 
 use crate::shown::{Shown, object_of, strings};
+use crate::writing::{Written, push_string, push_strings, truth_text};
 use project::{Answer, Test};
 use serde_json::Value;
 use std::alloc::{AllocError, Global};
@@ -108,50 +112,75 @@ fn definition_file(alloc: Global, folder: &str) -> Result<String, AllocError>
     path_in(alloc, folder, "meson.build")
 }
 
-fn build_entry(alloc: Global, target: &BuildTarget) -> Result<Value, AllocError>
-    ensures { IfOk result (λ v. view v ≡ build_entry (build_view target.now)) }
-{
-    let defined_in = definition_file(alloc, &target.folder)?;
-    let files = strings(alloc, &[file_path(alloc, target)?])?;
-    object_of(
-        alloc,
-        vec![in alloc;
-            ("build_by_default", Value::from(target.is_default)),
-            ("defined_in", Value::from(defined_in)),
-            ("filename", files),
-            ("installed", Value::from(target.is_installed)),
-            ("name", target.name.value(alloc)?),
-            ("type", Value::try_from_str(alloc, kind_name(target.kind))?),
-        ]?,
-    )
+// What both kinds of target show.
+#[derive(Clone, Copy)]
+struct Entry<'a> {
+    is_default: bool,
+    folder: &'a str,
+    files: &'a [String],
+    is_installed: bool,
+    name: &'a str,
+    kind: &'a str,
 }
 
-fn custom_entry(alloc: Global, target: &CustomTarget) -> Result<Value, AllocError>
-    ensures { IfOk result (λ v. view v ≡ custom_entry (custom_view target.now)) }
+fn push_entry(text: &mut String, alloc: Global, entry: &Entry) -> Result<(), AllocError>
+    ensures { let e = entry.now in
+        let all = entry_text e.is_default e.folder.now (texts e.files.now) e.is_installed e.name.now e.kind.now in
+        IfOk result (λ _. string_bytes text.new ≡ string_bytes text.old ++ all) }
 {
-    let defined_in = definition_file(alloc, &target.folder)?;
-    let outputs = output_paths(alloc, target)?;
-    let files = strings(alloc, &outputs)?;
-    object_of(
-        alloc,
-        vec![in alloc;
-            ("build_by_default", Value::from(target.is_default)),
-            ("defined_in", Value::from(defined_in)),
-            ("filename", files),
-            ("installed", Value::from(target.is_installed)),
-            ("name", target.name.value(alloc)?),
-            ("type", Value::try_from_str(alloc, "custom")?),
-        ]?,
-    )
+    let defined_in = definition_file(alloc, entry.folder)?;
+    text.push_str("{\"build_by_default\":")?;
+    text.push_str(truth_text(entry.is_default))?;
+    text.push_str(",\"defined_in\":")?;
+    push_string(text, alloc, &defined_in)?;
+    text.push_str(",\"filename\":")?;
+    push_strings(text, alloc, entry.files)?;
+    text.push_str(",\"installed\":")?;
+    text.push_str(truth_text(entry.is_installed))?;
+    text.push_str(",\"name\":")?;
+    push_string(text, alloc, entry.name)?;
+    text.push_str(",\"type\":")?;
+    push_string(text, alloc, entry.kind)?;
+    text.push_str("}")
 }
 
-impl Shown for Linked {
-    ghost shown = { λ l. target_entry (target_view l.target) };
+fn push_build(text: &mut String, alloc: Global, target: &BuildTarget) -> Result<(), AllocError>
+    ensures { IfOk result (λ _. string_bytes text.new ≡ string_bytes text.old ++ compact_text (build_entry (build_view target.now))) }
+{
+    let files = [file_path(alloc, target)?];
+    let entry = Entry {
+        is_default: target.is_default,
+        folder: &target.folder,
+        files: &files,
+        is_installed: target.is_installed,
+        name: &target.name,
+        kind: kind_name(target.kind),
+    };
+    push_entry(text, alloc, &entry)
+}
 
-    fn value(&self, alloc: Global) -> Result<Value, AllocError> {
+fn push_custom(text: &mut String, alloc: Global, target: &CustomTarget) -> Result<(), AllocError>
+    ensures { IfOk result (λ _. string_bytes text.new ≡ string_bytes text.old ++ compact_text (custom_entry (custom_view target.now))) }
+{
+    let files = output_paths(alloc, target)?;
+    let entry = Entry {
+        is_default: target.is_default,
+        folder: &target.folder,
+        files: &files,
+        is_installed: target.is_installed,
+        name: &target.name,
+        kind: "custom",
+    };
+    push_entry(text, alloc, &entry)
+}
+
+impl Written for Linked {
+    ghost written = { λ l. target_entry (target_view l.target) };
+
+    fn push(&self, text: &mut String, alloc: Global) -> Result<(), AllocError> {
         match &self.target {
-            Target::Build(target) => build_entry(alloc, target),
-            Target::Custom(target) => custom_entry(alloc, target),
+            Target::Build(target) => push_build(text, alloc, target),
+            Target::Custom(target) => push_custom(text, alloc, target),
         }
     }
 }

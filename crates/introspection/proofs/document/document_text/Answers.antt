@@ -1,8 +1,11 @@
-use Rattle.introspection.proofs.Text.{text_is, text_reads}
+use Rattle.std.proofs.Common.{◌∙◌}
+use Rattle.std.proofs.lemmas.Result.{IfOk-weaker}
+use Rattle.introspection.proofs.Pieces.{whole_is}
+use Rattle.introspection.proofs.ReadBack.{whole_reads}
 use Rattle.introspection.proofs.document.document_text.Goals as goal
 
 pub returns-clause-text : goal.returns-clause-text
-returns-clause-text c = text_is c.args.project.now c.in_ok-document.document c.to_string.result c.in_ok-document.ensures c.to_string.ensures.text
+returns-clause-text c = IfOk-weaker c.whole_text.result _ _ (λ s is. is ∙ whole_is c.args.project.now) c.whole_text.ensures.text
 
 pub returns-clause-reads_back : goal.returns-clause-reads_back
-returns-clause-reads_back c = text_reads c.args.project.now c.in_ok-document.document c.to_string.result c.in_ok-document.ensures c.to_string.ensures.reads_back
+returns-clause-reads_back c = whole_reads c.args.project.now c.whole_text.result c.whole_text.ensures.text c.whole_text.ensures.reads
