@@ -24,8 +24,11 @@ pub fn names(context: &Context, target: &BuildTarget, file: &str) -> Result<Vec<
     requires { file.now ≡ path_of (build_view target.now) }
     ensures { IfOk result (λ v. map edge_view v.items ≡ link_edges (build_view target.now)) }
 {
-    let name = file_name(context.alloc, target)?;
     let links = link_paths(context.alloc, target)?;
+    if links.is_empty() {
+        return Ok(Vec::new(context.alloc));
+    }
+    let name = file_name(context.alloc, target)?;
     link_edges(context.alloc, file, &name, &links)
 }
 

@@ -102,12 +102,23 @@ pub fn file_name(alloc: Global, target: &BuildTarget) -> Result<String, AllocErr
     }
 }
 
+// The path of a file of the folder, whose name is no longer needed: in the root it is the name.
+fn path_of(alloc: Global, folder: &str, name: String) -> Result<String, AllocError>
+    ensures { IfOk result (λ s. string_bytes s ≡ path_in folder.now (string_bytes name)) }
+{
+    if folder.is_empty() {
+        Ok(name)
+    } else {
+        between(alloc, folder, "/", &name)
+    }
+}
+
 /// The path of the target's file.
 pub fn file_path(alloc: Global, target: &BuildTarget) -> Result<String, AllocError>
     ensures { IfOk result (λ s. string_bytes s ≡ file_path (build_view target.now)) }
 {
     let name = file_name(alloc, target)?;
-    path_in(alloc, &target.folder, &name)
+    path_of(alloc, &target.folder, name)
 }
 
 // The names that lead to a shared library with a number.
