@@ -201,8 +201,29 @@ fn comes_again(alloc: Global, names: &mut SipSet<String>, name: &str) -> Result<
     Ok(!new)
 }
 
-// The first keyword that stands twice.
-fn twice<'a>(alloc: Global, named: &'a [Named]) -> Result<Option<Misfit<'a>>, AllocError>
+// So many keywords are held against one another; of more, each is looked up.
+const FEW: usize = 8;
+
+fn is_named(name: &str, named: &[Named]) -> bool
+    ensures { result ≡ list_any (λ n. bytes_eq name.now (string_bytes n.name)) named.now }
+{
+    named.iter().any(|one| name == one.name.as_str())
+}
+
+// The first keyword that stands twice: each is held against those before it.
+fn twice_in_few<'a>(named: &'a [Named]) -> Option<Misfit<'a>>
+    ensures { option_map misfit_data result ≡ twice (map named_data named.now) }
+{
+    for (i, one) in named.iter().enumerate() {
+        if is_named(one.name.as_str(), &named[..i]) {
+            return Some(Misfit::Twice(one.name.as_str()));
+        }
+    }
+    None
+}
+
+// The same by a set.
+fn twice_in_many<'a>(alloc: Global, named: &'a [Named]) -> Result<Option<Misfit<'a>>, AllocError>
     ensures { IfOk result (λ found. option_map misfit_data found ≡ twice (map named_data named.now)) }
 {
     let mut names = new_set(alloc);
@@ -212,6 +233,17 @@ fn twice<'a>(alloc: Global, named: &'a [Named]) -> Result<Option<Misfit<'a>>, Al
         }
     }
     Ok(None)
+}
+
+// The first keyword that stands twice.
+fn twice<'a>(alloc: Global, named: &'a [Named]) -> Result<Option<Misfit<'a>>, AllocError>
+    ensures { IfOk result (λ found. option_map misfit_data found ≡ twice (map named_data named.now)) }
+{
+    if named.len() <= FEW {
+        Ok(twice_in_few(named))
+    } else {
+        twice_in_many(alloc, named)
+    }
 }
 
 // Whether no call takes a keyword of this name.

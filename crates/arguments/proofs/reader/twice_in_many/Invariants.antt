@@ -1,7 +1,7 @@
 use Rattle.std.proofs.Common.{◌≡◌, map, drop, string_bytes}
 use Rattle.arguments.specs.Misfits.{again, twice}
 use Rattle.arguments.specs.Arguments.{named_data}
-use Rattle.arguments.proofs.reader.twice.Given as goal
+use Rattle.arguments.proofs.reader.twice_in_many.Given as goal
 
 -- the names so far stand once
 abbrev pub invariant-loop-one : goal.invariant-loop-one
