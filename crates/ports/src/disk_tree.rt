@@ -9,19 +9,26 @@ use std::{fs, io};
 
 /// The files of a folder, by their paths below it. Nothing is said of their bytes.
 ///
-/// The file that is being read stays open from one call of `read_at` to the next; `size` looks at the folder anew. A file of which `size`
-/// has just told the size is opened without a further look. What is no file, as a folder, and what no file can be named are absent. Want of
-/// memory in a call is a device fault.
+/// The file that is being read stays open from one call of `read_at` to the next; `size` looks at the folder anew, but for the file that
+/// its last call found. A file of which `size` has just told the size is opened without a further look. What is no file, as a folder, and
+/// what no file can be named are absent. Want of memory in a call is a device fault.
 #[derive(Drop)]
 pub struct DiskTree<'a, R: Files> {
     files: &'a R,
     alloc: Global,
     folder: String,
-    // the whole path that `size` found a file at in the last call
-    found: Option<String>,
+    // the file that `size` found in the last call
+    found: Option<Found>,
     // the file that was read last
     current: Option<OpenFile<R::File>>,
     failures: u64,
+}
+
+// A file that was found at a whole path.
+#[derive(Drop)]
+struct Found {
+    whole: String,
+    size: u64,
 }
 
 // A file that is being read.
@@ -64,39 +71,49 @@ fn file_size<R: Files>(files: &R, whole: &str) -> io::Result<Option<u64>> {
     }
 }
 
-// The whole path of the file at this path and how many bytes it has, if there is one.
+// How many bytes the file has that was found, if it was found at this whole path.
+fn size_found(found: &Option<Found>, whole: &str) -> Option<u64> {
+    match found {
+        Some(file) if file.whole.as_str() == whole => Some(file.size),
+        _ => None,
+    }
+}
+
+fn size_in(found: &Option<Found>) -> Option<u64> {
+    match found {
+        Some(file) => Some(file.size),
+        None => None,
+    }
+}
+
+// The file at this path, if there is one: as it was found before, or looked at.
 fn look<R: Files>(
     files: &R,
     alloc: Global,
     folder: &str,
     path: &str,
-) -> io::Result<(Option<String>, Option<u64>)> {
+    found: &Option<Found>,
+) -> io::Result<Option<Found>> {
     let whole = joined(alloc, folder, path)?;
-    let size = file_size(files, whole.as_str())?;
-    if size.is_some() {
-        Ok((Some(whole), size))
-    } else {
-        Ok((None, None))
+    if let Some(size) = size_found(found, whole.as_str()) {
+        return Ok(Some(Found { whole, size }));
+    }
+    match file_size(files, whole.as_str())? {
+        Some(size) => Ok(Some(Found { whole, size })),
+        None => Ok(None),
     }
 }
 
-fn is_found(found: &Option<String>, whole: &str) -> bool {
-    match found {
-        Some(path) => path.as_str() == whole,
-        None => false,
-    }
-}
-
-// Opens the file at this path, if there is one: there is at the whole path where one was found.
+// Opens the file at this path, if there is one: there is where one was found.
 fn open_file<R: Files>(
     files: &R,
     alloc: Global,
     folder: &str,
     path: &str,
-    found: &Option<String>,
+    found: &Option<Found>,
 ) -> io::Result<Option<OpenFile<R::File>>> {
     let whole = joined(alloc, folder, path)?;
-    if !is_found(found, whole.as_str()) && file_size(files, whole.as_str())?.is_none() {
+    if size_found(found, whole.as_str()).is_none() && file_size(files, whole.as_str())?.is_none() {
         return Ok(None);
     }
     let file = fs::open(files, whole.as_str())?;
@@ -153,8 +170,15 @@ impl<'a, R: Files> Tree for DiskTree<'a, R> {
 
     fn size(&mut self, path: &str) -> Result<Option<u64>, DeviceFault> {
         self.current = None;
-        match look(self.files, self.alloc, self.folder.as_str(), path) {
-            Ok((found, size)) => {
+        match look(
+            self.files,
+            self.alloc,
+            self.folder.as_str(),
+            path,
+            &self.found,
+        ) {
+            Ok(found) => {
+                let size = size_in(&found);
                 self.found = found;
                 Ok(size)
             }
