@@ -40,6 +40,6 @@ pub goes_on : (ns : List Named) (i : ℕ) (x : Named) (name : List ℕ) → i < 
 goes_on ns i x name within at is before =
     let known : is_one_of (string_bytes x.name) (take i ns) ≡ false = ap (λ t. is_one_of t (take i ns)) (sym is) ∙ before in
     let names : names_in (take (i + 1) ns) ≡ names_in (take i ns) ++ string_bytes x.name ∷ [] =
-        ap names_in (take_more ns i x within) ∙ map-append (λ n. string_bytes n.name) (take i ns) (get_or ns i x ∷ [])
-        ∙ ap (λ y. names_in (take i ns) ++ string_bytes y.name ∷ []) (sym at) in
+    ap names_in (take_more ns i x within) ∙ map-append (λ n. string_bytes n.name) (take i ns) (get_or ns i x ∷ [])
+    ∙ ap (λ y. names_in (take i ns) ++ string_bytes y.name ∷ []) (sym at) in
     rw (keyword_at ns i x within at, names, sym (any_named (string_bytes x.name) (take i ns)) ∙ known) refl
