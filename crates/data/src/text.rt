@@ -57,20 +57,15 @@ impl Text {
         if self.as_str().len() + piece.len() > TEXT_BYTES {
             return Ok(Err(Refusal::Limit));
         }
-        let mut string = self.into_string(alloc)?;
-        string.push_str(piece)?;
-        Text::new(alloc, string)
-    }
-
-    // Its string, where nobody else holds it, and else a copy.
-    fn into_string(self, alloc: Global) -> Result<String, AllocError>
-        ensures { IfOk result (λ s. string_bytes s ≡ self) }
-    {
-        let Text { string } = self;
-        match Rc::try_unwrap(string) {
-            Ok(string) => Ok(string),
-            Err(shared) => String::from_str(alloc, shared.as_str()),
+        let Text { mut string } = self;
+        if let Some(own) = Rc::get_mut(&mut string) {
+            own.push_str(piece)?;
+            return Ok(Ok(Text { string }));
         }
+        let mut copy = String::with_capacity(alloc, string.len() + piece.len())?;
+        copy.push_str(string.as_str())?;
+        copy.push_str(piece)?;
+        Text::new(alloc, copy)
     }
 }
 

@@ -88,6 +88,9 @@ impl DictionaryBuilder {
     pub fn contains_key(&self, key: &Text) -> bool
         ensures { result ≡ is_some (find key.now self.now) }
     {
+        if self.keys.is_empty() {
+            return false;
+        }
         self.keys.get_index_of(key).is_some()
     }
 
@@ -96,28 +99,22 @@ impl DictionaryBuilder {
         requires { entries_weight self.old + (length key + 1) + weight (data_of value) < 2 ^ 126 }
         ensures { OnOk result (self.new ≡ put key (data_of value) self.old) }
     {
-        match self.keys.get_index_of(&key) {
-            Some(index) => {
-                let old_weight = self.values[index].weight() as u128;
-                let old_depth = self.values[index].depth();
-                let weight = value.weight() as u128;
-                let depth = value.depth();
-                self.values[index] = value;
-                self.weight = self.weight - old_weight + weight;
-                self.depth = replaced_depth(self.depth, old_depth, depth);
-            }
-            None => {
-                let key_weight = key.as_str().len() as u128 + 1;
-                let weight = value.weight() as u128;
-                let depth = value.depth();
-                self.keys.reserve(1)?;
-                self.values.push(value)?;
-                let Ok(_) = self.keys.insert(key) else {
-                    unreachable!()
-                };
-                self.weight += key_weight + weight;
-                self.depth = deeper(self.depth, depth);
-            }
+        let key_weight = key.as_str().len() as u128 + 1;
+        let weight = value.weight() as u128;
+        let depth = value.depth();
+        // a value that goes last has its room before its key is there, so that the key is hashed once
+        self.values.reserve(1)?;
+        let (index, is_new) = self.keys.insert_full(key)?;
+        if is_new {
+            self.values.push_reserved(value);
+            self.weight += key_weight + weight;
+            self.depth = deeper(self.depth, depth);
+        } else {
+            let old_weight = self.values[index].weight() as u128;
+            let old_depth = self.values[index].depth();
+            self.values[index] = value;
+            self.weight = self.weight - old_weight + weight;
+            self.depth = replaced_depth(self.depth, old_depth, depth);
         }
         Ok(())
     }
