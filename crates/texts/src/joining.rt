@@ -48,7 +48,7 @@ pub fn replace(
     if old.is_empty() {
         return Ok(Err(Refusal::Arguments));
     }
-    let mut made = String::new(alloc);
+    let mut made = String::with_capacity(alloc, text.len() + new.len())?;
     let mut rest = text;
     loop {
         let (part, after) = first_part(rest, old);

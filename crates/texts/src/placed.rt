@@ -1,6 +1,6 @@
 //! Texts with places, as `@0@` or `@name@`.
 
-ghost use Rattle.std.specs.Prelude.{◌≡◌, ◌<◌, ◌≤◌, ◌++◌, ◌∷◌, ℕ, length, map, drop, OnOk, IfOk, IfSome, MatchOption};
+ghost use Rattle.std.specs.Prelude.{◌≡◌, ◌<◌, ◌≤◌, ◌++◌, ◌∷◌, [], ℕ, length, map, drop, OnOk, IfOk, IfSome, MatchOption};
 ghost use Rattle.std.specs.Char.{is_ascii_digit};
 ghost use Rattle.std.specs.List.{prefix_len, flat_map};
 ghost use Rattle.texts.specs.Segments.{place, name_length, place_length, segments, segment_data, spelled, number_of};
@@ -49,12 +49,26 @@ pub fn segments(alloc: Global, places: Places, text: &str) -> Result<Vec<Segment
 pub fn number_of(name: &str) -> Option<usize>
     ensures { result ≡ number_of name.now }
 {
+    if let [byte] = name.as_bytes() {
+        return digit_of(*byte);
+    }
     if !is_number(name.as_bytes()) {
         return None;
     }
     match name.parse::<usize>() {
         Ok(number) => Some(number),
         Err(_) => None,
+    }
+}
+
+// The number that a byte alone writes.
+fn digit_of(byte: u8) -> Option<usize>
+    ensures { result ≡ number_of (byte ∷ []) }
+{
+    if byte.is_ascii_digit() {
+        Some(usize::from(byte - b'0'))
+    } else {
+        None
     }
 }
 

@@ -11,7 +11,7 @@ pub loop-after-init : goal.loop-after-init
 loop-after-init c = (
   c.utf8.text,
   ap (λ made. made ++ joined c.args.new.now (parts c.args.old.now c.args.text.now))
-      (sym c.new-made.ensures.bytes),
+      (sym c.in_ok-made.ensures.bytes),
 )
 
 pub returns-in-Err : goal.returns-in-Err
