@@ -44,6 +44,21 @@ pub fn write(
 ) -> Result<Result<(), Refusal>, AllocError>
     ensures { IfOk result (λ r. Writes (string_bytes text.old) (shown (data_of value.now)) (string_bytes text.new) r) }
 {
+    match value {
+        Value::Text(piece) => append(text, piece.as_str()),
+        Value::Integer(integer) => append(text, Buffer::new().format(*integer)),
+        _ => write_pieces(alloc, text, value),
+    }
+}
+
+// The same, piece by piece.
+fn write_pieces(
+    alloc: Global,
+    text: &mut String,
+    value: &Value,
+) -> Result<Result<(), Refusal>, AllocError>
+    ensures { IfOk result (λ r. Writes (string_bytes text.old) (shown (data_of value.now)) (string_bytes text.new) r) }
+{
     let mut printer = Printer::new(alloc, value)?;
     while let Some(piece) = printer.next()? {
         if let Err(refusal) = append_piece(text, piece)? {

@@ -2,7 +2,7 @@ use Rattle.std.proofs.Common.{◌≡◌, ◌≤◌, ◌++◌, length, string_byt
 use Rattle.data.specs.View.{data_of}
 use Rattle.printing.specs.Printed.{shown}
 use Rattle.printing.specs.Pieces.{whole}
-use Rattle.printing.proofs.writing.write.Given as goal
+use Rattle.printing.proofs.writing.write_pieces.Given as goal
 
 -- what is written and what is left are all
 abbrev pub invariant-loop-printer : goal.invariant-loop-printer
