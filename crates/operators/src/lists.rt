@@ -13,7 +13,7 @@ use std::rc::Rc;
 /// The items of one list and then those of another.
 pub fn append_all(
     alloc: Global,
-    list: Rc<List>,
+    mut list: Rc<List>,
     others: &List,
 ) -> Result<Result<Value, Refusal>, AllocError>
     ensures { IfOk result (λ r. Answers (within (list_data (items_append list.value others.now))) r) }
@@ -21,15 +21,19 @@ pub fn append_all(
     if !list.has_room_for(others) {
         return Ok(Err(Refusal::Limit));
     }
-    let mut list = own_list(alloc, list)?;
-    list.extend(others)?;
-    Ok(Ok(Value::of_list(alloc, list)?))
+    if let Some(own) = Rc::get_mut(&mut list) {
+        own.extend(others)?;
+        return Ok(Ok(Value::List(list)));
+    }
+    let mut copy = List::copy_of(alloc, &list)?;
+    copy.extend(others)?;
+    Ok(Ok(Value::of_list(alloc, copy)?))
 }
 
 /// The items of a list and then a value.
 pub fn append(
     alloc: Global,
-    list: Rc<List>,
+    mut list: Rc<List>,
     value: Value,
 ) -> Result<Result<Value, Refusal>, AllocError>
     ensures { IfOk result (λ r. Answers (within (list_data (items_append list.value (item (data_of value) no_items)))) r) }
@@ -37,9 +41,13 @@ pub fn append(
     if !list.has_room(&value) {
         return Ok(Err(Refusal::Limit));
     }
-    let mut list = own_list(alloc, list)?;
-    list.push(value)?;
-    Ok(Ok(Value::of_list(alloc, list)?))
+    if let Some(own) = Rc::get_mut(&mut list) {
+        own.push(value)?;
+        return Ok(Ok(Value::List(list)));
+    }
+    let mut copy = List::copy_of(alloc, &list)?;
+    copy.push(value)?;
+    Ok(Ok(Value::of_list(alloc, copy)?))
 }
 
 /// The entries of one dictionary with those of another.
@@ -58,15 +66,5 @@ pub fn merge(
     match builder.finish() {
         Ok(dictionary) => Ok(Ok(Value::of_dictionary(alloc, dictionary)?)),
         Err(refusal) => Ok(Err(refusal)),
-    }
-}
-
-// The list itself where nobody else holds it, else a copy.
-fn own_list(alloc: Global, list: Rc<List>) -> Result<List, AllocError>
-    ensures { IfOk result (λ l. l ≡ list.value) }
-{
-    match Rc::try_unwrap(list) {
-        Ok(list) => Ok(list),
-        Err(shared) => List::copy_of(alloc, &shared),
     }
 }

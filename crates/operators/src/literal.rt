@@ -35,7 +35,7 @@ pub fn list(alloc: Global, items: Vec<Value>) -> Result<Result<Value, Refusal>, 
 fn text_values(alloc: Global, texts: &[&str]) -> Result<Result<Vec<Value>, Refusal>, AllocError>
     ensures { IfOk result (λ r. items_in r ≡ texts_behind no_items (map (λ t. t.now) texts.now)) }
 {
-    let mut values = Vec::new(alloc);
+    let mut values = Vec::with_capacity(alloc, texts.len())?;
     for text in texts {
         match Value::of_str(alloc, text)? {
             Ok(value) => values.push(value)?,

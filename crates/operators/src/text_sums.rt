@@ -30,7 +30,8 @@ pub fn path_below(alloc: Global, folder: &str, path: &str) -> Result<String, All
     if folder.is_empty() || begins_with_slash(path) {
         return String::from_str(alloc, path);
     }
-    let mut text = String::from_str(alloc, folder)?;
+    let mut text = String::with_capacity(alloc, folder.len() + 1 + path.len())?;
+    text.push_str(folder)?;
     if !ends_with_slash(folder) {
         text.push('/')?;
     }
