@@ -34,7 +34,7 @@ pub fn format_text(
     if !have_values(&segments, values) {
         return Ok(Err(Refusal::Absent));
     }
-    let mut made = String::new(alloc);
+    let mut made = String::with_capacity(alloc, 2 * text.len())?;
     match write_segments(alloc, &mut made, &segments, values)? {
         Ok(()) => Ok(Ok(made)),
         Err(refusal) => Ok(Err(refusal)),

@@ -41,23 +41,35 @@ impl TextMethod {
     pub fn named(name: &str) -> Option<TextMethod>
         ensures { result ≡ named name.now }
     {
-        match name {
-            "contains" => Some(TextMethod::Contains),
-            "startswith" => Some(TextMethod::StartsWith),
-            "endswith" => Some(TextMethod::EndsWith),
-            "format" => Some(TextMethod::Format),
-            "join" => Some(TextMethod::Join),
-            "replace" => Some(TextMethod::Replace),
-            "split" => Some(TextMethod::Split),
-            "splitlines" => Some(TextMethod::SplitLines),
-            "strip" => Some(TextMethod::Strip),
-            "substring" => Some(TextMethod::Substring),
-            "to_int" => Some(TextMethod::ToInt),
-            "to_lower" => Some(TextMethod::ToLower),
-            "to_upper" => Some(TextMethod::ToUpper),
-            "underscorify" => Some(TextMethod::Underscorify),
-            "version_compare" => Some(TextMethod::VersionCompare),
-            _ => None,
+        // a name is compared with those of about its length alone
+        match name.len() {
+            4 | 5 => match name {
+                "join" => Some(TextMethod::Join),
+                "split" => Some(TextMethod::Split),
+                "strip" => Some(TextMethod::Strip),
+                _ => None,
+            },
+            6 | 7 => match name {
+                "format" => Some(TextMethod::Format),
+                "replace" => Some(TextMethod::Replace),
+                "to_int" => Some(TextMethod::ToInt),
+                _ => None,
+            },
+            8 => match name {
+                "contains" => Some(TextMethod::Contains),
+                "endswith" => Some(TextMethod::EndsWith),
+                "to_lower" => Some(TextMethod::ToLower),
+                "to_upper" => Some(TextMethod::ToUpper),
+                _ => None,
+            },
+            _ => match name {
+                "startswith" => Some(TextMethod::StartsWith),
+                "splitlines" => Some(TextMethod::SplitLines),
+                "substring" => Some(TextMethod::Substring),
+                "underscorify" => Some(TextMethod::Underscorify),
+                "version_compare" => Some(TextMethod::VersionCompare),
+                _ => None,
+            },
         }
     }
 }
