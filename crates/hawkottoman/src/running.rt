@@ -16,6 +16,7 @@ use interp::{Inputs, evaluate};
 use ports::{Outputs, Tree};
 use std::alloc::Global;
 use std::marker::Brand;
+use std::mem::forget;
 use std::sync::ledger::{Blank, Ledger};
 use world::{Settings, Stop, Store, new_steps};
 
@@ -38,7 +39,12 @@ fn settle<O: Outputs>(alloc: Global, answer: Result<Store, Stop>, out: &mut O) -
     ensures meaning { OnProject answer Means }
 {
     match answer {
-        Ok(store) => conclude(alloc, store.project(), out),
+        Ok(store) => {
+            let status = conclude(alloc, store.project(), out);
+            // The process ends next, and what it holds with it.
+            forget(store);
+            status
+        }
         Err(stop) => stopped(stop, out),
     }
 }

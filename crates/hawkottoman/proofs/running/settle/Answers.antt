@@ -5,8 +5,8 @@ use Rattle.build_file.specs.Concluding.{Agrees, done_with}
 use Rattle.hawkottoman.specs.Setup.{OnEnd, OnProject, Settles}
 use Rattle.hawkottoman.proofs.running.settle.Goals as goal
 
-pub conclude-requires : goal.conclude-requires
-conclude-requires g c = subst (λ a. OnEnd a (HasRoom (g.O.Outputs.seen c.args.out.now).failures)) c.in-Ok.is c.requires
+pub conclude-status-requires : goal.conclude-status-requires
+conclude-status-requires g c = subst (λ a. OnEnd a (HasRoom (g.O.Outputs.seen c.args.out.now).failures)) c.in-Ok.is c.requires
 
 pub stopped-requires : goal.stopped-requires
 stopped-requires g c = subst (λ a. OnEnd a (HasRoom (g.O.Outputs.seen c.args.out.now).failures)) c.in-Err.is c.requires
@@ -14,12 +14,12 @@ stopped-requires g c = subst (λ a. OnEnd a (HasRoom (g.O.Outputs.seen c.args.ou
 pub returns-in-Ok-clause-settles : goal.returns-in-Ok-clause-settles
 returns-in-Ok-clause-settles g c =
     let old = g.O.Outputs.seen c.args.out.now in
-    let new = g.O.Outputs.seen c.conclude.new.out in
-    subst (λ a. Settles a c.conclude.result old new) (sym c.in-Ok.is)
-    (record { agrees = subst (λ p. Agrees (done_with p) c.conclude.result old new) c.project.ensures c.conclude.ensures.agrees; failures = c.conclude.ensures.device })
+    let new = g.O.Outputs.seen c.conclude-status.new.out in
+    subst (λ a. Settles a c.conclude-status.result old new) (sym c.in-Ok.is)
+    (record { agrees = subst (λ p. Agrees (done_with p) c.conclude-status.result old new) c.project.ensures c.conclude-status.ensures.agrees; failures = c.conclude-status.ensures.device })
 
 pub returns-in-Ok-clause-meaning : goal.returns-in-Ok-clause-meaning
-returns-in-Ok-clause-meaning g c = subst (λ a. OnProject a Means) (sym c.in-Ok.is) (subst (λ p. Means p) c.project.ensures c.conclude.ensures.means)
+returns-in-Ok-clause-meaning g c = subst (λ a. OnProject a Means) (sym c.in-Ok.is) (subst (λ p. Means p) c.project.ensures c.conclude-status.ensures.means)
 
 pub returns-in-Err-clause-settles : goal.returns-in-Err-clause-settles
 returns-in-Err-clause-settles g c =
