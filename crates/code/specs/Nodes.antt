@@ -35,7 +35,7 @@ tree_of names ts (flat.Literal node line) = LiteralTree node.literal (string_byt
 tree_of names ts (flat.List items line) = ListTree (expressions (map (tree_at ts) items.items)) line
 tree_of names ts (flat.Dictionary es line) = DictionaryTree (entries (map (entry_at ts) es.items)) line
 tree_of names ts (flat.Call call line) =
-  FunctionTree (string_bytes call.value.name) (arguments (map (argument_at ts) call.value.arguments.items)) line
+    FunctionTree (string_bytes call.value.name) (arguments (map (argument_at ts) call.value.arguments.items)) line
 tree_of names ts (flat.Postfix first ls line) = PostfixTree (tree_at ts first) (links (map (link_at ts) ls.items)) line
 tree_of names ts (flat.Prefix prefix value line) = PrefixTree prefix (tree_at ts value) line
 tree_of names ts (flat.Chain first others line) = ChainTree (tree_at ts first) (operands (map (operand_at ts) others.items)) line

@@ -23,6 +23,12 @@ impl MachineFault {
     pub fn told(&self, alloc: Global) -> Result<Fault, AllocError>
         ensures { IfOk result (λ fault. fault_view fault ≡ told (fault_in self.now)) }
     {
-        Fault::new(alloc, "<machine file>", self.line, self.refusal, &self.detail)
+        Fault::new(
+            alloc,
+            "<machine file>",
+            self.line,
+            self.refusal,
+            &self.detail,
+        )
     }
 }
