@@ -10,9 +10,8 @@ use Rattle.grammar.specs.declared.tree.Literal.{Literal}
 use Rattle.grammar.specs.declared.tree.Literal.TheVariants as literals
 use Rattle.grammar.specs.ExpressionTree.{ExpressionTree, NameTree, LiteralTree, ListTree, DictionaryTree, FunctionTree, PostfixTree, PrefixTree, ChainTree, TernaryTree, ExpressionTrees, NoExpression, MoreExpressions, EntryTrees, NoEntry, MoreEntries, ArgumentTrees, NoArgument, MoreArguments, LinkTree, MethodTree, IndexTree, LinkTrees, NoLink, MoreLinks, OperandTrees, NoOperand, MoreOperands}
 use Rattle.grammar.specs.Parsed.{parsed}
-use Rattle.grammar.specs.Tree.{StatementTree, AssignTree, AppendTree, ValueTree, BreakTree, ContinueTree, IfTree, ForeachTree, Statements, NoStatement, MoreStatements, Branches, NoBranch, MoreBranches, FileTree, statements}
+use Rattle.grammar.specs.Tree.{StatementTree, AssignTree, AppendTree, ValueTree, BreakTree, ContinueTree, IfTree, ForeachTree, Statements, NoStatement, MoreStatements, Branches, NoBranch, MoreBranches, FileTree}
 use Rattle.data.specs.declared.object.Object.{Object}
-use Rattle.data.specs.declared.object.Object.TheVariants as objects
 use Rattle.data.specs.declared.refusal.Refusal.{Refusal as OperationRefusal}
 use Rattle.data.specs.Data.{Data, boolean, integer, text, list, dictionary, object, Items, no_items, item, items_append, boolean_in, object_in, is_disabler}
 use Rattle.data.specs.Limits.{within}
@@ -37,12 +36,11 @@ use Rattle.language_calls.specs.Turning.{is_turned_off}
 use Rattle.language_calls.specs.Names.{function_named, is_left_out, is_predefined}
 use Rattle.paths.specs.Paths.{folder_below}
 use Rattle.language_calls.specs.declared.function.Function.{Function}
-use Rattle.language_calls.specs.declared.function.Function.TheVariants as functions
 use Rattle.ports.specs.Tree.{file_at}
 use Rattle.world.specs.World.{World, Facts, looking, entering, with_facts, with_place}
 use Rattle.world.specs.Run.{Run, ran, follow, after, Done, Faulted, marks_of}
 use Rattle.world.specs.Deed.{Files, Deed, read, refuse as refuse_deed, then as andthen, perform, need}
-use Rattle.world.specs.Plan.{Plan, deed, ruled, entered, next as next_plan, carry, answered, refuse, give}
+use Rattle.world.specs.Plan.{Plan, deed, ruled, next as next_plan, carry, answered, refuse, give}
 use Rattle.world.specs.Costs.{definition_file, is_opened, unopened, spent}
 use Rattle.world.specs.Start.{first_world}
 use Rattle.world.specs.Trace.{ends_of}

@@ -1,5 +1,5 @@
 -- Statements that are done where they stand.
-use Rattle.std.proofs.Common.{◌≡◌, ℕ, ◌+◌, ◌<◌, ◌≤◌, Bool, true, false, List, [], ◌∷◌, drop, length, get_or, map, Option, Some, None, Result, Ok, Err, IsErrAnd, Box, Global, refl, sym, ap, subst, ◌∙◌}
+use Rattle.std.proofs.Common.{◌≡◌, ℕ, ◌+◌, ◌<◌, ◌≤◌, true, false, List, drop, length, get_or, Option, Some, None, Result, Ok, Err, IsErrAnd, Box, Global, refl, sym, ap, subst, ◌∙◌}
 use Rattle.code.specs.Statements.{statement_at}
 use Rattle.code.specs.declared.code.Code.{Code}
 use Rattle.code.specs.declared.node.StatementNode.{StatementNode}
@@ -113,25 +113,25 @@ walked_all left table c numbers ns place e l led =
     leads_as (ap (λ (xs : List ℕ). do_all (folder left) left.few (block_by table c (drop place xs))) (sym e)
     ∙ ap (λ (xs : List ℕ). do_all (folder left) left.few (block_by table c xs)) (drop_all numbers place l)) led
 
-next-is : (flow : Flow) (others : Plan Flow) → is_next flow ≡ true → on_next flow others ≡ others
+pub next-is : (flow : Flow) (others : Plan Flow) → is_next flow ≡ true → on_next flow others ≡ others
 next-is Next others e = refl
 next-is Continued others e = cc
 next-is Broken others e = cc
 next-is Finished others e = cc
 
-next-not : (flow : Flow) (others : Plan Flow) → is_next flow ≡ false → on_next flow others ≡ give flow
+pub next-not : (flow : Flow) (others : Plan Flow) → is_next flow ≡ false → on_next flow others ≡ give flow
 next-not Next others e = cc
 next-not Continued others e = refl
 next-not Broken others e = refl
 next-not Finished others e = refl
 
-round-on : (flow : Flow) (others : Plan Flow) → goes_round flow ≡ true → after_round flow others ≡ others
+pub round-on : (flow : Flow) (others : Plan Flow) → goes_round flow ≡ true → after_round flow others ≡ others
 round-on Next others e = refl
 round-on Continued others e = refl
 round-on Broken others e = cc
 round-on Finished others e = cc
 
-round-not : (flow : Flow) (others : Plan Flow) → goes_round flow ≡ false → after_round flow others ≡ give (behind_loop flow)
+pub round-not : (flow : Flow) (others : Plan Flow) → goes_round flow ≡ false → after_round flow others ≡ give (behind_loop flow)
 round-not Next others e = cc
 round-not Continued others e = cc
 round-not Broken others e = refl

@@ -1,17 +1,16 @@
 -- The trees of a source's nodes.
-use Rattle.std.proofs.Common.{◌≡◌, ℕ, zero, suc, ◌+◌, ◌<◌, ◌≤◌, max, Bool, List, [], ◌∷◌, ◌++◌, length, length-append, get_or, drop, map, IsTrue, refl, sym, ap, subst, ◌∙◌, arith}
-use Rattle.std.specs.Prelude.{nat_lt, ◌&&◌, slice_index_or}
+use Rattle.std.proofs.Common.{◌≡◌, ℕ, zero, suc, ◌+◌, ◌<◌, ◌≤◌, max, Bool, List, [], ◌∷◌, length, length-append, get_or, IsTrue, sym, ap, subst, ◌∙◌, arith}
+use Rattle.std.specs.Prelude.{nat_lt, ◌&&◌}
 use Rattle.std.specs.List.{list_all}
 use Rattle.grammar.specs.ExpressionTree.{ExpressionTree}
 use Rattle.code.specs.declared.node.Node.{Node}
-use Rattle.code.specs.declared.node.Node.TheVariants as flat
 use Rattle.code.specs.declared.node.EntryNode.{EntryNode}
 use Rattle.code.specs.declared.node.ArgumentNode.{ArgumentNode}
 use Rattle.code.specs.declared.node.OperandNode.{OperandNode}
 use Rattle.code.specs.declared.node.LinkNode.{LinkNode}
 use Rattle.code.specs.declared.node.LinkNode.TheVariants.{Method, Index}
 use Rattle.code.specs.Draft.{IsFront}
-use Rattle.code.specs.Nodes.{tree_at, tree_of, trees, within, all_within, entry_within, argument_within, operand_within, link_within}
+use Rattle.code.specs.Nodes.{tree_at, tree_of, within, entry_within, argument_within, operand_within, link_within}
 use Rattle.code.proofs.CallerLemmas.{node_opens, parts_before}
 use Rattle.code.proofs.Trees.{both_true, less, at_front}
 use Rattle.interp.specs.Evaluates.{Reads}

@@ -12,14 +12,13 @@ use Rattle.world.specs.Trace.{Mark, seen}
 use Rattle.world.specs.World.{World}
 use Rattle.world.specs.declared.stop.Stop.{Stop}
 use Rattle.world.specs.declared.stop.Stop.TheVariants as stops
-use Rattle.world.proofs.Follow.{after-nil, done}
+use Rattle.world.proofs.Follow.{after-nil}
 use Rattle.world.proofs.Marks.{front_of_front, none_added, same_front}
 use Rattle.expressions.specs.Codes.{block_by}
 use Rattle.interp.specs.Blocks.{statements_of}
 use Rattle.expressions.specs.Contexts.{Stand, Given, seen_of, Leads}
 use Rattle.interp.specs.Bounds.{bounds}
 use Rattle.interp.specs.Folders.{folder}
-use Rattle.expressions.specs.Rounds.{Round}
 use Rattle.interp.specs.Statements.{after_round, do_all, on_next, rounds_of}
 use Rattle.interp.specs.declared.flow.Flow.{Flow}
 use Rattle.interp.specs.declared.flow.Flow.TheVariants.{Next}

@@ -1,5 +1,5 @@
 -- How an evaluation begins.
-use Rattle.std.proofs.Common.{◌≡◌, ◌==◌, ℕ, ◌<◌, Bool, true, false, List, [], ◌∷◌, length, get_or, IsTrue, Option, Some, None, Result, Ok, Err, IsErrAnd, refl, sym, ap, subst, ◌∙◌, arith}
+use Rattle.std.proofs.Common.{◌≡◌, ℕ, ◌<◌, Bool, true, false, List, [], ◌∷◌, length, get_or, IsTrue, Option, Some, None, Result, Ok, Err, IsErrAnd, refl, sym, ap, subst, ◌∙◌, arith}
 use Rattle.std.specs.Prelude.{codes, slice_get}
 use Rattle.code.specs.Nodes.{tree_at, tree_of}
 use Rattle.code.specs.Statements.{statement_at, statement_tree, statement_within}
@@ -9,8 +9,8 @@ use Rattle.code.specs.declared.node.StatementNode.{StatementNode}
 use Rattle.code.specs.declared.node.StatementNode.TheVariants as flat
 use Rattle.code.proofs.CallerLemmas.{node_opens, statement_opens, statement_parts_before}
 use Rattle.code.proofs.Trees.{less}
+use Rattle.expressions.specs.Contexts.{Given, Stand}
 use Rattle.expressions.specs.Codes.{expressions_by, statements_by}
-use Rattle.std.proofs.lemmas.Bool.{false≢true, eqb-true}
 use Rattle.machine_file.specs.Fault.{told}
 use Rattle.machine_file.specs.Files.{Section}
 use Rattle.definition_files.specs.Details.{refuse_about}
@@ -23,7 +23,7 @@ use Rattle.interp.specs.Evaluated.{Evaluated}
 use Rattle.interp.proofs.Ticking.{evaluated_done, evaluated_none, evaluated_stop, unnamed}
 use Rattle.world.specs.Gives.{Ends, Gives}
 use Rattle.world.specs.Run.{Done, Run}
-use Rattle.world.specs.Plan.{carry}
+use Rattle.world.specs.Plan.{Plan, carry}
 use Rattle.world.specs.Trace.{Seen, seen}
 use Rattle.world.specs.World.{World, with_facts, with_place}
 use Rattle.world.specs.declared.stop.Stop.{Stop}
@@ -151,3 +151,7 @@ root_moved see {files = files} {k0 = k0} {k = k} {v0 = v0} {v = v} {o0 = o0} {o 
     (subst (λ x. RootGives files k (see o) x result v0 (see p0) m0) ticks
     (subst (λ x. RootGives files k (see x) n0 result v0 (see p0) m0) out
     (subst (λ x. RootGives files x (see o0) n0 result v0 (see p0) m0) store g)))))
+
+-- the same answer, written otherwise
+pub given_is : {A B : Type 0} {view : B → A} {files : Files} {p : Plan A} {s0 s1 : Stand} {r r' : Result B Stop} → r ≡ r' → Given view files p s0 r s1 → Given view files p s0 r' s1
+given_is {view = view} {files = files} {p = p} {s0 = s0} {s1 = s1} e g = subst (λ x. Given view files p s0 x s1) e g

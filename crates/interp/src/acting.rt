@@ -4,7 +4,7 @@ ghost use Rattle.arguments.specs.Arguments.{arguments_data};
 ghost use Rattle.code.specs.Nodes.{argument_at};
 ghost use Rattle.grammar.specs.ExpressionTree.{arguments as argument_trees};
 ghost use Rattle.world.specs.Gives.{failures_after};
-ghost use Rattle.interp.specs.Acting.{acted, acted_by, leaving, performed, way_view};
+ghost use Rattle.interp.specs.Acting.{acted, leaving, performed, way_view};
 ghost use Rattle.interp.specs.Entering.{action_of, entered_by, entering, is_wanted};
 ghost use Rattle.interp.specs.declared.acting.Action.TheVariants.{Call};
 ghost use Rattle.interp.specs.Parts.{above, above_argument};
@@ -107,24 +107,7 @@ impl<'a, T: Tree, O: Outputs, L: Ledger> Evaluator<'a, T, O, L> {
         Ok(Way::Ends(Flow::Finished))
     }
 
-    // A function whose value, where it gives one, is let go.
-    fn call_alone(
-        &mut self,
-        line: usize,
-        function: Function,
-        arguments: &Arguments,
-    ) -> Result<Way, Stop>
-        requires room { HasRoom T.seen O.seen self.old.context }
-        ensures same { Same self.old.context self.new.context }
-        ensures device { Fails T.seen O.seen self.old.context result self.new.context }
-        ensures gives { Answers T.seen O.seen way_view (acted_by Call line function (arguments_data arguments.now))
-            self.old.context result self.new.context }
-    {
-        self.called(line, function, arguments)?;
-        Ok(Way::Ends(Flow::Next))
-    }
-
-    // A function as a statement, on its evaluated arguments.
+    // A function as a statement, on its evaluated arguments: a value is let go.
     fn acted(&mut self, line: usize, function: Function, arguments: &Arguments) -> Result<Way, Stop>
         requires room { HasRoom T.seen O.seen self.old.context }
         ensures same { Same self.old.context self.new.context }
@@ -135,7 +118,10 @@ impl<'a, T: Tree, O: Outputs, L: Ledger> Evaluator<'a, T, O, L> {
         match action_of(function) {
             Action::Enter => self.subdir(line, arguments),
             Action::Leave => self.subdir_done(line, arguments),
-            Action::Call => self.call_alone(line, function, arguments),
+            Action::Call => {
+                self.called(line, function, arguments)?;
+                Ok(Way::Ends(Flow::Next))
+            }
         }
     }
 

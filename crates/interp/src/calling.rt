@@ -1,11 +1,10 @@
 //! Calls: of functions, and of methods.
 ghost use Rattle.std.specs.Prelude.{◌≡◌, ℕ, false, option_map};
 ghost use Rattle.arguments.specs.Arguments.{arguments_data};
-ghost use Rattle.data.specs.Data.{object_in};
 ghost use Rattle.data.specs.View.{data_of};
 ghost use Rattle.world.specs.Gives.{failures_after};
 ghost use Rattle.expressions.specs.Contexts.{Answers, Fails, HasRoom, Same};
-ghost use Rattle.interp.specs.Expressions.{called, called_by, method_at, method_by, method_called, object_method_at, object_method_called};
+ghost use Rattle.interp.specs.Expressions.{called, called_by, method_at, method_called, object_method_at, object_method_called};
 
 use crate::evaluator::Evaluator;
 use arguments::{Arguments, gives_disabler};
@@ -136,23 +135,6 @@ impl<'a, T: Tree, O: Outputs, L: Ledger> Evaluator<'a, T, O, L> {
         if gives_disabler(arguments) {
             return Ok(Some(Value::of_object(self.context.alloc, Object::Disabler)?));
         }
-        self.method_given(line, whole, name, arguments)
-    }
-
-    // The same without a disabler.
-    fn method_given(
-        &mut self,
-        line: usize,
-        whole: &Value,
-        name: &str,
-        arguments: &Arguments,
-    ) -> Result<Option<Value>, Stop>
-        requires room { HasRoom T.seen O.seen self.old.context }
-        ensures same { Same self.old.context self.new.context }
-        ensures device { Fails T.seen O.seen self.old.context result self.new.context }
-        ensures gives { Answers T.seen O.seen (option_map data_of) (method_by false (object_in (data_of whole.now)) line
-            (data_of whole.now) name.now (arguments_data arguments.now)) self.old.context result self.new.context }
-    {
         match whole.as_object() {
             Some(object) => object_method_of(&mut self.context, line, object, name, arguments),
             None => self.context.value_method(line, whole, name, arguments),

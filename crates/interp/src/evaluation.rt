@@ -5,7 +5,6 @@ ghost use Rattle.machine_file.specs.View.{machine_in};
 ghost use Rattle.ports.specs.Endings.{HasRoom};
 ghost use Rattle.world.specs.Deed.{Files};
 ghost use Rattle.world.specs.Gives.{Holds, failures_after};
-ghost use Rattle.world.specs.Plan.{ruled};
 ghost use Rattle.world.specs.SettingsView.{settings_view};
 ghost use Rattle.world.specs.Trace.{seen};
 ghost use Rattle.interp.specs.Beginnings.{Reads, RootGives, Starts};
@@ -53,19 +52,6 @@ impl<'a, T: Tree, O: Outputs, L: Ledger> Evaluator<'a, T, O, L> {
         }
     }
 
-    // The rule of the root file.
-    fn root(&mut self, code: Code) -> Result<Flow, Stop>
-        requires known { code.names ≡ length self.old.context.store.now.names }
-        requires room { HasRooms T.seen O.seen self.old.context }
-        ensures same { Same self.old.context self.new.context }
-        ensures device { Fails T.seen O.seen self.old.context result self.new.context }
-        ensures gives { (few : Bool) → Answers T.seen O.seen (λ f. f) (ruled (root few (file_by self.old.context.store.now.names code)))
-            self.old.context result self.new.context }
-    {
-        let answer = self.root_statements(code);
-        ended(answer, self.context.steps)
-    }
-
     // The root file, where no folder was entered.
     fn definitions(&mut self) -> Result<(), Stop>
         requires new { self.old.context.store.now.entered ≡ [] }
@@ -75,7 +61,8 @@ impl<'a, T: Tree, O: Outputs, L: Ledger> Evaluator<'a, T, O, L> {
         ensures gives { (few : Bool) → Answers T.seen O.seen (λ u. u) (defined few) self.old.context result self.new.context }
     {
         let code = self.context.open("")?;
-        self.root(code)?;
+        let answer = self.root_statements(code);
+        ended(answer, self.context.steps)?;
         Ok(())
     }
 }

@@ -97,7 +97,7 @@ impl<'a, T: Tree, O: Outputs, L: Ledger> Evaluator<'a, T, O, L> {
         }
     }
 
-    // After a statement.
+    // After a statement: those of its block that are left, up to one that needs the stack.
     fn go_on(&mut self, rest: BlockRest, flow: Flow, stack: &mut Vec<Frame>) -> Result<Flow, Stop>
         requires room { HasRoom T.seen O.seen self.old.context }
         ensures same { Same self.old.context self.new.context }
@@ -106,22 +106,9 @@ impl<'a, T: Tree, O: Outputs, L: Ledger> Evaluator<'a, T, O, L> {
             (do_all (folder (bounds few rest.left)) few (others_by table rest))) rest.code.value
             self.old.context stack.old.items result self.new.context stack.new.items }
     {
-        match flow {
-            Flow::Next => self.next_statements(rest, stack),
-            Flow::Continued => Ok(Flow::Continued),
-            Flow::Broken => Ok(Flow::Broken),
-            Flow::Finished => Ok(Flow::Finished),
+        if !flow.is_next() {
+            return Ok(flow);
         }
-    }
-
-    // The statements of a block that are left, up to one that needs the stack.
-    fn next_statements(&mut self, rest: BlockRest, stack: &mut Vec<Frame>) -> Result<Flow, Stop>
-        requires room { HasRoom T.seen O.seen self.old.context }
-        ensures same { Same self.old.context self.new.context }
-        ensures device { Fails T.seen O.seen self.old.context result self.new.context }
-        ensures gives { (few : Bool) → Does T.seen O.seen (λ table. do_all (folder (bounds few rest.left)) few (others_by table rest))
-            rest.code.value self.old.context stack.old.items result self.new.context stack.new.items }
-    {
         let BlockRest {
             code,
             block,
@@ -176,7 +163,7 @@ impl<'a, T: Tree, O: Outputs, L: Ledger> Evaluator<'a, T, O, L> {
         }
     }
 
-    // After a round.
+    // After a round: those that are left, up to a statement that needs the stack.
     fn go_round(&mut self, rest: LoopRest, flow: Flow, stack: &mut Vec<Frame>) -> Result<Flow, Stop>
         requires room { HasRoom T.seen O.seen self.old.context }
         ensures same { Same self.old.context self.new.context }
@@ -185,23 +172,9 @@ impl<'a, T: Tree, O: Outputs, L: Ledger> Evaluator<'a, T, O, L> {
             (rounds_of (round_by table rest.code.value (bounds few rest.left) rest.head) (rounds_left rest))) rest.code.value
             self.old.context stack.old.items result self.new.context stack.new.items }
     {
-        match flow {
-            Flow::Next => self.next_rounds(rest, stack),
-            Flow::Continued => self.next_rounds(rest, stack),
-            Flow::Broken => Ok(Flow::Next),
-            Flow::Finished => Ok(Flow::Finished),
+        if !flow.goes_round() {
+            return Ok(flow.behind_loop());
         }
-    }
-
-    // The rounds of a loop that are left, up to a statement that needs the stack.
-    fn next_rounds(&mut self, rest: LoopRest, stack: &mut Vec<Frame>) -> Result<Flow, Stop>
-        requires room { HasRoom T.seen O.seen self.old.context }
-        ensures same { Same self.old.context self.new.context }
-        ensures device { Fails T.seen O.seen self.old.context result self.new.context }
-        ensures gives { (few : Bool) → Does T.seen O.seen (λ table.
-            rounds_of (round_by table rest.code.value (bounds few rest.left) rest.head) (rounds_left rest)) rest.code.value
-            self.old.context stack.old.items result self.new.context stack.new.items }
-    {
         let LoopRest {
             code,
             head,

@@ -6,13 +6,11 @@ ghost use Rattle.data.specs.View.{data_of};
 ghost use Rattle.grammar.specs.Tree.{branches};
 ghost use Rattle.world.specs.Plan.{give, next, ruled};
 ghost use Rattle.interp.specs.Bounds.{bounds};
-ghost use Rattle.interp.specs.Acting.{way_view};
-ghost use Rattle.interp.specs.Entering.{by_way};
 ghost use Rattle.expressions.specs.Codes.{block_by, expressions_by, statements_by};
 ghost use Rattle.interp.specs.Blocks.{IsDeep, branch_or, node_at, statements_of};
 ghost use Rattle.interp.specs.Expressions.{given_by, value_of};
 ghost use Rattle.interp.specs.Folders.{folder};
-ghost use Rattle.interp.specs.Frames.{Acts, ChoosesOf, Does, above_branch, round_by};
+ghost use Rattle.interp.specs.Frames.{ChoosesOf, Does, above_branch, round_by};
 ghost use Rattle.interp.specs.Parts.{above};
 ghost use Rattle.expressions.specs.Assignments.{appended, assigned, own};
 ghost use Rattle.interp.specs.Statements.{branches_of, do_all, does, stated, walked};
@@ -34,21 +32,6 @@ use ports::{Outputs, Tree};
 use std::rc::Rc;
 use std::sync::ledger::Ledger;
 use world::Stop;
-
-// The head of the loop that this statement is.
-fn loop_head(number: usize, line: usize, first: usize, second: Option<usize>) -> LoopHead
-    ensures { result ≡ record { line = line; first = first; second = second; body = Part number 0 } }
-{
-    LoopHead {
-        line,
-        first,
-        second,
-        body: Block::Part {
-            statement: number,
-            part: 0,
-        },
-    }
-}
 
 impl<'a, T: Tree, O: Outputs, L: Ledger> Evaluator<'a, T, O, L> {
     ghost use Rattle.expressions.specs.Contexts.{Answers, Fails, HasRoom, Same};
@@ -85,7 +68,15 @@ impl<'a, T: Tree, O: Outputs, L: Ledger> Evaluator<'a, T, O, L> {
             }
             StatementNode::Foreach { node } => {
                 let node: &ForeachNode = node;
-                let head = loop_head(number, node.line, node.first, node.second);
+                let head = LoopHead {
+                    line: node.line,
+                    first: node.first,
+                    second: node.second,
+                    body: Block::Part {
+                        statement: number,
+                        part: 0,
+                    },
+                };
                 self.begin_loop(code, node.list, head, left, stack)
             }
             _ => unreachable!(),
@@ -112,7 +103,8 @@ impl<'a, T: Tree, O: Outputs, L: Ledger> Evaluator<'a, T, O, L> {
             let call: &CallNode = call;
             stack.push(Frame::End)?;
             match self.perform(code, *line, &call.name, &call.arguments) {
-                Ok(way) => self.take_way(way, left, stack),
+                Ok(Way::Ends(flow)) => Ok(flow),
+                Ok(Way::Enters(text)) => self.enter(&text, left, stack),
                 Err(Halt::Stops(stop)) => Err(stop),
                 Err(Halt::Enters(entry)) => self.enter_inside(entry, left, stack),
             }
@@ -122,20 +114,6 @@ impl<'a, T: Tree, O: Outputs, L: Ledger> Evaluator<'a, T, O, L> {
                 Err(Halt::Stops(stop)) => Err(stop),
                 Err(Halt::Enters(entry)) => self.enter_inside(entry, left, stack),
             }
-        }
-    }
-
-    // A call that is a statement goes on.
-    fn take_way(&mut self, way: Way, left: usize, stack: &mut Vec<Frame>) -> Result<Flow, Stop>
-        requires room { HasRoom T.seen O.seen self.old.context }
-        ensures same { Same self.old.context self.new.context }
-        ensures device { Fails T.seen O.seen self.old.context result self.new.context }
-        ensures gives { (few : Bool) → Acts T.seen O.seen (by_way (folder (bounds few left)) (way_view way))
-            self.old.context stack.old.items result self.new.context stack.new.items }
-    {
-        match way {
-            Way::Ends(flow) => Ok(flow),
-            Way::Enters(text) => self.enter(&text, left, stack),
         }
     }
 

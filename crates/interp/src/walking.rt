@@ -137,7 +137,7 @@ impl<'a, T: Tree, O: Outputs, L: Ledger> Evaluator<'a, T, O, L> {
         Ok(Flow::Next)
     }
 
-    // `name += value`
+    // `name += value`: the sum of what the variable has and the value.
     fn append_value(
         &mut self,
         code: &Code,
@@ -153,23 +153,10 @@ impl<'a, T: Tree, O: Outputs, L: Ledger> Evaluator<'a, T, O, L> {
             next (appended line (name_at self.old.context.store.now.names name) (ruled (value_of into (tree_at ts value))))
             (λ _. give Next)) code.now self.old.context result self.new.context }
     {
-        self.append(code, name, line, value)?;
-        Ok(Flow::Next)
-    }
-
-    // The variable of a number takes the sum of what it has and the value of an expression.
-    fn append(&mut self, code: &Code, number: usize, line: usize, value: usize) -> Result<(), Halt>
-        requires here { value < length code.now.nodes.items }
-        requires room { HasRoom T.seen O.seen self.old.context }
-        ensures same { Same self.old.context self.new.context }
-        ensures device { FailsInside T.seen O.seen self.old.context result self.new.context }
-        ensures gives { number < length self.old.context.store.now.names → Evaluates T.seen O.seen (λ u. u) (λ into ts. appended line
-            (name_at self.old.context.store.now.names number) (ruled (value_of into (tree_at ts value))))
-            code.now self.old.context result self.new.context }
-    {
-        let _ = self.context.variable(number, line)?;
+        let _ = self.context.variable(name, line)?;
         let right = self.eval(code, value)?;
-        Ok(self.context.add(line, number, right)?)
+        self.context.add(line, name, right)?;
+        Ok(Flow::Next)
     }
 
     /// What an expression gives that is a statement and no call of a function: its last method may give nothing.

@@ -1,4 +1,4 @@
-use Rattle.std.proofs.Common.{◌≡◌, ◌∙◌, sym}
+use Rattle.std.proofs.Common.{◌∙◌, sym}
 use Rattle.interp.proofs.Blocks.{branch_is, no_branch}
 use Rattle.interp.proofs.block.branch_or.Goals as goal
 

@@ -1,4 +1,4 @@
-use Rattle.std.proofs.Common.{ℕ, suc, ◌+◌, ◌≤◌, max, Bool, true, false, List, [], ◌∷◌, drop, map, get_or, Option, Err, Some, option_map, refl, string_bytes, sym, ap, ◌∙◌, arith, rules}
+use Rattle.std.proofs.Common.{ℕ, suc, ◌+◌, ◌≤◌, max, Bool, List, [], ◌∷◌, drop, map, get_or, Option, Err, Some, option_map, refl, string_bytes, sym, ap, ◌∙◌, arith, rules}
 use Rattle.grammar.specs.ExpressionTree.{ListTree, DictionaryTree, FunctionTree, PostfixTree, ChainTree, expressions, entries, arguments, links, operands}
 use Rattle.grammar.specs.declared.tree.Operator.TheVariants as flatop
 use Rattle.code.specs.declared.node.Node.TheVariants as flat
@@ -8,7 +8,7 @@ use Rattle.code.specs.declared.node.CallNode.{CallNode}
 use Rattle.code.specs.declared.node.OperandNode.{OperandNode}
 use Rattle.code.specs.declared.node.LinkNode.{LinkNode}
 use Rattle.code.specs.Nodes.{tree_at, entry_at, argument_at, operand_at, link_at, operand_within, link_within}
-use Rattle.data.specs.Data.{Data, Items, list, is_disabler}
+use Rattle.data.specs.Data.{Data, Items, is_disabler}
 use Rattle.data.specs.View.{data_of, items_of}
 use Rattle.data.proofs.ItemsLemmas.{items_of-append}
 use Rattle.operators.specs.Literal.{pairs_of}

@@ -1,4 +1,4 @@
-use Rattle.std.proofs.Common.{◌≡◌, ℕ, suc, ◌+◌, ◌*◌, max, List, Some, drop, map, option_map}
+use Rattle.std.proofs.Common.{◌≡◌, suc, ◌+◌, ◌*◌, max, List, Some, drop, map, option_map}
 use Rattle.grammar.specs.ExpressionTree.{ExpressionTree, ListTree, DictionaryTree, ChainTree, expressions, entries, arguments, links, operands}
 use Rattle.code.specs.Nodes.{tree_at, entry_at, argument_at, operand_at, link_at}
 use Rattle.data.specs.View.{data_of, items_of}

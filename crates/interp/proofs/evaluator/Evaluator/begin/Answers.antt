@@ -1,4 +1,4 @@
-use Rattle.std.proofs.Common.{◌<◌, ◌≤◌, ℕ, IsTrue, List, Ok, Err, length, get_or, map, option_map, sym, ap, subst, refl, ◌∙◌}
+use Rattle.std.proofs.Common.{◌<◌, ◌≤◌, ℕ, IsTrue, List, length, get_or, map, option_map, sym, ap, subst, refl, ◌∙◌}
 use Rattle.std.specs.Prelude.{nat_lt, ◌&&◌}
 use Rattle.std.specs.List.{list_all}
 use Rattle.code.specs.Nodes.{tree_at}
@@ -10,9 +10,8 @@ use Rattle.code.specs.declared.node.IfNode.{IfNode}
 use Rattle.code.specs.declared.node.StatementNode.{StatementNode}
 use Rattle.code.specs.declared.node.StatementNode.TheVariants as flat
 use Rattle.code.proofs.Trees.{both_true, less}
-use Rattle.data.specs.Data.{Data}
 use Rattle.grammar.specs.Tree.{StatementTree, branches}
-use Rattle.world.specs.Plan.{give, next, ruled}
+use Rattle.world.specs.Plan.{next, ruled}
 use Rattle.interp.specs.Bounds.{bounds}
 use Rattle.expressions.specs.Codes.{block_by, expressions_by, statements_by}
 use Rattle.interp.specs.Blocks.{branch_or, part_of}
@@ -20,16 +19,11 @@ use Rattle.interp.specs.Expressions.{value_of}
 use Rattle.interp.specs.Folders.{folder}
 use Rattle.interp.specs.Frames.{above_branch, behind_all, one_round, round_by}
 use Rattle.interp.specs.Parts.{above}
-use Rattle.expressions.specs.Assignments.{appended, assigned, own}
 use Rattle.interp.specs.Statements.{branches_of, do_all, does, stated, walked}
 use Rattle.expressions.specs.Rounds.{looped}
 use Rattle.interp.specs.declared.block.Block.TheVariants.{Part}
-use Rattle.interp.specs.declared.flow.Flow.TheVariants as flows
-use Rattle.interp.specs.declared.frames.LoopHead.{LoopHead}
-use Rattle.interp.proofs.Coming.{halted_enters, halted_stops}
-use Rattle.expressions.proofs.Evaluating.{given_as, given_give, leads_other}
-use Rattle.interp.proofs.Spelling.{branches_reach, named, node_is, parts_of, reads_at, spelled}
-use Rattle.interp.proofs.Stack.{leads_under, made_as, moves_as, moves_given, moves_then, stacked_on}
+use Rattle.interp.proofs.Spelling.{branches_reach, node_is, parts_of, spelled}
+use Rattle.interp.proofs.Stack.{made_as, moves_as}
 use Rattle.interp.proofs.Doing.{deep_as, deep_only}
 use Rattle.interp.proofs.evaluator.Evaluator.begin.Goals as goal
 
@@ -79,8 +73,7 @@ begin_loop-requires-clause-first g c =
     let p = both_true (nat_lt l.first k) (second_within k l.second && (nat_lt l.list m && list_all (λ i. nat_lt i c.args.number) l.body.items)) parts in
     let q = both_true (second_within k l.second) (nat_lt l.list m && list_all (λ i. nat_lt i c.args.number) l.body.items) p.1 in
     let r = both_true (nat_lt l.list m) (list_all (λ i. nat_lt i c.args.number) l.body.items) q.1 in
-    subst (λ (h : LoopHead). IsTrue (nat_lt h.first k)) (sym c.loop_head-head.ensures)
-    (subst (λ (x : ForeachNode). IsTrue (nat_lt x.first k)) (sym c.deref-node-in-Foreach.ensures) p.0)
+    subst (λ (x : ForeachNode). IsTrue (nat_lt x.first k)) (sym c.deref-node-in-Foreach.ensures) p.0
 
 pub begin_loop-requires-clause-second : goal.begin_loop-requires-clause-second
 begin_loop-requires-clause-second g c =
@@ -94,8 +87,7 @@ begin_loop-requires-clause-second g c =
     let p = both_true (nat_lt l.first k) (second_within k l.second && (nat_lt l.list m && list_all (λ i. nat_lt i c.args.number) l.body.items)) parts in
     let q = both_true (second_within k l.second) (nat_lt l.list m && list_all (λ i. nat_lt i c.args.number) l.body.items) p.1 in
     let r = both_true (nat_lt l.list m) (list_all (λ i. nat_lt i c.args.number) l.body.items) q.1 in
-    subst (λ (h : LoopHead). IsTrue (second_within k h.second)) (sym c.loop_head-head.ensures)
-    (subst (λ (x : ForeachNode). IsTrue (second_within k x.second)) (sym c.deref-node-in-Foreach.ensures) q.0)
+    subst (λ (x : ForeachNode). IsTrue (second_within k x.second)) (sym c.deref-node-in-Foreach.ensures) q.0
 
 pub returns-in-Expression-clause-gives : goal.returns-in-Expression-clause-gives
 returns-in-Expression-clause-gives g c = λ few files rests table hold stacked made.
@@ -131,9 +123,7 @@ returns-in-Foreach-clause-gives g c = λ few files rests table hold stacked made
     let whole = ap (λ (t : StatementTree). behind_all rests (does (folder (bounds few c.args.left)) few t)) tree in
     let is = node_is code c.args.number c.index.result.now node c.requires.there at c.in-Foreach.is in
     let l = c.in-Foreach.node.value in
-    moves_as (ap (λ (h : LoopHead). behind_all rests (next (ruled (value_of (folder (bounds few c.args.left)) (tree_at (expressions_by table code) c.deref-node-in-Foreach.result.now.list)))
-    (λ d. walked few h.line (round_by table code (bounds few c.args.left) h) (looped (option_map (name_at table) h.second) d)))) c.loop_head-head.ensures
-    ∙ ap (λ (x : ForeachNode). behind_all rests (next (ruled (value_of (folder (bounds few c.args.left)) (tree_at (expressions_by table code) x.list)))
+    moves_as (ap (λ (x : ForeachNode). behind_all rests (next (ruled (value_of (folder (bounds few c.args.left)) (tree_at (expressions_by table code) x.list)))
     (λ d. walked few x.line (round_by table code (bounds few c.args.left) record { line = x.line; first = x.first; second = x.second; body = Part c.args.number 0 })
     (looped (option_map (name_at table) x.second) d)))) c.deref-node-in-Foreach.ensures
     ∙ ap (λ (ns : List ℕ). behind_all rests (next (ruled (value_of (folder (bounds few c.args.left)) (tree_at (expressions_by table code) l.list)))

@@ -1,17 +1,19 @@
-use Rattle.std.proofs.Common.{refl}
-use Rattle.expressions.proofs.Evaluating.{given_give, given_stop, given_then}
+use Rattle.std.proofs.Common.{sym, refl}
+use Rattle.expressions.proofs.Evaluating.{given_give, given_rule, given_stop, given_then}
+use Rattle.interp.proofs.Starting.{given_is}
 use Rattle.interp.proofs.evaluator.Evaluator.definitions.Goals as goal
 
 pub returns-in_err-code-clause-gives : goal.returns-in_err-code-clause-gives
 returns-in_err-code-clause-gives g c = λ few files h. given_stop (c.in_err-code.ensures.gives files h) c.from_residual.ensures.1
 
-pub returns-in_err-root-clause-gives : goal.returns-in_err-root-clause-gives
-returns-in_err-root-clause-gives g c = λ few files h.
+pub returns-in_err-ended-clause-gives : goal.returns-in_err-ended-clause-gives
+returns-in_err-ended-clause-gives g c = λ few files h.
     let opened = c.in_ok-code.ensures.gives files h in
-    given_then opened (given_stop (c.in_err-root.ensures.gives few files opened.holds) c.from_residual-in_err-root.ensures.1)
+    let done = given_rule c.in_err-ended.ensures.ticks (c.root_statements-answer.ensures.gives few files opened.holds) in
+    given_then opened (given_stop (given_is (sym c.in_err-ended.ensures.same) done) c.from_residual-in_err-ended.ensures.1)
 
 pub returns-clause-gives : goal.returns-clause-gives
 returns-clause-gives g c = λ few files h.
     let opened = c.in_ok-code.ensures.gives files h in
-    let done = c.in_ok-root.ensures.gives few files opened.holds in
+    let done = given_is (sym c.in_ok-ended.ensures.same) (given_rule c.in_ok-ended.ensures.ticks (c.root_statements-answer.ensures.gives few files opened.holds)) in
     given_then opened (given_then done (given_give done.holds refl))

@@ -7,7 +7,6 @@ use Rattle.interp.specs.Frames.{behind_all, parts_by, walk_left}
 use Rattle.interp.specs.Inside.{inside}
 use Rattle.interp.specs.Statements.{does}
 use Rattle.interp.specs.declared.walking.Walk.{Walk}
-use Rattle.interp.specs.declared.frames.Frame.TheVariants as frames
 use Rattle.expressions.proofs.Evaluating.{given_give, leads_start}
 use Rattle.interp.proofs.Doing.{begins_deep, memory_is}
 use Rattle.interp.proofs.Stack.{moves_as, moves_given, moves_none, moves_statement}

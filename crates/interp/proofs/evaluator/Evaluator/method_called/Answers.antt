@@ -1,7 +1,8 @@
-use Rattle.std.proofs.Common.{Some, ap, sym, ◌∙◌}
+use Rattle.std.proofs.Common.{Bor, option_map, false, Some, ap, sym, ◌∙◌}
 use Rattle.arguments.specs.Arguments.{arguments_data}
 use Rattle.data.specs.Data.{object_in}
 use Rattle.data.specs.View.{data_of}
+use Rattle.data.specs.declared.object.Object.{Object}
 use Rattle.interp.specs.Expressions.{method_by, method_called_by}
 use Rattle.expressions.proofs.Evaluating.{given_as, given_give, given_none}
 use Rattle.interp.proofs.evaluator.Evaluator.method_called.Goals as goal
@@ -23,7 +24,16 @@ returns-then-gives_disabler-clause-gives g c = λ files h.
     given_as (ap (λ b. method_called_by b c.args.line (data_of c.args.whole.now) c.args.name.now (arguments_data c.args.arguments.now)) (sym c.if-is_disabler.false ∙ c.is_disabler.ensures))
     (given_as (ap (λ b. method_by b (object_in (data_of c.args.whole.now)) c.args.line (data_of c.args.whole.now) c.args.name.now (arguments_data c.args.arguments.now)) (sym c.if-gives_disabler.true ∙ c.gives_disabler.ensures)) (given_give h (ap Some c.in_ok-of_object.ensures)))
 
-pub returns-clause-gives : goal.returns-clause-gives
-returns-clause-gives g c = λ files h.
+pub returns-in-Some-clause-gives : goal.returns-in-Some-clause-gives
+returns-in-Some-clause-gives g c = λ files h.
     given_as (ap (λ b. method_called_by b c.args.line (data_of c.args.whole.now) c.args.name.now (arguments_data c.args.arguments.now)) (sym c.if-is_disabler.false ∙ c.is_disabler.ensures))
-    (given_as (ap (λ b. method_by b (object_in (data_of c.args.whole.now)) c.args.line (data_of c.args.whole.now) c.args.name.now (arguments_data c.args.arguments.now)) (sym c.if-gives_disabler.false ∙ c.gives_disabler.ensures)) (c.method_given.ensures.gives files h))
+    (given_as (ap (λ b. method_by b (object_in (data_of c.args.whole.now)) c.args.line (data_of c.args.whole.now) c.args.name.now (arguments_data c.args.arguments.now)) (sym c.if-gives_disabler.false ∙ c.gives_disabler.ensures))
+    (given_as (ap (λ o. method_by false o c.args.line (data_of c.args.whole.now) c.args.name.now (arguments_data c.args.arguments.now)) (sym (ap (option_map (λ (b : Bor Object). b.now)) c.in-Some.is) ∙ c.as_object.ensures))
+    (c.object_method_of.ensures.gives files h)))
+
+pub returns-in-None-clause-gives : goal.returns-in-None-clause-gives
+returns-in-None-clause-gives g c = λ files h.
+    given_as (ap (λ b. method_called_by b c.args.line (data_of c.args.whole.now) c.args.name.now (arguments_data c.args.arguments.now)) (sym c.if-is_disabler.false ∙ c.is_disabler.ensures))
+    (given_as (ap (λ b. method_by b (object_in (data_of c.args.whole.now)) c.args.line (data_of c.args.whole.now) c.args.name.now (arguments_data c.args.arguments.now)) (sym c.if-gives_disabler.false ∙ c.gives_disabler.ensures))
+    (given_as (ap (λ o. method_by false o c.args.line (data_of c.args.whole.now) c.args.name.now (arguments_data c.args.arguments.now)) (sym (ap (option_map (λ (b : Bor Object). b.now)) c.in-None.is) ∙ c.as_object.ensures))
+    (c.value_method.ensures.gives files h)))

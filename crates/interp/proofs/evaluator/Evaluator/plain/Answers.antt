@@ -1,4 +1,4 @@
-use Rattle.std.proofs.Common.{◌<◌, ℕ, List, Ok, length, ap, refl, ◌∙◌}
+use Rattle.std.proofs.Common.{ℕ, List, length, ap, refl, ◌∙◌}
 use Rattle.std.specs.Prelude.{nat_lt}
 use Rattle.code.specs.Nodes.{tree_at}
 use Rattle.code.specs.declared.node.StatementNode.TheVariants as flat

@@ -13,6 +13,7 @@ use Rattle.interp.specs.Folders.{folder}
 use Rattle.interp.specs.Frames.{End, behind_all}
 use Rattle.interp.specs.Parts.{above, above_argument}
 use Rattle.interp.specs.Statements.{stated}
+use Rattle.interp.specs.declared.acting.Way.{Way}
 use Rattle.interp.specs.declared.flow.Flow.TheVariants as flows
 use Rattle.interp.specs.declared.frames.Frame.TheVariants as frames
 use Rattle.interp.proofs.Coming.{halted_enters, halted_stops, leads_left}
@@ -35,8 +36,8 @@ pub returns-in_err-push-clause-gives : goal.returns-in_err-push-clause-gives
 returns-in_err-push-clause-gives g c = λ few files rests table hold stacked made.
     moves_none c.from_residual.result c.push.new.self.items (leads_start hold) c.from_residual.ensures.1
 
-pub returns-in-Ok-clause-gives : goal.returns-in-Ok-clause-gives
-returns-in-Ok-clause-gives g c = λ few files rests table hold stacked made.
+pub returns-in-Ok-Ends-clause-gives : goal.returns-in-Ok-Ends-clause-gives
+returns-in-Ok-Ends-clause-gives g c = λ few files rests table hold stacked made.
     let tree = call_at table c.args.code.now c.args.value c.index.result.now c.in-Call.call c.in-Call.line c.requires.here c.index.ensures c.in-Call.is in
     let into = folder (bounds few c.args.left) in
     let fs = c.args.stack.now.items in
@@ -47,9 +48,28 @@ returns-in-Ok-clause-gives g c = λ few files rests table hold stacked made.
     let same = ap (λ (n : List ℕ). done n c.deref-in-Call.result.now) c.deref.ensures ∙ ap (done (string_bytes c.deref-call.result.now.name)) c.deref-in-Call.ensures.value
     ∙ ap (λ (x : CallNode). done (string_bytes x.name) x.arguments.items) c.deref-call.ensures in
     let whole = behind_top rests End (next (done (string_bytes c.in-Call.call.value.name) c.in-Call.call.value.arguments.items) (λ w. by_way into w)) ∙ ap (λ (t : ExpressionTree). behind_all rests (stated into t)) (sym tree) in
-    let p = given_as same (c.in-Ok.ensures.gives files (bounds few c.args.left) ts hold (reads_at refl made)).comes in
-    moves_as whole (moves_then c.take_way.result (leads_under (rests ++ End ∷ []) (leads_next {view = way_view} {others = λ w. by_way into w} p))
-    (c.take_way.ensures.gives few files (rests ++ End ∷ []) p.holds (stacked_on gs (rests ++ End ∷ []) p.gives.written.names two)))
+    let p = given_as same (c.in-Ok-Ends.ensures.gives files (bounds few c.args.left) ts hold (reads_at refl made)).comes in
+    let is = ap (λ (w : Way). behind_all (rests ++ End ∷ []) (by_way into (way_view w))) (sym c.in-Ok-Ends.field-0-is) in
+    moves_as whole (moves_then (Ok c.in-Ok-Ends.flow) (leads_under (rests ++ End ∷ []) (leads_next {view = way_view} {others = λ w. by_way into w} p))
+    (moves_as is (moves_given gs (rests ++ End ∷ []) (Ok c.in-Ok-Ends.flow) (stacked_on gs (rests ++ End ∷ []) p.gives.written.names two) (given_give p.holds refl))))
+
+pub returns-in-Ok-Enters-clause-gives : goal.returns-in-Ok-Enters-clause-gives
+returns-in-Ok-Enters-clause-gives g c = λ few files rests table hold stacked made.
+    let tree = call_at table c.args.code.now c.args.value c.index.result.now c.in-Call.call c.in-Call.line c.requires.here c.index.ensures c.in-Call.is in
+    let into = folder (bounds few c.args.left) in
+    let fs = c.args.stack.now.items in
+    let gs = c.push.new.self.items in
+    let two = stacked_top fs gs rests frames.End End c.in_ok-push.ensures.items stacked refl in
+    let ts = expressions_by table c.args.code.now in
+    let done = λ (n : List ℕ) (xs : List ArgumentNode). performed into c.in-Call.line n (arguments (map (argument_at ts) xs)) in
+    let same = ap (λ (n : List ℕ). done n c.deref-in-Call.result.now) c.deref.ensures ∙ ap (done (string_bytes c.deref-call.result.now.name)) c.deref-in-Call.ensures.value
+    ∙ ap (λ (x : CallNode). done (string_bytes x.name) x.arguments.items) c.deref-call.ensures in
+    let whole = behind_top rests End (next (done (string_bytes c.in-Call.call.value.name) c.in-Call.call.value.arguments.items) (λ w. by_way into w)) ∙ ap (λ (t : ExpressionTree). behind_all rests (stated into t)) (sym tree) in
+    let p = given_as same (c.in-Ok-Enters.ensures.gives files (bounds few c.args.left) ts hold (reads_at refl made)).comes in
+    let is = ap (λ (t : List ℕ). behind_all (rests ++ End ∷ []) (into t)) c.deref-in-Ok-Enters.ensures
+    ∙ ap (λ (w : Way). behind_all (rests ++ End ∷ []) (by_way into (way_view w))) (sym c.in-Ok-Enters.field-0-is) in
+    moves_as whole (moves_then c.enter.result (leads_under (rests ++ End ∷ []) (leads_next {view = way_view} {others = λ w. by_way into w} p))
+    (moves_as is (c.enter.ensures.gives few files (rests ++ End ∷ []) p.holds (stacked_on gs (rests ++ End ∷ []) p.gives.written.names two))))
 
 pub returns-in-Err-Stops-clause-gives : goal.returns-in-Err-Stops-clause-gives
 returns-in-Err-Stops-clause-gives g c = λ few files rests table hold stacked made.
@@ -82,11 +102,11 @@ returns-in-Err-Enters-clause-gives g c = λ few files rests table hold stacked m
     moves_as whole (moves_then c.enter_inside.result (leads_under (rests ++ End ∷ []) (leads_left (bounds few c.args.left) c.in-Err-Enters.entry.value {others = λ w. by_way into w} l))
     (c.enter_inside.ensures.gives few files (rests ++ End ∷ []) l.holds (stacked_on gs (rests ++ End ∷ []) l.continues.written.names two)))
 
-pub returns-in-Ok-alone-clause-gives : goal.returns-in-Ok-alone-clause-gives
-returns-in-Ok-alone-clause-gives g c = λ few files rests table hold stacked made.
+pub returns-in-Ok-clause-gives : goal.returns-in-Ok-clause-gives
+returns-in-Ok-clause-gives g c = λ few files rests table hold stacked made.
     let ts = expressions_by table c.args.code.now in
     let whole = ap (behind_all rests) (stated_at (folder (bounds few c.args.left)) table c.args.code.now c.args.value c.index.result.now c.requires.here c.index.ensures c.in_default.not-Call) in
-    let e = (c.in-Ok-alone.ensures.gives files (bounds few c.args.left) ts hold (reads_at refl made)).comes in
+    let e = (c.in-Ok.ensures.gives files (bounds few c.args.left) ts hold (reads_at refl made)).comes in
     moves_as whole (moves_given c.args.stack.now.items rests (Ok flows.Next) stacked (given_then e (given_give e.holds refl)))
 
 pub returns-in-Err-Stops-alone-clause-gives : goal.returns-in-Err-Stops-alone-clause-gives

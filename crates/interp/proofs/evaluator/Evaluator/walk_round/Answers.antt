@@ -1,6 +1,5 @@
-use Rattle.std.proofs.Common.{Err, refl}
+use Rattle.std.proofs.Common.{refl}
 use Rattle.expressions.specs.Rounds.{round_data}
-use Rattle.interp.specs.declared.flow.Flow.{Flow}
 use Rattle.expressions.proofs.Evaluating.{given_as, given_stop, leads_next}
 use Rattle.interp.proofs.Doing.{none_begins, rested_stop, rested_then}
 use Rattle.interp.proofs.Spelling.{bound_as, named, second_named}
