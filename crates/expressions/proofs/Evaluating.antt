@@ -2,7 +2,6 @@
 use Rattle.std.proofs.Common.{◌≡◌, ℕ, ◌+◌, ◌<◌, ◌≤◌, List, [], ◌∷◌, ◌++◌, map, length, drop, get_or, append-nil, add-one, drop-cons, drop_of_length-le, Result, Ok, Err, IsErrAnd, refl, sym, ap, subst, ◌∙◌, append_assoc}
 use Rattle.ports.specs.Outputs.{OutputState}
 use Rattle.ports.specs.Tree.{TreeState}
-use Rattle.data.specs.Data.{Data}
 use Rattle.basics.specs.declared.faults.refusal.Refusal.{Refusal}
 use Rattle.world.specs.Answering.{Carries, Refuses}
 use Rattle.world.specs.Deed.{Files, Deed, read, change}
@@ -34,6 +33,12 @@ given_stop {view = view} {view' = view'} {files = files} {p = p} {others = other
   gives = stopped_later view view' (carry files p s0.world) (λ a. carry files (others a)) s s1.world s1.world (seen_of s1) result (begun _ (seen_of s0)) is refl g.gives;
   holds = g.holds;
 }
+
+-- the last one stops
+pub given_same : {A B : Type 0} {view : B → A} {files : Files} {p : Plan A} {s0 s1 : Stand} {s : Stop} {result : Result B Stop} → Given view files p s0 (Err s) s1
+    → IsErrAnd result (λ e. e ≡ s) → Given view files p s0 result s1
+given_same {result = Ok x} g is = absurd is
+given_same {view = view} {files = files} {p = p} {s0 = s0} {s1 = s1} {result = Err e} g is = subst (λ d. Given view files p s0 (Err d) s1) (sym is) g
 
 -- want of memory
 pub given_none : {A B : Type 0} {view : B → A} {files : Files} {p : Plan A} {s : Stand} {result : Result B Stop} → Holds s.tree files → IsErrAnd result (λ e. e ≡ stops.Memory)

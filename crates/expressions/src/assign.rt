@@ -60,6 +60,7 @@ impl<'a, T: Tree, O: Outputs, L: Ledger> Context<'a, T, O, L> {
     }
 
     // A copy of configuration data.
+    #[cold]
     fn copied(&mut self, number: usize) -> Result<Value, Stop>
         requires room { HasRoom T.seen O.seen self.old }
         ensures same { Same self.old self.new }
@@ -71,6 +72,7 @@ impl<'a, T: Tree, O: Outputs, L: Ledger> Context<'a, T, O, L> {
     }
 
     /// What an assignment gives a variable: of configuration data a copy, which may be changed again, and else the value itself.
+    #[inline(always)]
     pub fn own(&mut self, value: Value) -> Result<Value, Stop>
         requires room { HasRoom T.seen O.seen self.old }
         ensures same { Same self.old self.new }
@@ -78,12 +80,13 @@ impl<'a, T: Tree, O: Outputs, L: Ledger> Context<'a, T, O, L> {
         ensures gives { Answers T.seen O.seen data_of (own (data_of value)) self.old result self.new }
     {
         match configuration_in(&value) {
-            Some(number) => self.copied(number),
+            Some(number) => Ok(self.copied(number)?),
             None => Ok(value),
         }
     }
 
     // Refuses to set the name of a number, which stands for a thing of the run.
+    #[cold]
     fn refuse_name(&self, line: usize, number: usize) -> Result<(), Stop>
         ensures refuses { number < length self.now.store.now.names → Refuses (fault_on self.now line Refusal.Arguments
             (broken Rule.IsSettable (name_at self.now.store.now.names number))) result }
@@ -95,6 +98,7 @@ impl<'a, T: Tree, O: Outputs, L: Ledger> Context<'a, T, O, L> {
     }
 
     /// The variable of a number takes a value: E9 where its name stands for a thing of the run.
+    #[inline(always)]
     pub fn assign(&mut self, line: usize, number: usize, value: Value) -> Result<(), Stop>
         ensures same { Same self.old self.new }
         ensures device { Fails T.seen O.seen self.old result self.new }

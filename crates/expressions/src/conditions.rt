@@ -27,6 +27,7 @@ impl<'a, T: Tree, O: Outputs, L: Ledger> Context<'a, T, O, L> {
     ghost use Rattle.expressions.specs.Contexts.{Answers};
 
     /// What the value of a condition chooses: a disabler skips the whole `if`. Error 6 at the line where it is neither that nor a boolean.
+    #[inline(always)]
     pub fn choose(&self, line: usize, value: &Value) -> Result<Choice, Stop>
         ensures gives { Answers T.seen O.seen (λ c. c) (choice_of line (boolean_in (data_of value.now)) (is_disabler (data_of value.now)))
             self.now result self.now }

@@ -66,6 +66,7 @@ impl<'a, T: Tree, O: Outputs, L: Ledger> Context<'a, T, O, L> {
     }
 
     /// Refuses what stands in a line of the present file, for this name, path or text.
+    #[cold]
     pub fn refuse<A>(&self, line: usize, refusal: Refusal, detail: &str) -> Result<A, Stop>
         ensures { Refuses (fault_on self.now line refusal detail.now) result }
     {
@@ -83,6 +84,7 @@ impl<'a, T: Tree, O: Outputs, L: Ledger> Context<'a, T, O, L> {
     }
 
     /// What an operation answered, or the stop of its refusal.
+    #[inline(always)]
     pub fn answered(&self, line: usize, answer: Result<Value, data::Refusal>) -> Result<Value, Stop>
         ensures gives { (given : Result Data OperationRefusal) → AnswersSo given answer
             → Answers T.seen O.seen data_of (answered line given) self.now result self.now }
@@ -90,18 +92,19 @@ impl<'a, T: Tree, O: Outputs, L: Ledger> Context<'a, T, O, L> {
     {
         match answer {
             Ok(value) => Ok(value),
-            Err(refusal) => self.refuse(line, of_operation(refusal), ""),
+            Err(refusal) => Ok(self.refuse(line, of_operation(refusal), "")?),
         }
     }
 
     /// What a call gave, where it gave a value.
+    #[inline(always)]
     pub fn needed(&self, line: usize, answer: Option<Value>) -> Result<Value, Stop>
         ensures gives { Answers T.seen O.seen data_of (needed line (option_map data_of answer)) self.now result self.now }
         ensures quiet { (n : ℕ) → failures_after n result ≡ n }
     {
         match answer {
             Some(value) => Ok(value),
-            None => self.refuse(line, Refusal::Type, ""),
+            None => Ok(self.refuse(line, Refusal::Type, "")?),
         }
     }
 

@@ -64,6 +64,7 @@ impl<'a, T: Tree, O: Outputs, L: Ledger> Context<'a, T, O, L> {
     }
 
     // The value of a literal that stands so in the source.
+    #[inline(never)]
     fn unread(&self, line: usize, literal: Literal, text: &str) -> Result<Value, Stop>
         ensures gives { Answers T.seen O.seen data_of (literal_value line literal text.now) self.now result self.now }
         ensures quiet { (n : ℕ) → failures_after n result ≡ n }
@@ -79,7 +80,7 @@ impl<'a, T: Tree, O: Outputs, L: Ledger> Context<'a, T, O, L> {
         }
     }
 
-    // The value of a literal.
+    // The value of a literal, put together from registers: what a call answers is taken apart.
     pub fn literal(&self, line: usize, node: &LiteralNode) -> Result<Value, Stop>
         ensures gives { Answers T.seen O.seen data_of (literal_value line node.now.literal (string_bytes node.now.source.value))
             self.now result self.now }
@@ -89,8 +90,8 @@ impl<'a, T: Tree, O: Outputs, L: Ledger> Context<'a, T, O, L> {
             Meaning::Boolean(value) => Ok(Value::Boolean(*value)),
             Meaning::Integer(n) => Ok(small_integer(*n)),
             Meaning::Text(text) => Ok(shared(text)?),
-            Meaning::Format(text) => self.with_places(line, text.as_str()),
-            Meaning::Source(text) => self.unread(line, node.literal, text.as_str()),
+            Meaning::Format(text) => Ok(self.with_places(line, text.as_str())?),
+            Meaning::Source(text) => Ok(self.unread(line, node.literal, text.as_str())?),
         }
     }
 }

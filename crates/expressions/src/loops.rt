@@ -46,6 +46,7 @@ fn entry_at(dictionary: &Dictionary, at: usize) -> Result<Option<Round>, AllocEr
 }
 
 /// The round over a list or a dictionary at a place, none behind the last. What it gives is shared with the whole.
+#[inline(always)]
 pub fn round_at(whole: &Value, at: usize) -> Result<Option<Round>, AllocError>
     ensures { IfOk result (λ r. RoundAt (rounds_in (data_of whole.now)) at r) }
 {

@@ -72,6 +72,7 @@ impl<'a, T: Tree, O: Outputs, L: Ledger> Context<'a, T, O, L> {
     }
 
     /// The value of the variable of a number.
+    #[inline(always)]
     pub fn variable(&self, number: usize, line: usize) -> Result<Value, Stop>
         ensures gives { number < length self.now.store.now.names
             → Answers T.seen O.seen data_of (variable line (slice_index_or self.now.store.now.names number [])) self.now result self.now }
@@ -79,7 +80,7 @@ impl<'a, T: Tree, O: Outputs, L: Ledger> Context<'a, T, O, L> {
     {
         let name = self.store.name(number);
         if is_predefined(name) {
-            return self.thing(name);
+            return Ok(self.thing(name)?);
         }
         let value = self.store.value(number)?;
         self.known(line, name, value)
@@ -104,7 +105,7 @@ impl<'a, T: Tree, O: Outputs, L: Ledger> Context<'a, T, O, L> {
     {
         match value {
             Some(value) => Ok(value),
-            None => self.refuse(line, Refusal::UndefinedName, name),
+            None => Ok(self.refuse(line, Refusal::UndefinedName, name)?),
         }
     }
 

@@ -136,6 +136,12 @@ comes_halt {result = Ok x} h is = absurd is
 comes_halt {files = files} {left = left} {p = p} {others = others} {s0 = s0} {s1 = s1} {halt = halt} {result = Err e} h is =
     record { comes = subst (λ d. HaltsTo files left (next p others) s0 d s1) (sym is) (halts_then files left p others s0 s1 halt h.comes) }
 
+-- the last one halts
+pub comes_same : {A C D : Type 0} {view : C → A} {view' : D → A} {files : Files} {left : Bounds} {p : Plan A} {s0 s1 : Stand} {halt : Halt} {result : Result D Halt}
+    → Comes view files left p s0 (Err halt) s1 → IsErrAnd result (λ e. e ≡ halt) → Comes view' files left p s0 result s1
+comes_same {result = Ok x} h is = absurd is
+comes_same {files = files} {left = left} {p = p} {s0 = s0} {s1 = s1} {result = Err e} h is = record { comes = subst (λ d. HaltsTo files left p s0 d s1) (sym is) h.comes }
+
 -- inside of what comes first
 pub comes_halt_inside : {A B C D E : Type 0} {view : C → A} {view' : D → B} {files : Files} {left : Bounds} {p : Plan A} {others : A → Plan E} {more : E → Plan B} {s0 s1 : Stand} {halt : Halt} {result : Result D Halt}
     → Comes view files left p s0 (Err halt) s1 → IsErrAnd result (λ e. e ≡ halt) → Comes view' files left (next (next p others) more) s0 result s1

@@ -52,21 +52,15 @@ pub fn action_of(function: Function) -> Action
     }
 }
 
-// Whether all dependencies of `if_found` are found.
-fn is_wanted(arguments: &Arguments) -> bool
-    ensures { result ≡ is_wanted (arguments_data arguments.now) }
-{
-    match arguments.keyword("if_found") {
-        Some(value) => are_found(value),
-        None => true,
-    }
-}
-
-// The folder of a call of `subdir`, where it is wanted.
+// The folder of a call of `subdir`, where all dependencies of `if_found` are found.
 fn entered(alloc: Global, arguments: &Arguments) -> Result<Way, AllocError>
     ensures { IfOk result (λ way. way_view way ≡ entered_by (is_wanted (arguments_data arguments.now)) (arguments_data arguments.now)) }
 {
-    if is_wanted(arguments) {
+    let is_wanted = match arguments.keyword("if_found") {
+        Some(value) => are_found(value),
+        None => true,
+    };
+    if is_wanted {
         Ok(Way::Enters(String::from_str(alloc, arguments.text_at(0))?))
     } else {
         Ok(Way::Ends(Flow::Next))

@@ -38,7 +38,8 @@ impl<'a, T: Tree, O: Outputs, L: Ledger> Evaluator<'a, T, O, L> {
         answer
     }
 
-    /// The same, before its rule has ended.
+    /// The same, before its rule has ended. What a call answers is taken apart here, and not handed on as it is: so the answer of each form
+    /// is put together from registers.
     #[cycle(eval)]
     pub fn form(&mut self, code: &Code, node: usize) -> Result<Value, Halt>
         requires here { node < length code.now.nodes.items }
@@ -51,11 +52,11 @@ impl<'a, T: Tree, O: Outputs, L: Ledger> Evaluator<'a, T, O, L> {
         match &code.nodes[node] {
             Node::Name { number, line } => Ok(self.context.variable(*number, *line)?),
             Node::Literal { literal, line } => Ok(self.context.literal(*line, literal)?),
-            Node::List { items, line } => self.list(code, items, *line),
-            Node::Dictionary { entries, line } => self.dictionary(code, entries, *line),
+            Node::List { items, line } => Ok(self.list(code, items, *line)?),
+            Node::Dictionary { entries, line } => Ok(self.dictionary(code, entries, *line)?),
             Node::Call { call, line } => {
                 let call: &CallNode = call;
-                self.call(code, &call.name, &call.arguments, *line)
+                Ok(self.call(code, &call.name, &call.arguments, *line)?)
             }
             Node::Postfix { first, links, line } => {
                 let given = self.asked(code, *first as usize, links, *line)?;
@@ -73,13 +74,13 @@ impl<'a, T: Tree, O: Outputs, L: Ledger> Evaluator<'a, T, O, L> {
                 first,
                 others,
                 line,
-            } => self.chain(code, *first as usize, others, *line),
+            } => Ok(self.chain(code, *first as usize, others, *line)?),
             Node::Ternary {
                 test,
                 yes,
                 no,
                 line,
-            } => self.ternary(code, *test, *yes, *no, *line),
+            } => Ok(self.ternary(code, *test, *yes, *no, *line)?),
         }
     }
 

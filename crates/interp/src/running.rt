@@ -23,6 +23,7 @@ use std::sync::ledger::Ledger;
 use world::Stop;
 
 // Puts a frame on the stack, and the end of a rule.
+#[inline(always)]
 fn lay(stack: &mut Vec<Frame>, frame: Frame) -> Result<(), Stop>
     ensures lays { Lays stack.old.items frame result stack.new.items }
     ensures quiet { (n : ℕ) → failures_after n result ≡ n }

@@ -67,6 +67,7 @@ impl<'a, T: Tree, O: Outputs, L: Ledger> Evaluator<'a, T, O, L> {
     }
 
     // A round: its variables take their values, and then its statements are done.
+    #[inline(always)]
     fn walk_round(&mut self, code: &Code, head: &LoopHead, round: Round) -> Result<Walk, Stop>
         requires first { IsTrue (nat_lt head.now.first code.now.names) }
         requires second { IsTrue (second_within code.now.names head.now.second) }

@@ -1,4 +1,4 @@
-use Rattle.std.proofs.Common.{[], ap, refl, sym, ◌∙◌}
+use Rattle.std.proofs.Common.{[], ap, refl, sym}
 use Rattle.basics.specs.declared.faults.refusal.Refusal.TheVariants as refusals
 use Rattle.world.specs.Plan.{refuse}
 use Rattle.expressions.specs.Details.{key_twice}

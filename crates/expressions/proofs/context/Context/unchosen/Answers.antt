@@ -1,5 +1,5 @@
 use Rattle.std.proofs.Common.{◌≡◌, true, refl, ap, sym, ◌∙◌}
-use Rattle.data.specs.Data.{Data, boolean, integer, text, list, dictionary, object, is_disabler}
+use Rattle.data.specs.Data.{Data, object, is_disabler}
 use Rattle.data.specs.declared.object.Object.TheVariants as TheObject
 use Rattle.data.specs.View.{data_of}
 use Rattle.operators.specs.Operations.{disabler}

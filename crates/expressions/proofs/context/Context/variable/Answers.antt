@@ -1,18 +1,24 @@
 use Rattle.std.proofs.Common.{ap, sym, ◌∙◌}
 use Rattle.world.specs.Store.{kept_variables}
 use Rattle.expressions.specs.Forms.{known, variable, variable_by}
-use Rattle.expressions.proofs.Evaluating.{given_as, given_none, given_read}
+use Rattle.expressions.proofs.Evaluating.{given_as, given_none, given_read, given_same}
 use Rattle.expressions.proofs.context.Context.variable.Goals as goal
+
+pub returns-in_err-thing-clause-gives : goal.returns-in_err-thing-clause-gives
+returns-in_err-thing-clause-gives g c = λ within files h.
+    given_as (ap (variable c.args.line) (c.name-name.ensures within))
+    (given_as (ap (λ b. variable_by b c.args.line c.name-name.result.now) (sym c.if-is_predefined.true ∙ c.is_predefined.ensures))
+    (given_same (c.in_err-thing.ensures.gives files h) c.from_residual.ensures.1))
 
 pub returns-then-is_predefined-clause-gives : goal.returns-then-is_predefined-clause-gives
 returns-then-is_predefined-clause-gives g c = λ within files h.
     given_as (ap (variable c.args.line) (c.name-name.ensures within))
     (given_as (ap (λ b. variable_by b c.args.line c.name-name.result.now) (sym c.if-is_predefined.true ∙ c.is_predefined.ensures))
-    (c.thing.ensures.gives files h))
+    (c.in_ok-thing.ensures.gives files h))
 
 pub returns-in_err-value-clause-gives : goal.returns-in_err-value-clause-gives
 returns-in_err-value-clause-gives g c = λ within files h.
-    given_none h c.from_residual.ensures.1
+    given_none h c.from_residual-in_err-value.ensures.1
 
 pub returns-clause-gives : goal.returns-clause-gives
 returns-clause-gives g c = λ within files h.

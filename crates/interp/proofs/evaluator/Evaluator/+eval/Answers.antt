@@ -22,7 +22,7 @@ use Rattle.interp.specs.Operations.{left_view}
 use Rattle.interp.specs.declared.halt.Halt.TheVariants as halts
 use Rattle.interp.specs.Parts.{above, above_number, above_entry, above_argument, above_operand, above_link}
 use Rattle.interp.specs.Folders.{folder}
-use Rattle.interp.proofs.Coming.{comes_as, comes_end, comes_given, comes_halt, comes_halt_inside, comes_last, comes_none, comes_rule, comes_stop, comes_then}
+use Rattle.interp.proofs.Coming.{comes_as, comes_end, comes_given, comes_halt, comes_halt_inside, comes_last, comes_none, comes_rule, comes_same, comes_stop, comes_then}
 use Rattle.expressions.proofs.Evaluating.{given_as, given_give, given_then, leads_as, leads_end, leads_inside, leads_on, leads_start, next_is, next_item, no_item}
 use Rattle.interp.proofs.Pairs.{pairs_of-push}
 use Rattle.interp.proofs.Reading.{reads_on, opened, parts_at, name_of, number_reach, first_reach, three_reach, numbers_reach, entries_reach, arguments_reach, operands_reach, links_reach}
@@ -103,26 +103,47 @@ form-chain-requires g t c κs lives = let reach : max (suc c.in-Chain.first) (ab
 pub form-ternary-requires : goal.form-ternary-requires
 form-ternary-requires g t c κs lives = let reach : max (suc c.in-Ternary.test) (max (suc c.in-Ternary.yes) (suc c.in-Ternary.no)) ≤ c.args.node = three_reach c.args.node c.in-Ternary.test c.in-Ternary.yes c.in-Ternary.no (parts_at c.args.code.now c.args.node c.index.result.now (flat.Ternary c.in-Ternary.test c.in-Ternary.yes c.in-Ternary.no c.in-Ternary.line) c.requires.here c.index.ensures c.in-Ternary.is) in (omega arith, (lives.0, (lives.1.0, (lives.1.1, (omega arith, c.requires.room)))))
 
-pub form-returns-in-List-clause-gives : goal.form-returns-in-List-clause-gives
-form-returns-in-List-clause-gives g t c = λ files left ts hold reads. comes_as (ap (value_of (folder left)) (sym (opened reads c.args.node c.index.result.now (flat.List c.in-List.items c.in-List.line) c.requires.here c.index.ensures c.in-List.is))) (comes_as (ap (λ (xs : List ℕ). value_of (folder left) (ListTree (expressions (map (tree_at ts) xs)) c.in-List.line)) c.deref.ensures.value) (c.list.ensures.gives files left ts hold reads))
+pub form-returns-in_err-list-in-List-clause-gives : goal.form-returns-in_err-list-in-List-clause-gives
+form-returns-in_err-list-in-List-clause-gives g t c = λ files left ts hold reads. comes_as (ap (value_of (folder left)) (sym (opened reads c.args.node c.index.result.now (flat.List c.in-List.items c.in-List.line) c.requires.here c.index.ensures c.in-List.is))) (comes_as (ap (λ (xs : List ℕ). value_of (folder left) (ListTree (expressions (map (tree_at ts) xs)) c.in-List.line)) c.deref.ensures.value) (comes_same (c.in_err-list-in-List.ensures.gives files left ts hold reads) c.from_residual-in_err-list-in-List.ensures.1))
 
-pub form-returns-in-Dictionary-clause-gives : goal.form-returns-in-Dictionary-clause-gives
-form-returns-in-Dictionary-clause-gives g t c = λ files left ts hold reads. comes_as (ap (value_of (folder left)) (sym (opened reads c.args.node c.index.result.now (flat.Dictionary c.in-Dictionary.entries c.in-Dictionary.line) c.requires.here c.index.ensures c.in-Dictionary.is))) (comes_as (ap (λ (xs : List EntryNode). value_of (folder left) (DictionaryTree (entries (map (entry_at ts) xs)) c.in-Dictionary.line)) c.deref-in-Dictionary.ensures.value) (c.dictionary.ensures.gives files left ts hold reads))
+pub form-returns-in_ok-list-in-List-clause-gives : goal.form-returns-in_ok-list-in-List-clause-gives
+form-returns-in_ok-list-in-List-clause-gives g t c = λ files left ts hold reads. comes_as (ap (value_of (folder left)) (sym (opened reads c.args.node c.index.result.now (flat.List c.in-List.items c.in-List.line) c.requires.here c.index.ensures c.in-List.is))) (comes_as (ap (λ (xs : List ℕ). value_of (folder left) (ListTree (expressions (map (tree_at ts) xs)) c.in-List.line)) c.deref.ensures.value) (c.in_ok-list-in-List.ensures.gives files left ts hold reads))
 
-pub form-returns-in-Call-clause-gives : goal.form-returns-in-Call-clause-gives
-form-returns-in-Call-clause-gives g t c = λ files left ts hold reads.
+pub form-returns-in_err-dictionary-in-Dictionary-clause-gives : goal.form-returns-in_err-dictionary-in-Dictionary-clause-gives
+form-returns-in_err-dictionary-in-Dictionary-clause-gives g t c = λ files left ts hold reads. comes_as (ap (value_of (folder left)) (sym (opened reads c.args.node c.index.result.now (flat.Dictionary c.in-Dictionary.entries c.in-Dictionary.line) c.requires.here c.index.ensures c.in-Dictionary.is))) (comes_as (ap (λ (xs : List EntryNode). value_of (folder left) (DictionaryTree (entries (map (entry_at ts) xs)) c.in-Dictionary.line)) c.deref-in-Dictionary.ensures.value) (comes_same (c.in_err-dictionary-in-Dictionary.ensures.gives files left ts hold reads) c.from_residual-in_err-dictionary-in-Dictionary.ensures.1))
+
+pub form-returns-in_ok-dictionary-in-Dictionary-clause-gives : goal.form-returns-in_ok-dictionary-in-Dictionary-clause-gives
+form-returns-in_ok-dictionary-in-Dictionary-clause-gives g t c = λ files left ts hold reads. comes_as (ap (value_of (folder left)) (sym (opened reads c.args.node c.index.result.now (flat.Dictionary c.in-Dictionary.entries c.in-Dictionary.line) c.requires.here c.index.ensures c.in-Dictionary.is))) (comes_as (ap (λ (xs : List EntryNode). value_of (folder left) (DictionaryTree (entries (map (entry_at ts) xs)) c.in-Dictionary.line)) c.deref-in-Dictionary.ensures.value) (c.in_ok-dictionary-in-Dictionary.ensures.gives files left ts hold reads))
+
+pub form-returns-in_err-call-in-Call-clause-gives : goal.form-returns-in_err-call-in-Call-clause-gives
+form-returns-in_err-call-in-Call-clause-gives g t c = λ files left ts hold reads.
     let line = c.in-Call.line in
     comes_as (ap (value_of (folder left)) (sym (opened reads c.args.node c.index.result.now (flat.Call c.in-Call.call line) c.requires.here c.index.ensures c.in-Call.is)))
     (comes_as (ap (λ (x : CallNode). value_of (folder left) (FunctionTree (string_bytes x.name) (arguments (map (argument_at ts) x.arguments.items)) line)) c.deref-call.ensures)
     (comes_as (ap (λ (name : List ℕ). value_of (folder left) (FunctionTree name (arguments (map (argument_at ts) c.deref-call.result.now.arguments.items)) line)) c.deref-in-Call.ensures)
     (comes_as (ap (λ (xs : List ArgumentNode). value_of (folder left) (FunctionTree c.deref-in-Call.result.now (arguments (map (argument_at ts) xs)) line)) c.deref-in-Call-2.ensures.value)
-    (c.call.ensures.gives files left ts hold reads))))
+    (comes_same (c.in_err-call-in-Call.ensures.gives files left ts hold reads) c.from_residual-in_err-call-in-Call.ensures.1))))
 
-pub form-returns-in-Chain-clause-gives : goal.form-returns-in-Chain-clause-gives
-form-returns-in-Chain-clause-gives g t c = λ files left ts hold reads. comes_as (ap (value_of (folder left)) (sym (opened reads c.args.node c.index.result.now (flat.Chain c.in-Chain.first c.in-Chain.others c.in-Chain.line) c.requires.here c.index.ensures c.in-Chain.is))) (comes_as (ap (λ (xs : List OperandNode). value_of (folder left) (ChainTree (tree_at ts c.in-Chain.first) (operands (map (operand_at ts) xs)) c.in-Chain.line)) c.deref-in-Chain.ensures.value) (c.chain.ensures.gives files left ts hold reads))
+pub form-returns-in_ok-call-in-Call-clause-gives : goal.form-returns-in_ok-call-in-Call-clause-gives
+form-returns-in_ok-call-in-Call-clause-gives g t c = λ files left ts hold reads.
+    let line = c.in-Call.line in
+    comes_as (ap (value_of (folder left)) (sym (opened reads c.args.node c.index.result.now (flat.Call c.in-Call.call line) c.requires.here c.index.ensures c.in-Call.is)))
+    (comes_as (ap (λ (x : CallNode). value_of (folder left) (FunctionTree (string_bytes x.name) (arguments (map (argument_at ts) x.arguments.items)) line)) c.deref-call.ensures)
+    (comes_as (ap (λ (name : List ℕ). value_of (folder left) (FunctionTree name (arguments (map (argument_at ts) c.deref-call.result.now.arguments.items)) line)) c.deref-in-Call.ensures)
+    (comes_as (ap (λ (xs : List ArgumentNode). value_of (folder left) (FunctionTree c.deref-in-Call.result.now (arguments (map (argument_at ts) xs)) line)) c.deref-in-Call-2.ensures.value)
+    (c.in_ok-call-in-Call.ensures.gives files left ts hold reads))))
 
-pub form-returns-in-Ternary-clause-gives : goal.form-returns-in-Ternary-clause-gives
-form-returns-in-Ternary-clause-gives g t c = λ files left ts hold reads. comes_as (ap (value_of (folder left)) (sym (opened reads c.args.node c.index.result.now (flat.Ternary c.in-Ternary.test c.in-Ternary.yes c.in-Ternary.no c.in-Ternary.line) c.requires.here c.index.ensures c.in-Ternary.is))) (c.ternary.ensures.gives files left ts hold reads)
+pub form-returns-in_err-chain-in-Chain-clause-gives : goal.form-returns-in_err-chain-in-Chain-clause-gives
+form-returns-in_err-chain-in-Chain-clause-gives g t c = λ files left ts hold reads. comes_as (ap (value_of (folder left)) (sym (opened reads c.args.node c.index.result.now (flat.Chain c.in-Chain.first c.in-Chain.others c.in-Chain.line) c.requires.here c.index.ensures c.in-Chain.is))) (comes_as (ap (λ (xs : List OperandNode). value_of (folder left) (ChainTree (tree_at ts c.in-Chain.first) (operands (map (operand_at ts) xs)) c.in-Chain.line)) c.deref-in-Chain.ensures.value) (comes_same (c.in_err-chain-in-Chain.ensures.gives files left ts hold reads) c.from_residual-in_err-chain-in-Chain.ensures.1))
+
+pub form-returns-in_ok-chain-in-Chain-clause-gives : goal.form-returns-in_ok-chain-in-Chain-clause-gives
+form-returns-in_ok-chain-in-Chain-clause-gives g t c = λ files left ts hold reads. comes_as (ap (value_of (folder left)) (sym (opened reads c.args.node c.index.result.now (flat.Chain c.in-Chain.first c.in-Chain.others c.in-Chain.line) c.requires.here c.index.ensures c.in-Chain.is))) (comes_as (ap (λ (xs : List OperandNode). value_of (folder left) (ChainTree (tree_at ts c.in-Chain.first) (operands (map (operand_at ts) xs)) c.in-Chain.line)) c.deref-in-Chain.ensures.value) (c.in_ok-chain-in-Chain.ensures.gives files left ts hold reads))
+
+pub form-returns-in_err-ternary-in-Ternary-clause-gives : goal.form-returns-in_err-ternary-in-Ternary-clause-gives
+form-returns-in_err-ternary-in-Ternary-clause-gives g t c = λ files left ts hold reads. comes_as (ap (value_of (folder left)) (sym (opened reads c.args.node c.index.result.now (flat.Ternary c.in-Ternary.test c.in-Ternary.yes c.in-Ternary.no c.in-Ternary.line) c.requires.here c.index.ensures c.in-Ternary.is))) (comes_same (c.in_err-ternary-in-Ternary.ensures.gives files left ts hold reads) c.from_residual-in_err-ternary-in-Ternary.ensures.1)
+
+pub form-returns-in_ok-ternary-in-Ternary-clause-gives : goal.form-returns-in_ok-ternary-in-Ternary-clause-gives
+form-returns-in_ok-ternary-in-Ternary-clause-gives g t c = λ files left ts hold reads. comes_as (ap (value_of (folder left)) (sym (opened reads c.args.node c.index.result.now (flat.Ternary c.in-Ternary.test c.in-Ternary.yes c.in-Ternary.no c.in-Ternary.line) c.requires.here c.index.ensures c.in-Ternary.is))) (c.in_ok-ternary-in-Ternary.ensures.gives files left ts hold reads)
 
 pub form-returns-in_err-variable-in-Name-clause-gives : goal.form-returns-in_err-variable-in-Name-clause-gives
 form-returns-in_err-variable-in-Name-clause-gives g t c = λ files left ts hold reads. let number = (name_of reads c.in-Name.number (parts_at c.args.code.now c.args.node c.index.result.now (flat.Name c.in-Name.number c.in-Name.line) c.requires.here c.index.ensures c.in-Name.is)) in comes_as (ap (value_of (folder left)) (sym (opened reads c.args.node c.index.result.now (flat.Name c.in-Name.number c.in-Name.line) c.requires.here c.index.ensures c.in-Name.is))) (comes_as (ap (variable c.in-Name.line) number.1) (comes_last (c.in_err-variable-in-Name.ensures.gives number.0 files hold) c.from_residual.ensures.1))
