@@ -107,7 +107,7 @@ fn value_of(alloc: Global, content: &ConfigValue) -> Result<Result<Value, Refusa
     match content {
         ConfigValue::Boolean(boolean) => Ok(Ok(Value::Boolean(*boolean))),
         ConfigValue::Integer(integer) => Ok(Ok(Value::Integer(*integer))),
-        ConfigValue::Text(text) => Value::of_string(alloc, text.clone()?),
+        ConfigValue::Text(text) => Value::of_str(alloc, text.as_str()),
     }
 }
 

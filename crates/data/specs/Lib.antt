@@ -9,3 +9,4 @@ pub mod Same
 pub mod Builder
 pub mod Flat
 pub mod Few
+pub mod Kept

@@ -15,6 +15,7 @@ mod laws;
 mod object;
 mod opening;
 mod refusal;
+mod short;
 mod text;
 mod value;
 

@@ -5,6 +5,7 @@ ghost use Rattle.data.specs.Limits.{within_bytes, Appends};
 ghost use Rattle.basics.specs.Limits.{text_bytes};
 
 use crate::refusal::Refusal;
+use crate::short::{SHORT_BYTES, Short};
 use basics::limits::TEXT_BYTES;
 use std::alloc::{AllocError, Global};
 use std::cmp::Ordering;
@@ -12,21 +13,34 @@ use std::hash::{Hash, Hasher};
 use std::marker::Model;
 use std::rc::Rc;
 
-/// A text of at most 16,777,216 bytes, ordered by them. A clone shares them.
-#[derive(Drop)]
+/// A text of at most 16,777,216 bytes, ordered by them. A short one lies in the value itself, a clone of a long one shares its bytes.
 pub struct Text {
-    string: Rc<String>,
+    kept: Kept,
+}
+
+// Where the bytes of a text lie.
+#[derive(Drop)]
+enum Kept {
+    Short(Short),
+    Long(Rc<String>),
+}
+
+impl Drop for Text {
+    fn drop(self) {
+        let Text { kept: _ } = self;
+    }
 }
 
 impl Model for Text {
-    ghost use Rattle.std.specs.Prelude.{◌≤◌, List, ℕ, length, string_bytes};
+    ghost use Rattle.std.specs.Prelude.{◌≤◌, List, ℕ, length};
     ghost use Rattle.basics.specs.Limits.{text_bytes};
+    ghost use Rattle.data.specs.Kept.{bytes_of};
 
     ghost Value = { List ℕ };
 
-    ghost view = { λ t. string_bytes t.string.value };
+    ghost view = { λ t. bytes_of t.kept };
 
-    ghost invariant = { λ t. length (string_bytes t.string.value) ≤ text_bytes };
+    ghost invariant = { λ t. length (bytes_of t.kept) ≤ text_bytes };
 }
 
 impl Text {
@@ -34,18 +48,45 @@ impl Text {
     pub fn new(alloc: Global, string: String) -> Result<Result<Text, Refusal>, AllocError>
         ensures { IfOk result (λ r. r ≡ within_bytes (string_bytes string)) }
     {
+        if string.len() <= SHORT_BYTES {
+            return Ok(Ok(Text::short(string.as_str())));
+        }
         if string.len() > TEXT_BYTES {
             return Ok(Err(Refusal::Limit));
         }
-        let string = Rc::new(alloc, string)?;
-        Ok(Ok(Text { string }))
+        let kept = Kept::Long(Rc::new(alloc, string)?);
+        Ok(Ok(Text { kept }))
+    }
+
+    /// The text of a copy of some bytes, or `Refusal::Limit` where they are too many.
+    pub fn of_str(alloc: Global, bytes: &str) -> Result<Result<Text, Refusal>, AllocError>
+        ensures { IfOk result (λ r. r ≡ within_bytes bytes.now) }
+    {
+        if bytes.len() <= SHORT_BYTES {
+            return Ok(Ok(Text::short(bytes)));
+        }
+        Text::new(alloc, String::from_str(alloc, bytes)?)
+    }
+
+    fn short(bytes: &str) -> Text
+        requires { length bytes.now ≤ 22 }
+        ensures { result ≡ bytes.now }
+    {
+        let mut short = Short::new();
+        short.push(bytes);
+        Text {
+            kept: Kept::Short(short),
+        }
     }
 
     pub fn as_str(&self) -> &str
         ensures text { result.now ≡ self.now }
         ensures within { length self.now ≤ text_bytes }
     {
-        self.string.as_str()
+        match &self.kept {
+            Kept::Short(short) => short.as_str(),
+            Kept::Long(string) => string.as_str(),
+        }
     }
 
     /// The text and a piece behind it, or `Refusal::Limit` where that is too long.
@@ -57,13 +98,17 @@ impl Text {
         if self.as_str().len() + piece.len() > TEXT_BYTES {
             return Ok(Err(Refusal::Limit));
         }
-        let Text { mut string } = self;
-        if let Some(own) = Rc::get_mut(&mut string) {
-            own.push_str(piece)?;
-            return Ok(Ok(Text { string }));
+        let Text { mut kept } = self;
+        if let Kept::Long(string) = &mut kept {
+            if let Some(own) = Rc::get_mut(string) {
+                own.push_str(piece)?;
+                return Ok(Ok(Text { kept }));
+            }
         }
-        let mut copy = String::with_capacity(alloc, string.len() + piece.len())?;
-        copy.push_str(string.as_str())?;
+        let text = Text { kept };
+        let text = text.as_str();
+        let mut copy = String::with_capacity(alloc, text.len() + piece.len())?;
+        copy.push_str(text)?;
         copy.push_str(piece)?;
         Text::new(alloc, copy)
     }
@@ -75,9 +120,11 @@ impl Clone for Text {
     ghost is_clone = { λ t u. u ≡ t };
 
     fn clone(&self) -> Result<Text, AllocError> {
-        Ok(Text {
-            string: self.string.clone()?,
-        })
+        let kept = match &self.kept {
+            Kept::Short(short) => Kept::Short(short.copy()),
+            Kept::Long(string) => Kept::Long(string.clone()?),
+        };
+        Ok(Text { kept })
     }
 }
 

@@ -217,7 +217,10 @@ impl Value {
     pub fn of_str(alloc: Global, bytes: &str) -> Result<Result<Value, Refusal>, AllocError>
         ensures { IfOk result (λ r. Answers (within_limits (text bytes.now)) r) }
     {
-        Value::of_string(alloc, String::from_str(alloc, bytes)?)
+        match Text::of_str(alloc, bytes)? {
+            Ok(text) => Ok(Ok(Value::Text(text))),
+            Err(refusal) => Ok(Err(refusal)),
+        }
     }
 
     /// The value of a list.

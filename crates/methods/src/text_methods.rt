@@ -230,5 +230,6 @@ fn value_of(alloc: Global, string: String) -> Result<Value, Stop>
 fn value_of_slice(alloc: Global, text: &str) -> Result<Value, Stop>
     ensures { Gives (within (text_data text.now)) result }
 {
-    value_of(alloc, String::from_str(alloc, text)?)
+    let value = Value::of_str(alloc, text)??;
+    Ok(value)
 }

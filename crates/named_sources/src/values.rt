@@ -14,7 +14,7 @@ fn files(alloc: Global, paths: &[String]) -> Result<Result<Vec<Value>, Refusal>,
 {
     let mut files = Vec::new(alloc);
     for path in paths {
-        match Text::new(alloc, path.clone()?)? {
+        match Text::of_str(alloc, path.as_str())? {
             Ok(path) => {
                 let is_built = false;
                 files.push(Value::of_object(alloc, Object::File { path, is_built })?)?;
@@ -44,7 +44,7 @@ fn texts(alloc: Global, paths: &[String]) -> Result<Result<Texts, Refusal>, Allo
 {
     let mut texts = Texts::new(alloc);
     for path in paths {
-        match Text::new(alloc, path.clone()?)? {
+        match Text::of_str(alloc, path.as_str())? {
             Ok(path) => texts.push(path)?,
             Err(refusal) => return Ok(Err(refusal)),
         }

@@ -38,9 +38,9 @@ pub fn as_data(alloc: Global, value: &OptionValue) -> Result<Result<Value, Refus
     ensures { IfOk result (λ r. Answers (as_data (value_in value.now)) r) }
 {
     match value {
-        OptionValue::Text(text) => Value::of_string(alloc, text.clone()?),
+        OptionValue::Text(text) => Value::of_str(alloc, text.as_str()),
         OptionValue::Boolean(boolean) => Ok(Ok(Value::Boolean(*boolean))),
-        OptionValue::Combo(choice) => Value::of_string(alloc, choice.clone()?),
+        OptionValue::Combo(choice) => Value::of_str(alloc, choice.as_str()),
         OptionValue::Integer(number) => Ok(Ok(Value::Integer(i128::from(*number)))),
         OptionValue::Array(items) => list_of(alloc, items),
         OptionValue::Feature(state) => {

@@ -34,7 +34,7 @@ fn count_at(earlier: &[Linked], number: usize) -> usize
 fn tree_source(alloc: Global, path: &str) -> Result<Result<Source, Refusal>, AllocError>
     ensures { IfOk result (λ r. r ≡ tree_source path.now) }
 {
-    match Text::new(alloc, String::from_str(alloc, path)?)? {
+    match Text::of_str(alloc, path)? {
         Ok(path) => Ok(Ok(Source::File {
             path,
             is_built: false,

@@ -14,7 +14,7 @@ pub fn within_texts(alloc: Global, strings: &[String]) -> Result<Result<Texts, R
     }
     let mut texts = Texts::new(alloc);
     for string in strings {
-        match Text::new(alloc, String::from_str(alloc, string.as_str())?)? {
+        match Text::of_str(alloc, string.as_str())? {
             Ok(text) => texts.push(text)?,
             Err(refusal) => return Ok(Err(refusal)),
         }
@@ -55,11 +55,11 @@ pub fn found_dependency(
 ) -> Result<Result<Dependency, Refusal>, AllocError>
     ensures { IfOk result (λ r. r ≡ found name.now version.now (map string_bytes compile_args.now) (map string_bytes link_args.now)) }
 {
-    let name = match Text::new(alloc, String::from_str(alloc, name)?)? {
+    let name = match Text::of_str(alloc, name)? {
         Ok(name) => name,
         Err(refusal) => return Ok(Err(refusal)),
     };
-    let version = match Text::new(alloc, String::from_str(alloc, version)?)? {
+    let version = match Text::of_str(alloc, version)? {
         Ok(version) => version,
         Err(refusal) => return Ok(Err(refusal)),
     };
@@ -98,11 +98,11 @@ pub fn missing_dependency(
 ) -> Result<Result<Dependency, Refusal>, AllocError>
     ensures { IfOk result (λ r. r ≡ missing name.now) }
 {
-    let name = match Text::new(alloc, String::from_str(alloc, name)?)? {
+    let name = match Text::of_str(alloc, name)? {
         Ok(name) => name,
         Err(refusal) => return Ok(Err(refusal)),
     };
-    match Text::new(alloc, String::from_str(alloc, "unknown")?)? {
+    match Text::of_str(alloc, "unknown")? {
         Ok(version) => Ok(Ok(absent(alloc, name, version))),
         Err(refusal) => Ok(Err(refusal)),
     }

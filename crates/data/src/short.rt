@@ -1,0 +1,64 @@
+//! Texts that need no memory of their own.
+ghost use Rattle.std.specs.Prelude.{◌≡◌, ◌+◌, ◌≤◌, ◌++◌, length};
+
+use std::marker::Model;
+use std::str;
+
+/// The most bytes of a short text: with them a value is no larger than one with an integer.
+pub(crate) const SHORT_BYTES: usize = 22;
+
+/// A text of at most 22 bytes, which lie in it.
+#[derive(Drop)]
+pub(crate) struct Short {
+    bytes: [u8; SHORT_BYTES],
+    count: u8,
+}
+
+impl Model for Short {
+    ghost use Rattle.std.specs.Prelude.{◌≡◌, ◌≤◌, List, ℕ, length, take, IsUtf8};
+
+    ghost Value = { List ℕ };
+
+    ghost view = { λ s. take s.count s.bytes };
+
+    ghost invariant = { λ s. (s.count ≤ 22) × (length s.bytes ≡ 22) × ∥ IsUtf8 (take s.count s.bytes) ∥₁ };
+}
+
+impl Short {
+    pub(crate) fn new() -> Short
+        ensures { length result ≡ 0 }
+    {
+        Short {
+            bytes: [0; SHORT_BYTES],
+            count: 0,
+        }
+    }
+
+    /// Puts a piece behind the text.
+    pub(crate) fn push(&mut self, piece: &str)
+        requires { length self.old + length piece.now ≤ 22 }
+        ensures { self.new ≡ self.old ++ piece.now }
+    {
+        let from = self.count as usize;
+        let to = from + piece.len();
+        self.bytes[from..to].copy_from_slice(piece.as_bytes());
+        self.count = to as u8;
+    }
+
+    pub(crate) fn as_str(&self) -> &str
+        ensures text { result.now ≡ self.now }
+        ensures short { length result.now ≤ 22 }
+    {
+        unsafe { str::from_utf8_unchecked(&self.bytes[..self.count as usize]) }
+    }
+
+    /// The same text.
+    pub(crate) fn copy(&self) -> Short
+        ensures { result ≡ self.now }
+    {
+        Short {
+            bytes: self.bytes,
+            count: self.count,
+        }
+    }
+}
