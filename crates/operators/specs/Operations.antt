@@ -1,5 +1,5 @@
 -- The operators. A first table says what an operator gives, a second one why it gives nothing.
-use Rattle.std.specs.Prelude.{not, ◌||◌, Option, Some, None, option_map, Result, Ok, Err, if◌then◌else◌}
+use Rattle.std.specs.Prelude.{Bool, true, false, not, ◌||◌, Option, Some, None, option_map, Result, Ok, Err, if◌then◌else◌}
 use Rattle.std.specs.Ordering.{is_lt, is_le, is_gt, is_ge}
 use Rattle.data.specs.declared.object.Object.TheVariants as TheObject
 use Rattle.data.specs.declared.refusal.Refusal.{Refusal}
@@ -64,3 +64,7 @@ unary_answer operator d = if is_disabler d then Ok disabler else unary_outcome o
 
 abbrev pub binary_answer : Binary → Data → Data → Result Data Refusal
 binary_answer operator d e = if is_disabler d || is_disabler e then Ok disabler else binary_outcome operator d e
+
+abbrev pub are_integers : Data → Data → Bool
+are_integers (integer x) (integer y) = true
+are_integers _ _ = false

@@ -8,12 +8,12 @@ ghost use Rattle.data.specs.declared.refusal.Refusal.TheVariants as refusal;
 ghost use Rattle.operators.specs.Integers.{IsRest, quotient, remainder};
 ghost use Rattle.operators.specs.Operations.{answer, binary_outcome, unary_outcome};
 ghost use Rattle.operators.specs.declared.operator.Unary.TheVariants.{Negate};
-ghost use Rattle.operators.specs.declared.operator.Binary.TheVariants.{Subtract, Multiply, Remainder};
 
+use crate::operator::Binary;
 use data::{Refusal, Value};
 
-/// The value of a result that is in range.
-pub fn integer(result_in_range: Option<i128>) -> Result<Value, Refusal>
+// The value of a result that is in range.
+fn integer(result_in_range: Option<i128>) -> Result<Value, Refusal>
     ensures { Answers (answer (option_map integer_data result_in_range) refusal.Range) result }
 {
     match result_in_range {
@@ -32,38 +32,29 @@ pub fn opposite(operand: &Value) -> Result<Value, Refusal>
     }
 }
 
-/// `left - right`
-pub fn difference(left: &Value, right: &Value) -> Result<Value, Refusal>
-    ensures { Answers (binary_outcome Subtract (data_of left.now) (data_of right.now)) result }
+/// What an operator gives for two integers.
+#[inline(always)]
+pub fn of_integers(operator: Binary, x: i128, y: i128) -> Result<Value, Refusal>
+    ensures { Answers (binary_outcome operator (integer_data x) (integer_data y)) result }
 {
-    match (left, right) {
-        (Value::Integer(x), Value::Integer(y)) => integer(x.checked_sub(*y)),
-        _ => Err(Refusal::Type),
+    match operator {
+        Binary::Add => integer(x.checked_add(y)),
+        Binary::Subtract => integer(x.checked_sub(y)),
+        Binary::Multiply => integer(x.checked_mul(y)),
+        Binary::Divide => integer(integer_quotient(x, y)),
+        Binary::Remainder => integer(integer_remainder(x, y)),
+        Binary::Equal => Ok(Value::Boolean(x == y)),
+        Binary::NotEqual => Ok(Value::Boolean(x != y)),
+        Binary::Less => Ok(Value::Boolean(x < y)),
+        Binary::LessOrEqual => Ok(Value::Boolean(x <= y)),
+        Binary::Greater => Ok(Value::Boolean(x > y)),
+        Binary::GreaterOrEqual => Ok(Value::Boolean(x >= y)),
+        Binary::In | Binary::NotIn => Err(Refusal::Type),
     }
 }
 
-/// `left * right`
-pub fn product(left: &Value, right: &Value) -> Result<Value, Refusal>
-    ensures { Answers (binary_outcome Multiply (data_of left.now) (data_of right.now)) result }
-{
-    match (left, right) {
-        (Value::Integer(x), Value::Integer(y)) => integer(x.checked_mul(*y)),
-        _ => Err(Refusal::Type),
-    }
-}
-
-/// `left % right`
-pub fn remainder(left: &Value, right: &Value) -> Result<Value, Refusal>
-    ensures { Answers (binary_outcome Remainder (data_of left.now) (data_of right.now)) result }
-{
-    match (left, right) {
-        (Value::Integer(x), Value::Integer(y)) => integer(integer_remainder(*x, *y)),
-        _ => Err(Refusal::Type),
-    }
-}
-
-/// The quotient towards minus infinity, where there is one in range.
-pub fn integer_quotient(x: i128, y: i128) -> Option<i128>
+// The quotient towards minus infinity, where there is one in range.
+fn integer_quotient(x: i128, y: i128) -> Option<i128>
     ensures value { result ≡ quotient x y }
     ensures rest { IfSome result (λ q. IsRest y (x -ℤ y *ℤ q)) }
 {

@@ -1,14 +1,14 @@
 //! The operators, by the types of their operands.
 
-ghost use Rattle.std.specs.Prelude.{◌≡◌, ◌≢◌, IfOk, option_map};
+ghost use Rattle.std.specs.Prelude.{◌≡◌, ◌≢◌, IfOk, false, option_map};
 ghost use Rattle.data.specs.Data.{boolean as boolean_data};
 ghost use Rattle.data.specs.declared.refusal.Refusal.TheVariants as refusal;
 ghost use Rattle.data.specs.View.{data_of};
 ghost use Rattle.data.specs.Tables.{Answers};
-ghost use Rattle.operators.specs.Operations.{answer, binary_outcome, unary_answer, binary_answer};
+ghost use Rattle.operators.specs.Operations.{answer, are_integers, binary_outcome, unary_answer, binary_answer};
 ghost use Rattle.operators.specs.declared.operator.Binary.TheVariants.{Add, Divide};
 
-use crate::arithmetic::{difference, integer, integer_quotient, opposite, product, remainder};
+use crate::arithmetic::{of_integers, opposite};
 use crate::lists::{append, append_all, merge};
 use crate::logic::negation;
 use crate::membership::{absence, membership};
@@ -37,12 +37,29 @@ pub fn unary(operator: Unary, operand: Value) -> Result<Value, Refusal>
 ///
 /// Refusals are E6 for types that the operator does not take, E7 for an integer out of range or a divisor of
 /// zero, and E22 for a value past a limit. A list or dictionary that nobody else holds is added to in place.
+#[inline(always)]
 pub fn binary(
     alloc: Global,
     operator: Binary,
     left: Value,
     right: Value,
 ) -> Result<Result<Value, Refusal>, AllocError>
+    ensures { IfOk result (λ r. Answers (binary_answer operator (data_of left) (data_of right)) r) }
+{
+    if let (Value::Integer(x), Value::Integer(y)) = (&left, &right) {
+        return Ok(of_integers(operator, *x, *y));
+    }
+    of_others(alloc, operator, left, right)
+}
+
+// The same, where one of them is no integer.
+fn of_others(
+    alloc: Global,
+    operator: Binary,
+    left: Value,
+    right: Value,
+) -> Result<Result<Value, Refusal>, AllocError>
+    requires { are_integers (data_of left) (data_of right) ≡ false }
     ensures { IfOk result (λ r. Answers (binary_answer operator (data_of left) (data_of right)) r) }
 {
     if left.is_disabler() {
@@ -64,15 +81,14 @@ fn examined(
     left: &Value,
     right: &Value,
 ) -> Result<Result<Value, Refusal>, AllocError>
-    requires { operator ≢ Add }
+    requires other { operator ≢ Add }
+    requires few { are_integers (data_of left.now) (data_of right.now) ≡ false }
     ensures { IfOk result (λ r. Answers (binary_outcome operator (data_of left.now) (data_of right.now)) r) }
 {
     match operator {
         Binary::Add => unreachable!(),
-        Binary::Subtract => Ok(difference(left, right)),
-        Binary::Multiply => Ok(product(left, right)),
+        Binary::Subtract | Binary::Multiply | Binary::Remainder => Ok(Err(Refusal::Type)),
         Binary::Divide => quotient(alloc, left, right),
-        Binary::Remainder => Ok(remainder(left, right)),
         Binary::Equal => Ok(boolean(equality(left, right))),
         Binary::NotEqual => Ok(boolean(inequality(left, right))),
         Binary::Less => Ok(boolean(is_less(left, right))),
@@ -96,17 +112,23 @@ fn boolean(test: Option<bool>) -> Result<Value, Refusal>
 
 // `left + right`
 fn sum(alloc: Global, left: Value, right: Value) -> Result<Result<Value, Refusal>, AllocError>
+    requires { are_integers (data_of left) (data_of right) ≡ false }
     ensures { IfOk result (λ r. Answers (binary_outcome Add (data_of left) (data_of right)) r) }
 {
-    match (left, right) {
-        (Value::Integer(x), Value::Integer(y)) => Ok(integer(x.checked_add(y))),
-        (Value::Text(s), Value::Text(t)) => concatenate(alloc, s, t.as_str()),
-        (Value::List(list), Value::List(others)) => append_all(alloc, list, &others),
-        (Value::List(list), value) => append(alloc, list, value),
-        (Value::Dictionary(dictionary), Value::Dictionary(others)) => merge(
-            alloc, dictionary, &others,
-        ),
-        _ => Ok(Err(Refusal::Type)),
+    match left {
+        Value::Text(s) => match right {
+            Value::Text(t) => concatenate(alloc, s, t.as_str()),
+            _ => Ok(Err(Refusal::Type)),
+        },
+        Value::List(list) => match right {
+            Value::List(others) => append_all(alloc, list, &others),
+            value => append(alloc, list, value),
+        },
+        Value::Dictionary(dictionary) => match right {
+            Value::Dictionary(others) => merge(alloc, dictionary, &others),
+            _ => Ok(Err(Refusal::Type)),
+        },
+        Value::Boolean(_) | Value::Integer(_) | Value::Object(_) => Ok(Err(Refusal::Type)),
     }
 }
 
@@ -116,10 +138,10 @@ fn quotient(
     left: &Value,
     right: &Value,
 ) -> Result<Result<Value, Refusal>, AllocError>
+    requires { are_integers (data_of left.now) (data_of right.now) ≡ false }
     ensures { IfOk result (λ r. Answers (binary_outcome Divide (data_of left.now) (data_of right.now)) r) }
 {
     match (left, right) {
-        (Value::Integer(x), Value::Integer(y)) => Ok(integer(integer_quotient(*x, *y))),
         (Value::Text(s), Value::Text(t)) => {
             let path = path_below(alloc, s.as_str(), t.as_str())?;
             Value::of_string(alloc, path)
