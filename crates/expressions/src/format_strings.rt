@@ -7,7 +7,7 @@ ghost use Rattle.data.specs.View.{data_of};
 ghost use Rattle.lexer.specs.Texts.{text_of};
 ghost use Rattle.texts.specs.Segments.{segment_data};
 ghost use Rattle.world.specs.Gives.{failures_after};
-ghost use Rattle.expressions.specs.Forms.{at_place, filled, format_string, is_plain, part_text, printed_plain};
+ghost use Rattle.expressions.specs.Forms.{at_place, filled, format_string, is_plain, printed_plain};
 
 use crate::context::Context;
 use basics::faults::Refusal;
@@ -20,6 +20,9 @@ use std::alloc::{AllocError, Global};
 use std::sync::ledger::Ledger;
 use texts::{Places, Segment, segments};
 use world::{Stop, of_operation};
+
+// The bytes that there is room for before the first part is filled in: those of most names of files.
+const FIRST_ROOM: usize = 32;
 
 // Whether a value may stand in an f-string.
 fn is_plain(value: &Value) -> bool
@@ -95,26 +98,20 @@ impl<'a, T: Tree, O: Outputs, L: Ledger> Context<'a, T, O, L> {
         self.printed_plain(line, &value)
     }
 
-    // What stands for a part of an f-string.
-    fn part_text(&self, line: usize, part: Segment<'_>) -> Result<String, Stop>
-        ensures gives { Answers T.seen O.seen string_bytes (part_text line (segment_data part.entry)) self.now result self.now }
-        ensures quiet { (n : ℕ) → failures_after n result ≡ n }
-    {
-        match part {
-            Segment::Text(text) => Ok(String::from_str(self.alloc, text)?),
-            Segment::Place(name) => self.at_place(line, name),
-        }
-    }
-
     // The value of the text that the parts give.
     fn filled(&self, line: usize, parts: &[Segment<'_>]) -> Result<Value, Stop>
         ensures gives { Answers T.seen O.seen data_of (filled line [] (map segment_data parts.now)) self.now result self.now }
         ensures quiet { (n : ℕ) → failures_after n result ≡ n }
     {
-        let mut made = Ok(String::new(self.alloc));
+        let mut made = Ok(String::with_capacity(self.alloc, FIRST_ROOM)?);
         for part in parts {
-            let text = self.part_text(line, *part)?;
-            made = with_piece(made, text.as_str())?;
+            match part {
+                Segment::Text(text) => made = with_piece(made, text)?,
+                Segment::Place(name) => {
+                    let text = self.at_place(line, name)?;
+                    made = with_piece(made, text.as_str())?;
+                }
+            }
         }
         let answer = text_value(self.alloc, made)?;
         self.answered(line, answer)
