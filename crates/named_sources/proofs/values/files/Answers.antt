@@ -5,6 +5,6 @@ use Rattle.named_sources.proofs.values.files.Goals as goal
 
 pub loop-path-preserved : goal.loop-path-preserved
 loop-path-preserved c =
-    let w : within_bytes (string_bytes c.path-item.result) ≡ Ok c.in-Ok.path = cc (c.in_ok-clone.ensures.cases, c.in_ok-path.ensures, c.in-Ok.is) in
+    let w : within_bytes (string_bytes c.path-item.result) ≡ Ok c.in-Ok.path = cc (c.as_str.ensures.value, c.in_ok-path.ensures, c.in-Ok.is) in
     files_more _ _ _ c.args.paths.now c.loop-path.path-index c.path-item.result c.in-Ok.path _ c.loop-path-test.true c.path-item.is w
     c.in_ok-of_object-in-Ok.ensures c.in_ok-push-in-Ok.ensures.items c.loop-path.invariant

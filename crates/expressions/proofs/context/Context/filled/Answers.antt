@@ -25,20 +25,21 @@ loop-part-preserved g c =
     let so_far = c.loop-part.invariant in
     let next = next_item segment_data c.args.parts.now c.loop-part.part-index _ c.loop-part-test.true in
     elim c.match-part.branch [
-      in-Text+in_ok-made-in-Text w ↦ record {
+      | in-Text+in_ok-made-in-Text w ↦ record {
         text = so_far.text ++ w.in-Text.text.now;
         short = ap string_in w.made-is ∙ w.in_ok-made-in-Text.ensures so_far.text so_far.short;
         led = λ files h. leads_on {C = List ℕ} {view = λ t. t} {x = w.in-Text.text.now}
             (leads_as (ap (filled c.args.line so_far.text) next) (so_far.led files h))
             (given_as (ap (λ p. part_text c.args.line (segment_data p)) (sym w.in-Text.is)) (given_give h refl));
       }
-    | in-Place+in_ok-text-in-Place+in_ok-made-in-Place w ↦ record {
+      | in-Place+in_ok-text-in-Place+in_ok-made-in-Place w ↦ record {
         text = so_far.text ++ string_bytes w.in_ok-text-in-Place.text;
         short = ap string_in w.made-is ∙ w.in_ok-made-in-Place.ensures so_far.text so_far.short
             ∙ ap (λ t. within_bytes (so_far.text ++ t)) w.as_str.ensures.value;
         led = λ files h. leads_on (leads_as (ap (filled c.args.line so_far.text) next) (so_far.led files h))
             (given_as (ap (λ p. part_text c.args.line (segment_data p)) (sym w.in-Place.is)) (w.in_ok-text-in-Place.ensures.gives files h));
-      } ]
+      }
+    ]
 
 pub returns-clause-gives : goal.returns-clause-gives
 returns-clause-gives g c = λ files h.
