@@ -1,11 +1,11 @@
 -- Targets that refer to earlier ones.
-use Rattle.std.proofs.Common.{◌≡◌, ℕ, zero, suc, ◌<◌, Bool, true, false, List, [], ◌∷◌, ◌++◌, length, map, refl, sym, ap, ◌∙◌, append-nil, append_assoc, nat_lt, arith}
-use Rattle.std.specs.Prelude.{◌&&◌, ◌||◌, flat_map, slice_get, not}
+use Rattle.std.proofs.Common.{◌≡◌, ℕ, zero, suc, ◌<◌, Bool, true, List, [], ◌∷◌, ◌++◌, length, refl, sym, ap, ◌∙◌, append-nil, append_assoc, nat_lt, arith}
+use Rattle.std.specs.Prelude.{◌&&◌, flat_map, slice_get, not}
 use Rattle.std.specs.List.{list_all}
 use Rattle.std.proofs.lemmas.List.{map-append}
 use Rattle.std.proofs.lemmas.Bool.Decides.{nat_tests}
 use Rattle.edge.specs.Texts.{Path, holds}
-use Rattle.targets.specs.Data.{SurroundingsData, SourceData, Tree, Built, Made, BuildData, ListsData, TargetData, Build, Custom}
+use Rattle.targets.specs.Data.{SurroundingsData, SourceData, Tree, Built, Made, ListsData, TargetData, Build, Custom}
 use Rattle.targets.specs.Sources.{has_foreign}
 use Rattle.targets.specs.Libraries.{LinkedData, linked, linked_after, linked_of, build_of, is_library_in, is_library_at, links_in, links_libraries}
 use Rattle.target_edges.specs.Edges.{all_edges}

@@ -1,11 +1,11 @@
 -- The edges of a target that fits make nothing outside the build folder.
-use Rattle.std.proofs.Common.{◌≡◌, ℕ, Bool, true, false, List, [], ◌∷◌, ◌++◌, map, codes, eqb, refl, sym, ap, ◌∙◌}
-use Rattle.std.specs.Prelude.{◌&&◌, ◌||◌, not, flat_map, take, bytes_eq, Option, Some, None}
-use Rattle.std.specs.List.{list_all, list_any}
-use Rattle.std.proofs.lemmas.List.Folds.{list_all-append, list_all-map}
+use Rattle.std.proofs.Common.{◌≡◌, ℕ, Bool, true, false, List, [], ◌∷◌, map, codes, eqb, refl, ap, ◌∙◌}
+use Rattle.std.specs.Prelude.{◌&&◌, ◌||◌, not, bytes_eq}
+use Rattle.std.specs.List.{list_all}
+use Rattle.std.proofs.lemmas.List.Folds.{list_all-map}
 use Rattle.edge.specs.Texts.{Path, Text}
 use Rattle.edge.specs.Paths.{is_upward, object_path}
-use Rattle.targets.specs.Data.{SurroundingsData, BuildData, CustomData, TargetData, Build, Custom}
+use Rattle.targets.specs.Data.{SurroundingsData, TargetData, Build, Custom}
 use Rattle.targets.specs.Sources.{InputData, compiled, has_foreign}
 use Rattle.targets.specs.Files.{path_in, file_path, file_name, link_names, link_paths, object_paths, output_paths}
 use Rattle.targets.specs.Libraries.{LinkedData, linked, links_libraries}

@@ -1,6 +1,6 @@
 -- No path is made twice, and no edge reaches itself.
-use Rattle.std.proofs.Common.{◌≡◌, ℕ, zero, suc, ◌+◌, ◌<◌, ◌≤◌, Bool, true, false, List, [], ◌∷◌, ◌++◌, map, refl, sym, ap, ◌∙◌, subst, bytes_eq, codes, append_assoc, arith}
-use Rattle.std.specs.Prelude.{◌||◌, ◌&&◌, not, ◌-◌, slice_get, take, if◌then◌else◌}
+use Rattle.std.proofs.Common.{◌≡◌, ℕ, zero, suc, ◌+◌, ◌<◌, ◌≤◌, Bool, true, false, List, [], ◌∷◌, ◌++◌, map, refl, sym, ap, ◌∙◌, bytes_eq, codes, arith}
+use Rattle.std.specs.Prelude.{◌||◌, not, ◌-◌, slice_get, if◌then◌else◌}
 use Rattle.std.specs.List.{list_all}
 use Rattle.std.proofs.lemmas.Slice.Eq.{bytes_eq-Decides}
 use Rattle.edge.specs.Texts.{Path, holds}
@@ -9,7 +9,7 @@ use Rattle.edge.specs.Data.{EdgeData}
 use Rattle.targets.specs.Data.{SurroundingsData, TargetData}
 use Rattle.targets.specs.Libraries.{LinkedData}
 use Rattle.target_edges.specs.Edges.{all_edges}
-use Rattle.project.specs.Laws.{outputs_of, needs, times, AtMostOnce, all_held, all_made, outputs_if, needs_if, Feeds, Reaches, at_once, through, all_inside}
+use Rattle.project.specs.Laws.{outputs_of, needs, times, AtMostOnce, all_held, all_made, outputs_if, Feeds, Reaches, at_once, through}
 use Rattle.project.specs.World.{reserved, known_of, taken_of}
 use Rattle.project.specs.Whole.{targets_in, IsWhole}
 use Rattle.project.proofs.PathLists.{times-append}

@@ -1,12 +1,11 @@
 -- The edges of the target with a number.
-use Rattle.std.proofs.Common.{◌≡◌, ℕ, ◌<◌, List, length, map, take, get_or, Option, Some, nat_lt, true, sym, ap, ◌∙◌, option_map}
+use Rattle.std.proofs.Common.{◌≡◌, ℕ, List, length, map, take, get_or, Some, nat_lt, true, sym, ap, ◌∙◌, option_map}
 use Rattle.std.specs.Prelude.{slice_get}
 use Rattle.std.proofs.lemmas.Bool.{ltb-true}
 use Rattle.std.proofs.lemmas.List.{take-map}
 use Rattle.std.proofs.lemmas.Option.{slice_get-map, slice_get-get_or}
-use Rattle.edge.specs.Data.{EdgeData}
 use Rattle.targets.specs.Data.{SurroundingsData}
-use Rattle.targets.specs.Libraries.{LinkedData, linked_of}
+use Rattle.targets.specs.Libraries.{linked_of}
 use Rattle.targets.specs.View.{linked_view}
 use Rattle.targets.specs.declared.linking.Linked.{Linked}
 use Rattle.target_edges.specs.Edges.{edges_of}

@@ -2,7 +2,6 @@
 use Rattle.std.specs.Prelude.{◌≡◌, true, List, [], ◌++◌, map, String}
 use Rattle.std.specs.Global.{Global}
 use Rattle.edge.specs.Texts.{Path, holds}
-use Rattle.edge.specs.Data.{EdgeData}
 use Rattle.edge.specs.Holding.{are_writable}
 use Rattle.targets.specs.Data.{SurroundingsData, TargetData}
 use Rattle.targets.specs.Libraries.{LinkedData, linked, linked_of}

@@ -1,5 +1,5 @@
 -- What a project holds.
-use Rattle.std.specs.Prelude.{ℕ, ℤ, Bool, not, ◌&&◌, List, [], ◌∷◌, ◌++◌, flat_map, map, codes}
+use Rattle.std.specs.Prelude.{ℤ, Bool, not, ◌&&◌, List, [], ◌∷◌, ◌++◌, map, codes}
 use Rattle.edge.specs.Texts.{Path, Text, holds}
 use Rattle.edge.specs.Paths.{source_path}
 use Rattle.targets.specs.Data.{FactsData, SurroundingsData, TargetData}

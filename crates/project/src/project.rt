@@ -221,7 +221,7 @@ impl Project {
     }
 
     // What is asked of the edges that a target with these libraries would have.
-    fn claims_with(&self, target: &Target, libraries: &[usize]) -> Result<Claims, AllocError>
+    fn claims_with(&self, target: &Target, libraries: &[u32]) -> Result<Claims, AllocError>
         ensures writable { IfOk result (λ c. c.writable
             ≡ are_writable (target_edges_of self.now.surroundings (linked_of self.now.targets) libraries.now (target_view target.now))) }
         ensures paths { IfOk result (λ c. texts c.paths.items

@@ -4,7 +4,7 @@ use Rattle.std.specs.List.{slice_split}
 use Rattle.edge.specs.Texts.{Path, Text}
 use Rattle.edge.specs.Data.{EdgeData}
 use Rattle.edge.specs.declared.rule.Rule.TheVariants as rule
-use Rattle.targets.specs.Data.{FactsData, SurroundingsData, SourceData, TargetData, Build, Custom, Tree, Made, BuildData, ListsData}
+use Rattle.targets.specs.Data.{FactsData, SourceData, TargetData, Build, Custom, Tree, Made, BuildData, ListsData}
 use Rattle.targets.specs.declared.target.Kind.{Kind}
 use Rattle.targets.specs.declared.target.Kind.TheVariants.{Executable, StaticLibrary, SharedLibrary}
 use Rattle.target_edges.specs.Edges.{all_edges}

@@ -28,7 +28,7 @@ pub struct Context<'a> {
     /// The targets before it.
     pub earlier: &'a [Linked],
     /// The libraries that it links, by their numbers.
-    pub libraries: &'a [usize],
+    pub libraries: &'a [u32],
 }
 
 // ---- libraries
@@ -52,13 +52,13 @@ fn push_library(
 fn library_files(
     alloc: Global,
     earlier: &[Linked],
-    numbers: &[usize],
+    numbers: &[u32],
 ) -> Result<Vec<String>, AllocError>
     ensures { IfOk result (λ v. texts v.items ≡ library_files (map linked_view earlier.now) numbers.now) }
 {
     let mut files = Vec::new(alloc);
     for number in numbers {
-        push_library(&mut files, alloc, earlier, *number)?;
+        push_library(&mut files, alloc, earlier, *number as usize)?;
     }
     Ok(files)
 }
@@ -90,13 +90,13 @@ fn push_shared_folder(
 fn shared_folders(
     alloc: Global,
     earlier: &[Linked],
-    numbers: &[usize],
+    numbers: &[u32],
 ) -> Result<Vec<String>, AllocError>
     ensures { IfOk result (λ v. texts v.items ≡ flat_map (shared_folder (map linked_view earlier.now)) numbers.now) }
 {
     let mut folders = Vec::new(alloc);
     for number in numbers {
-        push_shared_folder(&mut folders, earlier, *number)?;
+        push_shared_folder(&mut folders, earlier, *number as usize)?;
     }
     Ok(folders)
 }
@@ -128,13 +128,13 @@ fn push_static_argument(
 fn push_static_arguments(
     words: &mut Vec<String>,
     earlier: &[Linked],
-    numbers: &[usize],
+    numbers: &[u32],
 ) -> Result<(), AllocError>
     ensures { IfOk result (λ _. texts words.new.items
         ≡ texts words.old.items ++ flat_map (static_arguments (map linked_view earlier.now)) numbers.now) }
 {
     for number in numbers {
-        push_static_argument(words, earlier, *number)?;
+        push_static_argument(words, earlier, *number as usize)?;
     }
     Ok(())
 }
@@ -166,7 +166,7 @@ fn push_search_words(
     alloc: Global,
     earlier: &[Linked],
     from: &str,
-    numbers: &[usize],
+    numbers: &[u32],
 ) -> Result<(), AllocError>
     ensures { IfOk result (λ _. texts words.new.items
         ≡ texts words.old.items ++ search_words (map linked_view earlier.now) from.now numbers.now) }

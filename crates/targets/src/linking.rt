@@ -16,8 +16,9 @@ use std::alloc::{AllocError, Global};
 pub struct Linked {
     pub target: Target,
     /// The libraries that it links, by their numbers: those that it names, those of its dependencies, and behind a static library its
-    /// own. Of equal ones the last is kept.
-    pub libraries: Vec<usize>,
+    /// own. Of equal ones the last is kept. A static library has all that stand behind it, so these lists are most of what a project of
+    /// many keeps: half as many bytes for a number is half of that.
+    pub libraries: Vec<u32>,
     /// What it is asked for, as the edge `all` names it: its outputs and the symbolic links.
     pub paths: Vec<String>,
 }
@@ -81,26 +82,26 @@ fn mark(marks: &mut Vec<bool>, number: usize) -> bool
     was
 }
 
-fn is_among(numbers: &[usize], number: usize) -> bool
+fn is_among(numbers: &[u32], number: u32) -> bool
     ensures { result ≡ list_any (nat_eq number) numbers.now }
 {
     numbers.iter().any(|other| number == *other)
 }
 
-fn is_in_either(last: &[usize], kept: &[usize], number: usize) -> bool
+fn is_in_either(last: &[u32], kept: &[u32], number: u32) -> bool
     ensures { result ≡ list_any (nat_eq number) (last.now ++ kept.now) }
 {
     is_among(last, number) || is_among(kept, number)
 }
 
 // Whether the number was met before, in one of these lists. From now on it was.
-fn was_met(marks: &mut Vec<bool>, last: &[usize], kept: &[usize], number: usize) -> bool
+fn was_met(marks: &mut Vec<bool>, last: &[u32], kept: &[u32], number: u32) -> bool
     requires { AreMarks marks.old.items (last.now ++ kept.now) }
     ensures tested { result ≡ list_any (nat_eq number) (last.now ++ kept.now) }
     ensures marks { AreMarks marks.new.items (insert_key nat_eq (last.now ++ kept.now) number) }
 {
-    if number < marks.len() {
-        mark(marks, number)
+    if (number as usize) < marks.len() {
+        mark(marks, number as usize)
     } else {
         is_in_either(last, kept, number)
     }
@@ -108,10 +109,10 @@ fn was_met(marks: &mut Vec<bool>, last: &[usize], kept: &[usize], number: usize)
 
 // Appends the number, unless it was met.
 fn keep_new(
-    kept: &mut Vec<usize>,
+    kept: &mut Vec<u32>,
     marks: &mut Vec<bool>,
-    last: &[usize],
-    number: usize,
+    last: &[u32],
+    number: u32,
 ) -> Result<(), AllocError>
     requires { AreMarks marks.old.items (last.now ++ kept.old.items) }
     ensures kept { IfOk result (λ _. last.now ++ kept.new.items ≡ insert_key nat_eq (last.now ++ kept.old.items) number) }
@@ -128,9 +129,9 @@ fn keep_new(
 fn kept_before(
     alloc: Global,
     marks: &mut Vec<bool>,
-    front: &[usize],
-    last: &[usize],
-) -> Result<Vec<usize>, AllocError>
+    front: &[u32],
+    last: &[u32],
+) -> Result<Vec<u32>, AllocError>
     requires { AreMarks marks.old.items last.now }
     ensures { IfOk result (λ v. v.items ≡ before_all front.now last.now) }
 {
@@ -146,7 +147,7 @@ fn kept_before(
 }
 
 // The place from which on no number stands twice. These are marked from now on.
-fn mark_new(marks: &mut Vec<bool>, numbers: &[usize]) -> usize
+fn mark_new(marks: &mut Vec<bool>, numbers: &[u32]) -> usize
     requires { AreMarks marks.old.items [] }
     ensures within { result ≤ length numbers.now }
     ensures kept { last_kept (drop result numbers.now) ≡ drop result numbers.now }
@@ -164,7 +165,7 @@ fn mark_new(marks: &mut Vec<bool>, numbers: &[usize]) -> usize
 
 // Of equal numbers the last is kept. Those below a count have marks, so that one of them is found at once. Most lists end in numbers that
 // are all new, and these stay as they are.
-fn last_by_marks(alloc: Global, count: usize, numbers: Vec<usize>) -> Result<Vec<usize>, AllocError>
+fn last_by_marks(alloc: Global, count: usize, numbers: Vec<u32>) -> Result<Vec<u32>, AllocError>
     ensures { IfOk result (λ v. v.items ≡ last_kept numbers.items) }
 {
     let mut marks = vec![in alloc; false; count]?;
@@ -176,7 +177,7 @@ fn last_by_marks(alloc: Global, count: usize, numbers: Vec<usize>) -> Result<Vec
 }
 
 // The same by a set.
-fn last_by_set(alloc: Global, mut numbers: Vec<usize>) -> Result<Vec<usize>, AllocError>
+fn last_by_set(alloc: Global, mut numbers: Vec<u32>) -> Result<Vec<u32>, AllocError>
     ensures { IfOk result (λ v. v.items ≡ last_kept numbers.items) }
 {
     let mut kept = new_set(alloc);
@@ -187,7 +188,7 @@ fn last_by_set(alloc: Global, mut numbers: Vec<usize>) -> Result<Vec<usize>, All
 }
 
 // Of equal numbers below a count the last is kept. Marks are many times faster than a set, unless there are far more of them than numbers.
-fn keep_last(alloc: Global, count: usize, numbers: Vec<usize>) -> Result<Vec<usize>, AllocError>
+fn keep_last(alloc: Global, count: usize, numbers: Vec<u32>) -> Result<Vec<u32>, AllocError>
     ensures { IfOk result (λ v. v.items ≡ last_kept numbers.items) }
 {
     if count / 16 <= numbers.len() {
@@ -197,11 +198,11 @@ fn keep_last(alloc: Global, count: usize, numbers: Vec<usize>) -> Result<Vec<usi
     }
 }
 
-// A library, and where it is static its own libraries.
-fn bring(all: &mut Vec<usize>, earlier: &[Linked], number: usize) -> Result<(), AllocError>
+// A library, and where it is static its own libraries. A number that 32 bits don't hold is that of a target for which no memory would be.
+fn bring(all: &mut Vec<u32>, earlier: &[Linked], number: usize) -> Result<(), AllocError>
     ensures { IfOk result (λ _. all.new.items ≡ all.old.items ++ with_its_own (map linked_view earlier.now) number) }
 {
-    all.push(number)?;
+    all.push(u32::try_from(number).map_err(|_| AllocError)?)?;
     if let Some(linked) = earlier.get(number) {
         if is_static_target(&linked.target) {
             all.extend_from_slice(&linked.libraries)?;
@@ -210,7 +211,7 @@ fn bring(all: &mut Vec<usize>, earlier: &[Linked], number: usize) -> Result<(), 
     Ok(())
 }
 
-fn bring_all(all: &mut Vec<usize>, earlier: &[Linked], numbers: &[usize]) -> Result<(), AllocError>
+fn bring_all(all: &mut Vec<u32>, earlier: &[Linked], numbers: &[usize]) -> Result<(), AllocError>
     ensures { IfOk result (λ _. all.new.items ≡ all.old.items ++ flat_map (with_its_own (map linked_view earlier.now)) numbers.now) }
 {
     for number in numbers {
@@ -224,7 +225,7 @@ fn all_libraries(
     alloc: Global,
     earlier: &[Linked],
     target: &BuildTarget,
-) -> Result<Vec<usize>, AllocError>
+) -> Result<Vec<u32>, AllocError>
     ensures { IfOk result (λ v. v.items ≡ flat_map (with_its_own (map linked_view earlier.now)) target.now.own.link_with.items
         ++ flat_map (λ l. flat_map (with_its_own (map linked_view earlier.now)) l.value.link_with.items) target.now.dependencies.items) }
 {
@@ -241,7 +242,7 @@ fn libraries_of(
     alloc: Global,
     earlier: &[Linked],
     target: &BuildTarget,
-) -> Result<Vec<usize>, AllocError>
+) -> Result<Vec<u32>, AllocError>
     ensures { IfOk result (λ v. v.items ≡ libraries_of (map linked_view earlier.now) (build_view target.now)) }
 {
     let all = all_libraries(alloc, earlier, target)?;
@@ -249,11 +250,7 @@ fn libraries_of(
 }
 
 /// The libraries of a target that stands behind these: of a custom target none.
-pub fn libraries(
-    alloc: Global,
-    earlier: &[Linked],
-    target: &Target,
-) -> Result<Vec<usize>, AllocError>
+pub fn libraries(alloc: Global, earlier: &[Linked], target: &Target) -> Result<Vec<u32>, AllocError>
     ensures { IfOk result (λ v. v.items ≡ libraries_in (map linked_view earlier.now) (target_view target.now)) }
 {
     match target {

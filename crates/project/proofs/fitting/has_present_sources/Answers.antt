@@ -2,7 +2,6 @@ use Rattle.edge.specs.Texts.{texts}
 use Rattle.std.proofs.Common.{refl, sym, ap, ◌∙◌}
 use Rattle.std.specs.List.{list_all}
 use Rattle.targets.specs.View.{lists_view, target_view}
-use Rattle.project.specs.World.{is_made_in}
 use Rattle.project.specs.Adding.{sources_of, is_present}
 use Rattle.project.proofs.SourceTests.{all_listed, all_both}
 use Rattle.project.proofs.fitting.has_present_sources.Goals as goal

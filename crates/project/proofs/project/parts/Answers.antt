@@ -1,4 +1,4 @@
-use Rattle.std.proofs.Common.{◌≡◌, List, length, map, take, get_or, nat_lt, true, ap, ◌∙◌}
+use Rattle.std.proofs.Common.{◌≡◌, List, length, map, take, get_or, nat_lt, ap, ◌∙◌}
 use Rattle.std.proofs.lemmas.Result.{IfOk-weaker}
 use Rattle.targets.specs.Libraries.{linked_of}
 use Rattle.targets.specs.View.{surroundings_view, linked_view}

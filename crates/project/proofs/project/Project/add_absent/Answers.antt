@@ -1,13 +1,11 @@
-use Rattle.std.proofs.Common.{◌≡◌, List, map, string_bytes, sym, ap, ◌∙◌, subst}
-use Rattle.edge.specs.Texts.{Path, texts, put_new}
+use Rattle.std.proofs.Common.{map, string_bytes, ap, ◌∙◌}
+use Rattle.edge.specs.Texts.{texts}
 use Rattle.edge.proofs.TextLists.{texts-insert_key}
 use Rattle.targets.specs.View.{surroundings_view, linked_view}
 use Rattle.project.specs.World.{WorldData}
 use Rattle.project.specs.View.{world_of}
 use Rattle.project.specs.NotesView.{notes_view}
-use Rattle.project.specs.Whole.{IsWhole}
 use Rattle.project.specs.Adding.{with_absent}
-use Rattle.project.proofs.Placing.{whole_with_put}
 use Rattle.project.proofs.project.Project.add_absent.Goals as goal
 
 pub returns-clause-ok : goal.returns-clause-ok

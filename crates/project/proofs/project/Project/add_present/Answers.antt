@@ -1,5 +1,5 @@
-use Rattle.std.proofs.Common.{◌≡◌, List, map, string_bytes, sym, ap, ◌∙◌, subst}
-use Rattle.edge.specs.Texts.{Path, texts, put_new}
+use Rattle.std.proofs.Common.{List, map, string_bytes, sym, ap, ◌∙◌, subst}
+use Rattle.edge.specs.Texts.{Path, texts}
 use Rattle.edge.proofs.TextLists.{texts-insert_key}
 use Rattle.targets.specs.View.{surroundings_view, linked_view}
 use Rattle.project.specs.World.{WorldData}

@@ -1,7 +1,7 @@
 use Rattle.std.proofs.Common.{Bool, map, sym, ap, ◌∙◌}
 use Rattle.std.specs.Prelude.{◌&&◌}
 use Rattle.std.specs.List.{list_all}
-use Rattle.edge.specs.Texts.{Path, texts, holds}
+use Rattle.edge.specs.Texts.{texts, holds}
 use Rattle.targets.specs.View.{surroundings_view, linked_view, target_view}
 use Rattle.project.specs.World.{WorldData, is_made_in, made_in, made_of}
 use Rattle.project.specs.NotesView.{notes_view}
