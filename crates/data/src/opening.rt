@@ -1,8 +1,9 @@
 //! Values with all lists opened.
 
-ghost use Rattle.std.specs.Prelude.{◌≡◌, ◌++◌, map, IfOk, OnOk};
+ghost use Rattle.std.specs.Prelude.{◌≡◌, ◌≤◌, ◌++◌, length, map, IfOk, OnOk};
 ghost use Rattle.data.specs.View.{data_of, items_of};
 ghost use Rattle.data.specs.Flat.{opened, opened_all, opened_items};
+ghost use Rattle.data.specs.Weight.{items_weight};
 
 use crate::Value;
 use std::alloc::{AllocError, Global};
@@ -49,4 +50,27 @@ pub fn opened_all(alloc: Global, values: &[Value]) -> Result<Vec<&Value>, AllocE
     let mut found = Vec::new(alloc);
     open_items(&mut found, values)?;
     Ok(found)
+}
+
+/// How many values a value is with all its lists opened.
+#[cycle(count)]
+pub fn opened_count(value: &Value) -> usize
+    ensures { result ≡ length (opened (data_of value.now)) }
+{
+    match value {
+        Value::List(list) => count_items(list.items()),
+        _ => 1,
+    }
+}
+
+#[cycle(count)]
+fn count_items(items: &[Value]) -> usize
+    requires { items_weight (items_of items.now) ≤ 33554432 }
+    ensures { result ≡ length (opened_items (items_of items.now)) }
+{
+    let mut found = 0;
+    for item in items {
+        found += opened_count(item);
+    }
+    found
 }

@@ -131,13 +131,13 @@ pub fn custom_breach<'v>(
 ) -> Result<(Rule, &'v str), AllocError>
     ensures { IfOk result (λ b. (b.0, b.1.now) ≡ custom_breach (here_view here.now) (arguments_data arguments.now)) }
 {
-    if count_named(here.alloc, arguments, "output")? == 0 {
+    if count_named(arguments, "output") == 0 {
         return Ok((Rule::HasItems, "output"));
     }
-    if count_named(here.alloc, arguments, "command")? == 0 {
+    if count_named(arguments, "command") == 0 {
         return Ok((Rule::HasItems, "command"));
     }
-    if !captures_one(here.alloc, arguments)? {
+    if !captures_one(arguments) {
         return Ok((Rule::TakesOneOutput, "capture"));
     }
     if !has_place(arguments) {

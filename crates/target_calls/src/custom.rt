@@ -22,7 +22,7 @@ use crate::command::{Part, command_of};
 use crate::here::Here;
 use crate::sources::{files_among, sources_in};
 use arguments::{Arguments, Named};
-use data::{Value, opened};
+use data::{Value, opened, opened_count};
 use edge::{copies, source_path, source_root};
 use named_sources::{Place, Scope, filled, sources_of};
 use std::alloc::{AllocError, Global};
@@ -38,31 +38,29 @@ pub struct Names {
 // ---- what may be given
 
 /// How many items a keyword gives, its lists opened.
-pub fn count_named(alloc: Global, arguments: &Arguments, name: &str) -> Result<usize, AllocError>
-    ensures { IfOk result (λ n. n ≡ count_named name.now (arguments_data arguments.now)) }
+pub fn count_named(arguments: &Arguments, name: &str) -> usize
+    ensures { result ≡ count_named name.now (arguments_data arguments.now) }
 {
-    let leaves = arguments.leaves(alloc, name)?;
-    Ok(leaves.len())
+    arguments.keyword(name).map_or(0, opened_count)
 }
 
 // The longest of the lists that the call gives.
-fn longest(alloc: Global, arguments: &Arguments) -> Result<usize, AllocError>
-    ensures { IfOk result (λ n. n ≡ longest (arguments_data arguments.now)) }
+fn longest(arguments: &Arguments) -> usize
+    ensures { result ≡ longest (arguments_data arguments.now) }
 {
-    let outputs = count_named(alloc, arguments, "output")?;
-    let words = count_named(alloc, arguments, "command")?;
-    let inputs = count_named(alloc, arguments, "input")?;
-    let files = count_named(alloc, arguments, "depend_files")?;
-    let targets = count_named(alloc, arguments, "depends")?;
-    Ok(outputs.max(words.max(inputs.max(files.max(targets)))))
+    let outputs = count_named(arguments, "output");
+    let words = count_named(arguments, "command");
+    let inputs = count_named(arguments, "input");
+    let files = count_named(arguments, "depend_files");
+    let targets = count_named(arguments, "depends");
+    outputs.max(words.max(inputs.max(files.max(targets))))
 }
 
 /// What is printed goes to one output.
-pub(crate) fn captures_one(alloc: Global, arguments: &Arguments) -> Result<bool, AllocError>
-    ensures { IfOk result (λ b. b ≡ captures_one (arguments_data arguments.now)) }
+pub(crate) fn captures_one(arguments: &Arguments) -> bool
+    ensures { result ≡ captures_one (arguments_data arguments.now) }
 {
-    let outputs = count_named(alloc, arguments, "output")?;
-    Ok(!arguments.flag("capture", false) || outputs == 1)
+    !arguments.flag("capture", false) || count_named(arguments, "output") == 1
 }
 
 /// What is installed goes to a folder.
@@ -73,20 +71,16 @@ pub(crate) fn has_place(arguments: &Arguments) -> bool
 }
 
 // At least one output and one word of a command.
-fn is_made(alloc: Global, arguments: &Arguments) -> Result<bool, AllocError>
-    ensures { IfOk result (λ b. b ≡ is_made (arguments_data arguments.now)) }
+fn is_made(arguments: &Arguments) -> bool
+    ensures { result ≡ is_made (arguments_data arguments.now) }
 {
-    let outputs = count_named(alloc, arguments, "output")?;
-    let words = count_named(alloc, arguments, "command")?;
-    Ok(0 < outputs && 0 < words)
+    0 < count_named(arguments, "output") && 0 < count_named(arguments, "command")
 }
 
-fn call_fits(alloc: Global, arguments: &Arguments) -> Result<bool, AllocError>
-    ensures { IfOk result (λ b. b ≡ call_fits (arguments_data arguments.now)) }
+fn call_fits(arguments: &Arguments) -> bool
+    ensures { result ≡ call_fits (arguments_data arguments.now) }
 {
-    let made = is_made(alloc, arguments)?;
-    let one = captures_one(alloc, arguments)?;
-    Ok(made && one && has_place(arguments))
+    is_made(arguments) && captures_one(arguments) && has_place(arguments)
 }
 
 // ---- sources
@@ -293,7 +287,7 @@ fn custom_target(
         words: command.words,
         captures: arguments.flag("capture", false),
         depfile: names.depfile,
-        longest: longest(here.alloc, arguments)?,
+        longest: longest(arguments),
         is_default: arguments.flag("build_by_default", is_installed),
         is_installed,
     })
@@ -374,8 +368,7 @@ pub fn declared_custom(
     ensures { IfOk result (λ t. option_map named_target_view t
         ≡ declared_custom (here_view here.now) (arguments_data arguments.now)) }
 {
-    let fits = call_fits(here.alloc, arguments)?;
-    if !fits {
+    if !call_fits(arguments) {
         return Ok(None);
     }
     let Some(files) = written_files(here, arguments)? else {

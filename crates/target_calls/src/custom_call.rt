@@ -47,7 +47,7 @@ pub fn custom_target<T: Tree, O: Outputs>(
     ensures { Carries (option_map data_of) (custom_target (arguments_data arguments.now))
         (state_of T.seen O.seen caller.old) result (state_of T.seen O.seen caller.new) }
 {
-    let outputs = count_named(caller.alloc, arguments, "output")?;
+    let outputs = count_named(arguments, "output");
     let named = said_custom(caller, arguments)?;
     require_fit(caller, &named.target)?;
     require_all(caller, &named.files)?;
