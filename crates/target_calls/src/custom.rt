@@ -41,7 +41,10 @@ pub struct Names {
 pub fn count_named(arguments: &Arguments, name: &str) -> usize
     ensures { result ≡ count_named name.now (arguments_data arguments.now) }
 {
-    arguments.keyword(name).map_or(0, opened_count)
+    match arguments.keyword(name) {
+        Some(value) => opened_count(value),
+        None => 0,
+    }
 }
 
 // The longest of the lists that the call gives.
