@@ -1,5 +1,5 @@
 -- `custom_target`.
-use Rattle.std.specs.Prelude.{[], Option, Some, codes}
+use Rattle.std.specs.Prelude.{Option, Some, codes}
 use Rattle.arguments.specs.Arguments.{ArgumentsData}
 use Rattle.data.specs.Data.{Data, object}
 use Rattle.data.specs.declared.object.Object.TheVariants as objects

@@ -1,5 +1,5 @@
 -- A custom target as the arguments of a call say it.
-use Rattle.std.specs.Prelude.{ℕ, nat_lt, max, Bool, true, false, not, ◌&&◌, ◌||◌, ◌==◌, List, [], ◌∷◌, ◌++◌, length, map, flat_map, codes}
+use Rattle.std.specs.Prelude.{ℕ, nat_lt, max, Bool, false, not, ◌&&◌, ◌||◌, ◌==◌, List, [], ◌∷◌, ◌++◌, length, map, flat_map, codes}
 use Rattle.std.specs.Prelude.{bytes_eq, Option, Some, None, is_some, option_map, if◌then◌else◌}
 use Rattle.arguments.specs.Arguments.{ArgumentsData}
 use Rattle.arguments.specs.Given.{flag, text_at, text_given, texts}

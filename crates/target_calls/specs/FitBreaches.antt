@@ -1,5 +1,5 @@
 -- Which rule is broken by a target that the project can't have, and by which text or keyword.
-use Rattle.std.specs.Prelude.{ℕ, List, [], ◌∷◌, ◌++◌, Option, Some, None, codes, if◌then◌else◌}
+use Rattle.std.specs.Prelude.{List, [], ◌∷◌, ◌++◌, Option, Some, None, codes, if◌then◌else◌}
 use Rattle.std.specs.Option.{option_to_list, unwrap_or}
 use Rattle.arguments.specs.declared.rule.Rule.TheVariants as rules
 use Rattle.edge.specs.Texts.{Path, Text}

@@ -6,12 +6,9 @@ use Rattle.target_calls.specs.Files.{all_required}
 use Rattle.target_calls.specs.CustomCalls.{custom_target}
 use Rattle.target_calls.proofs.custom_call.custom_target.Goals as goal
 
-pub returns-in_err-outputs : goal.returns-in_err-outputs
-returns-in_err-outputs g c = carries_none c.from_residual.ensures.1
-
 pub returns-in_err-named : goal.returns-in_err-named
 unfolding custom_target
-returns-in_err-named g c = carries_stop c.in_err-named.ensures c.from_residual-in_err-named.ensures.1
+returns-in_err-named g c = carries_stop c.in_err-named.ensures c.from_residual.ensures.1
 
 pub returns-in_err-require_fit : goal.returns-in_err-require_fit
 unfolding custom_target
@@ -44,4 +41,4 @@ unfolding custom_target
 returns g c =
     carries_then c.in_ok-named.ensures (carries_then c.in_ok-require_fit.ensures
     (carries_then (carries_as (ap (λ ps. all_required (map string_bytes ps)) c.deref.ensures.value) c.in_ok-require_all.ensures)
-    (carries_then {x = c.in_ok-number.number} c.in_ok-number.ensures (carries_give (ap Some (c.in_ok-value.ensures ∙ ap (λ k. object (objects.CustomTarget c.in_ok-number.number k)) c.in_ok-outputs.ensures))))))
+    (carries_then {x = c.in_ok-number.number} c.in_ok-number.ensures (carries_give (ap Some (c.in_ok-value.ensures ∙ ap (λ k. object (objects.CustomTarget c.in_ok-number.number k)) c.count_named-outputs.ensures))))))

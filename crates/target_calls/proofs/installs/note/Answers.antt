@@ -1,4 +1,4 @@
-use Rattle.std.proofs.Common.{refl, ap, option_map, Some, None, sym}
+use Rattle.std.proofs.Common.{refl, ap, option_map, sym}
 use Rattle.project.specs.View.{install_view}
 use Rattle.world.proofs.Answering.{carries_as, carries_give}
 use Rattle.target_calls.specs.Installs.{noted}
