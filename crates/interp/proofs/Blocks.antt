@@ -1,6 +1,6 @@
 -- The statements of blocks.
-use Rattle.std.proofs.Common.{◌≡◌, ℕ, zero, suc, ◌+◌, ◌<◌, ◌≤◌, List, [], ◌∷◌, length, get_or, IsTrue, refl, sym, subst, arith}
-use Rattle.std.specs.Prelude.{nat_lt, ◌&&◌}
+use Rattle.std.proofs.Common.{◌≡◌, ℕ, zero, suc, ◌+◌, ◌<◌, ◌≤◌, List, [], ◌∷◌, length, get_or, IsTrue, refl, sym, ap, subst, arith}
+use Rattle.std.specs.Prelude.{min, nat_lt, ◌&&◌}
 use Rattle.std.specs.List.{list_all}
 use Rattle.code.specs.Statements.{branch_within, second_within, statement_within, all_placed}
 use Rattle.code.specs.declared.code.Code.{Code}
@@ -23,6 +23,13 @@ pub no_branch : (otherwise : List ℕ) (bs : List BranchNode) (k : ℕ) → leng
 no_branch otherwise [] k l = refl
 no_branch otherwise (x ∷ bs) zero l = absurd (omega arith)
 no_branch otherwise (x ∷ bs) (suc k) l = no_branch otherwise bs k (omega arith)
+
+-- so one behind the last is that behind the last
+pub branch_clamped : (otherwise : List ℕ) (bs : List BranchNode) (k n : ℕ) → n ≡ min k (length bs) → branch_or otherwise bs k ≡ branch_or otherwise bs n
+branch_clamped otherwise [] k n e = refl
+branch_clamped otherwise (x ∷ bs) zero n e = let z : n ≡ 0 = omega arith in ap (branch_or otherwise (x ∷ bs)) (sym z)
+branch_clamped otherwise (x ∷ bs) (suc k) zero e = absurd (omega arith)
+branch_clamped otherwise (x ∷ bs) (suc k) (suc n) e = branch_clamped otherwise bs k n (omega arith)
 
 -- ---- each number of a block is one of a statement that is there
 

@@ -41,6 +41,19 @@ statements_of c (blocks.Part statement part) = part_of (node_at c statement) par
 
 -- ---- statements that need the stack
 
+-- one that gives a variable a value, or leaves its block
+abbrev pub is_simple : StatementNode → Bool
+is_simple (flat.Assign name line value) = true
+is_simple (flat.Append name line value) = true
+is_simple (flat.Break line) = true
+is_simple (flat.Continue line) = true
+is_simple (flat.If node) = false
+is_simple (flat.Foreach node) = false
+is_simple (flat.Expression value line) = false
+
+abbrev pub is_simple_at : Code → ℕ → Bool
+is_simple_at c i = is_simple (node_at c i)
+
 -- an `if`, a loop, or an expression, since a call may enter a folder
 abbrev pub IsDeep : StatementNode → Type 0
 IsDeep (flat.If node) = Unit {0}

@@ -34,7 +34,7 @@ use Rattle.interp.specs.declared.frames.Frame.TheVariants as frames
 use Rattle.expressions.specs.Codes.{block_by, statements_by}
 use Rattle.interp.specs.Blocks.{statements_of}
 use Rattle.expressions.specs.Contexts.{Stand, Given, Leads, stand_of}
-use Rattle.interp.specs.Evaluates.{HaltsTo, Reads}
+use Rattle.interp.specs.Evaluates.{Comes, HaltsTo, Reads}
 use Rattle.interp.specs.Bounds.{Bounds, bounds}
 use Rattle.interp.specs.Folders.{folder}
 use Rattle.interp.specs.Inside.{inside}
@@ -283,6 +283,13 @@ module _ {T O L : Type 0} where
   DoesHere tree out plan code old result new =
       (files : Files) (left : Bounds) (table : List (List ℕ)) → Holds (tree old.tree.now) files → Made code old.store.now.names table
       → DoneHere files left (plan table left) (stand_of tree out old) result (stand_of tree out new)
+
+  -- the same of one that needs none
+  abbrev pub ComesHere : (T → TreeState) → (O → OutputState) → (List (List ℕ) → Bounds → Plan Flow) → Code
+      → Context T O L → Result Flow Halt → Context T O L → Type 0
+  ComesHere tree out plan code old result new =
+      (files : Files) (left : Bounds) (table : List (List ℕ)) → Holds (tree old.tree.now) files → Made code old.store.now.names table
+      → Comes (λ (f : Flow). f) files left (plan table left) (stand_of tree out old) result (stand_of tree out new)
 
   -- so of statements of a block
   abbrev pub Walks : (T → TreeState) → (O → OutputState) → (List (List ℕ) → Bounds → Plan Flow) → Block → Code

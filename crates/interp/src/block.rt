@@ -1,6 +1,7 @@
 //! Lists of statements in the code of a file.
 ghost use Rattle.std.specs.Prelude.{◌≡◌};
-ghost use Rattle.interp.specs.Blocks.{branch_or, part_of, statements_of};
+ghost use Rattle.std.specs.List.{list_all};
+ghost use Rattle.interp.specs.Blocks.{branch_or, is_simple_at, part_of, statements_of};
 
 use code::Code;
 use code::node::{BranchNode, IfNode, StatementNode};
@@ -57,4 +58,18 @@ pub fn statements_of(code: &Code, block: Block) -> &[usize]
             }
         }
     }
+}
+
+/// Whether each statement of a block gives a variable a value or leaves the block, so that none of them needs the stack.
+pub fn are_simple(code: &Code, block: Block) -> bool
+    ensures { result ≡ list_all (is_simple_at code.now) (statements_of code.now block) }
+{
+    statements_of(code, block).iter().all(|number| match code.statements.get(*number) {
+        Some(StatementNode::Assign { .. }) => true,
+        Some(StatementNode::Append { .. }) => true,
+        Some(StatementNode::Break { .. }) => true,
+        Some(StatementNode::Continue { .. }) => true,
+        Some(_) => false,
+        None => true,
+    })
 }

@@ -1,6 +1,6 @@
 //! Why an expression came to no value.
 ghost use Rattle.std.specs.Prelude.{◌≡◌, ℕ};
-ghost use Rattle.interp.specs.Inside.{HaltEnds, IsDeeper, RuleEnds, failures_halted, failures_inside};
+ghost use Rattle.interp.specs.Inside.{HaltEnds, RuleEnds, failures_halted, failures_inside};
 
 use std::alloc::{AllocError, AllocFailed};
 use std::mem;
@@ -59,19 +59,7 @@ impl<T: Drop> From<AllocFailed<T>> for Halt {
     }
 }
 
-// The same with one rule more behind it.
-fn deeper(entry: Box<Inside>) -> Halt
-    ensures { IsDeeper entry.value result }
-{
-    let mut entry = entry;
-    if entry.rules == usize::MAX {
-        return Halt::Stops(Stop::Memory);
-    }
-    entry.rules += 1;
-    Halt::Enters(entry)
-}
-
-// The same of a rule that ends: it ticks by a fault, and stands behind a folder that its expression was left for.
+// The halt of a rule that ends: it ticks by a fault, and stands behind a folder that its expression was left for.
 #[cold]
 fn halted<L: Ledger>(halt: Halt, steps: &mut Steps<L>) -> Halt
     ensures ends { HaltEnds halt steps.old result steps.new }
@@ -84,7 +72,13 @@ fn halted<L: Ledger>(halt: Halt, steps: &mut Steps<L>) -> Halt
         }
         Halt::Stops(Stop::Device) => Halt::Stops(Stop::Device),
         Halt::Stops(Stop::Memory) => Halt::Stops(Stop::Memory),
-        Halt::Enters(entry) => deeper(entry),
+        Halt::Enters(mut entry) => {
+            if entry.rules == usize::MAX {
+                return Halt::Stops(Stop::Memory);
+            }
+            entry.rules += 1;
+            Halt::Enters(entry)
+        }
     }
 }
 

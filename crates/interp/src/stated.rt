@@ -194,8 +194,8 @@ impl<'a, T: Tree, O: Outputs, L: Ledger> Evaluator<'a, T, O, L> {
         }
     }
 
-    // The place of the branch whose condition is the first that holds, or the place behind them; none where a disabler skips all.
-    fn choose_part(&mut self, code: &Code, parts: &[BranchNode]) -> Result<Option<usize>, Halt>
+    /// The place of the branch whose condition is the first that holds, or the place behind them; none where a disabler skips all.
+    pub fn choose_part(&mut self, code: &Code, parts: &[BranchNode]) -> Result<Option<usize>, Halt>
         requires here { above above_branch parts.now ≤ length code.now.nodes.items }
         requires room { HasRoom T.seen O.seen self.old.context }
         ensures same { Same self.old.context self.new.context }

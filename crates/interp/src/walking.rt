@@ -1,24 +1,28 @@
 //! Statements that are done where they stand: nothing of them comes on the stack of frames.
-ghost use Rattle.std.specs.Prelude.{Bool, ◌≡◌, ◌<◌, ℕ, drop, length, option_map};
+ghost use Rattle.std.specs.Prelude.{Bool, true, ◌≡◌, ◌<◌, ◌≤◌, ℕ, List, drop, length, map, option_map};
+ghost use Rattle.std.specs.List.{list_all};
 ghost use Rattle.code.specs.Nodes.{tree_at};
-ghost use Rattle.code.specs.Statements.{name_at, statement_at};
+ghost use Rattle.code.specs.Statements.{branch_at, name_at, statement_at};
 ghost use Rattle.data.specs.View.{data_of};
 ghost use Rattle.world.specs.Plan.{give, next, ruled};
 ghost use Rattle.expressions.specs.Assignments.{appended, assigned, own};
 ghost use Rattle.expressions.specs.Codes.{block_by, expressions_by, statements_by};
-ghost use Rattle.interp.specs.Blocks.{BeginsDeep, DeepIfNone, node_at, statements_of};
+ghost use Rattle.grammar.specs.Tree.{branches};
+ghost use Rattle.interp.specs.Blocks.{BeginsDeep, DeepIfNone, branch_or, is_simple_at, node_at, statements_of};
 ghost use Rattle.interp.specs.Expressions.{given_by, value_of};
 ghost use Rattle.interp.specs.Folders.{folder};
-ghost use Rattle.interp.specs.Frames.{DoesHere, Walks};
-ghost use Rattle.interp.specs.Statements.{do_all, does, stated};
+ghost use Rattle.interp.specs.Frames.{ComesHere, DoesHere, Walks, above_branch};
+ghost use Rattle.interp.specs.Parts.{above};
+ghost use Rattle.interp.specs.Statements.{branches_of, do_all, does};
+ghost use Rattle.interp.specs.declared.block.Block.TheVariants.{Part};
 ghost use Rattle.interp.specs.declared.flow.Flow.TheVariants.{Next};
 
-use crate::block::{Block, statements_of};
+use crate::block::{Block, are_simple, statements_of};
 use crate::evaluator::Evaluator;
 use crate::flow::Flow;
 use crate::halt::{Halt, Inside, ended_inside};
 use code::Code;
-use code::node::{Node, StatementNode};
+use code::node::{BranchNode, IfNode, Node, StatementNode};
 use data::Value;
 use ports::{Outputs, Tree};
 use std::sync::ledger::Ledger;
@@ -73,7 +77,7 @@ impl<'a, T: Tree, O: Outputs, L: Ledger> Evaluator<'a, T, O, L> {
         Ok(Walk::Ends(Flow::Next))
     }
 
-    // Does a statement that needs no stack; nothing is done of one that does.
+    // Does a statement that needs no stack; nothing is done of one that does. A call may enter a folder.
     fn plain(&mut self, code: &Code, number: usize) -> Result<Option<Flow>, Halt>
         requires there { number < length code.now.statements.items }
         requires room { HasRoom T.seen O.seen self.old.context }
@@ -85,34 +89,107 @@ impl<'a, T: Tree, O: Outputs, L: Ledger> Evaluator<'a, T, O, L> {
             self.old.context result self.new.context }
     {
         match &code.statements[number] {
-            StatementNode::Assign { name, line, value } => {
-                Ok(Some(self.assign_value(code, *name as usize, *line as usize, *value as usize)?))
+            StatementNode::Expression { value, .. } => {
+                if let Node::Call { .. } = &code.nodes[*value as usize] {
+                    return Ok(None);
+                }
+                let _ = self.alone(code, *value as usize)?;
+                Ok(Some(Flow::Next))
             }
-            StatementNode::Append { name, line, value } => {
-                Ok(Some(self.append_value(code, *name as usize, *line as usize, *value as usize)?))
+            StatementNode::If { node } => {
+                let node: &IfNode = node;
+                self.branch(code, number, &node.branches)
             }
-            StatementNode::Expression { value, .. } => self.plain_value(code, *value as usize),
-            StatementNode::Break { .. } => Ok(Some(Flow::Broken)),
-            StatementNode::Continue { .. } => Ok(Some(Flow::Continued)),
-            StatementNode::If { .. } => Ok(None),
             StatementNode::Foreach { .. } => Ok(None),
+            _ => Ok(Some(self.simple(code, number)?)),
         }
     }
 
-    // The same of an expression: a call may enter a folder.
-    fn plain_value(&mut self, code: &Code, value: usize) -> Result<Option<Flow>, Halt>
-        requires here { value < length code.now.nodes.items }
+    // Does a statement that gives a variable a value, or leaves its block.
+    #[inline(always)]
+    fn simple(&mut self, code: &Code, number: usize) -> Result<Flow, Halt>
+        requires there { number < length code.now.statements.items }
+        requires simple { is_simple_at code.now number ≡ true }
         requires room { HasRoom T.seen O.seen self.old.context }
         ensures same { Same self.old.context self.new.context }
         ensures device { FailsInside T.seen O.seen self.old.context result self.new.context }
-        ensures gives { DoesHere T.seen O.seen (λ table left. stated (folder left) (tree_at (expressions_by table code.now) value))
-            code.now self.old.context result self.new.context }
+        ensures gives { ComesHere T.seen O.seen (λ table left.
+            does (folder left) left.few (statement_at (statements_by table code.now) number)) code.now
+            self.old.context result self.new.context }
     {
-        if let Node::Call { .. } = &code.nodes[value] {
-            return Ok(None);
+        match &code.statements[number] {
+            StatementNode::Assign { name, line, value } => {
+                Ok(self.assign_value(code, *name as usize, *line as usize, *value as usize)?)
+            }
+            StatementNode::Append { name, line, value } => {
+                Ok(self.append_value(code, *name as usize, *line as usize, *value as usize)?)
+            }
+            StatementNode::Break { .. } => Ok(Flow::Broken),
+            StatementNode::Continue { .. } => Ok(Flow::Continued),
+            _ => unreachable!(),
         }
-        let _ = self.alone(code, value)?;
-        Ok(Some(Flow::Next))
+    }
+
+    // Does an `if` whose parts have simple statements alone; nothing is done of another.
+    fn branch(
+        &mut self,
+        code: &Code,
+        number: usize,
+        parts: &[BranchNode],
+    ) -> Result<Option<Flow>, Halt>
+        requires here { above above_branch parts.now ≤ length code.now.nodes.items }
+        requires room { HasRoom T.seen O.seen self.old.context }
+        ensures same { Same self.old.context self.new.context }
+        ensures device { FailsInside T.seen O.seen self.old.context result self.new.context }
+        ensures gives { (otherwise : List ℕ)
+            → ((part : ℕ) → statements_of code.now (Part number part) ≡ branch_or otherwise parts.now part)
+            → DoesHere T.seen O.seen (λ table left. branches_of (folder left) left.few (branches (map (branch_at
+            (expressions_by table code.now) (statements_by table code.now)) parts.now))
+            (do_all (folder left) left.few (block_by table code.now otherwise))) code.now self.old.context result self.new.context }
+    {
+        for part in 0..=parts.len() {
+            if !are_simple(
+                code,
+                Block::Part {
+                    statement: number,
+                    part,
+                },
+            ) {
+                return Ok(None);
+            }
+        }
+        match self.choose_part(code, parts)? {
+            Some(part) => {
+                let block = Block::Part {
+                    statement: number,
+                    part: part.min(parts.len()),
+                };
+                Ok(Some(self.do_simple(code, block)?))
+            }
+            None => Ok(Some(Flow::Next)),
+        }
+    }
+
+    // Does the simple statements of a block.
+    fn do_simple(&mut self, code: &Code, block: Block) -> Result<Flow, Halt>
+        requires simple { list_all (is_simple_at code.now) (statements_of code.now block) ≡ true }
+        requires room { HasRoom T.seen O.seen self.old.context }
+        ensures same { Same self.old.context self.new.context }
+        ensures device { FailsInside T.seen O.seen self.old.context result self.new.context }
+        ensures gives { ComesHere T.seen O.seen (λ table left.
+            do_all (folder left) left.few (block_by table code.now (statements_of code.now block))) code.now
+            self.old.context result self.new.context }
+    {
+        let numbers = statements_of(code, block);
+        for place in 0..numbers.len() {
+            let mut answer = self.simple(code, numbers[place]);
+            ended_inside(&mut answer, self.context.steps);
+            let flow = answer?;
+            if !flow.is_next() {
+                return Ok(flow);
+            }
+        }
+        Ok(Flow::Next)
     }
 
     // `name = value`
