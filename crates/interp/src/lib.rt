@@ -9,8 +9,9 @@
 //! so nothing else of it has to be kept.
 //!
 //! **Plain statements are done where they stand.** Of a block, and of the rounds of a loop, all is done in place up to the first statement
-//! that needs the stack of frames: an `if`, a loop, or an expression that is a call, which may enter a folder. Only then the rest of the
-//! block, and the other rounds, come on the stack. A loop over plain statements puts nothing there.
+//! that needs the stack of frames: a loop, an expression that is a call, which may enter a folder, or an `if` with more in one of its parts
+//! than assignments and ends of rounds. Only then the rest of the block, and the other rounds, come on the stack. A loop over plain
+//! statements puts nothing there.
 //!
 //! **What an evaluation is given.** [`evaluate`] is lent the settings and the bytes of the machine file. Its world keeps settings of its
 //! own, so they are copied once for a run, and callers keep theirs.
