@@ -45,6 +45,6 @@ is_format _ = false
 abbrev pub means : Literal → List ℕ → Meaning → Bool
 means literal source (meanings.Boolean b) = is_boolean b literal
 means literal source (meanings.Integer n) = is_number literal && (n == magnitude source)
-means literal source (meanings.Text t) = is_plain literal && bytes_eq t (text_of (kind_of literal) source)
-means literal source (meanings.Format t) = is_format literal && bytes_eq t (text_of (kind_of literal) source)
+means literal source (meanings.Text t) = is_plain literal && bytes_eq t.value (text_of (kind_of literal) source)
+means literal source (meanings.Format t) = is_format literal && bytes_eq t.value (text_of (kind_of literal) source)
 means literal source (meanings.Source t) = bytes_eq (string_bytes t.value) source

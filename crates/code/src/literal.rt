@@ -12,7 +12,7 @@ use lexer::{magnitude, text_of_slice};
 use std::alloc::{AllocError, Global};
 use std::snapshot::Snapshot;
 
-/// What a literal stands for, or its text where that is not kept.
+/// What a literal stands for, or its text where that is not kept. A text stands in a box, so that no node is larger for it.
 #[derive(Drop)]
 pub enum Meaning {
     /// `true` or `false`.
@@ -20,9 +20,9 @@ pub enum Meaning {
     /// The number that it spells.
     Integer(u64),
     /// The text that a string stands for.
-    Text(Text),
+    Text(Box<Text>),
     /// The text that an f-string stands for, before its places are filled.
-    Format(Text),
+    Format(Box<Text>),
     /// The literal as it stands in the source: a number that 64 bits don't hold, or a string whose text is too long.
     Source(Box<String>),
 }
@@ -67,12 +67,12 @@ fn small_number(text: &str) -> Option<u64>
 }
 
 // The text of a string, where it is not too long.
-fn decoded(alloc: Global, literal: Literal, text: &str) -> Result<Option<Text>, AllocError>
-    ensures { IfOk result (λ o. ForSome o (λ t. t ≡ text_of (kind_of literal) text.now)) }
+fn decoded(alloc: Global, literal: Literal, text: &str) -> Result<Option<Box<Text>>, AllocError>
+    ensures { IfOk result (λ o. ForSome o (λ t. t.value ≡ text_of (kind_of literal) text.now)) }
 {
     let string = text_of_slice(alloc, kind_of(literal), text)?;
     match Text::new(alloc, string)? {
-        Ok(text) => Ok(Some(text)),
+        Ok(text) => Ok(Some(Box::new(alloc, text)?)),
         Err(_) => Ok(None),
     }
 }

@@ -89,8 +89,14 @@ impl<'a, T: Tree, O: Outputs, L: Ledger> Context<'a, T, O, L> {
         match &node.meaning {
             Meaning::Boolean(value) => Ok(Value::Boolean(*value)),
             Meaning::Integer(n) => Ok(small_integer(*n)),
-            Meaning::Text(text) => Ok(shared(text)?),
-            Meaning::Format(text) => Ok(self.with_places(line, text.as_str())?),
+            Meaning::Text(text) => {
+                let text: &Text = text;
+                Ok(shared(text)?)
+            }
+            Meaning::Format(text) => {
+                let text: &Text = text;
+                Ok(self.with_places(line, text.as_str())?)
+            }
             Meaning::Source(text) => Ok(self.unread(line, node.literal, text.as_str())?),
         }
     }

@@ -4,6 +4,8 @@ use Rattle.code.specs.Literals.{means}
 use Rattle.code.specs.declared.literal.LiteralNode.{LiteralNode}
 use Rattle.code.specs.declared.literal.Meaning.{Meaning}
 use Rattle.code.specs.declared.literal.Meaning.TheVariants as meanings
+use Rattle.data.specs.Data.{text}
+use Rattle.data.specs.Limits.{within}
 use Rattle.world.specs.Plan.{answered}
 use Rattle.expressions.specs.Forms.{format_string, literal_value}
 use Rattle.expressions.proofs.Evaluating.{given_as, given_give, given_none, given_same}
@@ -34,21 +36,22 @@ pub returns-in_ok-shared-in-Text-clause-gives : goal.returns-in_ok-shared-in-Tex
 returns-in_ok-shared-in-Text-clause-gives g c = λ files h.
     let n = c.args.node.now in
     given_as (ap (answered c.args.line) (sym c.in_ok-shared-in-Text.ensures)
-    ∙ of_text c.args.line (string_bytes n.source.value) n.literal c.in-Text.text (stands n (meanings.Text c.in-Text.text) c.in-Text.is))
+    ∙ ap (λ t. answered c.args.line (within (text t))) c.deref-text.ensures
+    ∙ of_text c.args.line (string_bytes n.source.value) n.literal c.in-Text.text.value (stands n (meanings.Text c.in-Text.text) c.in-Text.is))
     (given_give h refl)
 
 pub returns-in_err-with_places-in-Format-clause-gives : goal.returns-in_err-with_places-in-Format-clause-gives
 returns-in_err-with_places-in-Format-clause-gives g c = λ files h.
     let n = c.args.node.now in
-    given_as (ap (format_string c.args.line) c.as_str.ensures.text
-    ∙ of_format c.args.line (string_bytes n.source.value) n.literal c.in-Format.text (stands n (meanings.Format c.in-Format.text) c.in-Format.is))
+    given_as (ap (format_string c.args.line) (c.as_str.ensures.text ∙ c.deref-text-in-Format.ensures)
+    ∙ of_format c.args.line (string_bytes n.source.value) n.literal c.in-Format.text.value (stands n (meanings.Format c.in-Format.text) c.in-Format.is))
     (given_same (c.in_err-with_places-in-Format.ensures.gives files h) c.from_residual-in_err-with_places-in-Format.ensures.1)
 
 pub returns-in_ok-with_places-in-Format-clause-gives : goal.returns-in_ok-with_places-in-Format-clause-gives
 returns-in_ok-with_places-in-Format-clause-gives g c = λ files h.
     let n = c.args.node.now in
-    given_as (ap (format_string c.args.line) c.as_str.ensures.text
-    ∙ of_format c.args.line (string_bytes n.source.value) n.literal c.in-Format.text (stands n (meanings.Format c.in-Format.text) c.in-Format.is))
+    given_as (ap (format_string c.args.line) (c.as_str.ensures.text ∙ c.deref-text-in-Format.ensures)
+    ∙ of_format c.args.line (string_bytes n.source.value) n.literal c.in-Format.text.value (stands n (meanings.Format c.in-Format.text) c.in-Format.is))
     (c.in_ok-with_places-in-Format.ensures.gives files h)
 
 pub returns-in_err-unread-in-Source-clause-gives : goal.returns-in_err-unread-in-Source-clause-gives
