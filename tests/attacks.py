@@ -259,13 +259,18 @@ def test_signals() -> None:
         fresh("s")
         configured("s", tests=[shell(f"hangs {n}", f"echo $$ >pid{n}; exec sleep 300") for n in range(2)])
         process = subprocess.Popen(words_of(over("test", "s", "--no-rebuild", "-j2")), cwd=WORK, env=environment(),
-                                   stdout=subprocess.DEVNULL, stderr=subprocess.PIPE, text=True)
+                                   stdout=subprocess.DEVNULL, stderr=subprocess.PIPE, text=True, preexec_fn=heed_hangups)
         pids = wait_for_pids(["s/pid0", "s/pid1"])
         process.send_signal(number)
         errors = process.communicate(timeout=300)[1]
         is_told = (process.returncode, errors) == (130, "meson test: interrupted\n")
         check(f"meson test: {number.name}", is_told, f"{process.returncode} {errors}")
         check(f"meson test: {number.name} ends its tests", len(pids) == 2 and not any(map(is_running, pids)), pids)
+
+
+def heed_hangups() -> None:
+    """Where these tests run under `nohup`, SIGHUP is ignored, and what they start would ignore it too."""
+    signal.signal(signal.SIGHUP, signal.SIG_DFL)
 
 
 def wait_for_pids(names: list[str]) -> list[int]:
