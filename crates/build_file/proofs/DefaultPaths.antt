@@ -11,8 +11,8 @@ use Rattle.edge.specs.Holding.{is_path, is_some_list, is_writable, are_writable,
 use Rattle.targets.specs.Data.{SurroundingsData, BuildData, TargetData, Build, Custom}
 use Rattle.targets.specs.Files.{default_paths, file_name, file_path, is_static, link_paths, object_paths}
 use Rattle.targets.specs.Libraries.{LinkedData, linked, linked_after, linked_of, libraries_in}
-use Rattle.targets.specs.View.{linked_view}
-use Rattle.targets.specs.declared.linking.Linked.{Linked}
+use Rattle.targets.specs.LinkedViews.{linked_views}
+use Rattle.targets.specs.declared.linked_target.Linked.{Linked}
 use Rattle.target_edges.specs.Edges.{naming, file_edge, link_edges, compile_edges, custom_edge, edges_of, edges_after, all_edges}
 use Rattle.build_file.specs.BuildFile.{asked_of, defaults_of, is_default}
 
@@ -25,7 +25,7 @@ linked_asked ls (t ∷ ts) =
     ∙ ap (λ r. r ++ flat_map defaults_of ts) (flat_map-append asked_of ls (linked ls t ∷ []) ∙ ap (λ r. flat_map asked_of ls ++ r) (append-nil (defaults_of t)))
     ∙ append_assoc (flat_map asked_of ls) (defaults_of t) (flat_map defaults_of ts)
 
-pub asked_are : (kept : List Linked) (ts : List TargetData) → map linked_view kept ≡ linked_of ts → flat_map (λ l. asked_of (linked_view l)) kept ≡ flat_map defaults_of ts
+pub asked_are : (kept : List Linked) (ts : List TargetData) → linked_views kept ≡ linked_of ts → flat_map (λ l. asked_of (linked_view l)) kept ≡ flat_map defaults_of ts
 asked_are kept ts e = sym (flat_map-map asked_of linked_view kept) ∙ ap (flat_map asked_of) e ∙ linked_asked [] ts
 
 linked_count : (ls : List LinkedData) (ts : List TargetData) → map (λ l. l.target) (linked_after ls ts) ≡ map (λ l. l.target) ls ++ ts

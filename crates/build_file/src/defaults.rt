@@ -1,7 +1,8 @@
 //! What is made where Ninja is given no target.
 ghost use Rattle.std.specs.Prelude.{◌≡◌, ◌++◌, flat_map, IfOk};
 ghost use Rattle.edge.specs.Texts.{texts};
-ghost use Rattle.targets.specs.View.{linked_view, target_view};
+ghost use Rattle.targets.specs.LinkedViews.{linked_views};
+ghost use Rattle.targets.specs.View.{target_view};
 ghost use Rattle.build_file.specs.BuildFile.{asked_of, default_outputs, is_default};
 
 use edge::push_copies;

@@ -2,13 +2,13 @@
 ghost use Rattle.std.specs.Prelude.{◌≡◌, map, option_map};
 ghost use Rattle.edge.specs.Texts.{texts};
 ghost use Rattle.named_sources.specs.Outputs.{output_at, outputs_at};
-ghost use Rattle.targets.specs.View.{linked_view};
+ghost use Rattle.targets.specs.LinkedViews.{linked_views};
 
 use targets::Linked;
 
 /// The outputs of the target with a number.
 pub fn outputs_at(earlier: &[Linked], number: usize) -> Option<&[String]>
-    ensures { option_map (λ ps. texts ps.now) result ≡ outputs_at (map linked_view earlier.now) number }
+    ensures { option_map (λ ps. texts ps.now) result ≡ outputs_at (linked_views earlier.now) number }
 {
     match earlier.get(number) {
         Some(linked) => Some(linked.paths.as_slice()),
@@ -18,7 +18,7 @@ pub fn outputs_at(earlier: &[Linked], number: usize) -> Option<&[String]>
 
 /// The output at a place of the target with a number.
 pub fn output_at(earlier: &[Linked], number: usize, place: usize) -> Option<&str>
-    ensures { option_map (λ p. p.now) result ≡ output_at (map linked_view earlier.now) number place }
+    ensures { option_map (λ p. p.now) result ≡ output_at (linked_views earlier.now) number place }
 {
     match outputs_at(earlier, number)?.get(place) {
         Some(path) => Some(path.as_str()),

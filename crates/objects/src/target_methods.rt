@@ -4,7 +4,8 @@ ghost use Rattle.std.specs.Prelude.{◌≡◌, IfOk, Some, map, option_map, stri
 ghost use Rattle.data.specs.Tables.{Answers};
 ghost use Rattle.data.specs.View.{items_of};
 ghost use Rattle.edge.specs.Texts.{texts};
-ghost use Rattle.targets.specs.View.{linked_view, target_view};
+ghost use Rattle.targets.specs.LinkedViews.{linked_views};
+ghost use Rattle.targets.specs.View.{target_view};
 ghost use Rattle.world.specs.Store.{world_of};
 ghost use Rattle.objects.specs.Targets.{answer_by, at, build_answer, build_named, custom_answer, custom_named, name_of, name_value};
 ghost use Rattle.objects.specs.Targets.{only_path, output_answer, output_list, output_named, output_of, outputs_from, path_of, path_value};
@@ -105,7 +106,7 @@ fn output_of(alloc: Global, output: usize, target: &Target) -> Result<Option<Str
 }
 
 fn name_at(targets: &[Linked], number: usize) -> Option<&str>
-    ensures { option_map (λ n. n.now) result ≡ at (map linked_view targets.now) number (λ t. Some (name_of t)) }
+    ensures { option_map (λ n. n.now) result ≡ at (linked_views targets.now) number (λ t. Some (name_of t)) }
 {
     match targets.get(number) {
         Some(linked) => Some(name_of(&linked.target)),
@@ -114,7 +115,7 @@ fn name_at(targets: &[Linked], number: usize) -> Option<&str>
 }
 
 fn path_at(alloc: Global, targets: &[Linked], number: usize) -> Result<Option<String>, AllocError>
-    ensures { IfOk result (λ path. option_map string_bytes path ≡ at (map linked_view targets.now) number path_of) }
+    ensures { IfOk result (λ path. option_map string_bytes path ≡ at (linked_views targets.now) number path_of) }
 {
     match targets.get(number) {
         Some(linked) => path_of(alloc, &linked.target),
@@ -128,7 +129,7 @@ fn output_at(
     number: usize,
     output: usize,
 ) -> Result<Option<String>, AllocError>
-    ensures { IfOk result (λ path. option_map string_bytes path ≡ at (map linked_view targets.now) number (output_of output)) }
+    ensures { IfOk result (λ path. option_map string_bytes path ≡ at (linked_views targets.now) number (output_of output)) }
 {
     match targets.get(number) {
         Some(linked) => output_of(alloc, output, &linked.target),

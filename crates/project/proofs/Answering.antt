@@ -1,16 +1,15 @@
 -- What a target is answered.
-use Rattle.std.proofs.Common.{◌≡◌, ℕ, ◌≤◌, Bool, true, false, List, [], ◌∷◌, ◌++◌, Err, refl, sym, ap, ◌∙◌, arith, bytes_eq, ◌+◌}
+use Rattle.std.proofs.Common.{◌≡◌, ℕ, ◌≤◌, Bool, true, false, List, [], ◌∷◌, Err, refl, sym, ap, ◌∙◌, arith, bytes_eq, ◌+◌}
 use Rattle.std.specs.Prelude.{◌&&◌, ◌||◌, not, if◌then◌else◌}
 use Rattle.std.specs.List.{list_all}
 use Rattle.edge.specs.Texts.{Path, holds}
 use Rattle.edge.specs.Data.{EdgeData}
 use Rattle.edge.specs.Holding.{are_writable}
 use Rattle.targets.specs.Data.{SurroundingsData, SourceData, Tree, Built, Made, TargetData}
-use Rattle.targets.specs.Files.{default_paths}
-use Rattle.targets.specs.Libraries.{LinkedData, linked_of, libraries_in}
-use Rattle.target_edges.specs.Edges.{target_edges, all_edges}
-use Rattle.project.specs.Laws.{outputs_of, times, all_made, all_inside}
-use Rattle.project.specs.World.{WorldData, reserved, made_of, known_of, is_made_in}
+use Rattle.targets.specs.Libraries.{LinkedData, linked, linked_libraries, linked_of}
+use Rattle.target_edges.specs.Edges.{target_edges}
+use Rattle.project.specs.Laws.{outputs_of, times}
+use Rattle.project.specs.World.{WorldData, reserved, made_of, is_made_in}
 use Rattle.project.specs.Whole.{targets_in, IsWhole, IsNext}
 use Rattle.project.specs.Adding.{sources_of, is_made_source, is_present, target_fits, is_fit, edges_with, place_answer, target_answer, is_within}
 use Rattle.project.specs.Refused.{refused}
@@ -20,6 +19,7 @@ use Rattle.project.proofs.PathLists.{times-append}
 use Rattle.project.proofs.EdgeOrder.{holds_append}
 use Rattle.project.proofs.Earlier.{back_next}
 use Rattle.project.proofs.NextMade.{next_made}
+use Rattle.project.proofs.Reading.{edges_same}
 use Rattle.project.proofs.NextInside.{next_inside}
 
 -- ---- what is made
@@ -89,22 +89,20 @@ split_and : (a b : Bool) → (a && b) ≡ true → (a ≡ true) × (b ≡ true)
 split_and true b e = (refl, e)
 split_and false b e = absurd cc
 
-module _ (w : WorldData) (t : TargetData) (ns : List ℕ) (es : List EdgeData) (a : ns ≡ libraries_in (linked_of w.targets) t) (e : es ≡ target_edges w.surroundings (linked_of w.targets) ns t) where
+module _ (w : WorldData) (t : TargetData) (ns : List ℕ) (es : List EdgeData) (a : ns ≡ linked_libraries (linked_of w.targets) t) (e : es ≡ target_edges w.surroundings (linked_of w.targets) ns t) where
   pub edges_are : es ≡ edges_with w t
-  edges_are = e ∙ ap (λ n. target_edges w.surroundings (linked_of w.targets) n t) a
+  edges_are = e ∙ ap (λ n. target_edges w.surroundings (linked_of w.targets) n t) a ∙ edges_same w.surroundings (linked_of w.targets) t
 
-  pub next_ready : (qs ps : List Path) → qs ≡ default_paths t → ps ≡ outputs_of es → are_writable es ≡ true → is_fit w t ≡ true → list_all (is_present w.present) (sources_of t) ≡ true
-      → IsNext w.surroundings w.targets w.outputs w.present (record { target = t; libraries = ns; paths = qs }) ps
-  next_ready qs ps q p wr fit there =
+  pub next_ready : (ps : List Path) → ps ≡ outputs_of es → are_writable es ≡ true → is_fit w t ≡ true → list_all (is_present w.present) (sources_of t) ≡ true
+      → IsNext w.surroundings w.targets w.outputs w.present (linked (linked_of w.targets) t) ps
+  next_ready ps p wr fit there =
       let s = w.surroundings in
       let h = split_and (target_fits (linked_of w.targets) t) (list_all (is_made_source (λ q. holds q (made_of s w.targets w.outputs))) (sources_of t)) fit in
-      let known = known_of s w.outputs w.present ++ outputs_of (all_edges s w.targets) in
-      let swap = ap (λ n. target_edges s (linked_of w.targets) n t) a in
       record {
-        libraries = ap (λ n. record { target = t; libraries = n; paths = qs }) a ∙ ap (λ x. record { target = t; libraries = libraries_in (linked_of w.targets) t; paths = x }) q;
-        paths_are = p ∙ ap outputs_of e;
-        made = ap (all_made known) swap ∙ next_made s w.targets w.outputs w.present t h.1 there;
-        inside = ap (λ x. all_inside (outputs_of x)) swap ∙ next_inside s (linked_of w.targets) t h.0;
-        writable = ap are_writable (sym e) ∙ wr;
+        libraries = refl;
+        paths_are = p ∙ ap outputs_of edges_are;
+        made = next_made s w.targets w.outputs w.present t h.1 there;
+        inside = next_inside s (linked_of w.targets) t h.0;
+        writable = ap are_writable (sym edges_are) ∙ wr;
         back = back_next s w.targets w.outputs t h.0 h.1;
       }

@@ -22,8 +22,10 @@ use Rattle.std.specs.Prelude.{if◌then◌else◌}
 use Rattle.std.specs.List.{list_all}
 use Rattle.edge.specs.Holding.{value_held}
 use Rattle.edge.proofs.TextLists.{list_any-map}
-use Rattle.targets.specs.View.{target_view, linked_view}
-use Rattle.targets.specs.declared.linking.Linked.{Linked}
+use Rattle.targets.specs.LinkedViews.{linked_views}
+use Rattle.targets.specs.View.{target_view}
+use Rattle.targets.specs.declared.linked_target.Linked.{Linked}
+use Rattle.project.proofs.Reading.{targets_are}
 
 abbrev pub with_words : SurroundingsData → (arguments link_arguments : List Text) → SurroundingsData
 with_words s arguments link_arguments = record { facts = s.facts; arguments = arguments; link_arguments = link_arguments }
@@ -72,14 +74,9 @@ after_unit r then_ before e = ap (λ x. after_answer x then_ before) e
 pub after_refusal : (r : Result (Unit {0}) RefusedData) (why : RefusedData) (then_ before : WorldData) → r ≡ Err why → after_answer r then_ before ≡ before
 after_refusal r why then_ before e = ap (λ x. after_answer x then_ before) e
 
--- the targets, as the code has them
-targets_are : (xs : List Linked) → targets_in (map linked_view xs) ≡ map (λ l. target_view l.target) xs
-targets_are [] = refl
-targets_are (x ∷ xs) = ap (λ ts. target_view x.target ∷ ts) (targets_are xs)
-
-pub first_is : (xs : List Linked) → first_build (map (λ l. target_view l.target) xs) ≡ first_build (targets_in (map linked_view xs))
+pub first_is : (xs : List Linked) → first_build (map (λ l. target_view l.target) xs) ≡ first_build (targets_in (linked_views xs))
 first_is xs = ap first_build (sym (targets_are xs))
 
 -- whether one of the targets is a build target, as the code asks it
-pub some_is : (xs : List Linked) → list_any is_build (targets_in (map linked_view xs)) ≡ list_any (λ l. is_build (target_view l.target)) xs
-some_is xs = list_any-map is_build (λ (l : LinkedData). l.target) (map linked_view xs) ∙ list_any-map (λ (l : LinkedData). is_build l.target) linked_view xs
+pub some_is : (xs : List Linked) → list_any is_build (targets_in (linked_views xs)) ≡ list_any (λ l. is_build (target_view l.target)) xs
+some_is xs = ap (list_any is_build) (targets_are xs) ∙ list_any-map is_build (λ (l : Linked). target_view l.target) xs

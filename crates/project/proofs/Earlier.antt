@@ -2,18 +2,18 @@
 use Rattle.std.proofs.Common.{◌≡◌, ℕ, zero, suc, ◌<◌, Bool, true, List, [], ◌∷◌, ◌++◌, length, refl, sym, ap, ◌∙◌, append-nil, append_assoc, nat_lt, arith}
 use Rattle.std.specs.Prelude.{◌&&◌, flat_map, slice_get, not}
 use Rattle.std.specs.List.{list_all}
-use Rattle.std.proofs.lemmas.List.{map-append}
 use Rattle.std.proofs.lemmas.Bool.Decides.{nat_tests}
 use Rattle.edge.specs.Texts.{Path, holds}
 use Rattle.targets.specs.Data.{SurroundingsData, SourceData, Tree, Built, Made, ListsData, TargetData, Build, Custom}
 use Rattle.targets.specs.Sources.{has_foreign}
-use Rattle.targets.specs.Libraries.{LinkedData, linked, linked_after, linked_of, build_of, is_library_in, is_library_at, links_in, links_libraries}
+use Rattle.targets.specs.Libraries.{LinkedData, linked_of, build_of, is_library_in, is_library_at, library_numbers, links_in, links_libraries}
+use Rattle.targets.proofs.LinkedLists.{targets_after}
 use Rattle.target_edges.specs.Edges.{all_edges}
 use Rattle.project.specs.Laws.{outputs_of}
 use Rattle.project.specs.World.{made_of}
 use Rattle.project.specs.Whole.{targets_in}
 use Rattle.project.specs.Adding.{sources_of, is_made_source, is_folder, names_fit, has_c, target_fits}
-use Rattle.project.specs.Earlier.{library_numbers, is_library_target, is_library_if, is_earlier_library, refers_back, all_refer_back}
+use Rattle.project.specs.Earlier.{is_library_target, is_library_if, is_earlier_library, refers_back, all_refer_back}
 use Rattle.project.proofs.EdgeOrder.{split_and, both, list_all-weaker, list_all-flat_map, list_all-joined, holds_left}
 
 -- ---- one target more
@@ -49,13 +49,6 @@ back_grown s outputs more earlier (t ∷ ts) e =
     (back_grown s outputs more (earlier ++ t ∷ []) ts h.1)
 
 -- ---- a target that fits
-
-targets_after : (earlier : List LinkedData) (ts : List TargetData) → targets_in (linked_after earlier ts) ≡ targets_in earlier ++ ts
-targets_after earlier [] = sym (append-nil (targets_in earlier))
-targets_after earlier (t ∷ ts) =
-    targets_after (earlier ++ linked earlier t ∷ []) ts
-    ∙ ap (λ k. k ++ ts) (map-append (λ (l : LinkedData). l.target) earlier (linked earlier t ∷ []))
-    ∙ append_assoc (targets_in earlier) (t ∷ []) ts
 
 library_same : (t : TargetData) → is_library_in (build_of t) ≡ is_library_target t
 library_same (Build t) = refl

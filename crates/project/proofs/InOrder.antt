@@ -1,25 +1,12 @@
 -- The edges of the targets, one number after another, are all edges.
-use Rattle.std.proofs.Common.{◌≡◌, ◌+◌, List, [], ◌∷◌, ◌++◌, length, take, refl, sym, ap, ◌∙◌, append-nil, append_assoc, length-append, arith}
+use Rattle.std.proofs.Common.{◌≡◌, ◌+◌, List, [], ◌∷◌, ◌++◌, length, take, refl, ap, ◌∙◌, append_assoc, length-append, arith}
 use Rattle.std.specs.Prelude.{slice_get, Some}
 use Rattle.std.proofs.Math.Seq.{take-append_seam}
 use Rattle.targets.specs.Data.{SurroundingsData, TargetData}
 use Rattle.targets.specs.Libraries.{LinkedData, linked, linked_after, linked_of}
+use Rattle.targets.proofs.LinkedLists.{begun, get_seam}
 use Rattle.target_edges.specs.Edges.{edges_of, edges_after, all_edges}
 use Rattle.project.specs.Adding.{edges_if, edges_between}
-
-record Begun (earlier : List LinkedData) (ts : List TargetData) : Type 0 where
-  rest : List LinkedData
-  is : linked_after earlier ts ≡ earlier ++ rest
-
-begun : (earlier : List LinkedData) (ts : List TargetData) → Begun earlier ts
-begun earlier [] = record { rest = []; is = sym (append-nil earlier) }
-begun earlier (t ∷ ts) =
-    let b = begun (earlier ++ linked earlier t ∷ []) ts in
-    record { rest = linked earlier t ∷ b.rest; is = b.is ∙ append_assoc earlier (linked earlier t ∷ []) b.rest }
-
-get_seam : (xs : List LinkedData) (x : LinkedData) (ys : List LinkedData) → slice_get (xs ++ x ∷ ys) (length xs) ≡ Some x
-get_seam [] x ys = refl
-get_seam (z ∷ xs) x ys = get_seam xs x ys
 
 module _ (s : SurroundingsData) (all : List LinkedData) where
   from : (earlier : List LinkedData) (ts : List TargetData) → all ≡ linked_after earlier ts → edges_between s all (length ts) (length earlier) ≡ edges_after s earlier ts

@@ -22,7 +22,7 @@ use Rattle.project.proofs.PathLists.{once_more, taken_same, times-append}
 use Rattle.project.proofs.Earlier.{back_push, back_grown}
 use Rattle.project.proofs.EdgeOrder.{both, or_cases, list_all-joined, holds_append, holds_left, holds_right, made_append, made_grown}
 
-linked_after-push : (earlier : List LinkedData) (ts : List TargetData) (t : TargetData)
+pub linked_after-push : (earlier : List LinkedData) (ts : List TargetData) (t : TargetData)
     → linked_after earlier (ts ++ t ∷ []) ≡ linked_after earlier ts ++ linked (linked_after earlier ts) t ∷ []
 linked_after-push earlier [] t = refl
 linked_after-push earlier (x ∷ ts) t = linked_after-push (earlier ++ linked earlier x ∷ []) ts t

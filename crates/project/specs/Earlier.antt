@@ -3,15 +3,10 @@ use Rattle.std.specs.Prelude.{ℕ, nat_lt, Bool, true, false, ◌&&◌, List, []
 use Rattle.std.specs.List.{list_all}
 use Rattle.edge.specs.Texts.{Path, holds}
 use Rattle.targets.specs.Data.{SurroundingsData, TargetData, Build, Custom}
-use Rattle.targets.specs.Sources.{listed}
 use Rattle.targets.specs.Files.{is_library}
+use Rattle.targets.specs.Libraries.{library_numbers}
 use Rattle.project.specs.World.{WorldData, made_of}
 use Rattle.project.specs.Adding.{sources_of, is_made_source}
-
--- the numbers in a target's lists of libraries: its own, and those of its dependencies
-abbrev pub library_numbers : TargetData → List ℕ
-library_numbers (Build t) = listed (λ l. l.link_with) t
-library_numbers (Custom t) = []
 
 abbrev pub is_library_target : TargetData → Bool
 is_library_target (Build t) = is_library t.kind

@@ -3,7 +3,8 @@ ghost use Rattle.std.specs.Prelude.{◌≡◌, ◌+◌, map, min, IfOk, not, ◌
 ghost use Rattle.std.specs.List.{list_any, list_all};
 ghost use Rattle.basics.specs.Limits.{items};
 ghost use Rattle.edge.specs.Texts.{texts, holds as is_held};
-ghost use Rattle.targets.specs.View.{source_view, lists_view, build_view, custom_view, target_view, linked_view};
+ghost use Rattle.targets.specs.LinkedViews.{linked_views};
+ghost use Rattle.targets.specs.View.{source_view, lists_view, build_view, custom_view, target_view};
 ghost use Rattle.targets.specs.Libraries.{links_libraries as links_all};
 ghost use Rattle.targets.specs.Sources.{is_c as is_c_path, has_foreign};
 ghost use Rattle.project.specs.World.{reserved, is_made_in};
@@ -275,7 +276,7 @@ pub fn build_fits(
     earlier: &[Linked],
     target: &BuildTarget,
 ) -> Result<bool, AllocError>
-    ensures { IfOk result (λ fit. fit ≡ build_fits (map linked_view earlier.now) (build_view target.now)) }
+    ensures { IfOk result (λ fit. fit ≡ build_fits (linked_views earlier.now) (build_view target.now)) }
 {
     let names = names_fit(alloc, target)?;
     Ok(

@@ -1,8 +1,9 @@
 ghost use Rattle.std.specs.Prelude.{◌≡◌, ℕ, ◌<◌, [], ◌++◌, ◌&&◌, not, true, map, length, IfOk, OnOk, OnErr, Result, Ok, string_bytes};
 ghost use Rattle.std.specs.Prelude.{slice_get, if◌then◌else◌};
 ghost use Rattle.edge.specs.Texts.{texts};
-ghost use Rattle.targets.specs.View.{facts_view, surroundings_view, target_view, linked_view};
-ghost use Rattle.targets.specs.Libraries.{linked_of};
+ghost use Rattle.targets.specs.LinkedViews.{linked_views};
+ghost use Rattle.targets.specs.View.{facts_view, surroundings_view, target_view};
+ghost use Rattle.targets.specs.Libraries.{LinkBack, linked, linked_of};
 ghost use Rattle.project.specs.View.{answer_view, install_view, test_view};
 ghost use Rattle.project.specs.Whole.{IsNext};
 ghost use Rattle.project.specs.Earlier.{refer_back};
@@ -34,7 +35,7 @@ use edge::{can_hold_path, can_hold_values, copies, strings};
 use std::alloc::{AllocError, Global};
 use std::marker::Model;
 use target_edges::{Claims, Context, TargetParts, claims_of, no_parts, target_parts};
-use targets::{Facts, Linked, Surroundings, Target, default_paths, libraries, path_in};
+use targets::{Facts, Linked, Surroundings, Target, default_paths, linked_libraries, path_in};
 
 // What was looked at, and what was noted.
 struct Notes {
@@ -91,15 +92,16 @@ impl Model for Project {
 
     ghost use Rattle.std.specs.Prelude.{map};
     ghost use Rattle.edge.specs.Texts.{texts};
-    ghost use Rattle.targets.specs.View.{linked_view, surroundings_view};
+    ghost use Rattle.targets.specs.LinkedViews.{linked_views};
+    ghost use Rattle.targets.specs.View.{surroundings_view};
     ghost use Rattle.project.specs.View.{world_of};
     ghost use Rattle.project.specs.NotesView.{notes_view};
     ghost use Rattle.project.specs.Whole.{IsWhole};
 
-    ghost view = { λ p. world_of (surroundings_view p.surroundings) (map linked_view p.linked.items) (texts p.outputs.items)
+    ghost view = { λ p. world_of (surroundings_view p.surroundings) (linked_views p.linked.items) (texts p.outputs.items)
         (notes_view p.notes) };
 
-    ghost invariant = { λ p. IsWhole (surroundings_view p.surroundings) (map linked_view p.linked.items) (texts p.outputs.items)
+    ghost invariant = { λ p. IsWhole (surroundings_view p.surroundings) (linked_views p.linked.items) (texts p.outputs.items)
         (texts p.notes.present.keys) (texts p.taken.keys) };
 }
 
@@ -157,7 +159,8 @@ impl Project {
         paths: &[String],
         within: bool,
     ) -> Result<Result<usize, Refused>, AllocError>
-        requires { IsNext self.old.surroundings self.old.targets self.old.outputs self.old.present (linked_view one) (texts paths.now) }
+        requires { IsNext self.old.surroundings self.old.targets self.old.outputs self.old.present
+            (linked (linked_of self.old.targets) (target_view one.target)) (texts paths.now) }
         ensures answer { IfOk result (λ r. answer_data r ≡ place_answer self.old (texts paths.now) within) }
         ensures ok { OnOk result (self.new
             ≡ after_answer (place_answer self.old (texts paths.now) within) (with_target self.old (target_view one.target)) self.old) }
@@ -201,7 +204,7 @@ impl Project {
         if !present {
             return refuse(self.alloc, Refusal::Missing, "");
         }
-        let libraries = libraries(self.alloc, &self.linked, &target)?;
+        let libraries = linked_libraries(self.alloc, &self.linked, &target)?;
         let claims = self.claims_with(&target, &libraries)?;
         let writable = claims.writable;
         if !writable {
@@ -212,7 +215,6 @@ impl Project {
         self.place(
             Linked {
                 target,
-                libraries,
                 paths: named,
             },
             &claims.paths,
@@ -383,7 +385,7 @@ impl Project {
 
     /// The targets in the order of their declaration, each with what the edge `all` names of it.
     pub fn targets(&self) -> &[Linked]
-        ensures { map linked_view result.now ≡ linked_of self.now.targets }
+        ensures { linked_views result.now ≡ linked_of self.now.targets }
     {
         &self.linked
     }
@@ -474,14 +476,16 @@ fn parts_behind(
     earlier: &[Linked],
     one: &Linked,
 ) -> Result<TargetParts, AllocError>
-    ensures { IfOk result (λ p. parts_edges p
-        ≡ edges_of (surroundings_view surroundings.now) (map linked_view earlier.now) (linked_view one.now)) }
+    requires { LinkBack (map (λ l. target_view l.target) earlier.now) }
+    ensures { IfOk result (λ p. parts_edges p ≡ edges_of (surroundings_view surroundings.now) (linked_views earlier.now)
+        (linked (linked_views earlier.now) (target_view one.now.target))) }
 {
+    let libraries = linked_libraries(alloc, earlier, &one.target)?;
     let context = Context {
         alloc,
         surroundings,
         earlier,
-        libraries: &one.libraries,
+        libraries: &libraries,
     };
     target_parts(&context, &one.target)
 }

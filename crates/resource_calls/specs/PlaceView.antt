@@ -1,6 +1,6 @@
 -- Where a call stands, without where it lies in memory.
 use Rattle.std.specs.Prelude.{map}
-use Rattle.targets.specs.View.{linked_view}
+use Rattle.targets.specs.LinkedViews.{linked_views}
 use Rattle.resource_calls.specs.Place.{PlaceData}
 use Rattle.resource_calls.specs.declared.place.Place.{Place}
 
@@ -9,5 +9,5 @@ place_view p = record {
   source_root = p.source_root.now;
   build_root = p.build_root.now;
   folder = p.folder.now;
-  earlier = map linked_view p.earlier.now;
+  earlier = linked_views p.earlier.now;
 }

@@ -3,7 +3,7 @@ ghost use Rattle.std.specs.Prelude.{◌≡◌, codes, IfOk, map};
 ghost use Rattle.arguments.specs.Arguments.{arguments_data};
 ghost use Rattle.arguments.specs.Given.{keyword};
 ghost use Rattle.named_sources.specs.SourcesView.{named_view};
-ghost use Rattle.targets.specs.View.{linked_view};
+ghost use Rattle.targets.specs.LinkedViews.{linked_views};
 ghost use Rattle.resource_calls.specs.JoinedLists.{count_at, dependencies_given, joined_dependency, own_dependency, source_of};
 ghost use Rattle.resource_calls.specs.JoinedLists.{sources_within, tree_source, version_or, with_arguments, with_own};
 ghost use Rattle.resource_calls.specs.OwnListsView.{own_view};
@@ -23,7 +23,7 @@ use targets::Linked;
 // How many outputs a target has.
 #[tactic(auto, using(crate::proofs::Counting::as_many))]
 fn count_at(earlier: &[Linked], number: usize) -> usize
-    ensures { result ≡ count_at (map linked_view earlier.now) number }
+    ensures { result ≡ count_at (linked_views earlier.now) number }
 {
     match earlier.get(number) {
         Some(linked) => linked.paths.len(),
@@ -48,7 +48,7 @@ fn source_of(
     earlier: &[Linked],
     named: &NamedSource,
 ) -> Result<Result<Source, Refusal>, AllocError>
-    ensures { IfOk result (λ r. r ≡ source_of (map linked_view earlier.now) (named_view named.now)) }
+    ensures { IfOk result (λ r. r ≡ source_of (linked_views earlier.now) (named_view named.now)) }
 {
     match named {
         NamedSource::Tree(path) => tree_source(alloc, path.as_str()),
@@ -73,7 +73,7 @@ fn sources_within(
     earlier: &[Linked],
     named: &[NamedSource],
 ) -> Result<Result<Sources, Refusal>, AllocError>
-    ensures { IfOk result (λ r. r ≡ sources_within (map linked_view earlier.now) (map named_view named.now)) }
+    ensures { IfOk result (λ r. r ≡ sources_within (linked_views earlier.now) (map named_view named.now)) }
 {
     let mut sources = Sources::new(alloc);
     for one in named {

@@ -2,7 +2,7 @@
 ghost use Rattle.std.specs.Prelude.{◌≡◌, IfOk, map, option_map};
 ghost use Rattle.arguments.specs.Arguments.{arguments_data};
 ghost use Rattle.data.specs.View.{data_of};
-ghost use Rattle.targets.specs.View.{linked_view};
+ghost use Rattle.targets.specs.LinkedViews.{linked_views};
 ghost use Rattle.resource_calls.specs.OwnLists.{if_libraries, libraries_of, own_lists};
 ghost use Rattle.resource_calls.specs.OwnListsView.{own_view};
 ghost use Rattle.resource_calls.specs.PlaceView.{place_view};
@@ -25,7 +25,7 @@ pub struct Own {
 }
 
 fn if_libraries(earlier: &[Linked], numbers: Vec<usize>) -> Option<Vec<usize>>
-    ensures { option_map (λ v. v.items) result ≡ if_libraries (map linked_view earlier.now) numbers.items }
+    ensures { option_map (λ v. v.items) result ≡ if_libraries (linked_views earlier.now) numbers.items }
 {
     if are_libraries(earlier, &numbers) {
         Some(numbers)
@@ -41,7 +41,7 @@ pub(crate) fn libraries_of(
     values: &[&Value],
 ) -> Result<Option<Vec<usize>>, AllocError>
     ensures { IfOk result (λ ns. option_map (λ v. v.items) ns
-        ≡ libraries_of (map linked_view earlier.now) (map (λ v. data_of v.now) values.now)) }
+        ≡ libraries_of (linked_views earlier.now) (map (λ v. data_of v.now) values.now)) }
 {
     let Some(numbers) = numbers_of(alloc, values)? else {
         return Ok(None);

@@ -1,6 +1,6 @@
 -- Where a call stands, without where it lies in memory.
 use Rattle.std.specs.Prelude.{map}
-use Rattle.targets.specs.View.{linked_view}
+use Rattle.targets.specs.LinkedViews.{linked_views}
 use Rattle.target_calls.specs.Here.{HereData}
 use Rattle.target_calls.specs.declared.here.Here.{Here}
 
@@ -9,5 +9,5 @@ here_view h = record {
   depth = h.depth;
   source_root = h.source_root.now;
   folder = h.folder.now;
-  earlier = map linked_view h.earlier.now;
+  earlier = linked_views h.earlier.now;
 }

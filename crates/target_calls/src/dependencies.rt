@@ -1,7 +1,8 @@
 //! What dependencies bring to a target.
 ghost use Rattle.std.specs.Prelude.{◌≡◌, IfOk, map, option_map};
 ghost use Rattle.data.specs.View.{data_of};
-ghost use Rattle.targets.specs.View.{linked_view, lists_view};
+ghost use Rattle.targets.specs.LinkedViews.{linked_views};
+ghost use Rattle.targets.specs.View.{lists_view};
 ghost use Rattle.named_sources.specs.SourcesView.{named_view};
 ghost use Rattle.target_calls.specs.Dependencies.{dependencies_of, found_in, lists_of, named_of};
 
@@ -47,7 +48,7 @@ fn lists_of(
     earlier: &[Linked],
     dependency: &Dependency,
 ) -> Result<Option<Lists>, AllocError>
-    ensures { IfOk result (λ l. option_map lists_view l ≡ lists_of (map linked_view earlier.now) dependency.now) }
+    ensures { IfOk result (λ l. option_map lists_view l ≡ lists_of (linked_views earlier.now) dependency.now) }
 {
     let named = all_named(alloc, dependency.sources.as_slice())?;
     let Some(sources) = sources_in(alloc, earlier, &named)? else {
@@ -97,7 +98,7 @@ pub fn dependencies_of(
     values: &[&Value],
 ) -> Result<Option<Vec<Rc<Lists>>>, AllocError>
     ensures { IfOk result (λ ls. option_map (λ v. map (λ l. lists_view l.value) v.items) ls
-        ≡ dependencies_of (map linked_view earlier.now) (map (λ v. data_of v.now) values.now)) }
+        ≡ dependencies_of (linked_views earlier.now) (map (λ v. data_of v.now) values.now)) }
 {
     let mut all = Vec::new(alloc);
     for value in values {

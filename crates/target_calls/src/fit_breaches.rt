@@ -4,7 +4,8 @@ ghost use Rattle.edge.specs.Texts.{texts};
 ghost use Rattle.project.specs.Adding.{is_target_name};
 ghost use Rattle.targets.specs.Files.{file_name, link_names};
 ghost use Rattle.targets.specs.Sources.{is_foreign, is_header};
-ghost use Rattle.targets.specs.View.{build_view, custom_view, linked_view, lists_view, source_view, target_view};
+ghost use Rattle.targets.specs.LinkedViews.{linked_views};
+ghost use Rattle.targets.specs.View.{build_view, custom_view, lists_view, source_view, target_view};
 ghost use Rattle.target_calls.specs.FitBreaches.{bad_name, build_fit, custom_fit, file_breach, fit_breach, foreign_among, foreign_in};
 ghost use Rattle.target_calls.specs.FitBreaches.{foreign_of, foreign_path, source_breach};
 
@@ -101,7 +102,7 @@ fn foreign_of(target: &BuildTarget) -> Option<&str>
 
 fn source_breach<'t>(earlier: &[Linked], target: &'t BuildTarget) -> (Rule, &'t str)
     ensures { (result.0, result.1.now)
-        ≡ source_breach (map linked_view earlier.now) (build_view target.now) (foreign_of (build_view target.now)) }
+        ≡ source_breach (linked_views earlier.now) (build_view target.now) (foreign_of (build_view target.now)) }
 {
     match foreign_of(target) {
         Some(path) => (Rule::IsSource, path),
@@ -131,7 +132,7 @@ fn file_breach(
     earlier: &[Linked],
     target: &BuildTarget,
 ) -> Result<(Rule, String), AllocError>
-    ensures { IfOk result (λ b. (b.0, string_bytes b.1) ≡ file_breach (map linked_view earlier.now) (build_view target.now)
+    ensures { IfOk result (λ b. (b.0, string_bytes b.1) ≡ file_breach (linked_views earlier.now) (build_view target.now)
         (bad_name (file_name (build_view target.now) ∷ link_names (build_view target.now)))) }
 {
     let names = file_names(alloc, target)?;
@@ -149,7 +150,7 @@ fn build_fit(
     earlier: &[Linked],
     target: &BuildTarget,
 ) -> Result<(Rule, String), AllocError>
-    ensures { IfOk result (λ b. (b.0, string_bytes b.1) ≡ build_fit (map linked_view earlier.now) (build_view target.now)) }
+    ensures { IfOk result (λ b. (b.0, string_bytes b.1) ≡ build_fit (linked_views earlier.now) (build_view target.now)) }
 {
     let name = target.name.as_str();
     if is_target_name(name) {

@@ -2,7 +2,8 @@
 ghost use Rattle.std.specs.Prelude.{◌≡◌, ◌++◌, IfOk, flat_map, map, option_map, string_bytes};
 ghost use Rattle.edge.specs.Texts.{texts};
 ghost use Rattle.targets.specs.Data.{Made};
-ghost use Rattle.targets.specs.View.{linked_view, source_view};
+ghost use Rattle.targets.specs.LinkedViews.{linked_views};
+ghost use Rattle.targets.specs.View.{source_view};
 ghost use Rattle.named_sources.specs.Outputs.{output_at, outputs_at};
 ghost use Rattle.named_sources.specs.SourcesView.{named_view};
 ghost use Rattle.target_calls.specs.Sources.{file_in, one_made, source_in, sources_in};
@@ -31,7 +32,7 @@ pub fn one_made_of(alloc: Global, path: &str) -> Result<Source, AllocError>
 }
 
 fn all_made(alloc: Global, earlier: &[Linked], number: usize) -> Result<Option<Source>, AllocError>
-    ensures { IfOk result (λ s. option_map source_view s ≡ option_map Made (outputs_at (map linked_view earlier.now) number)) }
+    ensures { IfOk result (λ s. option_map source_view s ≡ option_map Made (outputs_at (linked_views earlier.now) number)) }
 {
     match outputs_at(earlier, number) {
         Some(outputs) => Ok(Some(made_of(alloc, outputs)?)),
@@ -46,7 +47,7 @@ fn one_made(
     place: usize,
 ) -> Result<Option<Source>, AllocError>
     ensures { IfOk result (λ s. option_map source_view s
-        ≡ option_map one_made (output_at (map linked_view earlier.now) number place)) }
+        ≡ option_map one_made (output_at (linked_views earlier.now) number place)) }
 {
     match output_at(earlier, number, place) {
         Some(output) => Ok(Some(one_made_of(alloc, output)?)),
@@ -59,7 +60,7 @@ fn source_in(
     earlier: &[Linked],
     named: &NamedSource,
 ) -> Result<Option<Source>, AllocError>
-    ensures { IfOk result (λ s. option_map source_view s ≡ source_in (map linked_view earlier.now) (named_view named.now)) }
+    ensures { IfOk result (λ s. option_map source_view s ≡ source_in (linked_views earlier.now) (named_view named.now)) }
 {
     match named {
         NamedSource::Tree(path) => Ok(Some(Source::Tree(path.clone()?))),
@@ -78,7 +79,7 @@ pub fn sources_in(
     named: &[NamedSource],
 ) -> Result<Option<Vec<Source>>, AllocError>
     ensures { IfOk result (λ ss. option_map (λ v. map source_view v.items) ss
-        ≡ sources_in (map linked_view earlier.now) (map named_view named.now)) }
+        ≡ sources_in (linked_views earlier.now) (map named_view named.now)) }
 {
     let mut sources = Vec::new(alloc);
     for one in named {

@@ -4,7 +4,8 @@ ghost use Rattle.edge.specs.Paths.{object_path};
 ghost use Rattle.edge.specs.View.{edge_view};
 ghost use Rattle.targets.specs.Files.{file_path as path_of};
 ghost use Rattle.targets.specs.Inputs.{input_view};
-ghost use Rattle.targets.specs.View.{linked_view, surroundings_view, build_view, custom_view, target_view};
+ghost use Rattle.targets.specs.LinkedViews.{linked_views};
+ghost use Rattle.targets.specs.View.{surroundings_view, build_view, custom_view, target_view};
 ghost use Rattle.target_edges.specs.Edges.{file_edge, link_edges, build_edges, custom_edge, target_edges};
 ghost use Rattle.target_edges.specs.PartsView.{parts_edges};
 
@@ -42,7 +43,7 @@ fn file_edges(
     requires { file.now ≡ path_of (build_view target.now) }
     ensures { IfOk result (λ v. map edge_view v.items
         ≡ file_edge (surroundings_view context.now.surroundings.now)
-        (map linked_view context.now.earlier.now) context.now.libraries.now (build_view target.now) file.now
+        (linked_views context.now.earlier.now) context.now.libraries.now (build_view target.now) file.now
         (map (λ i. object_path file.now i.name) (map input_view inputs.now)) ∷ link_edges (build_view target.now)) }
 {
     let objects = objects(context.alloc, file, inputs)?;
@@ -56,7 +57,7 @@ fn file_edges(
 fn build_parts(context: &Context, target: &BuildTarget) -> Result<TargetParts, AllocError>
     ensures { IfOk result (λ p. parts_edges p
         ≡ build_edges (surroundings_view context.now.surroundings.now)
-        (map linked_view context.now.earlier.now) context.now.libraries.now (build_view target.now)) }
+        (linked_views context.now.earlier.now) context.now.libraries.now (build_view target.now)) }
 {
     let alloc = context.alloc;
     let inputs = compiled(alloc, context.surroundings.facts.depth, target)?;
@@ -107,7 +108,7 @@ fn custom_parts(context: &Context, target: &CustomTarget) -> Result<TargetParts,
 pub fn target_parts(context: &Context, target: &Target) -> Result<TargetParts, AllocError>
     ensures { IfOk result (λ p. parts_edges p
         ≡ target_edges (surroundings_view context.now.surroundings.now)
-        (map linked_view context.now.earlier.now) context.now.libraries.now (target_view target.now)) }
+        (linked_views context.now.earlier.now) context.now.libraries.now (target_view target.now)) }
 {
     match target {
         Target::Build(target) => build_parts(context, target),

@@ -4,7 +4,8 @@ ghost use Rattle.std.specs.List.{list_all};
 ghost use Rattle.edge.specs.Holding.{is_path as is_path_of, is_writable, are_writable as are_writable_of};
 ghost use Rattle.edge.specs.Texts.{texts};
 ghost use Rattle.edge.specs.View.{edge_view};
-ghost use Rattle.targets.specs.View.{build_view, custom_view, linked_view, source_view, surroundings_view, target_view};
+ghost use Rattle.targets.specs.LinkedViews.{linked_views};
+ghost use Rattle.targets.specs.View.{build_view, custom_view, source_view, surroundings_view, target_view};
 ghost use Rattle.target_edges.specs.Edges.{build_edges, custom_edge, target_edges};
 ghost use Rattle.target_edges.specs.Parts.{command_held, compiles_held, custom_held, depfile_held, is_none, source_held};
 
@@ -86,10 +87,10 @@ fn all_are_held(compiles: bool, made: bool, names: &[Edge]) -> bool
 fn build_claims(context: &Context, target: &BuildTarget) -> Result<Claims, AllocError>
     ensures writable { IfOk result (λ c. c.writable
         ≡ are_writable_of (build_edges (surroundings_view context.now.surroundings.now)
-        (map linked_view context.now.earlier.now) context.now.libraries.now (build_view target.now))) }
+        (linked_views context.now.earlier.now) context.now.libraries.now (build_view target.now))) }
     ensures paths { IfOk result (λ c. texts c.paths.items
         ≡ flat_map (λ e. e.outputs) (build_edges (surroundings_view context.now.surroundings.now)
-        (map linked_view context.now.earlier.now) context.now.libraries.now (build_view target.now))) }
+        (linked_views context.now.earlier.now) context.now.libraries.now (build_view target.now))) }
 {
     let inputs = compiled(context.alloc, context.surroundings.facts.depth, target)?;
     let file = file_path(context.alloc, target)?;
@@ -171,10 +172,10 @@ fn custom_claims(context: &Context, target: &CustomTarget) -> Result<Claims, All
 pub fn claims_of(context: &Context, target: &Target) -> Result<Claims, AllocError>
     ensures writable { IfOk result (λ c. c.writable
         ≡ are_writable_of (target_edges (surroundings_view context.now.surroundings.now)
-        (map linked_view context.now.earlier.now) context.now.libraries.now (target_view target.now))) }
+        (linked_views context.now.earlier.now) context.now.libraries.now (target_view target.now))) }
     ensures paths { IfOk result (λ c. texts c.paths.items
         ≡ flat_map (λ e. e.outputs) (target_edges (surroundings_view context.now.surroundings.now)
-        (map linked_view context.now.earlier.now) context.now.libraries.now (target_view target.now))) }
+        (linked_views context.now.earlier.now) context.now.libraries.now (target_view target.now))) }
 {
     match target {
         Target::Build(target) => build_claims(context, target),

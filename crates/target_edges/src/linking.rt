@@ -3,7 +3,8 @@ ghost use Rattle.std.specs.Prelude.{◌≡◌, ◌++◌, ◌∷◌, [], Some, ma
 ghost use Rattle.edge.specs.Holding.{is_writable};
 ghost use Rattle.edge.specs.Texts.{texts, first_kept as first_of_texts};
 ghost use Rattle.edge.specs.View.{edge_view};
-ghost use Rattle.targets.specs.View.{linked_view, surroundings_view, build_view};
+ghost use Rattle.targets.specs.LinkedViews.{linked_views};
+ghost use Rattle.targets.specs.View.{surroundings_view, build_view};
 ghost use Rattle.targets.specs.Files.{so_name as so_name_of};
 ghost use Rattle.target_edges.specs.Words.{file_in, library_file, library_files, shared_folder_in, shared_folder, static_arguments_in};
 ghost use Rattle.target_edges.specs.Words.{static_arguments, search_word, search_words, shared_words};
@@ -40,7 +41,7 @@ fn push_library(
     earlier: &[Linked],
     number: usize,
 ) -> Result<(), AllocError>
-    ensures { IfOk result (λ _. texts files.new.items ≡ texts files.old.items ++ library_file (map linked_view earlier.now) number) }
+    ensures { IfOk result (λ _. texts files.new.items ≡ texts files.old.items ++ library_file (linked_views earlier.now) number) }
 {
     if let Some(target) = build_target_at(earlier, number) {
         files.push(file_path(alloc, target)?)?;
@@ -54,7 +55,7 @@ fn library_files(
     earlier: &[Linked],
     numbers: &[u32],
 ) -> Result<Vec<String>, AllocError>
-    ensures { IfOk result (λ v. texts v.items ≡ library_files (map linked_view earlier.now) numbers.now) }
+    ensures { IfOk result (λ v. texts v.items ≡ library_files (linked_views earlier.now) numbers.now) }
 {
     let mut files = Vec::new(alloc);
     for number in numbers {
@@ -78,7 +79,7 @@ fn push_shared_folder(
     earlier: &[Linked],
     number: usize,
 ) -> Result<(), AllocError>
-    ensures { IfOk result (λ _. texts folders.new.items ≡ texts folders.old.items ++ shared_folder (map linked_view earlier.now) number) }
+    ensures { IfOk result (λ _. texts folders.new.items ≡ texts folders.old.items ++ shared_folder (linked_views earlier.now) number) }
 {
     match build_target_at(earlier, number) {
         Some(target) => push_if_shared(folders, target),
@@ -92,7 +93,7 @@ fn shared_folders(
     earlier: &[Linked],
     numbers: &[u32],
 ) -> Result<Vec<String>, AllocError>
-    ensures { IfOk result (λ v. texts v.items ≡ flat_map (shared_folder (map linked_view earlier.now)) numbers.now) }
+    ensures { IfOk result (λ v. texts v.items ≡ flat_map (shared_folder (linked_views earlier.now)) numbers.now) }
 {
     let mut folders = Vec::new(alloc);
     for number in numbers {
@@ -116,7 +117,7 @@ fn push_static_argument(
     earlier: &[Linked],
     number: usize,
 ) -> Result<(), AllocError>
-    ensures { IfOk result (λ _. texts words.new.items ≡ texts words.old.items ++ static_arguments (map linked_view earlier.now) number) }
+    ensures { IfOk result (λ _. texts words.new.items ≡ texts words.old.items ++ static_arguments (linked_views earlier.now) number) }
 {
     match build_target_at(earlier, number) {
         Some(target) => push_if_static(words, target),
@@ -131,7 +132,7 @@ fn push_static_arguments(
     numbers: &[u32],
 ) -> Result<(), AllocError>
     ensures { IfOk result (λ _. texts words.new.items
-        ≡ texts words.old.items ++ flat_map (static_arguments (map linked_view earlier.now)) numbers.now) }
+        ≡ texts words.old.items ++ flat_map (static_arguments (linked_views earlier.now)) numbers.now) }
 {
     for number in numbers {
         push_static_argument(words, earlier, *number as usize)?;
@@ -169,7 +170,7 @@ fn push_search_words(
     numbers: &[u32],
 ) -> Result<(), AllocError>
     ensures { IfOk result (λ _. texts words.new.items
-        ≡ texts words.old.items ++ search_words (map linked_view earlier.now) from.now numbers.now) }
+        ≡ texts words.old.items ++ search_words (linked_views earlier.now) from.now numbers.now) }
 {
     let all = shared_folders(alloc, earlier, numbers)?;
     let folders = first_kept(alloc, &all)?;
@@ -216,7 +217,7 @@ fn push_link_arguments(
 ) -> Result<(), AllocError>
     ensures { IfOk result (λ _. texts words.new.items
         ≡ texts words.old.items ++ link_arguments (surroundings_view context.now.surroundings.now)
-        (map linked_view context.now.earlier.now) context.now.libraries.now (build_view target.now)) }
+        (linked_views context.now.earlier.now) context.now.libraries.now (build_view target.now)) }
 {
     let surroundings = context.surroundings;
     push_copies(words, &surroundings.facts.flags.c_link_args)?;
@@ -233,7 +234,7 @@ fn push_libraries(
 ) -> Result<(), AllocError>
     ensures { IfOk result (λ _. texts words.new.items
         ≡ texts words.old.items ++ library_words (surroundings_view context.now.surroundings.now)
-        (map linked_view context.now.earlier.now) context.now.libraries.now (build_view target.now)) }
+        (linked_views context.now.earlier.now) context.now.libraries.now (build_view target.now)) }
 {
     let mut files = library_files(context.alloc, context.earlier, context.libraries)?;
     words.append(&mut files)?;
@@ -254,7 +255,7 @@ fn link_words(
     objects: &[String],
 ) -> Result<Vec<String>, AllocError>
     ensures { IfOk result (λ v. texts v.items
-        ≡ link_words (surroundings_view context.now.surroundings.now) (map linked_view context.now.earlier.now) context.now.libraries.now
+        ≡ link_words (surroundings_view context.now.surroundings.now) (linked_views context.now.earlier.now) context.now.libraries.now
         (build_view target.now) file.now (texts objects.now)) }
 {
     let mut words = Vec::new(context.alloc);
@@ -300,9 +301,9 @@ fn link_edge(
 ) -> Result<Edge, AllocError>
     ensures { IfOk result (λ e. edge_view e
         ≡ linking (link_words (surroundings_view context.now.surroundings.now)
-        (map linked_view context.now.earlier.now) context.now.libraries.now (build_view target.now) file.now
+        (linked_views context.now.earlier.now) context.now.libraries.now (build_view target.now) file.now
         (texts objects.items)) file.now (texts objects.items)
-        (library_files (map linked_view context.now.earlier.now) context.now.libraries.now)) }
+        (library_files (linked_views context.now.earlier.now) context.now.libraries.now)) }
 {
     let alloc = context.alloc;
     let words = link_words(context, target, file, &objects)?;
@@ -327,7 +328,7 @@ pub fn file_edge(
     objects: Vec<String>,
 ) -> Result<Edge, AllocError>
     ensures { IfOk result (λ e. edge_view e
-        ≡ file_edge (surroundings_view context.now.surroundings.now) (map linked_view context.now.earlier.now) context.now.libraries.now
+        ≡ file_edge (surroundings_view context.now.surroundings.now) (linked_views context.now.earlier.now) context.now.libraries.now
         (build_view target.now) file.now (texts objects.items)) }
 {
     if target.kind.is_static() {
@@ -356,7 +357,7 @@ fn link_is_held(
     file: &str,
     objects: &[String],
 ) -> Result<bool, AllocError>
-    ensures { let earlier = map linked_view context.now.earlier.now in
+    ensures { let earlier = linked_views context.now.earlier.now in
         let t = build_view target.now in
         let words = shared_words target.now.kind t
         ++ library_words (surroundings_view context.now.surroundings.now) earlier context.now.libraries.now t in
@@ -386,7 +387,7 @@ pub fn file_is_held(
 ) -> Result<bool, AllocError>
     ensures { IfOk result (λ held. held
         ≡ is_writable (file_edge (surroundings_view context.now.surroundings.now)
-        (map linked_view context.now.earlier.now) context.now.libraries.now (build_view target.now) file.now (texts objects.now))) }
+        (linked_views context.now.earlier.now) context.now.libraries.now (build_view target.now) file.now (texts objects.now))) }
 {
     if target.kind.is_static() {
         let archiver = &context.surroundings.facts.archiver;

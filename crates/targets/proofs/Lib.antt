@@ -4,3 +4,5 @@ pub mod KeptLast
 pub mod FirstNumber
 mod Examples
 pub mod Marking
+pub mod LinkedLists
+pub mod Walking

@@ -3,7 +3,7 @@ use Rattle.std.proofs.Common.{◌≡◌, ◌≢◌, ℕ, ◌<◌, ◌≤◌, Boo
 use Rattle.std.specs.Prelude.{◌||◌, if◌then◌else◌}
 use Rattle.std.specs.List.{list_any}
 use Rattle.std.proofs.lemmas.Bool.{cases_eq, eqb-true, eq-eqb, false_from_ne_true}
-use Rattle.std.proofs.lemmas.List.{append-nil, get_or-replicate, get_or-set_same, get_or-set_other, length-set}
+use Rattle.std.proofs.lemmas.List.{get_or-replicate, get_or-set_same, get_or-set_other, length-set}
 use Rattle.std.proofs.lemmas.List.Folds.{list_any-append}
 use Rattle.indexmap.specs.IndexSet.{insert_key}
 use Rattle.targets.specs.Marks.{AreMarks}
@@ -39,7 +39,7 @@ either_same false ks x e =
     ∙ or_true (list_any (nat_eq x) ks)
 
 -- the number itself is met
-any_same : (ks : List ℕ) (x : ℕ) → list_any (nat_eq x) (insert_key nat_eq ks x) ≡ true
+pub any_same : (ks : List ℕ) (x : ℕ) → list_any (nat_eq x) (insert_key nat_eq ks x) ≡ true
 any_same ks x = either_same (list_any (nat_eq x) ks) ks x refl
 
 -- a number is met that has a mark
@@ -58,23 +58,18 @@ marked marks ks x are lt k below =
 pub unmarked : (marks : List Bool) (ks : List ℕ) (x : ℕ) → AreMarks marks ks → length marks ≤ x → AreMarks marks (insert_key nat_eq ks x)
 unmarked marks ks x are le k below = let ne : k ≢ x = omega (arith, le, below) in are k below ∙ sym (any_other ks x k ne)
 
--- a number that was met among these leaves them as they are
-pub met_again : (marks : List Bool) (ds : List ℕ) (x : ℕ) → list_any (nat_eq x) (ds ++ []) ≡ true → AreMarks marks (insert_key nat_eq (ds ++ []) x) → AreMarks marks ds
-met_again marks ds x met are = subst (AreMarks marks) (ap (λ b. if b then ds ++ [] else (ds ++ []) ++ x ∷ []) met ∙ append-nil ds) are
+-- ---- one number more
 
-any_first : (ds : List ℕ) (x k : ℕ) → list_any (nat_eq k) ((ds ++ []) ++ x ∷ []) ≡ list_any (nat_eq k) (x ∷ ds)
-any_first ds x k =
-    ap (λ l. list_any (nat_eq k) (l ++ x ∷ [])) (append-nil ds)
-    ∙ list_any-append (nat_eq k) ds (x ∷ [])
-    ∙ swapped (list_any (nat_eq k) ds) (nat_eq k x)
-  where
-    swapped : (a b : Bool) → (a || (b || false)) ≡ (b || a)
-    swapped true true = refl
-    swapped true false = refl
-    swapped false true = refl
-    swapped false false = refl
+pub in_more : (ks : List ℕ) (n x : ℕ) → list_any (nat_eq x) ks ≡ true → list_any (nat_eq x) (insert_key nat_eq ks n) ≡ true
+in_more ks n x h =
+    elim (cases_eq x n) [
+      | inl same ↦ subst (λ k. list_any (nat_eq k) (insert_key nat_eq ks n) ≡ true) (sym same) (any_same ks n)
+      | inr ne ↦ any_other ks n x ne ∙ h
+    ]
 
--- a number that was not met goes before them
-pub met_first : (marks : List Bool) (ds : List ℕ) (x : ℕ) → list_any (nat_eq x) (ds ++ []) ≡ false → AreMarks marks (insert_key nat_eq (ds ++ []) x) → AreMarks marks (x ∷ ds)
-met_first marks ds x none are k below =
-    are k below ∙ ap (list_any (nat_eq k)) (ap (λ b. if b then ds ++ [] else (ds ++ []) ++ x ∷ []) none) ∙ any_first ds x k
+pub more_cases : {P : Type 0} (ks : List ℕ) (n x : ℕ) → list_any (nat_eq x) (insert_key nat_eq ks n) ≡ true → (x ≡ n → P) → (list_any (nat_eq x) ks ≡ true → P) → P
+more_cases ks n x h f g =
+    elim (cases_eq x n) [
+      | inl same ↦ f same
+      | inr ne ↦ g (sym (any_other ks n x ne) ∙ h)
+    ]

@@ -5,3 +5,5 @@ pub mod Inputs
 pub mod Files
 pub mod Libraries
 pub mod Marks
+pub mod LinkedViews
+pub mod Walk

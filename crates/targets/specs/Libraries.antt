@@ -1,5 +1,5 @@
 -- The libraries that a target links.
-use Rattle.std.specs.Prelude.{ℕ, Bool, false, Option, Some, None, List, [], ◌∷◌, ◌++◌, flat_map, slice_get, nat_eq, ◌&&◌, if◌then◌else◌}
+use Rattle.std.specs.Prelude.{◌≡◌, ℕ, Bool, true, false, Option, Some, None, List, [], ◌∷◌, ◌++◌, flat_map, slice_get, nat_eq, nat_lt, ◌&&◌, if◌then◌else◌}
 use Rattle.std.specs.List.{list_any, list_all}
 use Rattle.edge.specs.Texts.{Path}
 use Rattle.targets.specs.Data.{TargetData, Build, Custom, BuildData, ListsData}
@@ -45,6 +45,10 @@ abbrev pub libraries_in : List LinkedData → TargetData → List ℕ
 libraries_in earlier (Build t) = libraries_of earlier t
 libraries_in earlier (Custom t) = []
 
+-- the libraries of which the target's file is linked: an archive is linked of none
+abbrev pub linked_libraries : List LinkedData → TargetData → List ℕ
+linked_libraries earlier t = if is_static_target t then [] else libraries_in earlier t
+
 -- the target with its libraries and paths
 abbrev pub linked : List LinkedData → TargetData → LinkedData
 linked earlier t = record { target = t; libraries = libraries_in earlier t; paths = default_paths t }
@@ -85,3 +89,14 @@ links_in earlier l = list_all (is_library_at earlier) l.link_with
 -- the target and its dependencies link earlier libraries alone
 abbrev pub links_libraries : List LinkedData → BuildData → Bool
 links_libraries earlier t = links_in earlier t.own && list_all (links_in earlier) t.dependencies
+
+-- ---- earlier ones alone
+
+-- the numbers in a target's lists of libraries: its own, and those of its dependencies
+abbrev pub library_numbers : TargetData → List ℕ
+library_numbers (Build t) = listed (λ l. l.link_with) t
+library_numbers (Custom t) = []
+
+-- each target names the numbers of targets before it alone
+abbrev pub LinkBack : List TargetData → Type 0
+LinkBack ts = (n : ℕ) (t : TargetData) → slice_get ts n ≡ Some t → list_all (λ m. nat_lt m n) (library_numbers t) ≡ true

@@ -15,8 +15,6 @@ use Rattle.targets.specs.declared.target.BuildTarget.{BuildTarget}
 use Rattle.targets.specs.declared.target.CustomTarget.{CustomTarget}
 use Rattle.targets.specs.declared.target.Target.{Target}
 use Rattle.targets.specs.declared.target.Target.TheVariants as target
-use Rattle.targets.specs.Libraries.{LinkedData}
-use Rattle.targets.specs.declared.linking.Linked.{Linked}
 
 abbrev pub flags_view : Flags → plain.FlagsData
 flags_view f = record {
@@ -104,6 +102,3 @@ custom_view t = record {
 abbrev pub target_view : Target → plain.TargetData
 target_view (target.Build t) = plain.Build (build_view t)
 target_view (target.Custom t) = plain.Custom (custom_view t)
-
-abbrev pub linked_view : Linked → LinkedData
-linked_view l = record { target = target_view l.target; libraries = l.libraries.items; paths = texts l.paths.items }

@@ -3,17 +3,19 @@
 
 mod facts;
 mod files;
+mod linked_target;
 mod linking;
 mod sources;
 mod target;
+mod walk;
 
 pub use facts::{Facts, Flags, OptionEntry, OptionType, OptionValue, Surroundings};
 pub use files::{
     default_paths, depfile_path, file_name, file_path, link_names, link_paths, objects,
     output_paths, path_in, so_name,
 };
-pub use linking::{
-    Linked, are_libraries, build_target_at, is_library_at, libraries, links_libraries,
-};
+pub use linked_target::Linked;
+pub use linking::{are_libraries, build_target_at, is_library_at, links_libraries, target_at};
 pub use sources::{Input, compiled, generated, has_foreign_source, is_c, source_paths};
 pub use target::{BuildTarget, CustomTarget, Kind, Lists, Source, Target};
+pub use walk::linked_libraries;

@@ -1,7 +1,7 @@
 use Rattle.std.proofs.Common.{◌≡◌, take}
 use Rattle.std.specs.List.{flat_map}
 use Rattle.edge.specs.Texts.{texts}
-use Rattle.targets.specs.View.{linked_view}
+use Rattle.targets.specs.LinkedViews.{linked_views}
 use Rattle.build_file.specs.BuildFile.{asked_of}
 use Rattle.build_file.proofs.defaults.all_asked.Given as goal
 

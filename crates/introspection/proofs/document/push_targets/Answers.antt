@@ -2,7 +2,7 @@ use Rattle.std.proofs.Common.{string_bytes, sym, ap, ◌∙◌, map}
 use Rattle.std.proofs.lemmas.Simd.{map-map}
 use Rattle.serde_json.specs.Written.{compact_text}
 use Rattle.targets.specs.View.{target_view}
-use Rattle.targets.specs.declared.linking.Linked.{Linked}
+use Rattle.targets.specs.declared.linked_target.Linked.{Linked}
 use Rattle.introspection.specs.Document.{list, target_entry}
 use Rattle.introspection.proofs.Lists.{kept_targets}
 use Rattle.introspection.proofs.Pieces.{appends}

@@ -1,5 +1,6 @@
 use Rattle.std.proofs.Common.{◌≡◌, [], map, drop}
-use Rattle.targets.specs.View.{linked_view, source_view}
+use Rattle.targets.specs.LinkedViews.{linked_views}
+use Rattle.targets.specs.View.{source_view}
 use Rattle.named_sources.specs.SourcesView.{named_view}
 use Rattle.named_sources.specs.Each.{each_behind}
 use Rattle.target_calls.specs.Sources.{source_in}
@@ -8,5 +9,5 @@ use Rattle.target_calls.proofs.sources.sources_in.Given as goal
 -- the sources so far and the names that are left decide
 abbrev pub invariant-loop-one : goal.invariant-loop-one
 invariant-loop-one l =
-    each_behind (source_in (map linked_view l.earlier)) (map source_view l.sources.items) (map named_view (drop l.one-index l.named))
-    ≡ each_behind (source_in (map linked_view l.earlier)) [] (map named_view l.named)
+    each_behind (source_in (linked_views l.earlier)) (map source_view l.sources.items) (map named_view (drop l.one-index l.named))
+    ≡ each_behind (source_in (linked_views l.earlier)) [] (map named_view l.named)

@@ -5,7 +5,8 @@ use Rattle.edge.specs.View.{edge_view}
 use Rattle.targets.specs.Sources.{InputData, compiled, generated}
 use Rattle.targets.specs.Inputs.{input_view}
 use Rattle.targets.specs.Files.{file_path}
-use Rattle.targets.specs.View.{linked_view, surroundings_view, build_view}
+use Rattle.targets.specs.LinkedViews.{linked_views}
+use Rattle.targets.specs.View.{surroundings_view, build_view}
 use Rattle.target_edges.specs.Words.{compile_words}
 use Rattle.target_edges.specs.Edges.{file_edge, link_edges}
 use Rattle.target_edges.proofs.Sharing.{front_first, parts_are}
@@ -14,7 +15,7 @@ use Rattle.target_edges.proofs.building.build_parts.Goals as goal
 pub returns : goal.returns
 returns c =
     let s = surroundings_view c.args.context.now.surroundings.now in
-    let earlier = map linked_view c.args.context.now.earlier.now in
+    let earlier = linked_views c.args.context.now.earlier.now in
     let ns = c.args.context.now.libraries.now in
     let t = build_view c.args.target.now in
     let file : c.deref.result.now ≡ file_path t = c.deref.ensures ∙ c.in_ok-file.ensures in

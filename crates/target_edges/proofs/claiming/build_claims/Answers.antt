@@ -8,7 +8,8 @@ use Rattle.edge.specs.Texts.{Path, texts}
 use Rattle.edge.specs.View.{edge_view}
 use Rattle.targets.specs.Inputs.{input_view}
 use Rattle.targets.specs.Sources.{InputData}
-use Rattle.targets.specs.View.{build_view, linked_view, surroundings_view}
+use Rattle.targets.specs.LinkedViews.{linked_views}
+use Rattle.targets.specs.View.{build_view, surroundings_view}
 use Rattle.target_edges.specs.Edges.{file_edge}
 use Rattle.target_edges.proofs.HoldingFile.{compiles_asked, build_held, build_outputs}
 use Rattle.target_edges.proofs.claiming.build_claims.Goals as goal
@@ -16,7 +17,7 @@ use Rattle.target_edges.proofs.claiming.build_claims.Goals as goal
 pub returns-clause-writable : goal.returns-clause-writable
 returns-clause-writable c =
     let s = surroundings_view c.args.context.now.surroundings.now in
-    let earlier = map linked_view c.args.context.now.earlier.now in
+    let earlier = linked_views c.args.context.now.earlier.now in
     let ns = c.args.context.now.libraries.now in
     let t = build_view c.args.target.now in
     let file = string_bytes c.in_ok-file.file in
@@ -38,7 +39,7 @@ returns-clause-writable c =
 pub returns-clause-paths : goal.returns-clause-paths
 returns-clause-paths c =
     let s = surroundings_view c.args.context.now.surroundings.now in
-    let earlier = map linked_view c.args.context.now.earlier.now in
+    let earlier = linked_views c.args.context.now.earlier.now in
     let ns = c.args.context.now.libraries.now in
     let t = build_view c.args.target.now in
     let file = string_bytes c.in_ok-file.file in

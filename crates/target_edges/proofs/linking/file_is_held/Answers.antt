@@ -1,10 +1,11 @@
-use Rattle.std.proofs.Common.{◌≡◌, ◌++◌, Bool, true, false, map, ap, sym, ◌∙◌}
+use Rattle.std.proofs.Common.{◌≡◌, ◌++◌, Bool, true, false, ap, sym, ◌∙◌}
 use Rattle.std.specs.Prelude.{if◌then◌else◌}
 use Rattle.std.proofs.lemmas.Result.{IfOk-weaker}
 use Rattle.edge.specs.Holding.{is_writable}
 use Rattle.edge.specs.Texts.{texts}
 use Rattle.targets.specs.Files.{is_static}
-use Rattle.targets.specs.View.{build_view, linked_view, surroundings_view}
+use Rattle.targets.specs.LinkedViews.{linked_views}
+use Rattle.targets.specs.View.{build_view, surroundings_view}
 use Rattle.target_edges.specs.Edges.{archiving, linking, file_edge}
 use Rattle.target_edges.specs.Parts.{archive_held, link_held}
 use Rattle.target_edges.specs.Words.{library_files, library_words, link_words, shared_words}
@@ -14,7 +15,7 @@ use Rattle.target_edges.proofs.linking.file_is_held.Goals as goal
 pub returns-then-is_static : goal.returns-then-is_static
 returns-then-is_static c =
     let s = surroundings_view c.args.context.now.surroundings.now in
-    let earlier = map linked_view c.args.context.now.earlier.now in
+    let earlier = linked_views c.args.context.now.earlier.now in
     let ns = c.args.context.now.libraries.now in
     let t = build_view c.args.target.now in
     let file = c.args.file.now in
@@ -28,7 +29,7 @@ returns-then-is_static c =
 pub returns-else-is_static : goal.returns-else-is_static
 returns-else-is_static c =
     let s = surroundings_view c.args.context.now.surroundings.now in
-    let earlier = map linked_view c.args.context.now.earlier.now in
+    let earlier = linked_views c.args.context.now.earlier.now in
     let ns = c.args.context.now.libraries.now in
     let t = build_view c.args.target.now in
     let file = c.args.file.now in

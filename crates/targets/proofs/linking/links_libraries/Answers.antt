@@ -3,12 +3,13 @@ use Rattle.std.specs.Prelude.{◌&&◌}
 use Rattle.std.specs.List.{list_all}
 use Rattle.std.proofs.lemmas.List.Folds.{list_all-map}
 use Rattle.targets.specs.Libraries.{links_in}
-use Rattle.targets.specs.View.{linked_view, lists_view}
+use Rattle.targets.specs.LinkedViews.{linked_views}
+use Rattle.targets.specs.View.{lists_view}
 use Rattle.targets.proofs.linking.links_libraries.Goals as goal
 
 pub returns-then-are_libraries : goal.returns-then-are_libraries
 returns-then-are_libraries c =
-    let earlier = map linked_view c.args.earlier.now in
+    let earlier = linked_views c.args.earlier.now in
     let deps = c.args.target.now.dependencies.items in
     c.dependencies_link_libraries.ensures
     ∙ sym (list_all-map (links_in earlier) (λ l. lists_view l.value) deps)

@@ -1,7 +1,8 @@
-use Rattle.std.proofs.Common.{map, string_bytes, ap, ◌∙◌}
+use Rattle.std.proofs.Common.{string_bytes, ap, ◌∙◌}
 use Rattle.edge.specs.Texts.{texts}
 use Rattle.edge.proofs.TextLists.{texts-insert_key}
-use Rattle.targets.specs.View.{surroundings_view, linked_view}
+use Rattle.targets.specs.LinkedViews.{linked_views}
+use Rattle.targets.specs.View.{surroundings_view}
 use Rattle.project.specs.World.{WorldData}
 use Rattle.project.specs.View.{world_of}
 use Rattle.project.specs.NotesView.{notes_view}
@@ -11,5 +12,5 @@ use Rattle.project.proofs.project.Project.add_absent.Goals as goal
 pub returns-clause-ok : goal.returns-clause-ok
 returns-clause-ok c =
     let ks = c.self.inside.notes.absent.keys in
-    let old = world_of (surroundings_view c.self.inside.surroundings) (map linked_view c.self.inside.linked.items) (texts c.self.inside.outputs.items) (notes_view c.self.inside.notes) in
+    let old = world_of (surroundings_view c.self.inside.surroundings) (linked_views c.self.inside.linked.items) (texts c.self.inside.outputs.items) (notes_view c.self.inside.notes) in
     ap (λ x. record old { absent = x }) (ap texts c.in_ok-insert.ensures.keys ∙ texts-insert_key ks c.args.path) ∙ ap (λ (x : WorldData). with_absent x (string_bytes c.args.path)) c.self.view_is

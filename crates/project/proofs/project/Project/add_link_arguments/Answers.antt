@@ -3,8 +3,9 @@ use Rattle.std.specs.List.{list_any, list_all}
 use Rattle.std.proofs.lemmas.Result.{IfOk-weaker}
 use Rattle.edge.specs.Texts.{Text, texts}
 use Rattle.edge.specs.Holding.{value_held}
-use Rattle.targets.specs.View.{surroundings_view, linked_view, target_view}
-use Rattle.targets.specs.declared.linking.Linked.{Linked}
+use Rattle.targets.specs.LinkedViews.{linked_views}
+use Rattle.targets.specs.View.{surroundings_view, target_view}
+use Rattle.targets.specs.declared.linked_target.Linked.{Linked}
 use Rattle.project.specs.World.{WorldData}
 use Rattle.project.specs.View.{world_of}
 use Rattle.project.specs.NotesView.{notes_view}
@@ -42,7 +43,7 @@ returns-then-late-clause-ok c =
 pub invariant_of-self : goal.invariant_of-self
 invariant_of-self c =
     let s = surroundings_view c.self.inside.surroundings in
-    let ls = map linked_view c.self.inside.linked.items in
+    let ls = linked_views c.self.inside.linked.items in
     let outputs = texts c.self.inside.outputs.items in
     let notes = notes_view c.self.inside.notes in
     whole_with_words s ls outputs notes.present (texts c.self.inside.taken.keys) (texts c.self.inside.surroundings.arguments.items) (texts c.append.new.all.items) c.self.invariant
@@ -51,7 +52,7 @@ invariant_of-self c =
 pub invariant_of-self-2 : goal.invariant_of-self-2
 invariant_of-self-2 c =
     let s = surroundings_view c.self.inside.surroundings in
-    let ls = map linked_view c.self.inside.linked.items in
+    let ls = linked_views c.self.inside.linked.items in
     let outputs = texts c.self.inside.outputs.items in
     let notes = notes_view c.self.inside.notes in
     whole_with_words s ls outputs notes.present (texts c.self.inside.taken.keys) (texts c.self.inside.surroundings.arguments.items) (texts c.append.new.all.items) c.self.invariant
@@ -76,7 +77,7 @@ returns-clause-ok c =
     ap (λ (x : WorldData). list_any is_build x.targets) (sym c.self.view_is) ∙ some_is c.self.inside.linked.items
     ∙ ap (list_any (λ (l : Linked). is_build (target_view l.target))) (sym c.deref.ensures.value) ∙ sym c.some_build-late.ensures ∙ c.if-late.false in
     let s = surroundings_view c.self.inside.surroundings in
-    let ls = map linked_view c.self.inside.linked.items in
+    let ls = linked_views c.self.inside.linked.items in
     let outputs = texts c.self.inside.outputs.items in
     let notes = notes_view c.self.inside.notes in
     let old = world_of s ls outputs notes in

@@ -1,19 +1,29 @@
-use Rattle.std.proofs.Common.{◌≡◌, true, false, [], map, Err, OnOk, refl, sym, ap, ◌∙◌, subst}
+use Rattle.std.proofs.Common.{List, ◌≡◌, true, false, [], map, Err, OnOk, refl, sym, ap, ◌∙◌, subst}
 use Rattle.std.specs.List.{list_all}
 use Rattle.std.proofs.lemmas.Result.{IfOk-weaker}
 use Rattle.edge.specs.Texts.{texts}
 use Rattle.edge.specs.Holding.{are_writable}
-use Rattle.targets.specs.Libraries.{linked_of, libraries_in}
-use Rattle.targets.specs.View.{linked_view, target_view}
+use Rattle.targets.specs.Libraries.{LinkBack, linked_of, linked_libraries}
+use Rattle.targets.specs.LinkedViews.{linked_views}
+use Rattle.targets.specs.View.{surroundings_view, target_view}
+use Rattle.targets.specs.declared.linked_target.Linked.{Linked}
 use Rattle.target_edges.specs.Edges.{target_edges}
 use Rattle.project.specs.Laws.{outputs_of}
 use Rattle.project.specs.World.{WorldData}
 use Rattle.project.specs.Adding.{sources_of, is_present, is_fit, edges_with, place_answer, target_answer, with_target, after_answer}
+use Rattle.project.specs.NotesView.{notes_view}
 use Rattle.project.specs.Refused.{answer_data, refused}
 use Rattle.project.specs.declared.refusal.Refusal.TheVariants.{Missing, Unholdable}
 use Rattle.project.proofs.Answering.{answer_missing, answer_unholdable, answer_placed, edges_are, next_ready}
 use Rattle.project.proofs.Placing.{on_ok}
+use Rattle.project.proofs.Reading.{whole_back}
 use Rattle.project.proofs.project.Project.add_target.Goals as goal
+
+pub linked_libraries-requires : goal.linked_libraries-requires
+linked_libraries-requires c =
+    let xs = c.self.inside.linked.items in
+    subst (λ (ls : List Linked). LinkBack (map (λ l. target_view l.target) ls)) (sym c.deref.ensures.value)
+    (whole_back (surroundings_view c.self.inside.surroundings) xs (texts c.self.inside.outputs.items) (notes_view c.self.inside.notes).present (texts c.self.inside.taken.keys) c.self.invariant)
 
 pub returns-then-not-present-clause-answer : goal.returns-then-not-present-clause-answer
 returns-then-not-present-clause-answer c =
@@ -41,10 +51,10 @@ returns-then-not-writable-clause-answer c =
     let fit : is_fit w t ≡ true = sym c.in_ok-fits.ensures ∙ c.if-not-fits.false in
     let there : list_all (is_present w.present) (sources_of t) ≡ true =
     ap (λ (x : WorldData). list_all (is_present x.present) (sources_of t)) (sym c.self.view_is) ∙ sym c.has_present_sources-present.ensures ∙ c.if-not-present.false in
-    let all : map linked_view c.deref.result.now ≡ linked_of w.targets =
-    ap (map linked_view) c.deref.ensures.value ∙ c.self.invariant.libraries ∙ ap (λ (x : WorldData). linked_of x.targets) c.self.view_is in
+    let all : linked_views c.deref.result.now ≡ linked_of w.targets =
+    ap linked_views c.deref.ensures.value ∙ c.self.invariant.libraries ∙ ap (λ (x : WorldData). linked_of x.targets) c.self.view_is in
     let ns = c.in_ok-libraries.libraries.items in
-    let libs : ns ≡ libraries_in (linked_of w.targets) t = c.in_ok-libraries.ensures ∙ ap (λ x. libraries_in x t) all in
+    let libs : ns ≡ linked_libraries (linked_of w.targets) t = c.in_ok-libraries.ensures ∙ ap (λ x. linked_libraries x t) all in
     let es = target_edges w.surroundings (linked_of w.targets) ns t in
     let made : target_edges w.surroundings (linked_of w.targets) c.deref-2.result.now t ≡ es =
     ap (λ x. target_edges w.surroundings (linked_of w.targets) x t) c.deref-2.ensures.value in
@@ -60,10 +70,10 @@ returns-then-not-writable-clause-ok c =
     let fit : is_fit w t ≡ true = sym c.in_ok-fits.ensures ∙ c.if-not-fits.false in
     let there : list_all (is_present w.present) (sources_of t) ≡ true =
     ap (λ (x : WorldData). list_all (is_present x.present) (sources_of t)) (sym c.self.view_is) ∙ sym c.has_present_sources-present.ensures ∙ c.if-not-present.false in
-    let all : map linked_view c.deref.result.now ≡ linked_of w.targets =
-    ap (map linked_view) c.deref.ensures.value ∙ c.self.invariant.libraries ∙ ap (λ (x : WorldData). linked_of x.targets) c.self.view_is in
+    let all : linked_views c.deref.result.now ≡ linked_of w.targets =
+    ap linked_views c.deref.ensures.value ∙ c.self.invariant.libraries ∙ ap (λ (x : WorldData). linked_of x.targets) c.self.view_is in
     let ns = c.in_ok-libraries.libraries.items in
-    let libs : ns ≡ libraries_in (linked_of w.targets) t = c.in_ok-libraries.ensures ∙ ap (λ x. libraries_in x t) all in
+    let libs : ns ≡ linked_libraries (linked_of w.targets) t = c.in_ok-libraries.ensures ∙ ap (λ x. linked_libraries x t) all in
     let es = target_edges w.surroundings (linked_of w.targets) ns t in
     let made : target_edges w.surroundings (linked_of w.targets) c.deref-2.result.now t ≡ es =
     ap (λ x. target_edges w.surroundings (linked_of w.targets) x t) c.deref-2.ensures.value in
@@ -77,16 +87,16 @@ place-requires c =
     let fit : is_fit w t ≡ true = sym c.in_ok-fits.ensures ∙ c.if-not-fits.false in
     let there : list_all (is_present w.present) (sources_of t) ≡ true =
     ap (λ (x : WorldData). list_all (is_present x.present) (sources_of t)) (sym c.self.view_is) ∙ sym c.has_present_sources-present.ensures ∙ c.if-not-present.false in
-    let all : map linked_view c.deref.result.now ≡ linked_of w.targets =
-    ap (map linked_view) c.deref.ensures.value ∙ c.self.invariant.libraries ∙ ap (λ (x : WorldData). linked_of x.targets) c.self.view_is in
+    let all : linked_views c.deref.result.now ≡ linked_of w.targets =
+    ap linked_views c.deref.ensures.value ∙ c.self.invariant.libraries ∙ ap (λ (x : WorldData). linked_of x.targets) c.self.view_is in
     let ns = c.in_ok-libraries.libraries.items in
-    let libs : ns ≡ libraries_in (linked_of w.targets) t = c.in_ok-libraries.ensures ∙ ap (λ x. libraries_in x t) all in
+    let libs : ns ≡ linked_libraries (linked_of w.targets) t = c.in_ok-libraries.ensures ∙ ap (λ x. linked_libraries x t) all in
     let es = target_edges w.surroundings (linked_of w.targets) ns t in
     let made : target_edges w.surroundings (linked_of w.targets) c.deref-2.result.now t ≡ es =
     ap (λ x. target_edges w.surroundings (linked_of w.targets) x t) c.deref-2.ensures.value in
     let held : are_writable es ≡ true = ap are_writable (sym made) ∙ sym c.in_ok-claims.ensures.writable ∙ c.if-not-writable.false in
     let paths : texts c.deref-3.result.now ≡ outputs_of es = ap texts c.deref-3.ensures.value ∙ c.in_ok-claims.ensures.paths ∙ ap outputs_of made in
-    next_ready w t ns es libs refl (texts c.in_ok-named.named.items) (texts c.deref-3.result.now) c.in_ok-named.ensures paths held fit there
+    next_ready w t ns es libs refl (texts c.deref-3.result.now) paths held fit there
 
 pub returns-clause-answer : goal.returns-clause-answer
 returns-clause-answer c =
@@ -95,10 +105,10 @@ returns-clause-answer c =
     let fit : is_fit w t ≡ true = sym c.in_ok-fits.ensures ∙ c.if-not-fits.false in
     let there : list_all (is_present w.present) (sources_of t) ≡ true =
     ap (λ (x : WorldData). list_all (is_present x.present) (sources_of t)) (sym c.self.view_is) ∙ sym c.has_present_sources-present.ensures ∙ c.if-not-present.false in
-    let all : map linked_view c.deref.result.now ≡ linked_of w.targets =
-    ap (map linked_view) c.deref.ensures.value ∙ c.self.invariant.libraries ∙ ap (λ (x : WorldData). linked_of x.targets) c.self.view_is in
+    let all : linked_views c.deref.result.now ≡ linked_of w.targets =
+    ap linked_views c.deref.ensures.value ∙ c.self.invariant.libraries ∙ ap (λ (x : WorldData). linked_of x.targets) c.self.view_is in
     let ns = c.in_ok-libraries.libraries.items in
-    let libs : ns ≡ libraries_in (linked_of w.targets) t = c.in_ok-libraries.ensures ∙ ap (λ x. libraries_in x t) all in
+    let libs : ns ≡ linked_libraries (linked_of w.targets) t = c.in_ok-libraries.ensures ∙ ap (λ x. linked_libraries x t) all in
     let es = target_edges w.surroundings (linked_of w.targets) ns t in
     let made : target_edges w.surroundings (linked_of w.targets) c.deref-2.result.now t ≡ es =
     ap (λ x. target_edges w.surroundings (linked_of w.targets) x t) c.deref-2.ensures.value in
@@ -117,10 +127,10 @@ returns-clause-ok c =
     let fit : is_fit w t ≡ true = sym c.in_ok-fits.ensures ∙ c.if-not-fits.false in
     let there : list_all (is_present w.present) (sources_of t) ≡ true =
     ap (λ (x : WorldData). list_all (is_present x.present) (sources_of t)) (sym c.self.view_is) ∙ sym c.has_present_sources-present.ensures ∙ c.if-not-present.false in
-    let all : map linked_view c.deref.result.now ≡ linked_of w.targets =
-    ap (map linked_view) c.deref.ensures.value ∙ c.self.invariant.libraries ∙ ap (λ (x : WorldData). linked_of x.targets) c.self.view_is in
+    let all : linked_views c.deref.result.now ≡ linked_of w.targets =
+    ap linked_views c.deref.ensures.value ∙ c.self.invariant.libraries ∙ ap (λ (x : WorldData). linked_of x.targets) c.self.view_is in
     let ns = c.in_ok-libraries.libraries.items in
-    let libs : ns ≡ libraries_in (linked_of w.targets) t = c.in_ok-libraries.ensures ∙ ap (λ x. libraries_in x t) all in
+    let libs : ns ≡ linked_libraries (linked_of w.targets) t = c.in_ok-libraries.ensures ∙ ap (λ x. linked_libraries x t) all in
     let es = target_edges w.surroundings (linked_of w.targets) ns t in
     let made : target_edges w.surroundings (linked_of w.targets) c.deref-2.result.now t ≡ es =
     ap (λ x. target_edges w.surroundings (linked_of w.targets) x t) c.deref-2.ensures.value in

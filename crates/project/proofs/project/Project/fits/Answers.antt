@@ -1,8 +1,9 @@
-use Rattle.std.proofs.Common.{Bool, map, sym, ap, ◌∙◌}
+use Rattle.std.proofs.Common.{Bool, sym, ap, ◌∙◌}
 use Rattle.std.specs.Prelude.{◌&&◌}
 use Rattle.std.specs.List.{list_all}
 use Rattle.edge.specs.Texts.{texts, holds}
-use Rattle.targets.specs.View.{surroundings_view, linked_view, target_view}
+use Rattle.targets.specs.LinkedViews.{linked_views}
+use Rattle.targets.specs.View.{surroundings_view, target_view}
 use Rattle.project.specs.World.{WorldData, is_made_in, made_in, made_of}
 use Rattle.project.specs.NotesView.{notes_view}
 use Rattle.project.specs.Whole.{targets_in}
@@ -13,7 +14,7 @@ use Rattle.project.proofs.project.Project.fits.Goals as goal
 pub returns-then-fits : goal.returns-then-fits
 returns-then-fits c =
     let s = surroundings_view c.self.inside.surroundings in
-    let ls = map linked_view c.self.inside.linked.items in
+    let ls = linked_views c.self.inside.linked.items in
     let outputs = texts c.self.inside.outputs.items in
     let kept = texts c.self.inside.taken.keys in
     let t = target_view c.args.target.now in

@@ -1,33 +1,36 @@
-use Rattle.std.proofs.Common.{◌≡◌, List, [], ◌∷◌, ◌++◌, length, map, Some, None, Ok, Err, sym, ap, ◌∙◌, subst, rules, arith}
+use Rattle.std.proofs.Common.{◌≡◌, List, [], ◌∷◌, ◌++◌, length, Some, None, Ok, Err, sym, ap, ◌∙◌, subst, rules, arith}
 use Rattle.std.proofs.lemmas.Grind.{common_steps}
-use Rattle.std.proofs.lemmas.List.{map-append, length-map}
+use Rattle.std.proofs.lemmas.List.{length-map}
 use Rattle.std.proofs.lemmas.Result.{IfOk-weaker}
 use Rattle.edge.specs.Texts.{texts}
-use Rattle.targets.specs.Libraries.{LinkedData}
-use Rattle.targets.specs.View.{surroundings_view, linked_view}
+use Rattle.targets.specs.Libraries.{LinkedData, linked, linked_of}
+use Rattle.targets.specs.LinkedViews.{linked_views}
+use Rattle.targets.specs.View.{surroundings_view, target_view}
+use Rattle.targets.specs.declared.linked_target.Linked.{Linked}
 use Rattle.project.specs.Laws.{first_taken}
 use Rattle.project.specs.World.{WorldData, taken_in}
 use Rattle.project.specs.View.{world_of}
 use Rattle.project.specs.NotesView.{notes_view}
-use Rattle.project.specs.Whole.{IsWhole, IsNext}
+use Rattle.project.specs.Whole.{IsWhole, IsNext, targets_in}
 use Rattle.project.specs.Adding.{place_answer, with_target}
 use Rattle.project.specs.Refused.{answer_data, refused}
 use Rattle.project.specs.declared.refusal.Refusal.TheVariants.{Limit, Duplicate}
 use Rattle.project.proofs.Placing.{whole_next, whole_same, free_is, place_ok, place_long, place_twice, placed_kept, placed_back, placed_twice, after_ok, after_err, on_ok, told_none, told_path, world_with}
+use Rattle.project.proofs.Reading.{targets_are, views-push}
 use Rattle.project.proofs.project.Project.place.Goals as goal
 
 pub invariant_of-self-then-within : goal.invariant_of-self-then-within
 invariant_of-self-then-within c =
     let s = surroundings_view c.self.inside.surroundings in
-    let ls = map linked_view c.self.inside.linked.items in
+    let ls = linked_views c.self.inside.linked.items in
     let outputs = texts c.self.inside.outputs.items in
     let notes = notes_view c.self.inside.notes in
     let kept = texts c.self.inside.taken.keys in
     let now = texts c.claim.new.paths.keys in
-    let l = linked_view c.args.one in
+    let l = linked (linked_of (targets_in ls)) (target_view c.args.one.target) in
     let ps = texts c.args.paths.now in
-    let next = subst (λ (x : WorldData). IsNext x.surroundings x.targets x.outputs x.present l ps) (sym c.self.view_is) c.requires in
-    let pushed : map linked_view c.push.new.self.items ≡ ls ++ l ∷ [] = ap (map linked_view) c.in_ok-push.ensures.items ∙ map-append linked_view c.self.inside.linked.items (c.args.one ∷ []) in
+    let next = subst (λ (x : WorldData). IsNext x.surroundings x.targets x.outputs x.present (linked (linked_of x.targets) (target_view c.args.one.target)) ps) (sym c.self.view_is) c.requires in
+    let pushed : linked_views c.push.new.self.items ≡ ls ++ l ∷ [] = ap linked_views c.in_ok-push.ensures.items ∙ views-push c.self.inside.linked.items c.args.one c.self.invariant.libraries in
     subst (λ (x : List LinkedData). IsWhole s x outputs notes.present now) (sym pushed)
     (whole_next s ls outputs notes.present kept now l ps c.self.invariant next (sym (told_none _ c.in-Ok-None.ensures.tested c.in-Ok-None.field-0-is))
     (placed_kept kept ps now c.in-Ok-None.field-0 c.args.within c.in-Ok-None.ensures.added c.in-Ok-None.field-0-is c.if-within.true))
@@ -35,86 +38,86 @@ invariant_of-self-then-within c =
 pub invariant_of-self-else-within : goal.invariant_of-self-else-within
 invariant_of-self-else-within c =
     let s = surroundings_view c.self.inside.surroundings in
-    let ls = map linked_view c.self.inside.linked.items in
+    let ls = linked_views c.self.inside.linked.items in
     let outputs = texts c.self.inside.outputs.items in
     let notes = notes_view c.self.inside.notes in
     let kept = texts c.self.inside.taken.keys in
     let now = texts c.claim.new.paths.keys in
-    let l = linked_view c.args.one in
+    let l = linked (linked_of (targets_in ls)) (target_view c.args.one.target) in
     let ps = texts c.args.paths.now in
-    let back : map linked_view c.truncate.new.self.items ≡ ls =
-    let is : c.truncate.new.self.items ≡ c.self.inside.linked.items = grind (arith, common_steps) in ap (map linked_view) is in
-    whole_same s ls (map linked_view c.truncate.new.self.items) outputs notes.present kept now c.self.invariant back
+    let back : linked_views c.truncate.new.self.items ≡ ls =
+    let is : c.truncate.new.self.items ≡ c.self.inside.linked.items = grind (arith, common_steps) in ap linked_views is in
+    whole_same s ls (linked_views c.truncate.new.self.items) outputs notes.present kept now c.self.invariant back
     (placed_back kept ps now c.in-Ok-None.field-0 c.args.within c.in-Ok-None.ensures.added c.in-Ok-None.field-0-is c.if-within.false)
 
 pub invariant_of-self-in-Ok-Some : goal.invariant_of-self-in-Ok-Some
 invariant_of-self-in-Ok-Some c =
     let s = surroundings_view c.self.inside.surroundings in
-    let ls = map linked_view c.self.inside.linked.items in
+    let ls = linked_views c.self.inside.linked.items in
     let outputs = texts c.self.inside.outputs.items in
     let notes = notes_view c.self.inside.notes in
     let kept = texts c.self.inside.taken.keys in
     let now = texts c.claim.new.paths.keys in
-    let l = linked_view c.args.one in
+    let l = linked (linked_of (targets_in ls)) (target_view c.args.one.target) in
     let ps = texts c.args.paths.now in
-    let back : map linked_view c.truncate-in-Ok-Some.new.self.items ≡ ls =
-    let is : c.truncate-in-Ok-Some.new.self.items ≡ c.self.inside.linked.items = grind (arith, common_steps) in ap (map linked_view) is in
-    whole_same s ls (map linked_view c.truncate-in-Ok-Some.new.self.items) outputs notes.present kept now c.self.invariant back
+    let back : linked_views c.truncate-in-Ok-Some.new.self.items ≡ ls =
+    let is : c.truncate-in-Ok-Some.new.self.items ≡ c.self.inside.linked.items = grind (arith, common_steps) in ap linked_views is in
+    whole_same s ls (linked_views c.truncate-in-Ok-Some.new.self.items) outputs notes.present kept now c.self.invariant back
     (placed_twice kept ps now c.in-Ok-Some.field-0 c.args.within c.in-Ok-Some.ensures.added c.in-Ok-Some.field-0-is)
 
 pub invariant_of-self-in-Err : goal.invariant_of-self-in-Err
 invariant_of-self-in-Err c =
     let s = surroundings_view c.self.inside.surroundings in
-    let ls = map linked_view c.self.inside.linked.items in
+    let ls = linked_views c.self.inside.linked.items in
     let outputs = texts c.self.inside.outputs.items in
     let notes = notes_view c.self.inside.notes in
     let kept = texts c.self.inside.taken.keys in
     let now = texts c.claim.new.paths.keys in
-    let back : map linked_view c.truncate-in-Err.new.self.items ≡ ls =
-    let is : c.truncate-in-Err.new.self.items ≡ c.self.inside.linked.items = grind (arith, common_steps) in ap (map linked_view) is in
-    whole_same s ls (map linked_view c.truncate-in-Err.new.self.items) outputs notes.present kept now c.self.invariant back (ap texts c.in-Err.ensures.err)
+    let back : linked_views c.truncate-in-Err.new.self.items ≡ ls =
+    let is : c.truncate-in-Err.new.self.items ≡ c.self.inside.linked.items = grind (arith, common_steps) in ap linked_views is in
+    whole_same s ls (linked_views c.truncate-in-Err.new.self.items) outputs notes.present kept now c.self.invariant back (ap texts c.in-Err.ensures.err)
 
 pub returns-then-within-clause-answer : goal.returns-then-within-clause-answer
 returns-then-within-clause-answer c =
     let s = surroundings_view c.self.inside.surroundings in
-    let ls = map linked_view c.self.inside.linked.items in
+    let ls = linked_views c.self.inside.linked.items in
     let outputs = texts c.self.inside.outputs.items in
     let notes = notes_view c.self.inside.notes in
     let kept = texts c.self.inside.taken.keys in
-    let l = linked_view c.args.one in
+    let l = linked (linked_of (targets_in ls)) (target_view c.args.one.target) in
     let ps = texts c.args.paths.now in
     let w = c.args.self.now in
     let free : first_taken (taken_in w) ps ≡ None =
     ap (λ (x : WorldData). first_taken (taken_in x) ps) (sym c.self.view_is) ∙ free_is s ls outputs notes.present kept ps None c.self.invariant (told_none _ c.in-Ok-None.ensures.tested c.in-Ok-None.field-0-is) in
     let count : c.len-number.result ≡ length w.targets =
     let n : c.len-number.result ≡ length c.self.inside.linked.items = search rules in
-    n ∙ sym (length-map c.self.inside.linked.items linked_view) ∙ sym (length-map ls (λ (k : LinkedData). k.target)) ∙ ap (λ (x : WorldData). length x.targets) c.self.view_is in
+    n ∙ sym (length-map c.self.inside.linked.items (λ (k : Linked). target_view k.target)) ∙ ap length (sym (targets_are c.self.inside.linked.items)) ∙ ap (λ (x : WorldData). length x.targets) c.self.view_is in
     ap Ok count ∙ sym (place_ok w ps c.args.within free c.if-within.true)
 
 pub returns-then-within-clause-ok : goal.returns-then-within-clause-ok
 returns-then-within-clause-ok c =
     let s = surroundings_view c.self.inside.surroundings in
-    let ls = map linked_view c.self.inside.linked.items in
+    let ls = linked_views c.self.inside.linked.items in
     let outputs = texts c.self.inside.outputs.items in
     let notes = notes_view c.self.inside.notes in
     let kept = texts c.self.inside.taken.keys in
-    let l = linked_view c.args.one in
+    let l = linked (linked_of (targets_in ls)) (target_view c.args.one.target) in
     let ps = texts c.args.paths.now in
     let w = c.args.self.now in
     let free : first_taken (taken_in w) ps ≡ None =
     ap (λ (x : WorldData). first_taken (taken_in x) ps) (sym c.self.view_is) ∙ free_is s ls outputs notes.present kept ps None c.self.invariant (told_none _ c.in-Ok-None.ensures.tested c.in-Ok-None.field-0-is) in
-    let pushed : map linked_view c.push.new.self.items ≡ ls ++ l ∷ [] = ap (map linked_view) c.in_ok-push.ensures.items ∙ map-append linked_view c.self.inside.linked.items (c.args.one ∷ []) in
+    let pushed : linked_views c.push.new.self.items ≡ ls ++ l ∷ [] = ap linked_views c.in_ok-push.ensures.items ∙ views-push c.self.inside.linked.items c.args.one c.self.invariant.libraries in
     ap (λ x. world_of s x outputs notes) pushed ∙ world_with s ls outputs notes l w c.self.view_is
     ∙ sym (after_ok (place_answer w ps c.args.within) (length w.targets) (with_target w l.target) w (place_ok w ps c.args.within free c.if-within.true))
 
 pub returns-else-within-clause-answer : goal.returns-else-within-clause-answer
 returns-else-within-clause-answer c =
     let s = surroundings_view c.self.inside.surroundings in
-    let ls = map linked_view c.self.inside.linked.items in
+    let ls = linked_views c.self.inside.linked.items in
     let outputs = texts c.self.inside.outputs.items in
     let notes = notes_view c.self.inside.notes in
     let kept = texts c.self.inside.taken.keys in
-    let l = linked_view c.args.one in
+    let l = linked (linked_of (targets_in ls)) (target_view c.args.one.target) in
     let ps = texts c.args.paths.now in
     let w = c.args.self.now in
     let free : first_taken (taken_in w) ps ≡ None =
@@ -125,28 +128,28 @@ returns-else-within-clause-answer c =
 pub returns-else-within-clause-ok : goal.returns-else-within-clause-ok
 returns-else-within-clause-ok c =
     let s = surroundings_view c.self.inside.surroundings in
-    let ls = map linked_view c.self.inside.linked.items in
+    let ls = linked_views c.self.inside.linked.items in
     let outputs = texts c.self.inside.outputs.items in
     let notes = notes_view c.self.inside.notes in
     let kept = texts c.self.inside.taken.keys in
-    let l = linked_view c.args.one in
+    let l = linked (linked_of (targets_in ls)) (target_view c.args.one.target) in
     let ps = texts c.args.paths.now in
     let w = c.args.self.now in
     let free : first_taken (taken_in w) ps ≡ None =
     ap (λ (x : WorldData). first_taken (taken_in x) ps) (sym c.self.view_is) ∙ free_is s ls outputs notes.present kept ps None c.self.invariant (told_none _ c.in-Ok-None.ensures.tested c.in-Ok-None.field-0-is) in
-    let back : map linked_view c.truncate.new.self.items ≡ ls =
-    let is : c.truncate.new.self.items ≡ c.self.inside.linked.items = grind (arith, common_steps) in ap (map linked_view) is in
+    let back : linked_views c.truncate.new.self.items ≡ ls =
+    let is : c.truncate.new.self.items ≡ c.self.inside.linked.items = grind (arith, common_steps) in ap linked_views is in
     on_ok c.refuse.result (ap (λ x. world_of s x outputs notes) back ∙ c.self.view_is
     ∙ sym (after_err (place_answer w ps c.args.within) (refused Limit []) (with_target w l.target) w (place_long w ps c.args.within free c.if-within.false)))
 
 pub returns-in-Ok-Some-clause-answer : goal.returns-in-Ok-Some-clause-answer
 returns-in-Ok-Some-clause-answer c =
     let s = surroundings_view c.self.inside.surroundings in
-    let ls = map linked_view c.self.inside.linked.items in
+    let ls = linked_views c.self.inside.linked.items in
     let outputs = texts c.self.inside.outputs.items in
     let notes = notes_view c.self.inside.notes in
     let kept = texts c.self.inside.taken.keys in
-    let l = linked_view c.args.one in
+    let l = linked (linked_of (targets_in ls)) (target_view c.args.one.target) in
     let ps = texts c.args.paths.now in
     let w = c.args.self.now in
     let free : first_taken (taken_in w) ps ≡ Some c.in-Ok-Some.path.now =
@@ -157,16 +160,16 @@ returns-in-Ok-Some-clause-answer c =
 pub returns-in-Ok-Some-clause-ok : goal.returns-in-Ok-Some-clause-ok
 returns-in-Ok-Some-clause-ok c =
     let s = surroundings_view c.self.inside.surroundings in
-    let ls = map linked_view c.self.inside.linked.items in
+    let ls = linked_views c.self.inside.linked.items in
     let outputs = texts c.self.inside.outputs.items in
     let notes = notes_view c.self.inside.notes in
     let kept = texts c.self.inside.taken.keys in
-    let l = linked_view c.args.one in
+    let l = linked (linked_of (targets_in ls)) (target_view c.args.one.target) in
     let ps = texts c.args.paths.now in
     let w = c.args.self.now in
     let free : first_taken (taken_in w) ps ≡ Some c.in-Ok-Some.path.now =
     ap (λ (x : WorldData). first_taken (taken_in x) ps) (sym c.self.view_is) ∙ free_is s ls outputs notes.present kept ps (Some c.in-Ok-Some.path.now) c.self.invariant (told_path _ c.in-Ok-Some.ensures.tested c.in-Ok-Some.field-0-is) in
-    let back : map linked_view c.truncate-in-Ok-Some.new.self.items ≡ ls =
-    let is : c.truncate-in-Ok-Some.new.self.items ≡ c.self.inside.linked.items = grind (arith, common_steps) in ap (map linked_view) is in
+    let back : linked_views c.truncate-in-Ok-Some.new.self.items ≡ ls =
+    let is : c.truncate-in-Ok-Some.new.self.items ≡ c.self.inside.linked.items = grind (arith, common_steps) in ap linked_views is in
     on_ok c.refuse-in-Ok-Some.result (ap (λ x. world_of s x outputs notes) back ∙ c.self.view_is
     ∙ sym (after_err (place_answer w ps c.args.within) (refused Duplicate c.in-Ok-Some.path.now) (with_target w l.target) w (place_twice w ps c.args.within c.in-Ok-Some.path.now free)))

@@ -1,18 +1,22 @@
-use Rattle.std.proofs.Common.{◌≡◌, true, List, [], ◌∷◌, ◌++◌, map, string_bytes, refl, sym, ap, ◌∙◌, subst, arith}
+use Rattle.std.proofs.Common.{◌≡◌, true, List, [], ◌∷◌, ◌++◌, Some, Ok, string_bytes, refl, sym, ap, ◌∙◌, subst, arith}
 use Rattle.std.proofs.lemmas.Grind.{common_steps}
 use Rattle.std.proofs.lemmas.List.{map-append}
 use Rattle.edge.specs.Texts.{Path, texts}
-use Rattle.targets.specs.View.{surroundings_view, linked_view}
+use Rattle.targets.specs.LinkedViews.{linked_views}
+use Rattle.targets.specs.View.{surroundings_view}
 use Rattle.project.specs.Laws.{first_taken}
+use Rattle.project.specs.World.{WorldData, taken_in}
+use Rattle.project.specs.View.{world_of}
+use Rattle.project.specs.Adding.{after_answer, unless_taken, with_output}
 use Rattle.project.specs.NotesView.{notes_view}
 use Rattle.project.specs.Whole.{IsWhole}
-use Rattle.project.proofs.Placing.{whole_with_output, whole_back, placed_kept, placed_twice, told_none}
+use Rattle.project.proofs.Placing.{whole_with_output, whole_back, placed_kept, placed_twice, told_none, told_path, free_is, on_ok}
 use Rattle.project.proofs.project.Project.place_output.Goals as goal
 
 pub invariant_of-self-in-Ok-None : goal.invariant_of-self-in-Ok-None
 invariant_of-self-in-Ok-None c =
     let s = surroundings_view c.self.inside.surroundings in
-    let ls = map linked_view c.self.inside.linked.items in
+    let ls = linked_views c.self.inside.linked.items in
     let outputs = texts c.self.inside.outputs.items in
     let present = (notes_view c.self.inside.notes).present in
     let kept = texts c.self.inside.taken.keys in
@@ -28,7 +32,7 @@ invariant_of-self-in-Ok-None c =
 pub invariant_of-self-in-Ok-Some : goal.invariant_of-self-in-Ok-Some
 invariant_of-self-in-Ok-Some c =
     let s = surroundings_view c.self.inside.surroundings in
-    let ls = map linked_view c.self.inside.linked.items in
+    let ls = linked_views c.self.inside.linked.items in
     let outputs = texts c.self.inside.outputs.items in
     let kept = texts c.self.inside.taken.keys in
     let now = texts c.claim.new.paths.keys in
@@ -39,9 +43,27 @@ invariant_of-self-in-Ok-Some c =
 pub invariant_of-self-in-Err : goal.invariant_of-self-in-Err
 invariant_of-self-in-Err c =
     let s = surroundings_view c.self.inside.surroundings in
-    let ls = map linked_view c.self.inside.linked.items in
+    let ls = linked_views c.self.inside.linked.items in
     let outputs = texts c.self.inside.outputs.items in
     let kept = texts c.self.inside.taken.keys in
     let now = texts c.claim.new.paths.keys in
     let back : c.truncate-in-Err.new.self.items ≡ c.self.inside.outputs.items = grind (arith, common_steps) in
     whole_back s ls outputs (texts c.truncate-in-Err.new.self.items) (notes_view c.self.inside.notes).present kept now c.self.invariant (ap texts back) (ap texts c.in-Err.ensures.err)
+
+pub returns-in-Ok-Some-clause-ok : goal.returns-in-Ok-Some-clause-ok
+returns-in-Ok-Some-clause-ok c =
+    let s = surroundings_view c.self.inside.surroundings in
+    let ls = linked_views c.self.inside.linked.items in
+    let outputs = texts c.self.inside.outputs.items in
+    let notes = notes_view c.self.inside.notes in
+    let kept = texts c.self.inside.taken.keys in
+    let w = c.args.self.now in
+    let p = string_bytes c.args.path in
+    let path = c.in-Ok-Some.path.now in
+    let own : string_bytes c.in_ok-clone.field-0 ≡ p = c.in_ok-clone.ensures.cases in
+    let told : Some path ≡ first_taken kept (p ∷ []) = told_path _ c.in-Ok-Some.ensures.tested c.in-Ok-Some.field-0-is ∙ ap (λ q. first_taken kept (q ∷ [])) own in
+    let twice : first_taken (taken_in w) (p ∷ []) ≡ Some path =
+    ap (λ (x : WorldData). first_taken (taken_in x) (p ∷ [])) (sym c.self.view_is) ∙ free_is s ls outputs notes.present kept (p ∷ []) (Some path) c.self.invariant told in
+    let is : c.truncate.new.self.items ≡ c.self.inside.outputs.items = grind (arith, common_steps) in
+    on_ok c.refuse.result (ap (λ x. world_of s ls (texts x) notes) is ∙ c.self.view_is
+    ∙ sym (ap (λ o. after_answer (unless_taken o (Ok tt)) (with_output w p) w) twice))
