@@ -1,21 +1,23 @@
 -- Targets that are written one after another.
-use Rattle.std.proofs.Common.{◌≡◌, ℕ, ◌+◌, ◌-◌, ◌<◌, List, length, map, Result, Err, IsErrAnd, sym, ap, subst, ◌∙◌}
+use Rattle.std.proofs.Common.{◌≡◌, ℕ, ◌+◌, ◌-◌, ◌<◌, List, length, Result, Err, IsErrAnd, sym, ap, subst, ◌∙◌}
+use Rattle.std.proofs.lemmas.List.{length-map}
 use Rattle.ports.specs.Endings.{Whole}
 use Rattle.ports.specs.Outputs.{OutputState, Writes}
 use Rattle.ports.proofs.Sending.{writes_then}
 use Rattle.targets.specs.Libraries.{linked_of}
 use Rattle.targets.specs.LinkedViews.{linked_views}
+use Rattle.targets.specs.View.{target_view}
 use Rattle.targets.specs.declared.linked_target.Linked.{Linked}
+use Rattle.targets.proofs.LinkedLists.{kept_targets}
 use Rattle.project.specs.World.{WorldData}
 use Rattle.build_file.specs.BuildFile.{ending_of}
 use Rattle.build_file.specs.Parts.{target_steps, targets_steps}
 use Rattle.build_file.specs.declared.stop.WriteStop.{WriteStop}
-use Rattle.build_file.proofs.DefaultPaths.{length-map, linked_length}
 use Rattle.build_file.proofs.Parts.{first_steps, steps_after, steps_more, steps_cut, steps_all}
 use Rattle.build_file.proofs.Stopping.{writes_ends}
 
 pub kept_count : (kept : List Linked) (w : WorldData) → linked_views kept ≡ linked_of w.targets → length kept ≡ length w.targets
-kept_count kept w e = sym (length-linked_views kept) ∙ ap length e ∙ linked_length w.targets
+kept_count kept w e = sym (length-map kept (λ (l : Linked). target_view l.target)) ∙ ap length (kept_targets kept w.targets e)
 
 -- one target more
 pub targets_next : (w : WorldData) (n : ℕ) {old mid new : OutputState}

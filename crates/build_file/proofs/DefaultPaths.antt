@@ -1,52 +1,26 @@
 -- What is made by default: that the kept paths are the definition's, and that each is a path that Ninja can hold.
-use Rattle.std.proofs.Common.{◌≡◌, ℕ, suc, Bool, true, false, List, [], ◌∷◌, ◌++◌, length, map, refl, sym, ap, ◌∙◌, append_assoc, append-nil, inl, inr}
+use Rattle.std.proofs.Common.{◌≡◌, ℕ, Bool, true, false, List, [], ◌∷◌, ◌++◌, map, refl, sym, ap, ◌∙◌, inl, inr}
 use Rattle.std.specs.Prelude.{◌&&◌, if◌then◌else◌}
 use Rattle.std.specs.List.{flat_map, list_all}
 use Rattle.std.proofs.lemmas.Bool.{and_parts, cases_Bool}
-use Rattle.std.proofs.lemmas.Grind.{flat_map-append}
 use Rattle.std.proofs.lemmas.List.Folds.{flat_map-map, list_all-append}
 use Rattle.edge.specs.Texts.{Path, Text}
 use Rattle.edge.specs.Data.{EdgeData}
 use Rattle.edge.specs.Holding.{is_path, is_some_list, is_writable, are_writable, paths_writable, values_writable}
 use Rattle.targets.specs.Data.{SurroundingsData, BuildData, TargetData, Build, Custom}
 use Rattle.targets.specs.Files.{default_paths, file_name, file_path, is_static, link_paths, object_paths}
-use Rattle.targets.specs.Libraries.{LinkedData, linked, linked_after, linked_of, libraries_in}
+use Rattle.targets.specs.Libraries.{LinkedData, linked, linked_of, libraries_in}
 use Rattle.targets.specs.LinkedViews.{linked_views}
+use Rattle.targets.specs.View.{target_view}
 use Rattle.targets.specs.declared.linked_target.Linked.{Linked}
+use Rattle.targets.proofs.LinkedLists.{kept_targets}
 use Rattle.target_edges.specs.Edges.{naming, file_edge, link_edges, compile_edges, custom_edge, edges_of, edges_after, all_edges}
-use Rattle.build_file.specs.BuildFile.{asked_of, defaults_of, is_default}
+use Rattle.build_file.specs.BuildFile.{defaults_of, is_default}
 
--- ---- kept with its paths
+-- ---- the targets, as they are kept
 
-linked_asked : (ls : List LinkedData) (ts : List TargetData) → flat_map asked_of (linked_after ls ts) ≡ flat_map asked_of ls ++ flat_map defaults_of ts
-linked_asked ls [] = sym (append-nil (flat_map asked_of ls))
-linked_asked ls (t ∷ ts) =
-    linked_asked (ls ++ linked ls t ∷ []) ts
-    ∙ ap (λ r. r ++ flat_map defaults_of ts) (flat_map-append asked_of ls (linked ls t ∷ []) ∙ ap (λ r. flat_map asked_of ls ++ r) (append-nil (defaults_of t)))
-    ∙ append_assoc (flat_map asked_of ls) (defaults_of t) (flat_map defaults_of ts)
-
-pub asked_are : (kept : List Linked) (ts : List TargetData) → linked_views kept ≡ linked_of ts → flat_map (λ l. asked_of (linked_view l)) kept ≡ flat_map defaults_of ts
-asked_are kept ts e = sym (flat_map-map asked_of linked_view kept) ∙ ap (flat_map asked_of) e ∙ linked_asked [] ts
-
-linked_count : (ls : List LinkedData) (ts : List TargetData) → map (λ l. l.target) (linked_after ls ts) ≡ map (λ l. l.target) ls ++ ts
-linked_count ls [] = sym (append-nil (map (λ l. l.target) ls))
-linked_count ls (t ∷ ts) =
-    linked_count (ls ++ linked ls t ∷ []) ts ∙ ap (λ r. r ++ ts) (map-target ls t) ∙ append_assoc (map (λ l. l.target) ls) (t ∷ []) ts
-  where
-    map-target : (ls : List LinkedData) (t : TargetData) → map (λ l. l.target) (ls ++ linked ls t ∷ []) ≡ map (λ l. l.target) ls ++ t ∷ []
-    map-target ls t = map-more ls (linked ls t)
-      where
-        map-more : (ls : List LinkedData) (l : LinkedData) → map (λ l. l.target) (ls ++ l ∷ []) ≡ map (λ l. l.target) ls ++ l.target ∷ []
-        map-more [] l = refl
-        map-more (x ∷ xs) l = ap (λ r. x.target ∷ r) (map-more xs l)
-
-pub length-map : {X Y : Type 0} (f : X → Y) (xs : List X) → length (map f xs) ≡ length xs
-length-map f [] = refl
-length-map f (x ∷ xs) = ap (λ n. suc n) (length-map f xs)
-
--- each target is kept once
-pub linked_length : (ts : List TargetData) → length (linked_of ts) ≡ length ts
-linked_length ts = sym (length-map (λ l. l.target) (linked_of ts)) ∙ ap length (linked_count [] ts)
+pub asked_are : (kept : List Linked) (ts : List TargetData) → linked_views kept ≡ linked_of ts → flat_map (λ l. defaults_of (target_view l.target)) kept ≡ flat_map defaults_of ts
+asked_are kept ts e = sym (flat_map-map defaults_of (λ (l : Linked). target_view l.target) kept) ∙ ap (flat_map defaults_of) (kept_targets kept ts e)
 
 -- ---- each is a path
 

@@ -5,7 +5,6 @@ use Rattle.ports.specs.Outputs.{Step, opening, closing, puts}
 use Rattle.edge.specs.Texts.{Path, Text}
 use Rattle.targets.specs.Data.{TargetData, Build, Custom}
 use Rattle.targets.specs.Files.{default_paths}
-use Rattle.targets.specs.Libraries.{LinkedData}
 use Rattle.project.specs.World.{WorldData, edges_in}
 use Rattle.ninja.specs.Writing.{file_text}
 use Rattle.build_file.specs.declared.stop.WriteStop.{WriteStop}
@@ -19,10 +18,6 @@ is_default (Custom t) = t.is_default
 -- what `all` names of a target: its outputs and symbolic links, where it is built by default
 abbrev pub defaults_of : TargetData → List Path
 defaults_of t = if is_default t then default_paths t else []
-
--- the same of a target that is kept with its paths
-abbrev pub asked_of : LinkedData → List Path
-asked_of l = if is_default l.target then l.paths else []
 
 -- what `all` names, in the order of declaration
 abbrev pub default_outputs : WorldData → List Path

@@ -1,9 +1,8 @@
 //! What is made where Ninja is given no target.
 ghost use Rattle.std.specs.Prelude.{◌≡◌, ◌++◌, flat_map, IfOk};
 ghost use Rattle.edge.specs.Texts.{texts};
-ghost use Rattle.targets.specs.LinkedViews.{linked_views};
 ghost use Rattle.targets.specs.View.{target_view};
-ghost use Rattle.build_file.specs.BuildFile.{asked_of, default_outputs, is_default};
+ghost use Rattle.build_file.specs.BuildFile.{default_outputs, defaults_of, is_default};
 
 use edge::push_copies;
 use project::Project;
@@ -20,7 +19,7 @@ fn is_default(target: &Target) -> bool
 }
 
 fn push_asked(paths: &mut Vec<String>, linked: &Linked) -> Result<(), AllocError>
-    ensures { IfOk result (λ _. texts paths.new.items ≡ texts paths.old.items ++ asked_of (linked_view linked.now)) }
+    ensures { IfOk result (λ _. texts paths.new.items ≡ texts paths.old.items ++ defaults_of (target_view linked.now.target)) }
 {
     if is_default(&linked.target) {
         push_copies(paths, &linked.paths)
@@ -30,7 +29,7 @@ fn push_asked(paths: &mut Vec<String>, linked: &Linked) -> Result<(), AllocError
 }
 
 fn all_asked(alloc: Global, targets: &[Linked]) -> Result<Vec<String>, AllocError>
-    ensures { IfOk result (λ v. texts v.items ≡ flat_map (λ l. asked_of (linked_view l)) targets.now) }
+    ensures { IfOk result (λ v. texts v.items ≡ flat_map (λ l. defaults_of (target_view l.target)) targets.now) }
 {
     let mut paths = Vec::new(alloc);
     for linked in targets {

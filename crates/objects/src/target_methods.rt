@@ -15,7 +15,7 @@ use crate::meson_object::build_root;
 use data::{List, Object, Refusal, Value};
 use operators::path_below;
 use std::alloc::{AllocError, Global};
-use targets::{Linked, Target, file_path, path_in};
+use targets::{Linked, Target, file_path, path_in, target_at};
 use world::Store;
 
 /// A method of targets.
@@ -108,8 +108,8 @@ fn output_of(alloc: Global, output: usize, target: &Target) -> Result<Option<Str
 fn name_at(targets: &[Linked], number: usize) -> Option<&str>
     ensures { option_map (λ n. n.now) result ≡ at (linked_views targets.now) number (λ t. Some (name_of t)) }
 {
-    match targets.get(number) {
-        Some(linked) => Some(name_of(&linked.target)),
+    match target_at(targets, number) {
+        Some(target) => Some(name_of(target)),
         None => None,
     }
 }
@@ -117,8 +117,8 @@ fn name_at(targets: &[Linked], number: usize) -> Option<&str>
 fn path_at(alloc: Global, targets: &[Linked], number: usize) -> Result<Option<String>, AllocError>
     ensures { IfOk result (λ path. option_map string_bytes path ≡ at (linked_views targets.now) number path_of) }
 {
-    match targets.get(number) {
-        Some(linked) => path_of(alloc, &linked.target),
+    match target_at(targets, number) {
+        Some(target) => path_of(alloc, target),
         None => Ok(None),
     }
 }
@@ -131,8 +131,8 @@ fn output_at(
 ) -> Result<Option<String>, AllocError>
     ensures { IfOk result (λ path. option_map string_bytes path ≡ at (linked_views targets.now) number (output_of output)) }
 {
-    match targets.get(number) {
-        Some(linked) => output_of(alloc, output, &linked.target),
+    match target_at(targets, number) {
+        Some(target) => output_of(alloc, output, target),
         None => Ok(None),
     }
 }

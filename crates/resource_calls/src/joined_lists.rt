@@ -13,7 +13,7 @@ use crate::own_lists::Own;
 use crate::place::Place;
 use arguments::Arguments;
 use data::{Dependency, Refusal, Source, Sources, Text, Texts};
-use named_sources::NamedSource;
+use named_sources::{NamedSource, outputs_at};
 use resources::{dependencies_in, found_dependency, joined, within_texts};
 use std::alloc::{AllocError, Global};
 use targets::Linked;
@@ -25,8 +25,8 @@ use targets::Linked;
 fn count_at(earlier: &[Linked], number: usize) -> usize
     ensures { result ≡ count_at (linked_views earlier.now) number }
 {
-    match earlier.get(number) {
-        Some(linked) => linked.paths.len(),
+    match outputs_at(earlier, number) {
+        Some(paths) => paths.len(),
         None => 0,
     }
 }

@@ -26,6 +26,10 @@ targets_after earlier (t ∷ ts) =
     ∙ ap (λ k. k ++ ts) (map-append (λ (l : LinkedData). l.target) earlier (linked earlier t ∷ []))
     ∙ append_assoc (map (λ l. l.target) earlier) (t ∷ []) ts
 
+-- targets that are kept are those of which they are linked
+pub kept_targets : (kept : List Linked) (ts : List TargetData) → linked_views kept ≡ linked_of ts → map (λ k. target_view k.target) kept ≡ ts
+kept_targets kept ts e = sym (targets_after [] (map (λ k. target_view k.target) kept)) ∙ ap (map (λ l. l.target)) e ∙ targets_after [] ts
+
 paths_after : (earlier : List LinkedData) (ts : List TargetData) → map (λ l. l.paths) (linked_after earlier ts) ≡ map (λ l. l.paths) earlier ++ map default_paths ts
 paths_after earlier [] = sym (append-nil (map (λ l. l.paths) earlier))
 paths_after earlier (t ∷ ts) =

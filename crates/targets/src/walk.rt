@@ -11,7 +11,7 @@ ghost use Rattle.targets.specs.Libraries.{LinkBack, libraries_of, linked_librari
 ghost use Rattle.targets.specs.LinkedViews.{linked_views};
 ghost use Rattle.targets.specs.Marks.{AreMarks};
 ghost use Rattle.targets.specs.View.{target_view, build_view};
-ghost use Rattle.targets.specs.Walk.{if_static, static_at, steps_of, steps_into, kept_into, steps_for, kept_after};
+ghost use Rattle.targets.specs.Walk.{above, if_static, kept_after, kept_into, number_of, static_at, steps_for, steps_into, steps_of};
 ghost use Rattle.targets.specs.declared.walk.Step.TheVariants.{Enter};
 
 use crate::linked_target::Linked;
@@ -117,6 +117,25 @@ fn push_all(steps: &mut Vec<Step>, target: &BuildTarget) -> Result<(), AllocErro
     push_named(steps, target)
 }
 
+fn number_of(step: Step) -> u32
+    ensures { result ≡ number_of step }
+{
+    match step {
+        Step::Enter(number) | Step::Leave(number) => number,
+    }
+}
+
+// One more than the highest number. What comes with a library has lower ones, so these are marks enough.
+fn above(steps: &[Step]) -> usize
+    ensures { result ≡ above steps.now }
+{
+    let mut count = 0;
+    for step in steps {
+        count = count.max(number_of(*step) as usize + 1);
+    }
+    count
+}
+
 fn if_static(target: &BuildTarget) -> Option<&BuildTarget>
     ensures { option_map (λ t. build_view t.now) result ≡ if_static (Some (build_view target.now)) }
 {
@@ -199,7 +218,7 @@ fn libraries_of(
     if steps.is_empty() {
         return Ok(Vec::new(alloc));
     }
-    let mut marks = vec![in alloc; false; earlier.len()]?;
+    let mut marks = vec![in alloc; false; above(&steps)]?;
     let mut kept = Vec::new(alloc);
     while let Some(step) = steps.pop() {
         take_step(&mut steps, &mut kept, &mut marks, earlier, step)?;

@@ -4,7 +4,7 @@ use Rattle.serde_json.specs.Written.{compact_text}
 use Rattle.targets.specs.View.{target_view}
 use Rattle.targets.specs.declared.linked_target.Linked.{Linked}
 use Rattle.introspection.specs.Document.{list, target_entry}
-use Rattle.introspection.proofs.Lists.{kept_targets}
+use Rattle.targets.proofs.LinkedLists.{kept_targets}
 use Rattle.introspection.proofs.Pieces.{appends}
 use Rattle.introspection.proofs.document.push_targets.Goals as goal
 

@@ -1,4 +1,4 @@
-use Rattle.std.proofs.Common.{rules, ◌≡◌, ◌<◌, List, ◌∷◌, [], ◌++◌, length, map, sym, ap, ◌∙◌, subst}
+use Rattle.std.proofs.Common.{rules, ◌≡◌, ◌<◌, List, ◌∷◌, [], ◌++◌, map, sym, ap, ◌∙◌, subst}
 use Rattle.std.specs.Prelude.{flat_map}
 use Rattle.targets.specs.Libraries.{with_its_own}
 use Rattle.targets.specs.LinkedViews.{linked_views}
@@ -18,7 +18,7 @@ loop-step-init c =
     let ns = listed (λ k. k.link_with) (build_view c.args.target.now) in
     let all = flat_map (with_its_own ls) ns in
     let steps : c.push_all.new.steps.items ≡ map Enter ns = c.in_ok-push_all.ensures ∙ ap (λ l. l ++ map Enter ns) c.new-steps.ensures.items in
-    let marks : AreMarks c.in_ok-marks.marks.items [] = marks_none (length c.args.earlier.now) c.in_ok-marks.marks.items (search rules) (search rules) in
+    let marks : AreMarks c.in_ok-marks.marks.items [] = marks_none c.above.result c.in_ok-marks.marks.items (search rules) (search rules) in
     record {
       walks = subst (λ (x : List Step). Walks ls all x c.new-kept.result.items) (sym steps)
           (subst (Walks ls all (map Enter ns)) (sym c.new-kept.ensures.items) (walks_first ls ns));
