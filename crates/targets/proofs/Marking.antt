@@ -1,9 +1,9 @@
 -- Marks of the numbers that were met.
-use Rattle.std.proofs.Common.{◌≡◌, ◌≢◌, ℕ, ◌<◌, ◌≤◌, Bool, true, false, List, [], ◌∷◌, ◌++◌, length, get_or, set, nat_eq, replicate, refl, sym, ap, subst, ◌∙◌, arith, inl, inr}
+use Rattle.std.proofs.Common.{◌≡◌, ◌≢◌, ℕ, ◌<◌, ◌≤◌, Bool, true, false, List, [], ◌∷◌, ◌++◌, length, get_or, set, nat_eq, refl, sym, ap, subst, ◌∙◌, arith, inl, inr}
 use Rattle.std.specs.Prelude.{◌||◌, if◌then◌else◌}
 use Rattle.std.specs.List.{list_any}
 use Rattle.std.proofs.lemmas.Bool.{cases_eq, eqb-true, eq-eqb, false_from_ne_true}
-use Rattle.std.proofs.lemmas.List.{get_or-replicate, get_or-set_same, get_or-set_other, length-set}
+use Rattle.std.proofs.lemmas.List.{get_or-set_same, get_or-set_other, length-set}
 use Rattle.std.proofs.lemmas.List.Folds.{list_any-append}
 use Rattle.indexmap.specs.IndexSet.{insert_key}
 use Rattle.targets.specs.Marks.{AreMarks}
@@ -11,10 +11,6 @@ use Rattle.targets.specs.Marks.{AreMarks}
 or_false : (b : Bool) → (b || false) ≡ b
 or_false true = refl
 or_false false = refl
-
--- none is met yet
-pub marks_none : (n : ℕ) (marks : List Bool) → marks ≡ replicate n false → length marks ≡ n → AreMarks marks []
-marks_none n marks e len k lt = ap (λ ms. get_or ms k false) e ∙ get_or-replicate n k false false (omega (arith, lt, len))
 
 either_any : (b : Bool) (ks : List ℕ) (x k : ℕ) → list_any (nat_eq x) ks ≡ b → k ≢ x → list_any (nat_eq k) (if b then ks else ks ++ x ∷ []) ≡ list_any (nat_eq k) ks
 either_any true ks x k e ne = refl
@@ -59,6 +55,23 @@ pub unmarked : (marks : List Bool) (ks : List ℕ) (x : ℕ) → AreMarks marks 
 unmarked marks ks x are le k below = let ne : k ≢ x = omega (arith, le, below) in are k below ∙ sym (any_other ks x k ne)
 
 -- ---- one number more
+
+either_more : (b : Bool) (ks : List ℕ) (x k : ℕ) → list_any (nat_eq x) ks ≡ b → list_any (nat_eq k) (if b then ks else ks ++ x ∷ []) ≡ list_any (nat_eq k) (ks ++ x ∷ [])
+either_more false ks x k e = refl
+either_more true ks x k e =
+    elim (cases_eq k x) [
+      | inl same ↦
+          let met : list_any (nat_eq k) ks ≡ true = ap (λ n. list_any (nat_eq n) ks) same ∙ e in
+          met ∙ sym (list_any-append (nat_eq k) ks (x ∷ []) ∙ ap (λ b. b || (nat_eq k x || false)) met)
+      | inr ne ↦
+          sym (list_any-append (nat_eq k) ks (x ∷ [])
+          ∙ ap (λ b. list_any (nat_eq k) ks || (b || false)) (false_from_ne_true (nat_eq k x) (λ h. ne (eqb-true k x h)))
+          ∙ or_false (list_any (nat_eq k) ks))
+    ]
+
+-- it stands behind the others, once or twice
+pub marks_more : (marks : List Bool) (ks : List ℕ) (x : ℕ) → AreMarks marks (insert_key nat_eq ks x) → AreMarks marks (ks ++ x ∷ [])
+marks_more marks ks x are k lt = are k lt ∙ either_more (list_any (nat_eq x) ks) ks x k refl
 
 pub in_more : (ks : List ℕ) (n x : ℕ) → list_any (nat_eq x) ks ≡ true → list_any (nat_eq x) (insert_key nat_eq ks n) ≡ true
 in_more ks n x h =

@@ -1,6 +1,6 @@
 -- The walk through static libraries that finds the libraries of a target.
-use Rattle.std.specs.Prelude.{ℕ, Option, Some, None, List, [], ◌∷◌, map, max, ◌+◌, nat_eq, if◌then◌else◌}
-use Rattle.std.specs.List.{fold, list_any}
+use Rattle.std.specs.Prelude.{ℕ, Option, Some, None, List, [], ◌∷◌, map, nat_eq, if◌then◌else◌}
+use Rattle.std.specs.List.{list_any}
 use Rattle.indexmap.specs.IndexSet.{insert_key}
 use Rattle.targets.specs.Data.{BuildData}
 use Rattle.targets.specs.Sources.{listed}
@@ -30,14 +30,6 @@ steps_into n (Some t) = Leave n ∷ steps_of t
 abbrev pub kept_into : ℕ → Option BuildData → List ℕ → List ℕ
 kept_into n None kept = insert_key nat_eq kept n
 kept_into n (Some t) kept = kept
-
-abbrev pub number_of : Step → ℕ
-number_of (Enter n) = n
-number_of (Leave n) = n
-
--- one more than the highest number, or 0 where there is none
-abbrev pub above : List Step → ℕ
-above steps = fold (λ count s. max count (number_of s + 1)) 0 steps
 
 -- the steps that come in place of one: what is kept is not entered again
 abbrev pub steps_for : List LinkedData → (kept : List ℕ) → Step → List Step

@@ -11,13 +11,16 @@ ghost use Rattle.targets.specs.Libraries.{LinkBack, libraries_of, linked_librari
 ghost use Rattle.targets.specs.LinkedViews.{linked_views};
 ghost use Rattle.targets.specs.Marks.{AreMarks};
 ghost use Rattle.targets.specs.View.{target_view, build_view};
-ghost use Rattle.targets.specs.Walk.{above, if_static, kept_after, kept_into, number_of, static_at, steps_for, steps_into, steps_of};
+ghost use Rattle.targets.specs.Walk.{if_static, static_at, steps_of, steps_into, kept_into, steps_for, kept_after};
 ghost use Rattle.targets.specs.declared.walk.Step.TheVariants.{Enter};
 
 use crate::linked_target::Linked;
 use crate::linking::build_target_at;
 use crate::target::{BuildTarget, Target};
 use std::alloc::{AllocError, Global};
+
+// From so many on, what is kept has marks: marks for all targets take longer to make than fewer numbers to look through.
+const MARKED_FROM: usize = 32;
 
 // What is still to be done.
 #[derive(Clone, Copy)]
@@ -69,8 +72,25 @@ fn was_kept(marks: &mut Vec<bool>, kept: &[u32], number: u32) -> bool
     }
 }
 
-// Keeps the number, once.
-fn keep(kept: &mut Vec<u32>, marks: &mut Vec<bool>, number: u32) -> Result<(), AllocError>
+// Gives each of so many numbers a mark, which says whether it is kept.
+fn mark_kept(marks: &mut Vec<bool>, kept: &[u32], count: usize) -> Result<(), AllocError>
+    ensures { IfOk result (λ _. AreMarks marks.new.items kept.now) }
+{
+    marks.clear();
+    marks.resize(count, false)?;
+    for place in 0..kept.len() {
+        let _known = was_kept(marks, &kept[..place], kept[place]);
+    }
+    Ok(())
+}
+
+// Keeps the number, once. So many targets stand behind the one that is walked from.
+fn keep(
+    kept: &mut Vec<u32>,
+    marks: &mut Vec<bool>,
+    count: usize,
+    number: u32,
+) -> Result<(), AllocError>
     requires { AreMarks marks.old.items kept.old.items }
     ensures kept { IfOk result (λ _. kept.new.items ≡ insert_key nat_eq kept.old.items number) }
     ensures marks { IfOk result (λ _. AreMarks marks.new.items kept.new.items) }
@@ -79,6 +99,9 @@ fn keep(kept: &mut Vec<u32>, marks: &mut Vec<bool>, number: u32) -> Result<(), A
         return Ok(());
     }
     kept.push(number)?;
+    if kept.len() == MARKED_FROM {
+        mark_kept(marks, kept, count)?;
+    }
     Ok(())
 }
 
@@ -117,25 +140,6 @@ fn push_all(steps: &mut Vec<Step>, target: &BuildTarget) -> Result<(), AllocErro
     push_named(steps, target)
 }
 
-fn number_of(step: Step) -> u32
-    ensures { result ≡ number_of step }
-{
-    match step {
-        Step::Enter(number) | Step::Leave(number) => number,
-    }
-}
-
-// One more than the highest number. What comes with a library has lower ones, so these are marks enough.
-fn above(steps: &[Step]) -> usize
-    ensures { result ≡ above steps.now }
-{
-    let mut count = 0;
-    for step in steps {
-        count = count.max(number_of(*step) as usize + 1);
-    }
-    count
-}
-
 fn if_static(target: &BuildTarget) -> Option<&BuildTarget>
     ensures { option_map (λ t. build_view t.now) result ≡ if_static (Some (build_view target.now)) }
 {
@@ -171,7 +175,7 @@ fn enter(
     ensures marks { IfOk result (λ _. AreMarks marks.new.items kept.new.items) }
 {
     match static_at(earlier, number as usize) {
-        None => keep(kept, marks, number),
+        None => keep(kept, marks, earlier.len(), number),
         Some(target) => {
             steps.push(Step::Leave(number))?;
             push_all(steps, target)
@@ -193,7 +197,7 @@ fn take_step(
     ensures marks { IfOk result (λ _. AreMarks marks.new.items kept.new.items) }
 {
     match step {
-        Step::Leave(number) => keep(kept, marks, number),
+        Step::Leave(number) => keep(kept, marks, earlier.len(), number),
         Step::Enter(number) => {
             if is_kept(marks, kept, number) {
                 Ok(())
@@ -218,7 +222,7 @@ fn libraries_of(
     if steps.is_empty() {
         return Ok(Vec::new(alloc));
     }
-    let mut marks = vec![in alloc; false; above(&steps)]?;
+    let mut marks = Vec::new(alloc);
     let mut kept = Vec::new(alloc);
     while let Some(step) = steps.pop() {
         take_step(&mut steps, &mut kept, &mut marks, earlier, step)?;

@@ -1,4 +1,4 @@
-use Rattle.std.proofs.Common.{rules, ◌≡◌, ◌<◌, List, ◌∷◌, [], ◌++◌, map, sym, ap, ◌∙◌, subst}
+use Rattle.std.proofs.Common.{arith, Bool, ◌≡◌, ◌<◌, List, ◌∷◌, [], ◌++◌, map, sym, ap, ◌∙◌, subst}
 use Rattle.std.specs.Prelude.{flat_map}
 use Rattle.targets.specs.Libraries.{with_its_own}
 use Rattle.targets.specs.LinkedViews.{linked_views}
@@ -8,7 +8,6 @@ use Rattle.targets.specs.View.{target_view, build_view}
 use Rattle.targets.specs.Walk.{steps_for}
 use Rattle.targets.specs.declared.walk.Step.{Step}
 use Rattle.targets.specs.declared.walk.Step.TheVariants.{Enter}
-use Rattle.targets.proofs.Marking.{marks_none}
 use Rattle.targets.proofs.Walking.{Walks, weights, walks_first, walks_step, weights_less}
 use Rattle.targets.proofs.walk.libraries_of.Goals as goal
 
@@ -18,11 +17,10 @@ loop-step-init c =
     let ns = listed (λ k. k.link_with) (build_view c.args.target.now) in
     let all = flat_map (with_its_own ls) ns in
     let steps : c.push_all.new.steps.items ≡ map Enter ns = c.in_ok-push_all.ensures ∙ ap (λ l. l ++ map Enter ns) c.new-steps.ensures.items in
-    let marks : AreMarks c.in_ok-marks.marks.items [] = marks_none c.above.result c.in_ok-marks.marks.items (search rules) (search rules) in
     record {
       walks = subst (λ (x : List Step). Walks ls all x c.new-kept.result.items) (sym steps)
           (subst (Walks ls all (map Enter ns)) (sym c.new-kept.ensures.items) (walks_first ls ns));
-      marks = subst (AreMarks c.in_ok-marks.marks.items) (sym c.new-kept.ensures.items) marks;
+      marks = subst (λ (l : List Bool). AreMarks l c.new-kept.result.items) (sym c.new-marks.ensures.items) (λ k lt. absurd (omega (arith, lt)));
     }
 
 pub loop-step-smaller : goal.loop-step-smaller
