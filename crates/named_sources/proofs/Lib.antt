@@ -4,3 +4,4 @@ pub mod NameTexts
 pub mod Numbers
 pub mod Places
 pub mod Steps
+pub mod Unmarked

@@ -10,6 +10,10 @@ not_here b c other = elim (cases_Bool (eqb b c)) [
   | inr e ↦ e
 ]
 
+pub or_false : (a c : Bool) → (a || c) ≡ false → (a ≡ false) × (c ≡ false)
+or_false true c e = absurd cc
+or_false false c e = (refl, e)
+
 or_true : (b : Bool) → (b || true) ≡ true
 or_true true = refl
 or_true false = refl
@@ -39,10 +43,6 @@ before_dot-none [] h = refl
 before_dot-none (b ∷ bs) h =
     let s = or_false (eqb b 46) (has 46 bs) h in
     ap (λ x. if x then b ∷ before_dot bs else (if eqb b 46 then [] else b ∷ bs)) s.1 ∙ ap (λ x. if x then [] else b ∷ bs) s.0
-  where
-    or_false : (a c : Bool) → (a || c) ≡ false → (a ≡ false) × (c ≡ false)
-    or_false true c e = absurd cc
-    or_false false c e = (refl, e)
 
 pub before_dot-behind : (part rest : List ℕ) → before_dot (part ++ 46 ∷ rest) ≡ (if has 46 rest then part ++ 46 ∷ before_dot rest else part)
 before_dot-behind [] rest = refl

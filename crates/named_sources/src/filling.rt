@@ -3,6 +3,7 @@ ghost use Rattle.std.specs.Prelude.{◌≡◌, ◌==◌, map, IfOk, option_map, 
 ghost use Rattle.std.specs.List.{slice_split};
 ghost use Rattle.named_sources.specs.Holes.{meaning, behind_text, filled_behind, filled_parts, filled};
 ghost use Rattle.named_sources.specs.HolesView.{place_view};
+ghost use Rattle.named_sources.specs.Names.{has};
 
 use crate::holes::{Meaning, Place, Scope, meaning_of};
 use std::alloc::{AllocError, Global};
@@ -18,7 +19,7 @@ fn pieces<'a>(alloc: Global, text: &'a str) -> Result<Vec<&'a str>, AllocError>
 fn fill_behind(
     alloc: Global,
     scope: Scope,
-    place: &Place,
+    place: &Place<'_>,
     mut made: String,
     parts: &[&str],
 ) -> Result<Option<String>, AllocError>
@@ -41,7 +42,12 @@ fn fill_behind(
                 i += 1;
             }
             Meaning::Refused => return Ok(None),
-            Meaning::Means(value) => {
+            Meaning::Lent(value) => {
+                made.push_str(value)?;
+                made.push_str(text)?;
+                i += 2;
+            }
+            Meaning::Made(value) => {
                 made.push_str(&value)?;
                 made.push_str(text)?;
                 i += 2;
@@ -55,7 +61,7 @@ fn fill_behind(
 fn fill_parts(
     alloc: Global,
     scope: Scope,
-    place: &Place,
+    place: &Place<'_>,
     parts: &[&str],
 ) -> Result<Option<String>, AllocError>
     ensures { IfOk result (λ r. option_map string_bytes r
@@ -73,16 +79,37 @@ fn fill_parts(
     }
 }
 
-/// The text with the values of its placeholders, leftmost first and not scanned again; or none where one of them stands for nothing
-/// here (E9): `@INPUT@` inside a word and `@BASENAME@` without exactly one input, `@INPUT3@` past the last, `@DEPFILE@` without a depfile.
-pub fn filled(
+fn filled_pieces(
     alloc: Global,
     scope: Scope,
-    place: &Place,
+    place: &Place<'_>,
     text: &str,
 ) -> Result<Option<String>, AllocError>
     ensures { IfOk result (λ r. option_map string_bytes r ≡ filled scope (place_view place.now) text.now) }
 {
     let parts = pieces(alloc, text)?;
     fill_parts(alloc, scope, place, &parts)
+}
+
+fn has_mark(text: &str) -> bool
+    ensures { result ≡ has 64 text.now }
+{
+    text.as_bytes().iter().any(|byte| *byte == b'@')
+}
+
+/// The text with the values of its placeholders, leftmost first and not scanned again; or none where one of them stands for nothing
+/// here (E9): `@INPUT@` inside a word and `@BASENAME@` without exactly one input, `@INPUT3@` past the last, `@DEPFILE@` without a depfile.
+pub fn filled(
+    alloc: Global,
+    scope: Scope,
+    place: &Place<'_>,
+    text: &str,
+) -> Result<Option<String>, AllocError>
+    ensures { IfOk result (λ r. option_map string_bytes r ≡ filled scope (place_view place.now) text.now) }
+{
+    if has_mark(text) {
+        filled_pieces(alloc, scope, place, text)
+    } else {
+        Ok(Some(String::from_str(alloc, text)?))
+    }
 }

@@ -6,10 +6,11 @@ ghost use Rattle.std.specs.Str.Parse.{IsNumeral, digits_value};
 ghost use Rattle.edge.specs.Texts.{texts};
 ghost use Rattle.named_sources.specs.Names.{plain_name as plain_of, base_name as base_of};
 ghost use Rattle.named_sources.specs.Holes.{means_if, only_of, first_of, is_number, numbered, numbered_if, rest_after, numbered_name};
-ghost use Rattle.named_sources.specs.Holes.{stays, with_p, place_name, file_name, other_name, meaning};
+ghost use Rattle.named_sources.specs.Holes.{build_folder, source_folder, stays, with_p, place_name, file_name, other_name, meaning};
 ghost use Rattle.named_sources.specs.HolesView.{place_view, meaning_view};
 
 use crate::names::{base_name, plain_name};
+use edge::{source_path, source_root};
 use std::alloc::{AllocError, Global};
 
 /// Where a text with placeholders stands.
@@ -21,53 +22,47 @@ pub enum Scope {
     FileName,
 }
 
-/// What the texts of a custom target are seen from. All paths are seen from the build folder.
-#[derive(Drop)]
-pub struct Place {
-    pub inputs: Vec<String>,
-    pub outputs: Vec<String>,
-    pub depfile: Option<String>,
-    /// The folder of the definition file in the build folder, `.` for the root.
-    pub build_folder: String,
-    /// The folder of the definition file in the tree.
-    pub source_folder: String,
-    pub source_root: String,
+/// What the texts of a custom target are seen from: lent, and no path is made before a text names it.
+#[derive(Clone, Copy)]
+pub struct Place<'p> {
+    /// Paths as they are seen from the build folder, as all of these.
+    pub inputs: &'p [String],
+    pub outputs: &'p [String],
+    pub depfile: Option<&'p str>,
+    /// The folder of the definition file, `""` for the root.
+    pub folder: &'p str,
+    /// How many folders the build folder lies below the source root.
+    pub depth: usize,
 }
 
 /// What a name between two `@` stands for.
 #[derive(Drop)]
-pub enum Meaning {
+pub enum Meaning<'p> {
     /// It is no placeholder.
     Stays,
     /// It stands for nothing here (E9).
     Refused,
-    Means(String),
+    /// It stands for a text that lies in the place.
+    Lent(&'p str),
+    /// It stands for a text that is made of the place.
+    Made(String),
 }
 
-fn copy(text: Option<&String>) -> Result<Meaning, AllocError>
-    ensures { IfOk result (λ m. meaning_view m ≡ means_if (option_map (λ s. string_bytes s.now) text.entry)) }
+fn means_if(text: Option<&str>) -> Meaning<'_>
+    ensures { meaning_view result ≡ means_if (option_map (λ s. s.now) text.entry) }
 {
     match text {
-        None => Ok(Meaning::Refused),
-        Some(text) => Ok(Meaning::Means(text.clone()?)),
+        None => Meaning::Refused,
+        Some(text) => Meaning::Lent(text),
     }
 }
 
-fn only_of(paths: &[String]) -> Option<&String>
-    ensures { option_map (λ s. string_bytes s.now) result ≡ only_of (texts paths.now) }
+fn only_of(paths: &[String]) -> Option<&str>
+    ensures { option_map (λ s. s.now) result ≡ only_of (texts paths.now) }
 {
     match paths {
-        [path] => Some(path),
+        [path] => Some(path.as_str()),
         _ => None,
-    }
-}
-
-fn first_of(paths: &[String]) -> Option<&String>
-    ensures { option_map (λ s. string_bytes s.now) result ≡ first_of (texts paths.now) }
-{
-    match paths {
-        [] => None,
-        [path, ..] => Some(path),
     }
 }
 
@@ -85,7 +80,7 @@ fn is_number(text: &str) -> bool
     !text.is_empty() && are_digits(text)
 }
 
-fn path_at<'p>(paths: &'p [String], digits: &str) -> Option<&'p String>
+fn string_at<'p>(paths: &'p [String], digits: &str) -> Option<&'p String>
     requires { IsNumeral 10 digits.now }
     ensures { option_map (λ s. string_bytes s.now) result ≡ slice_get (texts paths.now) (digits_value 10 digits.now) }
 {
@@ -95,13 +90,23 @@ fn path_at<'p>(paths: &'p [String], digits: &str) -> Option<&'p String>
     }
 }
 
-fn numbered(paths: &[String], digits: &str) -> Result<Meaning, AllocError>
-    ensures { IfOk result (λ m. meaning_view m ≡ numbered (texts paths.now) digits.now) }
+fn path_at<'p>(paths: &'p [String], digits: &str) -> Option<&'p str>
+    requires { IsNumeral 10 digits.now }
+    ensures { option_map (λ s. s.now) result ≡ slice_get (texts paths.now) (digits_value 10 digits.now) }
+{
+    match string_at(paths, digits) {
+        Some(path) => Some(path.as_str()),
+        None => None,
+    }
+}
+
+fn numbered<'p>(paths: &'p [String], digits: &str) -> Meaning<'p>
+    ensures { meaning_view result ≡ numbered (texts paths.now) digits.now }
 {
     if is_number(digits) {
-        copy(path_at(paths, digits))
+        means_if(path_at(paths, digits))
     } else {
-        Ok(Meaning::Stays)
+        Meaning::Stays
     }
 }
 
@@ -112,77 +117,90 @@ fn rest_after<'a>(front: &str, text: &'a str) -> Option<&'a str>
     text.strip_prefix(front)
 }
 
-fn numbered_output(place: &Place, name: &str) -> Result<Meaning, AllocError>
-    ensures { IfOk result (λ m. meaning_view m ≡ numbered_if (place_view place.now).outputs (rest_after (codes "OUTPUT") name.now) stays) }
+fn numbered_output<'p>(place: &Place<'p>, name: &str) -> Meaning<'p>
+    ensures { meaning_view result ≡ numbered_if (place_view place.now).outputs (rest_after (codes "OUTPUT") name.now) stays }
 {
     match rest_after("OUTPUT", name) {
-        Some(digits) => numbered(&place.outputs, digits),
-        None => Ok(Meaning::Stays),
+        Some(digits) => numbered(place.outputs, digits),
+        None => Meaning::Stays,
     }
 }
 
-fn numbered_name(place: &Place, name: &str) -> Result<Meaning, AllocError>
-    ensures { IfOk result (λ m. meaning_view m ≡ numbered_name (place_view place.now) name.now) }
+fn numbered_name<'p>(place: &Place<'p>, name: &str) -> Meaning<'p>
+    ensures { meaning_view result ≡ numbered_name (place_view place.now) name.now }
 {
     match rest_after("INPUT", name) {
-        Some(digits) => numbered(&place.inputs, digits),
+        Some(digits) => numbered(place.inputs, digits),
         None => numbered_output(place, name),
     }
 }
 
 // ---- names
 
-fn private_folder(alloc: Global, outputs: &[String]) -> Result<Meaning, AllocError>
+fn build_folder(folder: &str) -> &str
+    ensures { result.now ≡ build_folder folder.now }
+{
+    if folder.is_empty() { "." } else { folder }
+}
+
+fn source_folder(alloc: Global, depth: usize, folder: &str) -> Result<String, AllocError>
+    ensures { IfOk result (λ s. string_bytes s ≡ source_folder depth folder.now) }
+{
+    if folder.is_empty() {
+        source_root(alloc, depth)
+    } else {
+        source_path(alloc, depth, folder)
+    }
+}
+
+fn private_folder(alloc: Global, outputs: &[String]) -> Result<Meaning<'_>, AllocError>
     ensures { IfOk result (λ m. meaning_view m ≡ means_if (option_map with_p (first_of (texts outputs.now)))) }
 {
     match outputs {
         [] => Ok(Meaning::Refused),
-        [output, ..] => Ok(Meaning::Means(format!(in alloc; "{output}.p")?)),
+        [output, ..] => Ok(Meaning::Made(format!(in alloc; "{output}.p")?)),
     }
 }
 
-fn depfile(place: &Place) -> Result<Meaning, AllocError>
-    ensures { IfOk result (λ m. meaning_view m ≡ means_if (place_view place.now).depfile) }
-{
-    match &place.depfile {
-        None => Ok(Meaning::Refused),
-        Some(path) => Ok(Meaning::Means(path.clone()?)),
-    }
-}
-
-fn place_name(alloc: Global, place: &Place, name: &str) -> Result<Meaning, AllocError>
+fn place_name<'p>(alloc: Global, place: &Place<'p>, name: &str) -> Result<Meaning<'p>, AllocError>
     ensures { IfOk result (λ m. meaning_view m ≡ place_name (place_view place.now) name.now) }
 {
     if name == "OUTDIR" {
-        Ok(Meaning::Means(place.build_folder.clone()?))
+        Ok(Meaning::Lent(build_folder(place.folder)))
     } else if name == "SOURCE_ROOT" {
-        Ok(Meaning::Means(place.source_root.clone()?))
+        Ok(Meaning::Made(source_root(alloc, place.depth)?))
     } else if name == "BUILD_ROOT" {
-        Ok(Meaning::Means(String::from_str(alloc, ".")?))
+        Ok(Meaning::Lent("."))
     } else if name == "CURRENT_SOURCE_DIR" {
-        Ok(Meaning::Means(place.source_folder.clone()?))
+        let folder = source_folder(alloc, place.depth, place.folder)?;
+        Ok(Meaning::Made(folder))
     } else if name == "PRIVATE_DIR" {
-        private_folder(alloc, &place.outputs)
+        private_folder(alloc, place.outputs)
     } else if name == "DEPFILE" {
-        depfile(place)
+        Ok(means_if(place.depfile))
     } else {
-        numbered_name(place, name)
+        Ok(numbered_name(place, name))
     }
 }
 
-fn file_name(alloc: Global, place: &Place, name: &str) -> Result<Meaning, AllocError>
+fn file_name<'p>(alloc: Global, place: &Place<'p>, name: &str) -> Result<Meaning<'p>, AllocError>
     ensures { IfOk result (λ m. meaning_view m ≡ file_name (place_view place.now) name.now) }
 {
     if name == "INPUT" {
-        copy(only_of(&place.inputs))
+        Ok(means_if(only_of(place.inputs)))
     } else if name == "OUTPUT" {
-        copy(only_of(&place.outputs))
+        Ok(means_if(only_of(place.outputs)))
     } else {
         place_name(alloc, place, name)
     }
 }
 
-fn other_name(alloc: Global, scope: Scope, place: &Place, name: &str) -> Result<Meaning, AllocError>
+fn other_name<'p>(
+    alloc: Global,
+    scope: Scope,
+    place: &Place<'p>,
+    name: &str,
+) -> Result<Meaning<'p>, AllocError>
     ensures { IfOk result (λ m. meaning_view m ≡ other_name scope (place_view place.now) name.now) }
 {
     match scope {
@@ -191,37 +209,37 @@ fn other_name(alloc: Global, scope: Scope, place: &Place, name: &str) -> Result<
     }
 }
 
-fn plain_name_of(alloc: Global, inputs: &[String]) -> Result<Meaning, AllocError>
-    ensures { IfOk result (λ m. meaning_view m ≡ means_if (option_map plain_of (only_of (texts inputs.now)))) }
+fn plain_name_of(inputs: &[String]) -> Meaning<'_>
+    ensures { meaning_view result ≡ means_if (option_map plain_of (only_of (texts inputs.now))) }
 {
     match inputs {
-        [input] => Ok(Meaning::Means(String::from_str(alloc, plain_name(input))?)),
-        _ => Ok(Meaning::Refused),
+        [input] => Meaning::Lent(plain_name(input)),
+        _ => Meaning::Refused,
     }
 }
 
-fn base_name_of(alloc: Global, inputs: &[String]) -> Result<Meaning, AllocError>
+fn base_name_of(alloc: Global, inputs: &[String]) -> Result<Meaning<'_>, AllocError>
     ensures { IfOk result (λ m. meaning_view m ≡ means_if (option_map base_of (only_of (texts inputs.now)))) }
 {
     match inputs {
-        [input] => Ok(Meaning::Means(base_name(alloc, input)?)),
+        [input] => Ok(Meaning::Made(base_name(alloc, input)?)),
         _ => Ok(Meaning::Refused),
     }
 }
 
 /// What the name between two `@` stands for.
-pub fn meaning_of(
+pub fn meaning_of<'p>(
     alloc: Global,
     scope: Scope,
-    place: &Place,
+    place: &Place<'p>,
     name: &str,
-) -> Result<Meaning, AllocError>
+) -> Result<Meaning<'p>, AllocError>
     ensures { IfOk result (λ m. meaning_view m ≡ meaning scope (place_view place.now) name.now) }
 {
     if name == "PLAINNAME" {
-        plain_name_of(alloc, &place.inputs)
+        Ok(plain_name_of(place.inputs))
     } else if name == "BASENAME" {
-        base_name_of(alloc, &place.inputs)
+        base_name_of(alloc, place.inputs)
     } else {
         other_name(alloc, scope, place, name)
     }

@@ -25,4 +25,4 @@ pub use sources::{NamedSource, sources_of};
 pub use unnamed::{unnamed_folder, unnamed_source};
 pub use values::{directories_at, files_at};
 pub use versions::is_library_version;
-pub use words::words_of;
+pub use words::push_words;

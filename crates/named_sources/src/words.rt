@@ -1,5 +1,5 @@
 //! Words of a command.
-ghost use Rattle.std.specs.Prelude.{◌≡◌, IfOk, option_map, string_bytes};
+ghost use Rattle.std.specs.Prelude.{◌≡◌, ◌++◌, IfOk, None, Some, option_map, string_bytes, if◌then◌else◌};
 ghost use Rattle.edge.specs.Texts.{texts};
 ghost use Rattle.named_sources.specs.Holes.{some_of, one_word, words_of, filled as filled_of};
 ghost use Rattle.named_sources.specs.declared.holes.Scope.TheVariants.{Command};
@@ -7,49 +7,65 @@ ghost use Rattle.named_sources.specs.HolesView.{place_view};
 
 use crate::filling::filled;
 use crate::holes::{Place, Scope};
-use edge::copies;
+use edge::push_copies;
 use std::alloc::{AllocError, Global};
 
-// All of the paths, where there are some.
-fn some_of(alloc: Global, paths: &[String]) -> Result<Option<Vec<String>>, AllocError>
-    ensures { IfOk result (λ r. option_map (λ v. texts v.items) r ≡ some_of (texts paths.now)) }
+// Appends all of the paths, where there are some.
+fn push_some(words: &mut Vec<String>, paths: &[String]) -> Result<bool, AllocError>
+    ensures { IfOk result (λ done. (if done then Some (texts words.new.items) else None)
+        ≡ option_map (λ ws. texts words.old.items ++ ws) (some_of (texts paths.now))) }
 {
     match paths {
-        [] => Ok(None),
-        [_, ..] => Ok(Some(copies(alloc, paths)?)),
-    }
-}
-
-fn one_word(alloc: Global, text: Option<String>) -> Result<Option<Vec<String>>, AllocError>
-    ensures { IfOk result (λ r. option_map (λ v. texts v.items) r ≡ one_word (option_map string_bytes text)) }
-{
-    match text {
-        None => Ok(None),
-        Some(text) => {
-            let mut words = Vec::new(alloc);
-            words.push(text)?;
-            Ok(Some(words))
+        [] => Ok(false),
+        [_, ..] => {
+            push_copies(words, paths)?;
+            Ok(true)
         }
     }
 }
 
-fn filled_word(alloc: Global, place: &Place, text: &str) -> Result<Option<Vec<String>>, AllocError>
-    ensures { IfOk result (λ r. option_map (λ v. texts v.items) r ≡ one_word (filled_of Command (place_view place.now) text.now)) }
+fn push_word(words: &mut Vec<String>, word: Option<String>) -> Result<bool, AllocError>
+    ensures { IfOk result (λ done. (if done then Some (texts words.new.items) else None)
+        ≡ option_map (λ ws. texts words.old.items ++ ws) (one_word (option_map string_bytes word))) }
 {
-    let word = filled(alloc, Scope::Command, place, text)?;
-    one_word(alloc, word)
+    match word {
+        None => Ok(false),
+        Some(word) => {
+            words.push(word)?;
+            Ok(true)
+        }
+    }
 }
 
-/// The words of a text of the command: all inputs or outputs where it is `@INPUT@` or `@OUTPUT@` alone, else itself with the values of
-/// its placeholders; or none where a placeholder stands for nothing here (E9).
-pub fn words_of(alloc: Global, place: &Place, text: &str) -> Result<Option<Vec<String>>, AllocError>
-    ensures { IfOk result (λ r. option_map (λ v. texts v.items) r ≡ words_of (place_view place.now) text.now) }
+fn push_filled(
+    words: &mut Vec<String>,
+    alloc: Global,
+    place: &Place<'_>,
+    text: &str,
+) -> Result<bool, AllocError>
+    ensures { IfOk result (λ done. (if done then Some (texts words.new.items) else None)
+        ≡ option_map (λ ws. texts words.old.items ++ ws) (one_word (filled_of Command (place_view place.now) text.now))) }
+{
+    let word = filled(alloc, Scope::Command, place, text)?;
+    push_word(words, word)
+}
+
+/// Appends the words of a text of the command: all inputs or outputs where it is `@INPUT@` or `@OUTPUT@` alone, else itself with the values
+/// of its placeholders. Answers whether each placeholder stands for something here; else the call is refused (E9).
+pub fn push_words(
+    words: &mut Vec<String>,
+    alloc: Global,
+    place: &Place<'_>,
+    text: &str,
+) -> Result<bool, AllocError>
+    ensures { IfOk result (λ done. (if done then Some (texts words.new.items) else None)
+        ≡ option_map (λ ws. texts words.old.items ++ ws) (words_of (place_view place.now) text.now)) }
 {
     if text == "@INPUT@" {
-        some_of(alloc, &place.inputs)
+        push_some(words, place.inputs)
     } else if text == "@OUTPUT@" {
-        some_of(alloc, &place.outputs)
+        push_some(words, place.outputs)
     } else {
-        filled_word(alloc, place, text)
+        push_filled(words, alloc, place, text)
     }
 }

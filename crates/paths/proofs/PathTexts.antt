@@ -91,7 +91,7 @@ named_cons [] h = absurd (omega (arith, h))
 named_cons (part ∷ folder) h = refl
 
 -- the path of a folder's parts
-named_parts : (parts : List (List ℕ)) → 0 < length parts → named (Some (reverse parts)) ≡ Some (join_with_byte 47 parts)
+pub named_parts : (parts : List (List ℕ)) → 0 < length parts → named (Some (reverse parts)) ≡ Some (join_with_byte 47 parts)
 named_parts parts h = named_cons (reverse parts) (omega (arith, length-reverse parts)) ∙ ap (λ l. Some (join_with_byte 47 l)) (reverse-reverse parts)
 
 some_of : (n : ℕ) → false ≡ (n == 0) → 0 < n

@@ -1,6 +1,7 @@
 //! The paths that texts of a definition file name.
-ghost use Rattle.std.specs.Prelude.{◌≡◌, ◌++◌, IfOk, map, None, Some, option_map, option_copied, string_bytes, codes, [], if◌then◌else◌};
-ghost use Rattle.std.specs.List.{join_with_byte};
+ghost use Rattle.std.specs.Prelude.{◌≡◌, ◌++◌, IfOk, map, None, Some, option_map, option_copied, string_bytes, codes, [], if◌then◌else◌, not, ◌||◌};
+ghost use Rattle.std.specs.List.{join_with_byte, list_all};
+ghost use Rattle.std.specs.Str.{bytes_eq};
 ghost use Rattle.paths.specs.Folder.{folder_of, strings_of};
 ghost use Rattle.paths.specs.Paths.{follow_part, follow_parts, folder_below, folder_named, folder_path, folder_paths, from_root, is_below, leads_down, named};
 ghost use Rattle.paths.specs.Paths.{parts_of, path_in, paths_behind, rest_after, tree_path, tree_paths};
@@ -14,6 +15,18 @@ fn below_root<'a>(source_root: &str, text: &'a str) -> Option<&'a str>
     text.strip_prefix(source_root)?.strip_prefix("/")
 }
 
+// A folder and a name with a slash between them.
+fn below(alloc: Global, folder: &str, name: &str) -> Result<String, AllocError>
+    ensures { IfOk result (λ path. string_bytes path ≡ folder.now ++ (codes "/" ++ name.now)) }
+{
+    let room = folder.len().saturating_add(name.len()).saturating_add(1);
+    let mut path = String::with_capacity(alloc, room)?;
+    path.push_str(folder)?;
+    path.push_str("/")?;
+    path.push_str(name)?;
+    Ok(path)
+}
+
 /// The path of a name in a folder, whose path is empty where it is the root.
 pub fn path_in(alloc: Global, folder: &str, name: &str) -> Result<String, AllocError>
     ensures { IfOk result (λ path. string_bytes path ≡ path_in folder.now name.now) }
@@ -21,7 +34,7 @@ pub fn path_in(alloc: Global, folder: &str, name: &str) -> Result<String, AllocE
     if folder == "" {
         String::from_str(alloc, name)
     } else {
-        format!(in alloc; "{folder}/{name}")
+        below(alloc, folder, name)
     }
 }
 
@@ -106,6 +119,32 @@ fn cleaned_name(alloc: Global, text: &str) -> Result<Option<String>, AllocError>
     }
 }
 
+// Whether a part of a path stays in it as it is.
+fn stays(part: &str) -> bool
+    ensures { result ≡ not (bytes_eq part.now [] || (bytes_eq part.now (codes ".") || bytes_eq part.now (codes ".."))) }
+{
+    !(part == "" || (part == "." || part == ".."))
+}
+
+// Whether all parts of a text stay, so that it is the path that it names.
+fn is_path(text: &str) -> bool
+    ensures { result ≡ list_all (λ part. not (bytes_eq part [] || (bytes_eq part (codes ".") || bytes_eq part (codes ".."))))
+        (parts_of text.now) }
+{
+    text.split('/').all(|part| stays(part))
+}
+
+// The path of what a text names, none where that is the root, where the text is relative to the root.
+fn named_path(alloc: Global, text: String) -> Result<Option<String>, AllocError>
+    ensures { IfOk result (λ path. option_map string_bytes path ≡ named (follow_parts [] (parts_of (string_bytes text)))) }
+{
+    if is_path(text.as_str()) {
+        Ok(Some(text))
+    } else {
+        cleaned_name(alloc, text.as_str())
+    }
+}
+
 /// The path of the folder that a text names in a definition file of a folder, the root's being empty, with slashes between its parts
 /// and without `.` and `..`. None where the text is an absolute path that is not below the source root or leads above the root.
 pub fn folder_path(
@@ -159,7 +198,7 @@ pub fn tree_path(
     ensures { IfOk result (λ path. option_map string_bytes path ≡ tree_path source_root.now folder.now text.now) }
 {
     match from_root(alloc, source_root, folder, text)? {
-        Some(text) => cleaned_name(alloc, text.as_str()),
+        Some(text) => named_path(alloc, text),
         None => Ok(None),
     }
 }

@@ -1,14 +1,14 @@
 -- A custom target as the arguments of a call say it.
-use Rattle.std.specs.Prelude.{ℕ, nat_lt, max, Bool, false, not, ◌&&◌, ◌||◌, ◌==◌, List, [], ◌∷◌, ◌++◌, length, map, flat_map, codes}
+use Rattle.std.specs.Prelude.{ℕ, nat_lt, max, Bool, false, not, ◌&&◌, ◌||◌, ◌==◌, List, [], ◌++◌, length, map, flat_map, codes}
 use Rattle.std.specs.Prelude.{bytes_eq, Option, Some, None, is_some, option_map, if◌then◌else◌}
 use Rattle.arguments.specs.Arguments.{ArgumentsData}
 use Rattle.arguments.specs.Given.{flag, text_at, text_given, texts}
 use Rattle.arguments.specs.Leaves.{leaves_named}
 use Rattle.arguments.specs.Maybe.{◌>>=◌}
 use Rattle.data.specs.Data.{Data}
-use Rattle.edge.specs.Paths.{source_path, source_root}
+use Rattle.edge.specs.Paths.{source_root}
 use Rattle.edge.specs.Texts.{Path, Text}
-use Rattle.named_sources.specs.Holes.{PlaceData, filled, first_of}
+use Rattle.named_sources.specs.Holes.{PlaceData, build_folder, source_folder, filled, first_of}
 use Rattle.named_sources.specs.declared.holes.Scope.TheVariants.{FileName}
 use Rattle.targets.specs.Data.{Custom, CustomData, SourceData}
 use Rattle.targets.specs.Files.{path_in}
@@ -71,14 +71,6 @@ sources_by here a name = do
   sources_in here.earlier named
 
 -- ---- names
-
-abbrev pub build_folder : Path → Path
-build_folder [] = codes "."
-build_folder (b ∷ bs) = b ∷ bs
-
-abbrev pub source_folder : ℕ → Path → Path
-source_folder depth [] = source_root depth
-source_folder depth (b ∷ bs) = source_path depth (b ∷ bs)
 
 -- what the placeholders of the call are seen from
 abbrev pub place_with : HereData → (inputs outputs : List Path) → (depfile : Option Path) → PlaceData

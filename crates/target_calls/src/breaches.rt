@@ -88,7 +88,8 @@ fn name_breach(
         ≡ input_breach (here_view here.now) (arguments_data arguments.now) (Some (map source_view inputs.now))) }
 {
     let paths = source_paths(here.alloc, here.depth, inputs)?;
-    let place = place_with(here, &paths, Vec::new(here.alloc), None)?;
+    let folder = String::from_str(here.alloc, here.folder)?;
+    let place = place_with(&folder, here.depth, &paths, &[], None);
     match names_of(here.alloc, &place, arguments)? {
         None => Ok((Rule::HasMeaning, "output")),
         Some(_) => Ok((Rule::HasMeaning, "command")),

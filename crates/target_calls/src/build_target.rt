@@ -155,11 +155,12 @@ fn declared_from(
     here: &Here<'_>,
     kind: Kind,
     arguments: &Arguments,
-    named: &[NamedSource],
+    named: Vec<NamedSource>,
 ) -> Result<Option<NamedTarget>, AllocError>
     ensures { IfOk result (λ d. option_map named_target_view d
-        ≡ declared_from (here_view here.now) kind (arguments_data arguments.now) (map named_view named.now)) }
+        ≡ declared_from (here_view here.now) kind (arguments_data arguments.now) (map named_view named.items)) }
 {
+    let files = files_among(here.alloc, &named)?;
     let Some(sources) = sources_in(here.alloc, here.earlier, named)? else {
         return Ok(None);
     };
@@ -171,7 +172,6 @@ fn declared_from(
         return Ok(None);
     };
     let target = build_target(here, kind, arguments, own, dependencies)?;
-    let files = files_among(here.alloc, named)?;
     Ok(Some(NamedTarget {
         target: Target::Build(target),
         files,
@@ -194,5 +194,5 @@ pub fn declared(
     let Some(named) = named_sources(here, arguments)? else {
         return Ok(None);
     };
-    declared_from(here, kind, arguments, &named)
+    declared_from(here, kind, arguments, named)
 }

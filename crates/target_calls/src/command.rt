@@ -1,5 +1,5 @@
 //! The command of a custom target.
-ghost use Rattle.std.specs.Prelude.{◌≡◌, IfOk, map, option_map, string_bytes};
+ghost use Rattle.std.specs.Prelude.{◌≡◌, ◌∷◌, [], IfOk, None, Some, map, option_map, string_bytes, if◌then◌else◌};
 ghost use Rattle.data.specs.View.{data_of};
 ghost use Rattle.edge.specs.Texts.{texts};
 ghost use Rattle.named_sources.specs.HolesView.{place_view};
@@ -13,8 +13,8 @@ ghost use Rattle.target_calls.specs.HereView.{here_view};
 use crate::here::Here;
 use crate::sources::{made_of, one_made_of};
 use data::{Object, Program, Value};
-use edge::{copies, source_path};
-use named_sources::{Place, output_at, outputs_at, strings, words_of};
+use edge::{push_copies, source_path};
+use named_sources::{Place, output_at, outputs_at, push_words, strings};
 use project::has_slash;
 use std::alloc::{AllocError, Global};
 use targets::{BuildTarget, Kind, Source, build_target_at, file_path};
@@ -26,39 +26,51 @@ pub struct Part {
     pub needs: Vec<Source>,
 }
 
-fn words_alone(alloc: Global, words: Vec<String>) -> Part
-    ensures { part_view result ≡ words_alone (texts words.items) }
+// Appends a path, and what has to be there for it.
+fn push_path(whole: &mut Part, path: String, need: Source) -> Result<(), AllocError>
+    ensures { IfOk result (λ _. part_view whole.new ≡ joined (part_view whole.old) (one_path (string_bytes path) (source_view need))) }
 {
-    Part {
-        words,
-        needs: Vec::new(alloc),
-    }
+    whole.words.push(path)?;
+    whole.needs.push(need)?;
+    Ok(())
 }
 
-fn one_path(alloc: Global, path: String, need: Source) -> Result<Part, AllocError>
-    ensures { IfOk result (λ p. part_view p ≡ one_path (string_bytes path) (source_view need)) }
+// Appends words for which nothing has to be there.
+fn push_alone(whole: &mut Part, mut words: Vec<String>) -> Result<(), AllocError>
+    ensures { IfOk result (λ _. part_view whole.new ≡ joined (part_view whole.old) (words_alone (texts words.items))) }
 {
-    let mut words = Vec::new(alloc);
-    words.push(path)?;
-    let mut needs = Vec::new(alloc);
-    needs.push(need)?;
-    Ok(Part { words, needs })
+    whole.words.append(&mut words)?;
+    Ok(())
 }
 
-// A program that was not found can't stand in a command.
-fn of_program(alloc: Global, depth: usize, program: &Program) -> Result<Option<Part>, AllocError>
-    ensures { IfOk result (λ p. option_map part_view p ≡ of_program depth program.now) }
+fn push_word(whole: &mut Part, word: String) -> Result<(), AllocError>
+    ensures { IfOk result (λ _. part_view whole.new ≡ joined (part_view whole.old) (words_alone (string_bytes word ∷ []))) }
+{
+    whole.words.push(word)?;
+    Ok(())
+}
+
+// Appends a program. One that was not found can't stand in a command.
+fn push_program(
+    whole: &mut Part,
+    alloc: Global,
+    depth: usize,
+    program: &Program,
+) -> Result<bool, AllocError>
+    ensures { IfOk result (λ done. (if done then Some (part_view whole.new) else None)
+        ≡ option_map (joined (part_view whole.old)) (of_program depth program.now)) }
 {
     match program {
-        Program::NotFound => Ok(None),
+        Program::NotFound => Ok(false),
         Program::Words(words) => {
             let words = strings(alloc, words.as_slice())?;
-            Ok(Some(words_alone(alloc, words)))
+            push_alone(whole, words)?;
+            Ok(true)
         }
         Program::File(path) => {
-            let mut words = Vec::new(alloc);
-            words.push(source_path(alloc, depth, path.as_str())?)?;
-            Ok(Some(words_alone(alloc, words)))
+            let word = source_path(alloc, depth, path.as_str())?;
+            push_word(whole, word)?;
+            Ok(true)
         }
     }
 }
@@ -84,125 +96,154 @@ fn called(alloc: Global, target: &BuildTarget) -> Result<String, AllocError>
     }
 }
 
-fn of_build_target(alloc: Global, target: &BuildTarget) -> Result<Part, AllocError>
-    ensures { IfOk result (λ p. part_view p ≡ of_build_target (build_view target.now)) }
+fn push_build_target(
+    whole: &mut Part,
+    alloc: Global,
+    target: &BuildTarget,
+) -> Result<(), AllocError>
+    ensures { IfOk result (λ _. part_view whole.new ≡ joined (part_view whole.old) (of_build_target (build_view target.now))) }
 {
     let word = called(alloc, target)?;
     let path = file_path(alloc, target)?;
-    let need = one_made_of(alloc, &path)?;
-    one_path(alloc, word, need)
-}
-
-fn of_outputs(alloc: Global, paths: &[String]) -> Result<Part, AllocError>
-    ensures { IfOk result (λ p. part_view p ≡ of_outputs (texts paths.now)) }
-{
-    let mut needs = Vec::new(alloc);
-    needs.push(made_of(alloc, paths)?)?;
-    Ok(Part {
-        words: copies(alloc, paths)?,
-        needs,
-    })
-}
-
-fn of_output(alloc: Global, path: &str) -> Result<Part, AllocError>
-    ensures { IfOk result (λ p. part_view p ≡ of_output path.now) }
-{
     let need = one_made_of(alloc, path)?;
-    one_path(alloc, String::from_str(alloc, path)?, need)
+    push_path(whole, word, need)
 }
 
-fn of_file(alloc: Global, depth: usize, path: &str, is_built: bool) -> Result<Part, AllocError>
-    ensures { IfOk result (λ p. part_view p ≡ of_file depth path.now is_built) }
+fn push_outputs(whole: &mut Part, alloc: Global, paths: &[String]) -> Result<(), AllocError>
+    ensures { IfOk result (λ _. part_view whole.new ≡ joined (part_view whole.old) (of_outputs (texts paths.now))) }
+{
+    let need = made_of(alloc, paths)?;
+    whole.needs.push(need)?;
+    push_copies(&mut whole.words, paths)
+}
+
+fn push_output(whole: &mut Part, alloc: Global, path: &str) -> Result<(), AllocError>
+    ensures { IfOk result (λ _. part_view whole.new ≡ joined (part_view whole.old) (of_output path.now)) }
+{
+    let own = String::from_str(alloc, path)?;
+    let need = one_made_of(alloc, own)?;
+    push_path(whole, String::from_str(alloc, path)?, need)
+}
+
+fn push_file(
+    whole: &mut Part,
+    alloc: Global,
+    depth: usize,
+    path: &str,
+    is_built: bool,
+) -> Result<(), AllocError>
+    ensures { IfOk result (λ _. part_view whole.new ≡ joined (part_view whole.old) (of_file depth path.now is_built)) }
 {
     let own = String::from_str(alloc, path)?;
     if is_built {
         let word = String::from_str(alloc, path)?;
-        one_path(alloc, word, Source::Built(own))
+        push_path(whole, word, Source::Built(own))
     } else {
         let word = source_path(alloc, depth, path)?;
-        one_path(alloc, word, Source::Tree(own))
+        push_path(whole, word, Source::Tree(own))
     }
 }
 
-fn build_target_named(here: &Here<'_>, number: usize) -> Result<Option<Part>, AllocError>
-    ensures { IfOk result (λ p. option_map part_view p ≡ build_target_at (here_view here.now) number) }
+fn push_build_target_at(
+    whole: &mut Part,
+    here: &Here<'_>,
+    number: usize,
+) -> Result<bool, AllocError>
+    ensures { IfOk result (λ done. (if done then Some (part_view whole.new) else None)
+        ≡ option_map (joined (part_view whole.old)) (build_target_at (here_view here.now) number)) }
 {
     match build_target_at(here.earlier, number) {
-        Some(target) => Ok(Some(of_build_target(here.alloc, target)?)),
-        None => Ok(None),
+        Some(target) => {
+            push_build_target(whole, here.alloc, target)?;
+            Ok(true)
+        }
+        None => Ok(false),
     }
 }
 
-fn outputs_named(here: &Here<'_>, number: usize) -> Result<Option<Part>, AllocError>
-    ensures { IfOk result (λ p. option_map part_view p ≡ outputs_named (here_view here.now) number) }
+fn push_outputs_at(whole: &mut Part, here: &Here<'_>, number: usize) -> Result<bool, AllocError>
+    ensures { IfOk result (λ done. (if done then Some (part_view whole.new) else None)
+        ≡ option_map (joined (part_view whole.old)) (outputs_named (here_view here.now) number)) }
 {
     match outputs_at(here.earlier, number) {
-        Some(paths) => Ok(Some(of_outputs(here.alloc, paths)?)),
-        None => Ok(None),
+        Some(paths) => {
+            push_outputs(whole, here.alloc, paths)?;
+            Ok(true)
+        }
+        None => Ok(false),
     }
 }
 
-fn output_named(here: &Here<'_>, number: usize, place: usize) -> Result<Option<Part>, AllocError>
-    ensures { IfOk result (λ p. option_map part_view p ≡ output_named (here_view here.now) number place) }
+fn push_output_at(
+    whole: &mut Part,
+    here: &Here<'_>,
+    number: usize,
+    place: usize,
+) -> Result<bool, AllocError>
+    ensures { IfOk result (λ done. (if done then Some (part_view whole.new) else None)
+        ≡ option_map (joined (part_view whole.old)) (output_named (here_view here.now) number place)) }
 {
     match output_at(here.earlier, number, place) {
-        Some(path) => Ok(Some(of_output(here.alloc, path)?)),
-        None => Ok(None),
+        Some(path) => {
+            push_output(whole, here.alloc, path)?;
+            Ok(true)
+        }
+        None => Ok(false),
     }
 }
 
-// What an object is in a command, or none where it can't stand there.
-fn of_object(here: &Here<'_>, object: &Object) -> Result<Option<Part>, AllocError>
-    ensures { IfOk result (λ p. option_map part_view p ≡ of_object (here_view here.now) object.now) }
+// Appends what an object is in a command, or answers that it can't stand there.
+fn push_object(whole: &mut Part, here: &Here<'_>, object: &Object) -> Result<bool, AllocError>
+    ensures { IfOk result (λ done. (if done then Some (part_view whole.new) else None)
+        ≡ option_map (joined (part_view whole.old)) (of_object (here_view here.now) object.now)) }
 {
     match object {
-        Object::Program(program) => of_program(here.alloc, here.depth, program),
+        Object::Program(program) => push_program(whole, here.alloc, here.depth, program),
         Object::File { path, is_built } => {
-            let part = of_file(here.alloc, here.depth, path.as_str(), *is_built)?;
-            Ok(Some(part))
+            push_file(whole, here.alloc, here.depth, path.as_str(), *is_built)?;
+            Ok(true)
         }
-        Object::BuildTarget(number) => build_target_named(here, *number),
-        Object::CustomTarget { number, .. } => outputs_named(here, *number),
-        Object::CustomOutput { target, output } => output_named(here, *target, *output),
-        _ => Ok(None),
+        Object::BuildTarget(number) => push_build_target_at(whole, here, *number),
+        Object::CustomTarget { number, .. } => push_outputs_at(whole, here, *number),
+        Object::CustomOutput { target, output } => push_output_at(whole, here, *target, *output),
+        _ => Ok(false),
     }
 }
 
-fn of_text(alloc: Global, place: &Place, text: &str) -> Result<Option<Part>, AllocError>
-    ensures { IfOk result (λ p. option_map part_view p ≡ of_text (place_view place.now) text.now) }
+fn push_text(
+    whole: &mut Part,
+    alloc: Global,
+    place: &Place<'_>,
+    text: &str,
+) -> Result<bool, AllocError>
+    ensures { IfOk result (λ done. (if done then Some (part_view whole.new) else None)
+        ≡ option_map (joined (part_view whole.old)) (of_text (place_view place.now) text.now)) }
 {
-    match words_of(alloc, place, text)? {
-        Some(words) => Ok(Some(words_alone(alloc, words))),
-        None => Ok(None),
-    }
+    push_words(&mut whole.words, alloc, place, text)
 }
 
-// A part of the command: a text with placeholders, or an object.
-fn part_of(here: &Here<'_>, place: &Place, value: &Value) -> Result<Option<Part>, AllocError>
-    ensures { IfOk result (λ p. option_map part_view p
-        ≡ part_of (here_view here.now) (place_view place.now) (data_of value.now)) }
+// Appends a part of the command: a text with placeholders, or an object.
+fn push_part(
+    whole: &mut Part,
+    here: &Here<'_>,
+    place: &Place<'_>,
+    value: &Value,
+) -> Result<bool, AllocError>
+    ensures { IfOk result (λ done. (if done then Some (part_view whole.new) else None)
+        ≡ option_map (joined (part_view whole.old)) (part_of (here_view here.now) (place_view place.now) (data_of value.now))) }
 {
     match value {
-        Value::Text(text) => of_text(here.alloc, place, text.as_str()),
-        Value::Object(object) => of_object(here, object),
-        _ => Ok(None),
+        Value::Text(text) => push_text(whole, here.alloc, place, text.as_str()),
+        Value::Object(object) => push_object(whole, here, object),
+        _ => Ok(false),
     }
-}
-
-// Puts a part behind others.
-fn join(whole: &mut Part, mut part: Part) -> Result<(), AllocError>
-    ensures { IfOk result (λ _. part_view whole.new ≡ joined (part_view whole.old) (part_view part)) }
-{
-    whole.words.append(&mut part.words)?;
-    whole.needs.append(&mut part.needs)?;
-    Ok(())
 }
 
 /// The command that values say, their lists opened; or none where a placeholder stands for nothing, or something can't stand in a
 /// command.
 pub fn command_of(
     here: &Here<'_>,
-    place: &Place,
+    place: &Place<'_>,
     values: &[&Value],
 ) -> Result<Option<Part>, AllocError>
     ensures { IfOk result (λ p. option_map part_view p
@@ -213,9 +254,8 @@ pub fn command_of(
         needs: Vec::new(here.alloc),
     };
     for value in values {
-        match part_of(here, place, value)? {
-            Some(part) => join(&mut whole, part)?,
-            None => return Ok(None),
+        if !push_part(&mut whole, here, place, value)? {
+            return Ok(None);
         }
     }
     Ok(Some(whole))

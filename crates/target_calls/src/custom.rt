@@ -1,18 +1,20 @@
 //! A custom target as the arguments of a call say it.
 ghost use Rattle.std.specs.Prelude.{◌≡◌, ◌++◌, IfOk, flat_map, map, option_map, string_bytes};
 ghost use Rattle.arguments.specs.Arguments.{arguments_data, named_data};
+ghost use Rattle.arguments.specs.Given.{texts as texts_given};
 ghost use Rattle.data.specs.View.{data_of};
 ghost use Rattle.edge.specs.Texts.{texts};
-ghost use Rattle.named_sources.specs.Holes.{first_of};
+ghost use Rattle.edge.specs.Paths.{source_root};
+ghost use Rattle.named_sources.specs.Holes.{build_folder, source_folder, first_of};
 ghost use Rattle.named_sources.specs.HolesView.{place_view};
 ghost use Rattle.targets.specs.Files.{path_in as path_of_file};
 ghost use Rattle.targets.specs.View.{custom_view, source_view};
 ghost use Rattle.named_sources.specs.SourcesView.{named_view};
 ghost use Rattle.target_calls.specs.BuildTargetsView.{named_target_view};
 ghost use Rattle.target_calls.specs.CommandsView.{part_view};
-ghost use Rattle.target_calls.specs.CustomTargets.{build_folder, call_fits, captures_one, count_named, custom_from, custom_target};
+ghost use Rattle.target_calls.specs.CustomTargets.{call_fits, captures_one, count_named, custom_from, custom_target};
 ghost use Rattle.target_calls.specs.CustomTargets.{declared_custom, declared_files, has_place, is_made, is_source_keyword, longest};
-ghost use Rattle.target_calls.specs.CustomTargets.{names_in, names_of, place_of, place_with, source_folder, sources_by, whole_command};
+ghost use Rattle.target_calls.specs.CustomTargets.{names_in, names_of, sources_by, whole_command};
 ghost use Rattle.target_calls.specs.CustomTargets.{written, written_files, written_in};
 ghost use Rattle.target_calls.specs.CustomTargetsView.{names_view};
 ghost use Rattle.target_calls.specs.HereView.{here_view};
@@ -22,8 +24,7 @@ use crate::command::{Part, command_of};
 use crate::here::Here;
 use crate::sources::{files_among, sources_in};
 use arguments::{Arguments, Named};
-use data::{Value, opened, opened_count};
-use edge::{copies, source_path, source_root};
+use data::{Value, flat, opened, opened_count};
 use named_sources::{Place, Scope, filled, sources_of};
 use std::alloc::{AllocError, Global};
 use targets::{CustomTarget, Source, Target, path_in, source_paths};
@@ -94,6 +95,18 @@ fn is_source_keyword(name: &str) -> bool
     name == "input" || name == "depend_files"
 }
 
+fn push_values<'v>(values: &mut Vec<&'v Value>, mut more: Vec<&'v Value>) -> Result<(), AllocError>
+    ensures { IfOk result (λ _. map (λ v. data_of v.now) values.new.items
+        ≡ map (λ v. data_of v.now) values.old.items ++ map (λ v. data_of v.now) more.entry.items) }
+{
+    if values.is_empty() {
+        *values = more;
+        Ok(())
+    } else {
+        values.append(&mut more)
+    }
+}
+
 fn push_written<'v>(
     values: &mut Vec<&'v Value>,
     alloc: Global,
@@ -103,8 +116,8 @@ fn push_written<'v>(
         ≡ map (λ v. data_of v.now) values.old.items ++ written_in (named_data named.now)) }
 {
     if is_source_keyword(named.name.as_str()) {
-        let mut more = opened(alloc, &named.value)?;
-        values.append(&mut more)?;
+        let more = opened(alloc, &named.value)?;
+        push_values(values, more)?;
     }
     Ok(())
 }
@@ -145,61 +158,47 @@ pub(crate) fn sources_by(
 {
     let values = arguments.leaves(here.alloc, name)?;
     match sources_of(here.alloc, here.source_root, here.folder, &values)? {
-        Some(named) => sources_in(here.alloc, here.earlier, &named),
+        Some(named) => sources_in(here.alloc, here.earlier, named),
         None => Ok(None),
     }
 }
 
 // ---- names
 
-fn build_folder(alloc: Global, folder: &str) -> Result<String, AllocError>
-    ensures { IfOk result (λ s. string_bytes s ≡ build_folder folder.now) }
+/// What the placeholders of a call are seen from that stands in this folder.
+pub(crate) fn place_with<'p>(
+    folder: &'p str,
+    depth: usize,
+    inputs: &'p [String],
+    outputs: &'p [String],
+    depfile: Option<&'p str>,
+) -> Place<'p>
+    ensures { place_view result ≡ record {
+      inputs = texts inputs.now;
+      outputs = texts outputs.now;
+      depfile = option_map (λ d. d.now) depfile.entry;
+      build_folder = build_folder folder.now;
+      source_folder = source_folder depth folder.now;
+      source_root = source_root depth;
+    } }
 {
-    if folder.is_empty() {
-        String::from_str(alloc, ".")
-    } else {
-        String::from_str(alloc, folder)
-    }
-}
-
-fn source_folder(alloc: Global, depth: usize, folder: &str) -> Result<String, AllocError>
-    ensures { IfOk result (λ s. string_bytes s ≡ source_folder depth folder.now) }
-{
-    if folder.is_empty() {
-        source_root(alloc, depth)
-    } else {
-        source_path(alloc, depth, folder)
-    }
-}
-
-/// What the placeholders of the call are seen from.
-pub(crate) fn place_with(
-    here: &Here<'_>,
-    inputs: &[String],
-    outputs: Vec<String>,
-    depfile: Option<String>,
-) -> Result<Place, AllocError>
-    ensures { IfOk result (λ p. place_view p
-        ≡ place_with (here_view here.now) (texts inputs.now) (texts outputs.items) (option_map string_bytes depfile)) }
-{
-    Ok(Place {
-        inputs: copies(here.alloc, inputs)?,
+    Place {
+        inputs,
         outputs,
         depfile,
-        build_folder: build_folder(here.alloc, here.folder)?,
-        source_folder: source_folder(here.alloc, here.depth, here.folder)?,
-        source_root: source_root(here.alloc, here.depth)?,
-    })
+        folder,
+        depth,
+    }
 }
 
 // Names of files, their placeholders replaced.
 fn names_in(
     alloc: Global,
-    place: &Place,
-    texts: &[String],
+    place: &Place<'_>,
+    texts: &[&str],
 ) -> Result<Option<Vec<String>>, AllocError>
     ensures { IfOk result (λ ns. option_map (λ v. map string_bytes v.items) ns
-        ≡ names_in (place_view place.now) (map string_bytes texts.now)) }
+        ≡ names_in (place_view place.now) (map (λ t. t.now) texts.now)) }
 {
     let mut names = Vec::new(alloc);
     for text in texts {
@@ -211,32 +210,43 @@ fn names_in(
     Ok(Some(names))
 }
 
-fn first_of(names: &[String]) -> Result<Option<String>, AllocError>
-    ensures { IfOk result (λ n. option_map string_bytes n ≡ first_of (texts names.now)) }
+fn first_of(names: Vec<String>) -> Option<String>
+    ensures { option_map string_bytes result ≡ first_of (texts names.items) }
 {
-    match names {
-        [] => Ok(None),
-        [name, ..] => Ok(Some(name.clone()?)),
+    names.into_iter().next()
+}
+
+// The texts of a keyword.
+fn texts_given<'a>(
+    alloc: Global,
+    arguments: &'a Arguments,
+    name: &str,
+) -> Result<Vec<&'a str>, AllocError>
+    ensures { IfOk result (λ v. map (λ t. t.now) v.items ≡ texts_given name.now (arguments_data arguments.now)) }
+{
+    match arguments.keyword(name) {
+        Some(value) => flat(alloc, value),
+        None => Ok(Vec::new(alloc)),
     }
 }
 
 /// The outputs and the depfile, which see the inputs alone.
 pub(crate) fn names_of(
     alloc: Global,
-    place: &Place,
+    place: &Place<'_>,
     arguments: &Arguments,
 ) -> Result<Option<Names>, AllocError>
     ensures { IfOk result (λ n. option_map names_view n ≡ names_of (place_view place.now) (arguments_data arguments.now)) }
 {
-    let outputs = arguments.texts(alloc, "output")?;
+    let outputs = texts_given(alloc, arguments, "output")?;
     let Some(outputs) = names_in(alloc, place, &outputs)? else {
         return Ok(None);
     };
-    let depfile = arguments.texts(alloc, "depfile")?;
+    let depfile = texts_given(alloc, arguments, "depfile")?;
     let Some(depfile) = names_in(alloc, place, &depfile)? else {
         return Ok(None);
     };
-    let depfile = first_of(&depfile)?;
+    let depfile = first_of(depfile);
     Ok(Some(Names { outputs, depfile }))
 }
 
@@ -260,12 +270,26 @@ fn path_of(alloc: Global, folder: &str, name: &Option<String>) -> Result<Option<
     }
 }
 
-fn place_of(here: &Here<'_>, inputs: &[String], names: &Names) -> Result<Place, AllocError>
-    ensures { IfOk result (λ p. place_view p ≡ place_of (here_view here.now) (texts inputs.now) (names_view names.now)) }
+// The files of these names, by their paths.
+fn files_of(here: &Here<'_>, names: &Names) -> Result<Names, AllocError>
+    ensures { let folder = here.now.folder.now in
+        IfOk result (λ files. names_view files ≡ record {
+          outputs = map (path_of_file folder) (names_view names.now).outputs;
+          depfile = option_map (path_of_file folder) (names_view names.now).depfile;
+        }) }
 {
     let outputs = paths_in(here.alloc, here.folder, &names.outputs)?;
     let depfile = path_of(here.alloc, here.folder, &names.depfile)?;
-    place_with(here, inputs, outputs, depfile)
+    Ok(Names { outputs, depfile })
+}
+
+fn lent(path: &Option<String>) -> Option<&str>
+    ensures { option_map (λ p. p.now) result ≡ option_map string_bytes path.now }
+{
+    match path {
+        Some(path) => Some(path.as_str()),
+        None => None,
+    }
 }
 
 // ---- the target
@@ -300,7 +324,7 @@ fn custom_target(
 fn whole_command(
     here: &Here<'_>,
     arguments: &Arguments,
-    place: &Place,
+    place: &Place<'_>,
 ) -> Result<Option<Part>, AllocError>
     ensures { IfOk result (λ p. option_map part_view p
         ≡ whole_command (here_view here.now) (arguments_data arguments.now) (place_view place.now)) }
@@ -330,11 +354,14 @@ fn custom_from(
         ≡ custom_from (here_view here.now) (arguments_data arguments.now) (map source_view inputs.items)) }
 {
     let paths = source_paths(here.alloc, here.depth, &inputs)?;
-    let from_inputs = place_with(here, &paths, Vec::new(here.alloc), None)?;
+    let folder = String::from_str(here.alloc, here.folder)?;
+    let from_inputs = place_with(&folder, here.depth, &paths, &[], None);
     let Some(names) = names_of(here.alloc, &from_inputs, arguments)? else {
         return Ok(None);
     };
-    let place = place_of(here, &paths, &names)?;
+    let files = files_of(here, &names)?;
+    let depfile = lent(&files.depfile);
+    let place = place_with(&folder, here.depth, &paths, &files.outputs, depfile);
     let Some(command) = whole_command(here, arguments, &place)? else {
         return Ok(None);
     };

@@ -12,7 +12,7 @@ ghost use Rattle.target_calls.specs.InstallsView.{folders_view};
 
 use crate::installs::{Folders, folders_in};
 use arguments::Arguments;
-use edge::copies;
+use edge::{copies, is_some_list};
 use operators::path_below;
 use ports::{Outputs, Tree};
 use project::Install;
@@ -97,9 +97,13 @@ pub fn add_custom<T: Tree, O: Outputs>(
     ensures { Carries (λ n. n) (add_custom (arguments_data arguments.now) (target_view target))
         (state_of T.seen O.seen caller.old) result (state_of T.seen O.seen caller.new) }
 {
+    let names = installed_names(caller.alloc, &target)?;
+    if !is_some_list(&names) {
+        let alone = caller.add_target(target)?;
+        return Ok(alone);
+    }
     let folders = folders_in(caller);
     let way = way_of(&folders, arguments)?;
-    let names = installed_names(caller.alloc, &target)?;
     let number = caller.add_target(target)?;
     note_all(caller, &way, &names)?;
     Ok(number)

@@ -51,7 +51,7 @@ fn lists_of(
     ensures { IfOk result (λ l. option_map lists_view l ≡ lists_of (linked_views earlier.now) dependency.now) }
 {
     let named = all_named(alloc, dependency.sources.as_slice())?;
-    let Some(sources) = sources_in(alloc, earlier, &named)? else {
+    let Some(sources) = sources_in(alloc, earlier, named)? else {
         return Ok(None);
     };
     let mut link_with = Vec::new(alloc);

@@ -23,11 +23,11 @@ pub fn made_of(alloc: Global, paths: &[String]) -> Result<Source, AllocError>
 }
 
 /// One output of a target.
-pub fn one_made_of(alloc: Global, path: &str) -> Result<Source, AllocError>
-    ensures { IfOk result (λ s. source_view s ≡ one_made path.now) }
+pub fn one_made_of(alloc: Global, path: String) -> Result<Source, AllocError>
+    ensures { IfOk result (λ s. source_view s ≡ one_made (string_bytes path)) }
 {
-    let mut paths = Vec::new(alloc);
-    paths.push(String::from_str(alloc, path)?)?;
+    let mut paths = Vec::with_capacity(alloc, 1)?;
+    paths.push(path)?;
     Ok(Source::Made(Rc::new(alloc, paths)?))
 }
 
@@ -50,7 +50,10 @@ fn one_made(
         ≡ option_map one_made (output_at (linked_views earlier.now) number place)) }
 {
     match output_at(earlier, number, place) {
-        Some(output) => Ok(Some(one_made_of(alloc, output)?)),
+        Some(output) => {
+            let path = String::from_str(alloc, output)?;
+            Ok(Some(one_made_of(alloc, path)?))
+        }
         None => Ok(None),
     }
 }
@@ -58,17 +61,17 @@ fn one_made(
 fn source_in(
     alloc: Global,
     earlier: &[Linked],
-    named: &NamedSource,
+    named: NamedSource,
 ) -> Result<Option<Source>, AllocError>
-    ensures { IfOk result (λ s. option_map source_view s ≡ source_in (linked_views earlier.now) (named_view named.now)) }
+    ensures { IfOk result (λ s. option_map source_view s ≡ source_in (linked_views earlier.now) (named_view named)) }
 {
     match named {
-        NamedSource::Tree(path) => Ok(Some(Source::Tree(path.clone()?))),
+        NamedSource::Tree(path) => Ok(Some(Source::Tree(path))),
         NamedSource::Built(path) => {
             Ok(Some(Source::Built(String::from_str(alloc, path.as_str())?)))
         }
-        NamedSource::Outputs(number) => all_made(alloc, earlier, *number),
-        NamedSource::Output { target, place } => one_made(alloc, earlier, *target, *place),
+        NamedSource::Outputs(number) => all_made(alloc, earlier, number),
+        NamedSource::Output { target, place } => one_made(alloc, earlier, target, place),
     }
 }
 
@@ -76,10 +79,10 @@ fn source_in(
 pub fn sources_in(
     alloc: Global,
     earlier: &[Linked],
-    named: &[NamedSource],
+    named: Vec<NamedSource>,
 ) -> Result<Option<Vec<Source>>, AllocError>
     ensures { IfOk result (λ ss. option_map (λ v. map source_view v.items) ss
-        ≡ sources_in (linked_views earlier.now) (map named_view named.now)) }
+        ≡ sources_in (linked_views earlier.now) (map named_view named.items)) }
 {
     let mut sources = Vec::new(alloc);
     for one in named {

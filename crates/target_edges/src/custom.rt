@@ -38,10 +38,14 @@ fn redirect(captures: bool, outputs: &[String]) -> Result<Option<String>, AllocE
     }
 }
 
+// The bytes that there is room for before a path is named: those of most descriptions.
+const ROOM: usize = 64;
+
 fn description(alloc: Global, paths: &[String]) -> Result<String, AllocError>
     ensures { IfOk result (λ s. string_bytes s ≡ codes "Generating" ++ flat_map and_path (texts paths.now)) }
 {
-    let mut text = String::from_str(alloc, "Generating")?;
+    let mut text = String::with_capacity(alloc, ROOM)?;
+    text.push_str("Generating")?;
     for path in paths {
         text.push_str(" ")?;
         text.push_str(path)?;

@@ -28,6 +28,29 @@ loop-i-preserved-in-Stays c =
           ∙ c.loop-i.invariant.filled;
     }
 
+pub loop-i-preserved-in-Lent : goal.loop-i-preserved-in-Lent
+loop-i-preserved-in-Lent c =
+    let xs = c.args.parts.now in
+    let i = c.loop-i.i in
+    let d : Bor (List ℕ) = record { ref_ptr = (0, 0); now = [] } in
+    let m = meaning c.args.scope (place_view c.args.place.now) in
+    let made = string_bytes c.loop-i.made in
+    let new = string_bytes c.push_str-in-Lent-2.new.self in
+    let name = (get_or xs i d).now in
+    let text = (get_or xs (i + 1) d).now in
+    let value = c.in-Lent.value.now in
+    let others = now_of (drop (i + 2) xs) in
+    let apart = c.if-i-parts.false in
+    let more : i + 1 < length xs = omega (arith, c.loop-i-test.true) in
+    record {
+      within = omega arith;
+      filled =
+          means_step m made new name text others value (sym c.in_ok-meaning_of.ensures ∙ ap meaning_view c.in-Lent.is)
+          (c.in_ok-push_str-in-Lent-2.ensures.bytes ∙ ap (λ x. x ++ text) (c.in_ok-push_str-in-Lent.ensures.bytes))
+          ∙ ap (λ l. behind_text made (filled_behind m l)) (sym (two_at xs i d more))
+          ∙ c.loop-i.invariant.filled;
+    }
+
 pub loop-i-preserved : goal.loop-i-preserved
 loop-i-preserved c =
     let xs = c.args.parts.now in
@@ -35,18 +58,18 @@ loop-i-preserved c =
     let d : Bor (List ℕ) = record { ref_ptr = (0, 0); now = [] } in
     let m = meaning c.args.scope (place_view c.args.place.now) in
     let made = string_bytes c.loop-i.made in
-    let new = string_bytes c.push_str-in-Means-2.new.self in
+    let new = string_bytes c.push_str-in-Made-2.new.self in
     let name = (get_or xs i d).now in
     let text = (get_or xs (i + 1) d).now in
-    let value = string_bytes c.in-Means.value in
+    let value = string_bytes c.in-Made.value in
     let others = now_of (drop (i + 2) xs) in
     let apart = c.if-i-parts.false in
     let more : i + 1 < length xs = omega (arith, c.loop-i-test.true) in
     record {
       within = omega arith;
       filled =
-          means_step m made new name text others value (sym c.in_ok-meaning_of.ensures ∙ ap meaning_view c.in-Means.is)
-          (c.in_ok-push_str-in-Means-2.ensures.bytes ∙ ap (λ x. x ++ text) (c.in_ok-push_str-in-Means.ensures.bytes ∙ ap (λ v. made ++ v) c.deref.ensures))
+          means_step m made new name text others value (sym c.in_ok-meaning_of.ensures ∙ ap meaning_view c.in-Made.is)
+          (c.in_ok-push_str-in-Made-2.ensures.bytes ∙ ap (λ x. x ++ text) (c.in_ok-push_str-in-Made.ensures.bytes ∙ ap (λ v. made ++ v) c.deref.ensures))
           ∙ ap (λ l. behind_text made (filled_behind m l)) (sym (two_at xs i d more))
           ∙ c.loop-i.invariant.filled;
     }

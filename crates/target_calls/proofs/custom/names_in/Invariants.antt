@@ -8,5 +8,5 @@ use Rattle.target_calls.proofs.custom.names_in.Given as goal
 -- the names so far and the texts that are left decide
 abbrev pub invariant-loop-text : goal.invariant-loop-text
 invariant-loop-text l =
-    each_behind (filled FileName (place_view l.place)) (map string_bytes l.names.items) (map string_bytes (drop l.text-index l.texts))
-    ≡ each_behind (filled FileName (place_view l.place)) [] (map string_bytes l.texts)
+    each_behind (filled FileName (place_view l.place)) (map string_bytes l.names.items) (map (λ t. t.now) (drop l.text-index l.texts))
+    ≡ each_behind (filled FileName (place_view l.place)) [] (map (λ t. t.now) l.texts)

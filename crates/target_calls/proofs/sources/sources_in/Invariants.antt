@@ -1,4 +1,5 @@
-use Rattle.std.proofs.Common.{◌≡◌, [], map, drop}
+use Rattle.std.proofs.Common.{◌≡◌, [], map}
+use Rattle.std.specs.Vec.Iter.{into_iter_items}
 use Rattle.targets.specs.LinkedViews.{linked_views}
 use Rattle.targets.specs.View.{source_view}
 use Rattle.named_sources.specs.SourcesView.{named_view}
@@ -9,5 +10,5 @@ use Rattle.target_calls.proofs.sources.sources_in.Given as goal
 -- the sources so far and the names that are left decide
 abbrev pub invariant-loop-one : goal.invariant-loop-one
 invariant-loop-one l =
-    each_behind (source_in (linked_views l.earlier)) (map source_view l.sources.items) (map named_view (drop l.one-index l.named))
-    ≡ each_behind (source_in (linked_views l.earlier)) [] (map named_view l.named)
+    each_behind (source_in (linked_views l.earlier)) (map source_view l.sources.items) (map named_view (into_iter_items l.one-iterator))
+    ≡ each_behind (source_in (linked_views l.earlier)) [] (map named_view l.fn.named.items)
