@@ -99,10 +99,18 @@ impl Text {
             return Ok(Err(Refusal::Limit));
         }
         let Text { mut kept } = self;
-        if let Kept::Long(string) = &mut kept {
-            if let Some(own) = Rc::get_mut(string) {
-                own.push_str(piece)?;
-                return Ok(Ok(Text { kept }));
+        match &mut kept {
+            Kept::Short(short) => {
+                if short.as_str().len() + piece.len() <= SHORT_BYTES {
+                    short.push(piece);
+                    return Ok(Ok(Text { kept }));
+                }
+            }
+            Kept::Long(string) => {
+                if let Some(own) = Rc::get_mut(string) {
+                    own.push_str(piece)?;
+                    return Ok(Ok(Text { kept }));
+                }
             }
         }
         let text = Text { kept };
