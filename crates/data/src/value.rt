@@ -111,6 +111,7 @@ impl Clone for Value {
 
     ghost is_clone = { λ v w. data_of w ≡ data_of v };
 
+    #[inline(always)]
     fn clone(&self) -> Result<Value, AllocError> {
         match self {
             Value::Boolean(boolean) => Ok(Value::Boolean(*boolean)),
@@ -215,6 +216,7 @@ impl Value {
     }
 
     /// The value of a copy of a text, or `Refusal::Limit` where it is longer than 16,777,216 bytes.
+    #[inline(always)]
     pub fn of_str(alloc: Global, bytes: &str) -> Result<Result<Value, Refusal>, AllocError>
         ensures { IfOk result (λ r. Answers (within_limits (text bytes.now)) r) }
     {
