@@ -8,7 +8,7 @@ ghost use Rattle.code.specs.Literals.{is_format, is_number, is_plain, kind_of, m
 use data::Text;
 use grammar::tree::Literal;
 use lexer::token::Kind;
-use lexer::{magnitude, text_of_slice};
+use lexer::{magnitude, text_in_slice, text_of_slice};
 use std::alloc::{AllocError, Global};
 use std::snapshot::Snapshot;
 
@@ -70,8 +70,12 @@ fn small_number(text: &str) -> Option<u64>
 fn decoded(alloc: Global, literal: Literal, text: &str) -> Result<Option<Box<Text>>, AllocError>
     ensures { IfOk result (λ o. ForSome o (λ t. t.value ≡ text_of (kind_of literal) text.now)) }
 {
-    let string = text_of_slice(alloc, kind_of(literal), text)?;
-    match Text::new(alloc, string)? {
+    let kind = kind_of(literal);
+    let made = match text_in_slice(kind, text) {
+        Some(piece) => Text::of_str(alloc, piece)?,
+        None => Text::new(alloc, text_of_slice(alloc, kind, text)?)?,
+    };
+    match made {
         Ok(text) => Ok(Some(Box::new(alloc, text)?)),
         Err(_) => Ok(None),
     }

@@ -25,6 +25,7 @@ impl Model for Short {
 }
 
 impl Short {
+    #[inline(always)]
     pub(crate) fn new() -> Short
         ensures { length result ≡ 0 }
     {
@@ -35,6 +36,7 @@ impl Short {
     }
 
     /// Puts a piece behind the text.
+    #[inline(always)]
     pub(crate) fn push(&mut self, piece: &str)
         requires { length self.old + length piece.now ≤ 22 }
         ensures { self.new ≡ self.old ++ piece.now }
@@ -53,6 +55,7 @@ impl Short {
     }
 
     /// The same text.
+    #[inline(always)]
     pub(crate) fn copy(&self) -> Short
         ensures { result ≡ self.now }
     {

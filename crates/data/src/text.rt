@@ -59,6 +59,7 @@ impl Text {
     }
 
     /// The text of a copy of some bytes, or `Refusal::Limit` where they are too many.
+    #[inline(always)]
     pub fn of_str(alloc: Global, bytes: &str) -> Result<Result<Text, Refusal>, AllocError>
         ensures { IfOk result (λ r. r ≡ within_bytes bytes.now) }
     {
@@ -68,6 +69,7 @@ impl Text {
         Text::new(alloc, String::from_str(alloc, bytes)?)
     }
 
+    #[inline(always)]
     fn short(bytes: &str) -> Text
         requires { length bytes.now ≤ 22 }
         ensures { result ≡ bytes.now }
@@ -99,10 +101,18 @@ impl Text {
             return Ok(Err(Refusal::Limit));
         }
         let Text { mut kept } = self;
-        if let Kept::Long(string) = &mut kept {
-            if let Some(own) = Rc::get_mut(string) {
-                own.push_str(piece)?;
-                return Ok(Ok(Text { kept }));
+        match &mut kept {
+            Kept::Short(short) => {
+                if short.as_str().len() + piece.len() <= SHORT_BYTES {
+                    short.push(piece);
+                    return Ok(Ok(Text { kept }));
+                }
+            }
+            Kept::Long(string) => {
+                if let Some(own) = Rc::get_mut(string) {
+                    own.push_str(piece)?;
+                    return Ok(Ok(Text { kept }));
+                }
             }
         }
         let text = Text { kept };
@@ -119,6 +129,7 @@ impl Clone for Text {
 
     ghost is_clone = { λ t u. u ≡ t };
 
+    #[inline(always)]
     fn clone(&self) -> Result<Text, AllocError> {
         let kept = match &self.kept {
             Kept::Short(short) => Kept::Short(short.copy()),

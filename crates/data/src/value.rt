@@ -1,8 +1,8 @@
 //! Values, lists and dictionaries.
 
 ghost use Rattle.std.specs.Prelude.{◌≡◌, ◌<◌, ◌≤◌, ◌+◌, ◌*◌, ◌||◌, length, OnOk, OnErr, IfOk, IsTrue, ◌==◌};
-ghost use Rattle.std.specs.Prelude.{option_map, string_bytes, slice_get, Some, Ok, Err, if◌then◌else◌};
-ghost use Rattle.data.specs.Data.{no_items, item, items_append, count, no_entries, entry_count, entry_values, AreDistinct, keys_in, find};
+ghost use Rattle.std.specs.Prelude.{option_map, string_bytes, slice_get, Some, Ok, Err, MatchResult, if◌then◌else◌};
+ghost use Rattle.data.specs.Data.{merged, no_items, item, items_append, count, no_entries, entry_count, entry_values, AreDistinct, keys_in, find};
 ghost use Rattle.data.specs.Data.{boolean_in, integer_in, text_in, items_in, entries_in, object_in, is_disabler, has_disabler, have_disabler};
 ghost use Rattle.data.specs.Data.{text, list as list_data, dictionary as dictionary_data, object as object_data};
 ghost use Rattle.data.specs.declared.refusal.Refusal.TheVariants as refusal;
@@ -21,6 +21,7 @@ use basics::tables::{SipSet, new_set};
 pub use builder::DictionaryBuilder;
 use std::alloc::{AllocError, Global};
 use std::marker::Model;
+use std::mem;
 use std::rc::Rc;
 
 /// A value.
@@ -110,6 +111,7 @@ impl Clone for Value {
 
     ghost is_clone = { λ v w. data_of w ≡ data_of v };
 
+    #[inline(always)]
     fn clone(&self) -> Result<Value, AllocError> {
         match self {
             Value::Boolean(boolean) => Ok(Value::Boolean(*boolean)),
@@ -214,6 +216,7 @@ impl Value {
     }
 
     /// The value of a copy of a text, or `Refusal::Limit` where it is longer than 16,777,216 bytes.
+    #[inline(always)]
     pub fn of_str(alloc: Global, bytes: &str) -> Result<Result<Value, Refusal>, AllocError>
         ensures { IfOk result (λ r. Answers (within_limits (text bytes.now)) r) }
     {
@@ -423,6 +426,28 @@ impl Dictionary {
             values: Vec::new(alloc),
             weight: 0,
             depth: 0,
+        }
+    }
+
+    /// Puts the entries of another dictionary to it, or answers `Refusal::Limit` where it becomes too large; then it is lost.
+    pub fn merge(
+        &mut self,
+        alloc: Global,
+        others: &Dictionary,
+    ) -> Result<Result<(), Refusal>, AllocError>
+        ensures { IfOk result (λ r. MatchResult r
+            (λ _. within_limits (dictionary_data (merged self.old others.now)) ≡ Ok (dictionary_data self.new))
+            (λ e. within_limits (dictionary_data (merged self.old others.now)) ≡ Err e)) }
+    {
+        let old = mem::replace(self, Dictionary::new(alloc));
+        let mut builder = DictionaryBuilder::of_dictionary(old);
+        builder.put_all(others)?;
+        match builder.finish() {
+            Ok(dictionary) => {
+                *self = dictionary;
+                Ok(Ok(()))
+            }
+            Err(refusal) => Ok(Err(refusal)),
         }
     }
 

@@ -11,11 +11,11 @@ ghost use Rattle.expressions.specs.Forms.{at_place, filled, format_string, is_pl
 
 use crate::context::Context;
 use basics::faults::Refusal;
-use data::{Value, append};
+use data::{Text, Value, append};
 use lexer::text_of_slice;
 use lexer::token::Kind;
 use ports::{Outputs, Tree};
-use printing::printed;
+use printing::printed_text;
 use std::alloc::{AllocError, Global};
 use std::sync::ledger::Ledger;
 use texts::{Places, Segment, segments};
@@ -75,23 +75,23 @@ impl<'a, T: Tree, O: Outputs, L: Ledger> Context<'a, T, O, L> {
     ghost use Rattle.expressions.specs.Contexts.{Answers};
 
     // What a value is printed as that may stand in an f-string.
-    fn printed_plain(&self, line: usize, value: &Value) -> Result<String, Stop>
-        ensures gives { Answers T.seen O.seen string_bytes (printed_plain line (is_plain (data_of value.now)) (data_of value.now))
+    fn printed_plain(&self, line: usize, value: &Value) -> Result<Text, Stop>
+        ensures gives { Answers T.seen O.seen (λ t. t) (printed_plain line (is_plain (data_of value.now)) (data_of value.now))
             self.now result self.now }
         ensures quiet { (n : ℕ) → failures_after n result ≡ n }
     {
         if !is_plain(value) {
             return self.refuse(line, Refusal::Type, "");
         }
-        match printed(self.alloc, value)? {
+        match printed_text(self.alloc, value)? {
             Ok(text) => Ok(text),
             Err(refusal) => self.refuse(line, of_operation(refusal), ""),
         }
     }
 
     // What the variable of a place is printed as.
-    fn at_place(&self, line: usize, name: &str) -> Result<String, Stop>
-        ensures gives { Answers T.seen O.seen string_bytes (at_place line name.now) self.now result self.now }
+    fn at_place(&self, line: usize, name: &str) -> Result<Text, Stop>
+        ensures gives { Answers T.seen O.seen (λ t. t) (at_place line name.now) self.now result self.now }
         ensures quiet { (n : ℕ) → failures_after n result ≡ n }
     {
         let value = self.named(line, name)?;

@@ -1,5 +1,8 @@
 -- How far the parts of nodes reach: a number above those of all parts. Evaluation goes down by it.
-use Rattle.std.specs.Prelude.{ℕ, suc, max, List, [], ◌∷◌}
+use Rattle.std.specs.Prelude.{ℕ, suc, max, Bool, true, false, List, [], ◌∷◌, slice_index_or}
+use Rattle.code.specs.declared.code.Code.{Code}
+use Rattle.code.specs.declared.node.Node.{Node}
+use Rattle.code.specs.declared.node.Node.TheVariants as nodes
 use Rattle.code.specs.declared.node.EntryNode.{EntryNode}
 use Rattle.code.specs.declared.node.ArgumentNode.{ArgumentNode}
 use Rattle.code.specs.declared.node.OperandNode.{OperandNode}
@@ -25,3 +28,20 @@ above_operand o = suc o.value
 abbrev pub above_link : LinkNode → ℕ
 above_link (Method name items) = above above_argument items.items
 above_link (Index i) = suc i
+
+-- ---- nodes that have parts
+
+abbrev pub has_parts : Node → Bool
+has_parts (nodes.Name number line) = false
+has_parts (nodes.Literal literal line) = false
+has_parts (nodes.List items line) = true
+has_parts (nodes.Dictionary entries line) = true
+has_parts (nodes.Call call line) = true
+has_parts (nodes.Postfix first links line) = true
+has_parts (nodes.Prefix prefix value line) = true
+has_parts (nodes.Chain first others line) = true
+has_parts (nodes.Ternary test one other line) = true
+
+-- the node with this number has parts; there is always one
+abbrev pub has_parts_at : Code → ℕ → Bool
+has_parts_at c i = has_parts (slice_index_or c.nodes.items i (nodes.Name 0 0))

@@ -1,12 +1,12 @@
 //! Expressions: one function for each form of node.
-ghost use Rattle.std.specs.Prelude.{◌<◌, ◌≤◌, ◌+◌, ℕ, suc, max, Some, length, map, option_map};
+ghost use Rattle.std.specs.Prelude.{◌≡◌, ◌<◌, ◌≤◌, ◌+◌, ℕ, suc, max, Some, true, length, map, option_map};
 ghost use Rattle.grammar.specs.ExpressionTree.{ListTree, DictionaryTree, FunctionTree, ChainTree, TernaryTree, expressions, entries as entry_trees, arguments as argument_trees, links as link_trees, operands as operand_trees};
 ghost use Rattle.code.specs.Nodes.{tree_at, entry_at, argument_at, operand_at, link_at};
 ghost use Rattle.data.specs.View.{data_of};
 ghost use Rattle.arguments.specs.Arguments.{arguments_data, no_arguments};
 ghost use Rattle.world.specs.Plan.{next, ruled};
 ghost use Rattle.interp.specs.Expressions.{value_of, arguments_of, link_of, links_of};
-ghost use Rattle.interp.specs.Parts.{above, above_number, above_entry, above_argument, above_operand, above_link};
+ghost use Rattle.interp.specs.Parts.{above, above_number, above_entry, above_argument, above_operand, above_link, has_parts_at};
 
 use crate::evaluator::Evaluator;
 use crate::halt::{Halt, ended_inside};
@@ -38,9 +38,10 @@ impl<'a, T: Tree, O: Outputs, L: Ledger> Evaluator<'a, T, O, L> {
         answer
     }
 
-    /// The same, before its rule has ended. What a call answers is taken apart here, and not handed on as it is: so the answer of each form
-    /// is put together from registers.
+    /// The same, before its rule has ended. Most nodes are names and literals, and these are told where they are asked for: a function that
+    /// knows all forms makes places for the answers of all.
     #[cycle(eval)]
+    #[inline(always)]
     pub fn form(&mut self, code: &Code, node: usize) -> Result<Value, Halt>
         requires here { node < length code.now.nodes.items }
         requires room { HasRoom T.seen O.seen self.old.context }
@@ -52,11 +53,32 @@ impl<'a, T: Tree, O: Outputs, L: Ledger> Evaluator<'a, T, O, L> {
         match &code.nodes[node] {
             Node::Name { number, line } => Ok(self.context.variable(*number, *line)?),
             Node::Literal { literal, line } => Ok(self.context.literal(*line, literal)?),
+            _ => Ok(self.compound(code, node)?),
+        }
+    }
+
+    // The same of a node that has parts. What a call answers is taken apart here, and not handed on as it is: so the answer of each form is
+    // put together from registers.
+    #[cycle(eval)]
+    #[inline(never)]
+    fn compound(&mut self, code: &Code, node: usize) -> Result<Value, Halt>
+        requires here { node < length code.now.nodes.items }
+        requires parts { has_parts_at code.now node ≡ true }
+        requires room { HasRoom T.seen O.seen self.old.context }
+        ensures same { Same self.old.context self.new.context }
+        ensures device { FailsInside T.seen O.seen self.old.context result self.new.context }
+        ensures gives { Evaluates T.seen O.seen data_of (λ into ts. value_of into (tree_at ts node))
+            code.now self.old.context result self.new.context }
+    {
+        match &code.nodes[node] {
+            Node::Name { .. } | Node::Literal { .. } => unreachable!(),
             Node::List { items, line } => Ok(self.list(code, items, *line)?),
             Node::Dictionary { entries, line } => Ok(self.dictionary(code, entries, *line)?),
             Node::Call { call, line } => {
                 let call: &CallNode = call;
-                Ok(self.call(code, &call.name, &call.arguments, *line)?)
+                let function = self.context.function_inside(*line, &call.name)?;
+                let arguments = self.arguments(code, &call.arguments)?;
+                Ok(self.called_inside(*line, function, &arguments)?)
             }
             Node::Postfix { first, links, line } => {
                 let given = self.asked(code, *first as usize, links, *line)?;
@@ -121,28 +143,6 @@ impl<'a, T: Tree, O: Outputs, L: Ledger> Evaluator<'a, T, O, L> {
             pairs.push((key, value))?;
         }
         Ok(self.context.paired(line, pairs)?)
-    }
-
-    // `name(argument, name: argument)`, which has to give a value.
-    #[cycle(eval)]
-    #[inline(never)]
-    fn call(
-        &mut self,
-        code: &Code,
-        name: &str,
-        arguments: &[ArgumentNode],
-        line: usize,
-    ) -> Result<Value, Halt>
-        requires here { above above_argument arguments.now ≤ length code.now.nodes.items }
-        requires room { HasRoom T.seen O.seen self.old.context }
-        ensures same { Same self.old.context self.new.context }
-        ensures device { FailsInside T.seen O.seen self.old.context result self.new.context }
-        ensures gives { Evaluates T.seen O.seen data_of (λ into ts. value_of into (FunctionTree name.now (argument_trees
-            (map (argument_at ts) arguments.now)) line)) code.now self.old.context result self.new.context }
-    {
-        let function = self.context.function_inside(line, name)?;
-        let arguments = self.arguments(code, arguments)?;
-        self.called_inside(line, function, &arguments)
     }
 
     /// The values of these arguments, in order.

@@ -6,7 +6,7 @@ use Rattle.std.specs.List.{list_all}
 use Rattle.std.specs.Str.{IsUtf8, IsCharBoundary}
 use Rattle.std.proofs.lemmas.Bool.{eqb-true, eq-eqb}
 use Rattle.std.proofs.lemmas.Bool.Decides.{nat_tests}
-use Rattle.std.proofs.lemmas.List.{take-append-drop, append-nil}
+use Rattle.std.proofs.lemmas.List.{take-append-drop, append-nil, take_all, drop_all}
 use Rattle.std.proofs.lemmas.Str.{IsCharBoundary-after_ascii, IsCharBoundary-before_ascii, IsCharBoundary-end, IsCharBoundary-start}
 use Rattle.lexer.specs.Bytes.{backslash}
 use Rattle.lexer.specs.Escapes.{digit_count, control, hexadecimal, octal, sized, named, escape_at, is_character}
@@ -195,6 +195,12 @@ still_end text whole rest plain marked n still size plain_is marked_is none =
     empty : (s : List ℕ) → length s ≡ 0 → s ≡ []
     empty [] e = refl
     empty (b ∷ s) e = absurd (omega arith)
+
+-- a text without a backslash stands for itself
+pub plain_whole : (text : List ℕ) → run is_no_backslash text ≡ length text → text ≡ unescaped text
+plain_whole text all =
+    still_end text [] text text [] (length text) (still_first text) (sym all) (sym (take_all (length text) text (omega arith)))
+    (sym (drop_all (length text) text (omega arith))) refl
 
 pub still_more : (text whole rest plain marked behind after : List ℕ) (c size n : ℕ) → StillUnescapes text whole rest → n ≡ run is_no_backslash rest → plain ≡ take n rest → marked ≡ drop n rest → (length marked ≡ 0 → ⊥)
     → behind ≡ drop 1 marked → (c, size) ≡ escaped_by behind → after ≡ drop size behind → StillUnescapes text ((whole ++ plain) ++ encode_utf8 c) after

@@ -37,4 +37,4 @@ pub use bytes::newlines;
 pub use cut::tokens;
 pub use law::{texts_are_lexed, tokens_stand_for_texts};
 pub use numeral::magnitude;
-pub use text::{text_of, text_of_slice};
+pub use text::{text_in_slice, text_of, text_of_slice};

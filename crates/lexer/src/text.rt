@@ -1,6 +1,6 @@
 //! What tokens stand for.
 
-ghost use Rattle.std.specs.Prelude.{◌≡◌, ℕ, ◌<◌, List, IfOk, string_bytes};
+ghost use Rattle.std.specs.Prelude.{◌≡◌, ℕ, ◌<◌, List, IfOk, IfSome, string_bytes};
 ghost use Rattle.lexer.specs.Lexing.{run};
 ghost use Rattle.lexer.specs.Texts.{escaped_by, is_no_backslash, unescaped, is_framed, between, text_of, TokenStandsFor};
 ghost use Rattle.lexer.specs.Tokens.{IsToken};
@@ -95,6 +95,31 @@ fn stood_for(alloc: Global, kind: Kind, text: &str) -> Result<String, AllocError
         Kind::RawString => String::from_str(alloc, between(text, 3, 3)),
         Kind::RawFormatString => String::from_str(alloc, between(text, 4, 3)),
         _ => String::from_str(alloc, text),
+    }
+}
+
+// The characters between quotes, where they stand for themselves.
+fn without_escapes(text: &str) -> Option<&str>
+    ensures { IfSome result (λ t. t.now ≡ unescaped text.now) }
+{
+    if plain_length(text.as_bytes()) == text.len() {
+        Some(text)
+    } else {
+        None
+    }
+}
+
+/// The part of its slice that a token of this kind stands for, as [`text_of_slice`] gives it; none where a backslash stands in a string
+/// that is not raw.
+pub fn text_in_slice(kind: Kind, slice: &str) -> Option<&str>
+    ensures { IfSome result (λ t. t.now ≡ text_of kind slice.now) }
+{
+    match kind {
+        Kind::String => without_escapes(between(slice, 1, 1)),
+        Kind::FormatString => without_escapes(between(slice, 2, 1)),
+        Kind::RawString => Some(between(slice, 3, 3)),
+        Kind::RawFormatString => Some(between(slice, 4, 3)),
+        _ => Some(slice),
     }
 }
 

@@ -53,15 +53,19 @@ pub fn append(
 /// The entries of one dictionary with those of another.
 pub fn merge(
     alloc: Global,
-    dictionary: Rc<Dictionary>,
+    mut dictionary: Rc<Dictionary>,
     others: &Dictionary,
 ) -> Result<Result<Value, Refusal>, AllocError>
     ensures { IfOk result (λ r. Answers (within (dictionary_data (merged dictionary.value others.now))) r) }
 {
-    let mut builder = match Rc::try_unwrap(dictionary) {
-        Ok(dictionary) => DictionaryBuilder::of_dictionary(dictionary),
-        Err(shared) => DictionaryBuilder::copy_of(alloc, &shared)?,
-    };
+    if let Some(own) = Rc::get_mut(&mut dictionary) {
+        let answer = own.merge(alloc, others)?;
+        return match answer {
+            Ok(()) => Ok(Ok(Value::Dictionary(dictionary))),
+            Err(refusal) => Ok(Err(refusal)),
+        };
+    }
+    let mut builder = DictionaryBuilder::copy_of(alloc, &dictionary)?;
     builder.put_all(others)?;
     match builder.finish() {
         Ok(dictionary) => Ok(Ok(Value::of_dictionary(alloc, dictionary)?)),

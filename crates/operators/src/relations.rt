@@ -1,8 +1,9 @@
 //! Equality and order.
 
-ghost use Rattle.std.specs.Prelude.{◌≡◌, not, option_map};
+ghost use Rattle.std.specs.Prelude.{◌≡◌, false, not, option_map};
 ghost use Rattle.std.specs.Ordering.{is_lt, is_le, is_gt, is_ge};
 ghost use Rattle.data.specs.View.{data_of};
+ghost use Rattle.operators.specs.Operations.{are_integers};
 ghost use Rattle.operators.specs.Types.{is_one_kind, is_one_type};
 ghost use Rattle.operators.specs.Rows.{equality as equality_row, order as order_row};
 
@@ -27,40 +28,44 @@ pub fn inequality(left: &Value, right: &Value) -> Option<bool>
     Some(!equality(left, right)?)
 }
 
-/// Whether an integer or a text is below another.
+/// Whether a text is below another.
 pub fn is_less(left: &Value, right: &Value) -> Option<bool>
+    requires { are_integers (data_of left.now) (data_of right.now) ≡ false }
     ensures { result ≡ option_map is_lt (order_row (data_of left.now) (data_of right.now)) }
 {
     Some(order(left, right)?.is_lt())
 }
 
-/// Whether an integer or a text is not above another.
+/// Whether a text is not above another.
 pub fn is_less_or_equal(left: &Value, right: &Value) -> Option<bool>
+    requires { are_integers (data_of left.now) (data_of right.now) ≡ false }
     ensures { result ≡ option_map is_le (order_row (data_of left.now) (data_of right.now)) }
 {
     Some(order(left, right)?.is_le())
 }
 
-/// Whether an integer or a text is above another.
+/// Whether a text is above another.
 pub fn is_greater(left: &Value, right: &Value) -> Option<bool>
+    requires { are_integers (data_of left.now) (data_of right.now) ≡ false }
     ensures { result ≡ option_map is_gt (order_row (data_of left.now) (data_of right.now)) }
 {
     Some(order(left, right)?.is_gt())
 }
 
-/// Whether an integer or a text is not below another.
+/// Whether a text is not below another.
 pub fn is_greater_or_equal(left: &Value, right: &Value) -> Option<bool>
+    requires { are_integers (data_of left.now) (data_of right.now) ≡ false }
     ensures { result ≡ option_map is_ge (order_row (data_of left.now) (data_of right.now)) }
 {
     Some(order(left, right)?.is_ge())
 }
 
-// How two integers are ordered by size, and two texts by bytes.
+// How two texts are ordered, by their bytes. Two integers are told before.
 fn order(left: &Value, right: &Value) -> Option<Ordering>
+    requires { are_integers (data_of left.now) (data_of right.now) ≡ false }
     ensures { result ≡ order_row (data_of left.now) (data_of right.now) }
 {
     match (left, right) {
-        (Value::Integer(x), Value::Integer(y)) => Some(x.cmp(y)),
         (Value::Text(s), Value::Text(t)) => Some(s.as_str().cmp(t.as_str())),
         _ => None,
     }

@@ -16,4 +16,4 @@ mod writing;
 
 pub use pieces::{Piece, Printer};
 pub use printable::is_printable;
-pub use writing::{printed, write};
+pub use writing::{printed, printed_text, write};

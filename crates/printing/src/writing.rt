@@ -10,7 +10,7 @@ ghost use Rattle.printing.specs.Writes.{Writes};
 
 use crate::pieces::{Piece, Printer};
 use crate::printable::is_printable;
-use data::{Refusal, Value, append};
+use data::{Refusal, Text, Value, append};
 use itoa::Buffer;
 use std::alloc::{AllocError, Global};
 
@@ -31,6 +31,23 @@ pub fn printed(alloc: Global, value: &Value) -> Result<Result<String, Refusal>, 
     match write(alloc, &mut text, value)? {
         Ok(()) => Ok(Ok(text)),
         Err(refusal) => Ok(Err(refusal)),
+    }
+}
+
+/// The same as a text of the language, which a short one needs no memory for.
+pub fn printed_text(alloc: Global, value: &Value) -> Result<Result<Text, Refusal>, AllocError>
+    ensures { IfOk result (λ r. r ≡ printed (data_of value.now)) }
+{
+    match value {
+        Value::Text(text) => {
+            let _within = text.as_str();
+            Ok(Ok(text.clone()?))
+        }
+        Value::Integer(integer) => Text::of_str(alloc, Buffer::new().format(*integer)),
+        _ => match printed(alloc, value)? {
+            Ok(text) => Text::new(alloc, text),
+            Err(refusal) => Ok(Err(refusal)),
+        },
     }
 }
 

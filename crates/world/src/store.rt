@@ -130,6 +130,7 @@ fn reach(slots: &mut Vec<Option<Value>>, number: usize) -> Result<(), AllocError
 }
 
 // The value in a slot, shared.
+#[inline(always)]
 fn slot(slots: &[Option<Value>], number: usize) -> Result<Option<Value>, AllocError>
     ensures { IfOk result (λ v. option_map data_of v ≡ slot_value slots.now number) }
 {
@@ -275,6 +276,7 @@ impl Store {
     }
 
     /// The value of the variable of a number, which is that of a name.
+    #[inline(always)]
     pub fn value(&self, number: usize) -> Result<Option<Value>, AllocError>
         ensures { IfOk result (λ v. number < length self.now.names → option_map data_of v
             ≡ (world_of self.now).facts.variables (slice_index_or self.now.names number [])) }

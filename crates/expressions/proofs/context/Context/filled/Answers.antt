@@ -33,9 +33,9 @@ loop-part-preserved g c =
             (given_as (ap (λ p. part_text c.args.line (segment_data p)) (sym w.in-Text.is)) (given_give h refl));
       }
       | in-Place+in_ok-text-in-Place+in_ok-made-in-Place w ↦ record {
-        text = so_far.text ++ string_bytes w.in_ok-text-in-Place.text;
+        text = so_far.text ++ w.in_ok-text-in-Place.text;
         short = ap string_in w.made-is ∙ w.in_ok-made-in-Place.ensures so_far.text so_far.short
-            ∙ ap (λ t. within_bytes (so_far.text ++ t)) w.as_str.ensures.value;
+            ∙ ap (λ t. within_bytes (so_far.text ++ t)) w.as_str.ensures.text;
         led = λ files h. leads_on (leads_as (ap (filled c.args.line so_far.text) next) (so_far.led files h))
             (given_as (ap (λ p. part_text c.args.line (segment_data p)) (sym w.in-Place.is)) (w.in_ok-text-in-Place.ensures.gives files h));
       }

@@ -1,5 +1,4 @@
 use Rattle.std.proofs.Common.{[], ap, refl, sym, ◌∙◌}
-use Rattle.data.specs.Tables.{string_in}
 use Rattle.data.specs.View.{data_of}
 use Rattle.world.specs.Plan.{answered, refuse}
 use Rattle.expressions.specs.Forms.{printed_plain}
@@ -17,10 +16,10 @@ returns-in_err-text-clause-gives g c = λ files h. given_none h c.from_residual.
 pub returns-in-Ok-clause-gives : goal.returns-in-Ok-clause-gives
 returns-in-Ok-clause-gives g c = λ files h.
     given_as (ap (λ b. printed_plain c.args.line b (data_of c.args.value.now)) (sym c.if-not-is_plain.false ∙ c.is_plain.ensures))
-    (given_as (ap (answered c.args.line) (sym (ap string_in c.in-Ok.is) ∙ c.in_ok-text.ensures)) (given_give h refl))
+    (given_as (ap (answered c.args.line) (sym c.in-Ok.is ∙ c.in_ok-text.ensures)) (given_give h refl))
 
 pub returns-in-Err-clause-gives : goal.returns-in-Err-clause-gives
 returns-in-Err-clause-gives g c = λ files h.
     given_as (ap (λ b. printed_plain c.args.line b (data_of c.args.value.now)) (sym c.if-not-is_plain.false ∙ c.is_plain.ensures))
-    (given_as (ap (answered c.args.line) (sym (ap string_in c.in-Err.is) ∙ c.in_ok-text.ensures))
+    (given_as (ap (answered c.args.line) (sym c.in-Err.is ∙ c.in_ok-text.ensures))
     (given_as (ap (λ r. refuse c.args.line r []) c.of_operation.ensures) (given_refuse h c.refuse-in-Err.ensures)))

@@ -31,17 +31,6 @@ use Rattle.interp.proofs.evaluator.Evaluator.+eval.Goals as goal
 pub eval-returns-clause-gives : goal.eval-returns-clause-gives
 eval-returns-clause-gives g t c = λ files left ts hold reads. comes_rule c.form-answer.result c.ended_inside.new.answer c.ended_inside.ensures.ends (c.form-answer.ensures.gives files left ts hold reads)
 
-pub call-returns-in_err-function-clause-gives : goal.call-returns-in_err-function-clause-gives
-call-returns-in_err-function-clause-gives g t c = λ files left ts hold reads. comes_stop (c.in_err-function.ensures.gives files hold) c.from_residual.ensures.1
-
-pub call-returns-in_err-arguments-clause-gives : goal.call-returns-in_err-arguments-clause-gives
-call-returns-in_err-arguments-clause-gives g t c = λ files left ts hold reads. comes_then (c.in_ok-function.ensures.gives files hold) (comes_halt (c.in_err-arguments.ensures.gives files left ts hold reads) c.from_residual-in_err-arguments.ensures.1)
-
-pub call-returns-clause-gives : goal.call-returns-clause-gives
-call-returns-clause-gives g t c = λ files left ts hold reads.
-    let a = (c.in_ok-arguments.ensures.gives files left ts hold reads).comes in
-    comes_then (c.in_ok-function.ensures.gives files hold) (comes_then a (c.called_inside.ensures.gives files left a.holds))
-
 pub arguments-loop-argument-init : goal.arguments-loop-argument-init
 arguments-loop-argument-init g t c = record { same = (refl, (refl, (refl, refl))); tree = refl; out = refl; done = λ files left ts hold reads. rw c.no_arguments-evaluated.ensures (leads_start hold) }
 
@@ -88,62 +77,83 @@ asked-loop-link-preserved g t c = record {
 pub asked-returns-clause-gives : goal.asked-returns-clause-gives
 asked-returns-clause-gives g t c = λ files left ts hold reads. comes_given (leads_end (leads_as (ap (λ ys. links_of (folder left) c.args.line (option_map data_of c.loop-link.given) (links ys)) (no_item (link_at ts) c.args.links.now c.loop-link.link-index c.loop-link-test.false)) (c.loop-link.invariant.done files left ts hold reads)) (given_give (c.loop-link.invariant.done files left ts hold reads).holds refl))
 
-pub form-list-requires : goal.form-list-requires
-form-list-requires g t c κs lives = let reach : above above_number c.deref.result.now ≤ c.args.node = rw c.deref.ensures.value (numbers_reach c.args.node c.in-List.items.items (parts_at c.args.code.now c.args.node c.index.result.now (flat.List c.in-List.items c.in-List.line) c.requires.here c.index.ensures c.in-List.is)) in (omega arith, (lives.0, (lives.1.0, (lives.1.1, (omega arith, c.requires.room)))))
+pub compound-list-requires : goal.compound-list-requires
+compound-list-requires g t c κs lives = let reach : above above_number c.deref.result.now ≤ c.args.node = rw c.deref.ensures.value (numbers_reach c.args.node c.in-List.items.items (parts_at c.args.code.now c.args.node c.index.result.now (flat.List c.in-List.items c.in-List.line) c.requires.here c.index.ensures c.in-List.is)) in (omega arith, (lives.0, (lives.1.0, (lives.1.1, (omega arith, c.requires.room)))))
 
-pub form-dictionary-requires : goal.form-dictionary-requires
-form-dictionary-requires g t c κs lives = let reach : above above_entry c.deref-in-Dictionary.result.now ≤ c.args.node = rw c.deref-in-Dictionary.ensures.value (entries_reach c.args.node c.in-Dictionary.entries.items (parts_at c.args.code.now c.args.node c.index.result.now (flat.Dictionary c.in-Dictionary.entries c.in-Dictionary.line) c.requires.here c.index.ensures c.in-Dictionary.is)) in (omega arith, (lives.0, (lives.1.0, (lives.1.1, (omega arith, c.requires.room)))))
+pub compound-dictionary-requires : goal.compound-dictionary-requires
+compound-dictionary-requires g t c κs lives = let reach : above above_entry c.deref-in-Dictionary.result.now ≤ c.args.node = rw c.deref-in-Dictionary.ensures.value (entries_reach c.args.node c.in-Dictionary.entries.items (parts_at c.args.code.now c.args.node c.index.result.now (flat.Dictionary c.in-Dictionary.entries c.in-Dictionary.line) c.requires.here c.index.ensures c.in-Dictionary.is)) in (omega arith, (lives.0, (lives.1.0, (lives.1.1, (omega arith, c.requires.room)))))
 
-pub form-call-requires : goal.form-call-requires
-form-call-requires g t c κs lives = let reach : above above_argument c.deref-in-Call-2.result.now ≤ c.args.node = rw (c.deref-in-Call-2.ensures.value ∙ ap (λ (x : CallNode). x.arguments.items) c.deref-call.ensures) (arguments_reach c.args.node c.in-Call.call.value.arguments.items (parts_at c.args.code.now c.args.node c.index.result.now (flat.Call c.in-Call.call c.in-Call.line) c.requires.here c.index.ensures c.in-Call.is)) in (omega arith, (lives.0, (lives.1.0, (lives.1.1, (omega arith, c.requires.room)))))
+pub compound-arguments-requires : goal.compound-arguments-requires
+compound-arguments-requires g t c κs lives = let reach : above above_argument c.deref-in-Call-2.result.now ≤ c.args.node = rw (c.deref-in-Call-2.ensures.value ∙ ap (λ (x : CallNode). x.arguments.items) c.deref-call.ensures) (arguments_reach c.args.node c.in-Call.call.value.arguments.items (parts_at c.args.code.now c.args.node c.index.result.now (flat.Call c.in-Call.call c.in-Call.line) c.requires.here c.index.ensures c.in-Call.is)) in (omega arith, (lives.0, (lives.1.0, (lives.1.1, (omega arith, c.requires.room)))))
 
-pub form-chain-requires : goal.form-chain-requires
-form-chain-requires g t c κs lives = let reach : max (suc c.in-Chain.first) (above above_operand c.deref-in-Chain.result.now) ≤ c.args.node = rw c.deref-in-Chain.ensures.value (first_reach c.args.node c.in-Chain.first above_operand c.in-Chain.others.items (operand_within c.args.node) (operands_reach c.args.node c.in-Chain.others.items) (parts_at c.args.code.now c.args.node c.index.result.now (flat.Chain c.in-Chain.first c.in-Chain.others c.in-Chain.line) c.requires.here c.index.ensures c.in-Chain.is)) in (omega arith, (lives.0, (lives.1.0, (lives.1.1, (omega arith, c.requires.room)))))
+pub compound-chain-requires : goal.compound-chain-requires
+compound-chain-requires g t c κs lives = let reach : max (suc c.in-Chain.first) (above above_operand c.deref-in-Chain.result.now) ≤ c.args.node = rw c.deref-in-Chain.ensures.value (first_reach c.args.node c.in-Chain.first above_operand c.in-Chain.others.items (operand_within c.args.node) (operands_reach c.args.node c.in-Chain.others.items) (parts_at c.args.code.now c.args.node c.index.result.now (flat.Chain c.in-Chain.first c.in-Chain.others c.in-Chain.line) c.requires.here c.index.ensures c.in-Chain.is)) in (omega arith, (lives.0, (lives.1.0, (lives.1.1, (omega arith, c.requires.room)))))
 
-pub form-ternary-requires : goal.form-ternary-requires
-form-ternary-requires g t c κs lives = let reach : max (suc c.in-Ternary.test) (max (suc c.in-Ternary.yes) (suc c.in-Ternary.no)) ≤ c.args.node = three_reach c.args.node c.in-Ternary.test c.in-Ternary.yes c.in-Ternary.no (parts_at c.args.code.now c.args.node c.index.result.now (flat.Ternary c.in-Ternary.test c.in-Ternary.yes c.in-Ternary.no c.in-Ternary.line) c.requires.here c.index.ensures c.in-Ternary.is) in (omega arith, (lives.0, (lives.1.0, (lives.1.1, (omega arith, c.requires.room)))))
+pub compound-ternary-requires : goal.compound-ternary-requires
+compound-ternary-requires g t c κs lives = let reach : max (suc c.in-Ternary.test) (max (suc c.in-Ternary.yes) (suc c.in-Ternary.no)) ≤ c.args.node = three_reach c.args.node c.in-Ternary.test c.in-Ternary.yes c.in-Ternary.no (parts_at c.args.code.now c.args.node c.index.result.now (flat.Ternary c.in-Ternary.test c.in-Ternary.yes c.in-Ternary.no c.in-Ternary.line) c.requires.here c.index.ensures c.in-Ternary.is) in (omega arith, (lives.0, (lives.1.0, (lives.1.1, (omega arith, c.requires.room)))))
 
-pub form-returns-in_err-list-in-List-clause-gives : goal.form-returns-in_err-list-in-List-clause-gives
-form-returns-in_err-list-in-List-clause-gives g t c = λ files left ts hold reads. comes_as (ap (value_of (folder left)) (sym (opened reads c.args.node c.index.result.now (flat.List c.in-List.items c.in-List.line) c.requires.here c.index.ensures c.in-List.is))) (comes_as (ap (λ (xs : List ℕ). value_of (folder left) (ListTree (expressions (map (tree_at ts) xs)) c.in-List.line)) c.deref.ensures.value) (comes_same (c.in_err-list-in-List.ensures.gives files left ts hold reads) c.from_residual-in_err-list-in-List.ensures.1))
+pub compound-returns-in_err-list-in-List-clause-gives : goal.compound-returns-in_err-list-in-List-clause-gives
+compound-returns-in_err-list-in-List-clause-gives g t c = λ files left ts hold reads. comes_as (ap (value_of (folder left)) (sym (opened reads c.args.node c.index.result.now (flat.List c.in-List.items c.in-List.line) c.requires.here c.index.ensures c.in-List.is))) (comes_as (ap (λ (xs : List ℕ). value_of (folder left) (ListTree (expressions (map (tree_at ts) xs)) c.in-List.line)) c.deref.ensures.value) (comes_same (c.in_err-list-in-List.ensures.gives files left ts hold reads) c.from_residual.ensures.1))
 
-pub form-returns-in_ok-list-in-List-clause-gives : goal.form-returns-in_ok-list-in-List-clause-gives
-form-returns-in_ok-list-in-List-clause-gives g t c = λ files left ts hold reads. comes_as (ap (value_of (folder left)) (sym (opened reads c.args.node c.index.result.now (flat.List c.in-List.items c.in-List.line) c.requires.here c.index.ensures c.in-List.is))) (comes_as (ap (λ (xs : List ℕ). value_of (folder left) (ListTree (expressions (map (tree_at ts) xs)) c.in-List.line)) c.deref.ensures.value) (c.in_ok-list-in-List.ensures.gives files left ts hold reads))
+pub compound-returns-in_ok-list-in-List-clause-gives : goal.compound-returns-in_ok-list-in-List-clause-gives
+compound-returns-in_ok-list-in-List-clause-gives g t c = λ files left ts hold reads. comes_as (ap (value_of (folder left)) (sym (opened reads c.args.node c.index.result.now (flat.List c.in-List.items c.in-List.line) c.requires.here c.index.ensures c.in-List.is))) (comes_as (ap (λ (xs : List ℕ). value_of (folder left) (ListTree (expressions (map (tree_at ts) xs)) c.in-List.line)) c.deref.ensures.value) (c.in_ok-list-in-List.ensures.gives files left ts hold reads))
 
-pub form-returns-in_err-dictionary-in-Dictionary-clause-gives : goal.form-returns-in_err-dictionary-in-Dictionary-clause-gives
-form-returns-in_err-dictionary-in-Dictionary-clause-gives g t c = λ files left ts hold reads. comes_as (ap (value_of (folder left)) (sym (opened reads c.args.node c.index.result.now (flat.Dictionary c.in-Dictionary.entries c.in-Dictionary.line) c.requires.here c.index.ensures c.in-Dictionary.is))) (comes_as (ap (λ (xs : List EntryNode). value_of (folder left) (DictionaryTree (entries (map (entry_at ts) xs)) c.in-Dictionary.line)) c.deref-in-Dictionary.ensures.value) (comes_same (c.in_err-dictionary-in-Dictionary.ensures.gives files left ts hold reads) c.from_residual-in_err-dictionary-in-Dictionary.ensures.1))
+pub compound-returns-in_err-dictionary-in-Dictionary-clause-gives : goal.compound-returns-in_err-dictionary-in-Dictionary-clause-gives
+compound-returns-in_err-dictionary-in-Dictionary-clause-gives g t c = λ files left ts hold reads. comes_as (ap (value_of (folder left)) (sym (opened reads c.args.node c.index.result.now (flat.Dictionary c.in-Dictionary.entries c.in-Dictionary.line) c.requires.here c.index.ensures c.in-Dictionary.is))) (comes_as (ap (λ (xs : List EntryNode). value_of (folder left) (DictionaryTree (entries (map (entry_at ts) xs)) c.in-Dictionary.line)) c.deref-in-Dictionary.ensures.value) (comes_same (c.in_err-dictionary-in-Dictionary.ensures.gives files left ts hold reads) c.from_residual-in_err-dictionary-in-Dictionary.ensures.1))
 
-pub form-returns-in_ok-dictionary-in-Dictionary-clause-gives : goal.form-returns-in_ok-dictionary-in-Dictionary-clause-gives
-form-returns-in_ok-dictionary-in-Dictionary-clause-gives g t c = λ files left ts hold reads. comes_as (ap (value_of (folder left)) (sym (opened reads c.args.node c.index.result.now (flat.Dictionary c.in-Dictionary.entries c.in-Dictionary.line) c.requires.here c.index.ensures c.in-Dictionary.is))) (comes_as (ap (λ (xs : List EntryNode). value_of (folder left) (DictionaryTree (entries (map (entry_at ts) xs)) c.in-Dictionary.line)) c.deref-in-Dictionary.ensures.value) (c.in_ok-dictionary-in-Dictionary.ensures.gives files left ts hold reads))
+pub compound-returns-in_ok-dictionary-in-Dictionary-clause-gives : goal.compound-returns-in_ok-dictionary-in-Dictionary-clause-gives
+compound-returns-in_ok-dictionary-in-Dictionary-clause-gives g t c = λ files left ts hold reads. comes_as (ap (value_of (folder left)) (sym (opened reads c.args.node c.index.result.now (flat.Dictionary c.in-Dictionary.entries c.in-Dictionary.line) c.requires.here c.index.ensures c.in-Dictionary.is))) (comes_as (ap (λ (xs : List EntryNode). value_of (folder left) (DictionaryTree (entries (map (entry_at ts) xs)) c.in-Dictionary.line)) c.deref-in-Dictionary.ensures.value) (c.in_ok-dictionary-in-Dictionary.ensures.gives files left ts hold reads))
 
-pub form-returns-in_err-call-in-Call-clause-gives : goal.form-returns-in_err-call-in-Call-clause-gives
-form-returns-in_err-call-in-Call-clause-gives g t c = λ files left ts hold reads.
+pub compound-returns-in_err-function-in-Call-clause-gives : goal.compound-returns-in_err-function-in-Call-clause-gives
+compound-returns-in_err-function-in-Call-clause-gives g t c = λ files left ts hold reads.
+    let line = c.in-Call.line in
+    comes_as (ap (value_of (folder left)) (sym (opened reads c.args.node c.index.result.now (flat.Call c.in-Call.call line) c.requires.here c.index.ensures c.in-Call.is)))
+    (comes_as (ap (λ (x : CallNode). value_of (folder left) (FunctionTree (string_bytes x.name) (arguments (map (argument_at ts) x.arguments.items)) line)) c.deref-call.ensures)
+    (comes_as (ap (λ (name : List ℕ). value_of (folder left) (FunctionTree name (arguments (map (argument_at ts) c.deref-call.result.now.arguments.items)) line)) c.deref-in-Call.ensures)
+    (comes_stop (c.in_err-function-in-Call.ensures.gives files hold) c.from_residual-in_err-function-in-Call.ensures.1)))
+
+pub compound-returns-in_err-arguments-in-Call-clause-gives : goal.compound-returns-in_err-arguments-in-Call-clause-gives
+compound-returns-in_err-arguments-in-Call-clause-gives g t c = λ files left ts hold reads.
     let line = c.in-Call.line in
     comes_as (ap (value_of (folder left)) (sym (opened reads c.args.node c.index.result.now (flat.Call c.in-Call.call line) c.requires.here c.index.ensures c.in-Call.is)))
     (comes_as (ap (λ (x : CallNode). value_of (folder left) (FunctionTree (string_bytes x.name) (arguments (map (argument_at ts) x.arguments.items)) line)) c.deref-call.ensures)
     (comes_as (ap (λ (name : List ℕ). value_of (folder left) (FunctionTree name (arguments (map (argument_at ts) c.deref-call.result.now.arguments.items)) line)) c.deref-in-Call.ensures)
     (comes_as (ap (λ (xs : List ArgumentNode). value_of (folder left) (FunctionTree c.deref-in-Call.result.now (arguments (map (argument_at ts) xs)) line)) c.deref-in-Call-2.ensures.value)
-    (comes_same (c.in_err-call-in-Call.ensures.gives files left ts hold reads) c.from_residual-in_err-call-in-Call.ensures.1))))
+    (comes_then (c.in_ok-function-in-Call.ensures.gives files hold)
+    (comes_halt (c.in_err-arguments-in-Call.ensures.gives files left ts hold reads) c.from_residual-in_err-arguments-in-Call.ensures.1)))))
 
-pub form-returns-in_ok-call-in-Call-clause-gives : goal.form-returns-in_ok-call-in-Call-clause-gives
-form-returns-in_ok-call-in-Call-clause-gives g t c = λ files left ts hold reads.
+pub compound-returns-in_err-called_inside-in-Call-clause-gives : goal.compound-returns-in_err-called_inside-in-Call-clause-gives
+compound-returns-in_err-called_inside-in-Call-clause-gives g t c = λ files left ts hold reads.
     let line = c.in-Call.line in
+    let with = (c.in_ok-arguments-in-Call.ensures.gives files left ts hold reads).comes in
     comes_as (ap (value_of (folder left)) (sym (opened reads c.args.node c.index.result.now (flat.Call c.in-Call.call line) c.requires.here c.index.ensures c.in-Call.is)))
     (comes_as (ap (λ (x : CallNode). value_of (folder left) (FunctionTree (string_bytes x.name) (arguments (map (argument_at ts) x.arguments.items)) line)) c.deref-call.ensures)
     (comes_as (ap (λ (name : List ℕ). value_of (folder left) (FunctionTree name (arguments (map (argument_at ts) c.deref-call.result.now.arguments.items)) line)) c.deref-in-Call.ensures)
     (comes_as (ap (λ (xs : List ArgumentNode). value_of (folder left) (FunctionTree c.deref-in-Call.result.now (arguments (map (argument_at ts) xs)) line)) c.deref-in-Call-2.ensures.value)
-    (c.in_ok-call-in-Call.ensures.gives files left ts hold reads))))
+    (comes_then (c.in_ok-function-in-Call.ensures.gives files hold) (comes_then with
+    (comes_same (c.in_err-called_inside-in-Call.ensures.gives files left with.holds) c.from_residual-in_err-called_inside-in-Call.ensures.1))))))
 
-pub form-returns-in_err-chain-in-Chain-clause-gives : goal.form-returns-in_err-chain-in-Chain-clause-gives
-form-returns-in_err-chain-in-Chain-clause-gives g t c = λ files left ts hold reads. comes_as (ap (value_of (folder left)) (sym (opened reads c.args.node c.index.result.now (flat.Chain c.in-Chain.first c.in-Chain.others c.in-Chain.line) c.requires.here c.index.ensures c.in-Chain.is))) (comes_as (ap (λ (xs : List OperandNode). value_of (folder left) (ChainTree (tree_at ts c.in-Chain.first) (operands (map (operand_at ts) xs)) c.in-Chain.line)) c.deref-in-Chain.ensures.value) (comes_same (c.in_err-chain-in-Chain.ensures.gives files left ts hold reads) c.from_residual-in_err-chain-in-Chain.ensures.1))
+pub compound-returns-in_ok-called_inside-in-Call-clause-gives : goal.compound-returns-in_ok-called_inside-in-Call-clause-gives
+compound-returns-in_ok-called_inside-in-Call-clause-gives g t c = λ files left ts hold reads.
+    let line = c.in-Call.line in
+    let with = (c.in_ok-arguments-in-Call.ensures.gives files left ts hold reads).comes in
+    comes_as (ap (value_of (folder left)) (sym (opened reads c.args.node c.index.result.now (flat.Call c.in-Call.call line) c.requires.here c.index.ensures c.in-Call.is)))
+    (comes_as (ap (λ (x : CallNode). value_of (folder left) (FunctionTree (string_bytes x.name) (arguments (map (argument_at ts) x.arguments.items)) line)) c.deref-call.ensures)
+    (comes_as (ap (λ (name : List ℕ). value_of (folder left) (FunctionTree name (arguments (map (argument_at ts) c.deref-call.result.now.arguments.items)) line)) c.deref-in-Call.ensures)
+    (comes_as (ap (λ (xs : List ArgumentNode). value_of (folder left) (FunctionTree c.deref-in-Call.result.now (arguments (map (argument_at ts) xs)) line)) c.deref-in-Call-2.ensures.value)
+    (comes_then (c.in_ok-function-in-Call.ensures.gives files hold) (comes_then with (c.in_ok-called_inside-in-Call.ensures.gives files left with.holds))))))
 
-pub form-returns-in_ok-chain-in-Chain-clause-gives : goal.form-returns-in_ok-chain-in-Chain-clause-gives
-form-returns-in_ok-chain-in-Chain-clause-gives g t c = λ files left ts hold reads. comes_as (ap (value_of (folder left)) (sym (opened reads c.args.node c.index.result.now (flat.Chain c.in-Chain.first c.in-Chain.others c.in-Chain.line) c.requires.here c.index.ensures c.in-Chain.is))) (comes_as (ap (λ (xs : List OperandNode). value_of (folder left) (ChainTree (tree_at ts c.in-Chain.first) (operands (map (operand_at ts) xs)) c.in-Chain.line)) c.deref-in-Chain.ensures.value) (c.in_ok-chain-in-Chain.ensures.gives files left ts hold reads))
+pub compound-returns-in_err-chain-in-Chain-clause-gives : goal.compound-returns-in_err-chain-in-Chain-clause-gives
+compound-returns-in_err-chain-in-Chain-clause-gives g t c = λ files left ts hold reads. comes_as (ap (value_of (folder left)) (sym (opened reads c.args.node c.index.result.now (flat.Chain c.in-Chain.first c.in-Chain.others c.in-Chain.line) c.requires.here c.index.ensures c.in-Chain.is))) (comes_as (ap (λ (xs : List OperandNode). value_of (folder left) (ChainTree (tree_at ts c.in-Chain.first) (operands (map (operand_at ts) xs)) c.in-Chain.line)) c.deref-in-Chain.ensures.value) (comes_same (c.in_err-chain-in-Chain.ensures.gives files left ts hold reads) c.from_residual-in_err-chain-in-Chain.ensures.1))
 
-pub form-returns-in_err-ternary-in-Ternary-clause-gives : goal.form-returns-in_err-ternary-in-Ternary-clause-gives
-form-returns-in_err-ternary-in-Ternary-clause-gives g t c = λ files left ts hold reads. comes_as (ap (value_of (folder left)) (sym (opened reads c.args.node c.index.result.now (flat.Ternary c.in-Ternary.test c.in-Ternary.yes c.in-Ternary.no c.in-Ternary.line) c.requires.here c.index.ensures c.in-Ternary.is))) (comes_same (c.in_err-ternary-in-Ternary.ensures.gives files left ts hold reads) c.from_residual-in_err-ternary-in-Ternary.ensures.1)
+pub compound-returns-in_ok-chain-in-Chain-clause-gives : goal.compound-returns-in_ok-chain-in-Chain-clause-gives
+compound-returns-in_ok-chain-in-Chain-clause-gives g t c = λ files left ts hold reads. comes_as (ap (value_of (folder left)) (sym (opened reads c.args.node c.index.result.now (flat.Chain c.in-Chain.first c.in-Chain.others c.in-Chain.line) c.requires.here c.index.ensures c.in-Chain.is))) (comes_as (ap (λ (xs : List OperandNode). value_of (folder left) (ChainTree (tree_at ts c.in-Chain.first) (operands (map (operand_at ts) xs)) c.in-Chain.line)) c.deref-in-Chain.ensures.value) (c.in_ok-chain-in-Chain.ensures.gives files left ts hold reads))
 
-pub form-returns-in_ok-ternary-in-Ternary-clause-gives : goal.form-returns-in_ok-ternary-in-Ternary-clause-gives
-form-returns-in_ok-ternary-in-Ternary-clause-gives g t c = λ files left ts hold reads. comes_as (ap (value_of (folder left)) (sym (opened reads c.args.node c.index.result.now (flat.Ternary c.in-Ternary.test c.in-Ternary.yes c.in-Ternary.no c.in-Ternary.line) c.requires.here c.index.ensures c.in-Ternary.is))) (c.in_ok-ternary-in-Ternary.ensures.gives files left ts hold reads)
+pub compound-returns-in_err-ternary-in-Ternary-clause-gives : goal.compound-returns-in_err-ternary-in-Ternary-clause-gives
+compound-returns-in_err-ternary-in-Ternary-clause-gives g t c = λ files left ts hold reads. comes_as (ap (value_of (folder left)) (sym (opened reads c.args.node c.index.result.now (flat.Ternary c.in-Ternary.test c.in-Ternary.yes c.in-Ternary.no c.in-Ternary.line) c.requires.here c.index.ensures c.in-Ternary.is))) (comes_same (c.in_err-ternary-in-Ternary.ensures.gives files left ts hold reads) c.from_residual-in_err-ternary-in-Ternary.ensures.1)
+
+pub compound-returns-in_ok-ternary-in-Ternary-clause-gives : goal.compound-returns-in_ok-ternary-in-Ternary-clause-gives
+compound-returns-in_ok-ternary-in-Ternary-clause-gives g t c = λ files left ts hold reads. comes_as (ap (value_of (folder left)) (sym (opened reads c.args.node c.index.result.now (flat.Ternary c.in-Ternary.test c.in-Ternary.yes c.in-Ternary.no c.in-Ternary.line) c.requires.here c.index.ensures c.in-Ternary.is))) (c.in_ok-ternary-in-Ternary.ensures.gives files left ts hold reads)
 
 pub form-returns-in_err-variable-in-Name-clause-gives : goal.form-returns-in_err-variable-in-Name-clause-gives
 form-returns-in_err-variable-in-Name-clause-gives g t c = λ files left ts hold reads. let number = (name_of reads c.in-Name.number (parts_at c.args.code.now c.args.node c.index.result.now (flat.Name c.in-Name.number c.in-Name.line) c.requires.here c.index.ensures c.in-Name.is)) in comes_as (ap (value_of (folder left)) (sym (opened reads c.args.node c.index.result.now (flat.Name c.in-Name.number c.in-Name.line) c.requires.here c.index.ensures c.in-Name.is))) (comes_as (ap (variable c.in-Name.line) number.1) (comes_last (c.in_err-variable-in-Name.ensures.gives number.0 files hold) c.from_residual.ensures.1))
@@ -250,56 +260,6 @@ dictionary-returns-clause-gives g t c = λ files left ts hold reads.
     let led = leads_as (ap (λ ys. next (entries_of (folder left) (pairs_of c.loop-entry.pairs.items) (entries ys)) (paired c.args.line)) (no_item (entry_at ts) c.args.entries.now c.loop-entry.entry-index c.loop-entry-test.false)) (c.loop-entry.invariant.done files left ts hold reads) in
     comes_given (leads_end led (given_then {view = λ (ps : List (Data × Data)). ps} {x = pairs_of c.loop-entry.pairs.items} (given_give led.holds refl) (c.in_ok-paired.ensures.gives files led.holds)))
 
-pub link-returns-in_err-method_at-in-Method-clause-gives : goal.link-returns-in_err-method_at-in-Method-clause-gives
-link-returns-in_err-method_at-in-Method-clause-gives g t c = λ files left ts hold reads.
-    comes_as (ap (λ (x : LinkNode). link_of (folder left) c.args.line (data_of c.args.whole) (link_at ts x)) (sym c.in-Method.is))
-    (comes_as (ap (λ (name : List ℕ). method_of c.args.line (data_of c.args.whole) name (arguments_of (folder left) no_arguments (arguments (map (argument_at ts) c.in-Method.arguments.items)))) c.deref.ensures)
-    (comes_stop (c.in_err-method_at-in-Method.ensures.gives files hold) c.from_residual.ensures.1))
-
-pub link-returns-in_err-arguments-in-Method-clause-gives : goal.link-returns-in_err-arguments-in-Method-clause-gives
-link-returns-in_err-arguments-in-Method-clause-gives g t c = λ files left ts hold reads.
-    comes_as (ap (λ (x : LinkNode). link_of (folder left) c.args.line (data_of c.args.whole) (link_at ts x)) (sym c.in-Method.is))
-    (comes_as (ap (λ (name : List ℕ). method_of c.args.line (data_of c.args.whole) name (arguments_of (folder left) no_arguments (arguments (map (argument_at ts) c.in-Method.arguments.items)))) c.deref.ensures)
-    (comes_as (ap (λ (xs : List ArgumentNode). method_of c.args.line (data_of c.args.whole) c.deref.result.now (arguments_of (folder left) no_arguments (arguments (map (argument_at ts) xs)))) c.deref-in-Method.ensures.value)
-    (comes_then (c.in_ok-method_at-in-Method.ensures.gives files hold) (comes_halt (c.in_err-arguments-in-Method.ensures.gives files left ts hold reads) c.from_residual-in_err-arguments-in-Method.ensures.1))))
-
-pub link-returns-in_err-method_called-in-Method-clause-gives : goal.link-returns-in_err-method_called-in-Method-clause-gives
-link-returns-in_err-method_called-in-Method-clause-gives g t c = λ files left ts hold reads.
-    let asked = (c.in_ok-arguments-in-Method.ensures.gives files left ts hold reads).comes in
-    comes_as (ap (λ (x : LinkNode). link_of (folder left) c.args.line (data_of c.args.whole) (link_at ts x)) (sym c.in-Method.is))
-    (comes_as (ap (λ (name : List ℕ). method_of c.args.line (data_of c.args.whole) name (arguments_of (folder left) no_arguments (arguments (map (argument_at ts) c.in-Method.arguments.items)))) c.deref.ensures)
-    (comes_as (ap (λ (xs : List ArgumentNode). method_of c.args.line (data_of c.args.whole) c.deref.result.now (arguments_of (folder left) no_arguments (arguments (map (argument_at ts) xs)))) c.deref-in-Method.ensures.value)
-    (comes_then (c.in_ok-method_at-in-Method.ensures.gives files hold) (comes_then asked
-    (comes_as (ap (λ (name : List ℕ). method_called c.args.line (data_of c.args.whole) name (arguments_data c.in_ok-arguments-in-Method.arguments)) (c.deref-in-Method-2.ensures ∙ sym c.deref.ensures))
-    (comes_last (c.in_err-method_called-in-Method.ensures.gives files asked.holds) c.from_residual-in_err-method_called-in-Method.ensures.1))))))
-
-pub link-returns-in-Method-clause-gives : goal.link-returns-in-Method-clause-gives
-link-returns-in-Method-clause-gives g t c = λ files left ts hold reads.
-    let asked = (c.in_ok-arguments-in-Method.ensures.gives files left ts hold reads).comes in
-    comes_given (given_as (ap (λ (x : LinkNode). link_of (folder left) c.args.line (data_of c.args.whole) (link_at ts x)) (sym c.in-Method.is))
-    (given_as (ap (λ (name : List ℕ). method_of c.args.line (data_of c.args.whole) name (arguments_of (folder left) no_arguments (arguments (map (argument_at ts) c.in-Method.arguments.items)))) c.deref.ensures)
-    (given_as (ap (λ (xs : List ArgumentNode). method_of c.args.line (data_of c.args.whole) c.deref.result.now (arguments_of (folder left) no_arguments (arguments (map (argument_at ts) xs)))) c.deref-in-Method.ensures.value)
-    (given_then (c.in_ok-method_at-in-Method.ensures.gives files hold) (given_then asked
-    (given_as (ap (λ (name : List ℕ). method_called c.args.line (data_of c.args.whole) name (arguments_data c.in_ok-arguments-in-Method.arguments)) (c.deref-in-Method-2.ensures ∙ sym c.deref.ensures))
-    (c.in_ok-method_called-in-Method.ensures.gives files asked.holds)))))))
-
-pub link-returns-in_err-at-in-Index-clause-gives : goal.link-returns-in_err-at-in-Index-clause-gives
-link-returns-in_err-at-in-Index-clause-gives g t c = λ files left ts hold reads.
-    comes_as (ap (λ (x : LinkNode). link_of (folder left) c.args.line (data_of c.args.whole) (link_at ts x)) (sym c.in-Index.is))
-    (comes_halt (c.in_err-at-in-Index.ensures.gives files left ts hold reads) c.from_residual-in_err-at-in-Index.ensures.1)
-
-pub link-returns-in_err-part_at-in-Index-clause-gives : goal.link-returns-in_err-part_at-in-Index-clause-gives
-link-returns-in_err-part_at-in-Index-clause-gives g t c = λ files left ts hold reads.
-    let at = (c.in_ok-at-in-Index.ensures.gives files left ts hold reads).comes in
-    comes_as (ap (λ (x : LinkNode). link_of (folder left) c.args.line (data_of c.args.whole) (link_at ts x)) (sym c.in-Index.is))
-    (comes_then at (comes_last (c.in_err-part_at-in-Index.ensures.gives files at.holds) c.from_residual-in_err-part_at-in-Index.ensures.1))
-
-pub link-returns-clause-gives : goal.link-returns-clause-gives
-link-returns-clause-gives g t c = λ files left ts hold reads.
-    let at = (c.in_ok-at-in-Index.ensures.gives files left ts hold reads).comes in
-    comes_given (given_as (ap (λ (x : LinkNode). link_of (folder left) c.args.line (data_of c.args.whole) (link_at ts x)) (sym c.in-Index.is))
-    (given_then at (c.in_ok-part_at-in-Index.ensures.gives files at.holds)))
-
 pub chain-returns-in_err-value-clause-gives : goal.chain-returns-in_err-value-clause-gives
 chain-returns-in_err-value-clause-gives g t c = λ files left ts hold reads. comes_halt (c.in_err-value.ensures.gives files left ts hold reads) c.from_residual.ensures.1
 
@@ -384,45 +344,99 @@ chain-loop-operand-preserved g t c = record {
 pub chain-returns-clause-gives : goal.chain-returns-clause-gives
 chain-returns-clause-gives g t c = λ files left ts hold reads. comes_given (leads_end (leads_as (ap (λ ys. chain_of (folder left) c.args.line (data_of c.loop-operand.value) (operands ys)) (no_item (operand_at ts) c.args.others.now c.loop-operand.operand-index c.loop-operand-test.false)) (c.loop-operand.invariant.done files left ts hold reads)) (given_give (c.loop-operand.invariant.done files left ts hold reads).holds refl))
 
-pub form-asked-requires : goal.form-asked-requires
-form-asked-requires g t c κs lives = let reach : max (suc c.in-Postfix.first) (above above_link c.deref-in-Postfix.result.now) ≤ c.args.node = rw c.deref-in-Postfix.ensures.value (first_reach c.args.node c.in-Postfix.first above_link c.in-Postfix.links.items (link_within c.args.node) (links_reach c.args.node c.in-Postfix.links.items) (parts_at c.args.code.now c.args.node c.index.result.now (flat.Postfix c.in-Postfix.first c.in-Postfix.links c.in-Postfix.line) c.requires.here c.index.ensures c.in-Postfix.is)) in (omega arith, (lives.0, (lives.1.0, (lives.1.1, (omega arith, c.requires.room)))))
+pub compound-asked-requires : goal.compound-asked-requires
+compound-asked-requires g t c κs lives = let reach : max (suc c.in-Postfix.first) (above above_link c.deref-in-Postfix.result.now) ≤ c.args.node = rw c.deref-in-Postfix.ensures.value (first_reach c.args.node c.in-Postfix.first above_link c.in-Postfix.links.items (link_within c.args.node) (links_reach c.args.node c.in-Postfix.links.items) (parts_at c.args.code.now c.args.node c.index.result.now (flat.Postfix c.in-Postfix.first c.in-Postfix.links c.in-Postfix.line) c.requires.here c.index.ensures c.in-Postfix.is)) in (omega arith, (lives.0, (lives.1.0, (lives.1.1, (omega arith, c.requires.room)))))
 
-pub form-eval-requires : goal.form-eval-requires
-form-eval-requires g t c κs lives = let reach : suc c.in-Prefix.value ≤ c.args.node = number_reach c.args.node c.in-Prefix.value (parts_at c.args.code.now c.args.node c.index.result.now (flat.Prefix c.in-Prefix.prefix c.in-Prefix.value c.in-Prefix.line) c.requires.here c.index.ensures c.in-Prefix.is) in (omega arith, (lives.0, (lives.1.0, (lives.1.1, (omega arith, c.requires.room)))))
+pub compound-eval-requires : goal.compound-eval-requires
+compound-eval-requires g t c κs lives = let reach : suc c.in-Prefix.value ≤ c.args.node = number_reach c.args.node c.in-Prefix.value (parts_at c.args.code.now c.args.node c.index.result.now (flat.Prefix c.in-Prefix.prefix c.in-Prefix.value c.in-Prefix.line) c.requires.here c.index.ensures c.in-Prefix.is) in (omega arith, (lives.0, (lives.1.0, (lives.1.1, (omega arith, c.requires.room)))))
 
-pub form-returns-in_err-given-in-Postfix-clause-gives : goal.form-returns-in_err-given-in-Postfix-clause-gives
-form-returns-in_err-given-in-Postfix-clause-gives g t c = λ files left ts hold reads.
+pub compound-returns-in_err-given-in-Postfix-clause-gives : goal.compound-returns-in_err-given-in-Postfix-clause-gives
+compound-returns-in_err-given-in-Postfix-clause-gives g t c = λ files left ts hold reads.
     comes_as (ap (value_of (folder left)) (sym (opened reads c.args.node c.index.result.now (flat.Postfix c.in-Postfix.first c.in-Postfix.links c.in-Postfix.line) c.requires.here c.index.ensures c.in-Postfix.is)))
     (comes_as (ap (λ (xs : List LinkNode). value_of (folder left) (PostfixTree (tree_at ts c.in-Postfix.first) (links (map (link_at ts) xs)) c.in-Postfix.line)) c.deref-in-Postfix.ensures.value)
     (comes_halt (c.in_err-given-in-Postfix.ensures.gives files left ts hold reads) c.from_residual-in_err-given-in-Postfix.ensures.1))
 
-pub form-returns-in_err-needed-in-Postfix-clause-gives : goal.form-returns-in_err-needed-in-Postfix-clause-gives
-form-returns-in_err-needed-in-Postfix-clause-gives g t c = λ files left ts hold reads.
+pub compound-returns-in_err-needed-in-Postfix-clause-gives : goal.compound-returns-in_err-needed-in-Postfix-clause-gives
+compound-returns-in_err-needed-in-Postfix-clause-gives g t c = λ files left ts hold reads.
     let given = (c.in_ok-given-in-Postfix.ensures.gives files left ts hold reads).comes in
     comes_as (ap (value_of (folder left)) (sym (opened reads c.args.node c.index.result.now (flat.Postfix c.in-Postfix.first c.in-Postfix.links c.in-Postfix.line) c.requires.here c.index.ensures c.in-Postfix.is)))
     (comes_as (ap (λ (xs : List LinkNode). value_of (folder left) (PostfixTree (tree_at ts c.in-Postfix.first) (links (map (link_at ts) xs)) c.in-Postfix.line)) c.deref-in-Postfix.ensures.value)
     (comes_then given (comes_last (c.in_err-needed-in-Postfix.ensures.gives files given.holds) c.from_residual-in_err-needed-in-Postfix.ensures.1)))
 
-pub form-returns-in_ok-needed-in-Postfix-clause-gives : goal.form-returns-in_ok-needed-in-Postfix-clause-gives
-form-returns-in_ok-needed-in-Postfix-clause-gives g t c = λ files left ts hold reads.
+pub compound-returns-in_ok-needed-in-Postfix-clause-gives : goal.compound-returns-in_ok-needed-in-Postfix-clause-gives
+compound-returns-in_ok-needed-in-Postfix-clause-gives g t c = λ files left ts hold reads.
     let given = (c.in_ok-given-in-Postfix.ensures.gives files left ts hold reads).comes in
     comes_given (given_as (ap (value_of (folder left)) (sym (opened reads c.args.node c.index.result.now (flat.Postfix c.in-Postfix.first c.in-Postfix.links c.in-Postfix.line) c.requires.here c.index.ensures c.in-Postfix.is)))
     (given_as (ap (λ (xs : List LinkNode). value_of (folder left) (PostfixTree (tree_at ts c.in-Postfix.first) (links (map (link_at ts) xs)) c.in-Postfix.line)) c.deref-in-Postfix.ensures.value)
     (given_then given (c.in_ok-needed-in-Postfix.ensures.gives files given.holds))))
 
-pub form-returns-in_err-value-in-Prefix-clause-gives : goal.form-returns-in_err-value-in-Prefix-clause-gives
-form-returns-in_err-value-in-Prefix-clause-gives g t c = λ files left ts hold reads.
+pub compound-returns-in_err-value-in-Prefix-clause-gives : goal.compound-returns-in_err-value-in-Prefix-clause-gives
+compound-returns-in_err-value-in-Prefix-clause-gives g t c = λ files left ts hold reads.
     comes_as (ap (value_of (folder left)) (sym (opened reads c.args.node c.index.result.now (flat.Prefix c.in-Prefix.prefix c.in-Prefix.value c.in-Prefix.line) c.requires.here c.index.ensures c.in-Prefix.is)))
     (comes_halt (c.in_err-value-in-Prefix.ensures.gives files left ts hold reads) c.from_residual-in_err-value-in-Prefix.ensures.1)
 
-pub form-returns-in_err-prefixed-in-Prefix-clause-gives : goal.form-returns-in_err-prefixed-in-Prefix-clause-gives
-form-returns-in_err-prefixed-in-Prefix-clause-gives g t c = λ files left ts hold reads.
+pub compound-returns-in_err-prefixed-in-Prefix-clause-gives : goal.compound-returns-in_err-prefixed-in-Prefix-clause-gives
+compound-returns-in_err-prefixed-in-Prefix-clause-gives g t c = λ files left ts hold reads.
     let value = (c.in_ok-value-in-Prefix.ensures.gives files left ts hold reads).comes in
     comes_as (ap (value_of (folder left)) (sym (opened reads c.args.node c.index.result.now (flat.Prefix c.in-Prefix.prefix c.in-Prefix.value c.in-Prefix.line) c.requires.here c.index.ensures c.in-Prefix.is)))
     (comes_then value (comes_last (c.in_err-prefixed-in-Prefix.ensures.gives files value.holds) c.from_residual-in_err-prefixed-in-Prefix.ensures.1))
 
-pub form-returns-in_ok-prefixed-in-Prefix-clause-gives : goal.form-returns-in_ok-prefixed-in-Prefix-clause-gives
-form-returns-in_ok-prefixed-in-Prefix-clause-gives g t c = λ files left ts hold reads.
+pub compound-returns-in_ok-prefixed-in-Prefix-clause-gives : goal.compound-returns-in_ok-prefixed-in-Prefix-clause-gives
+compound-returns-in_ok-prefixed-in-Prefix-clause-gives g t c = λ files left ts hold reads.
     let value = (c.in_ok-value-in-Prefix.ensures.gives files left ts hold reads).comes in
     comes_given (given_as (ap (value_of (folder left)) (sym (opened reads c.args.node c.index.result.now (flat.Prefix c.in-Prefix.prefix c.in-Prefix.value c.in-Prefix.line) c.requires.here c.index.ensures c.in-Prefix.is)))
     (given_then value (c.in_ok-prefixed-in-Prefix.ensures.gives files value.holds)))
+
+pub link-returns-in_err-method_at-in-Method-clause-gives : goal.link-returns-in_err-method_at-in-Method-clause-gives
+link-returns-in_err-method_at-in-Method-clause-gives g t c = λ files left ts hold reads.
+    comes_as (ap (λ (x : LinkNode). link_of (folder left) c.args.line (data_of c.args.whole) (link_at ts x)) (sym c.in-Method.is))
+    (comes_as (ap (λ (name : List ℕ). method_of c.args.line (data_of c.args.whole) name (arguments_of (folder left) no_arguments (arguments (map (argument_at ts) c.in-Method.arguments.items)))) c.deref.ensures)
+    (comes_stop (c.in_err-method_at-in-Method.ensures.gives files hold) c.from_residual.ensures.1))
+
+pub link-returns-in_err-arguments-in-Method-clause-gives : goal.link-returns-in_err-arguments-in-Method-clause-gives
+link-returns-in_err-arguments-in-Method-clause-gives g t c = λ files left ts hold reads.
+    comes_as (ap (λ (x : LinkNode). link_of (folder left) c.args.line (data_of c.args.whole) (link_at ts x)) (sym c.in-Method.is))
+    (comes_as (ap (λ (name : List ℕ). method_of c.args.line (data_of c.args.whole) name (arguments_of (folder left) no_arguments (arguments (map (argument_at ts) c.in-Method.arguments.items)))) c.deref.ensures)
+    (comes_as (ap (λ (xs : List ArgumentNode). method_of c.args.line (data_of c.args.whole) c.deref.result.now (arguments_of (folder left) no_arguments (arguments (map (argument_at ts) xs)))) c.deref-in-Method.ensures.value)
+    (comes_then (c.in_ok-method_at-in-Method.ensures.gives files hold) (comes_halt (c.in_err-arguments-in-Method.ensures.gives files left ts hold reads) c.from_residual-in_err-arguments-in-Method.ensures.1))))
+
+pub link-returns-in_err-method_called-in-Method-clause-gives : goal.link-returns-in_err-method_called-in-Method-clause-gives
+link-returns-in_err-method_called-in-Method-clause-gives g t c = λ files left ts hold reads.
+    let asked = (c.in_ok-arguments-in-Method.ensures.gives files left ts hold reads).comes in
+    comes_as (ap (λ (x : LinkNode). link_of (folder left) c.args.line (data_of c.args.whole) (link_at ts x)) (sym c.in-Method.is))
+    (comes_as (ap (λ (name : List ℕ). method_of c.args.line (data_of c.args.whole) name (arguments_of (folder left) no_arguments (arguments (map (argument_at ts) c.in-Method.arguments.items)))) c.deref.ensures)
+    (comes_as (ap (λ (xs : List ArgumentNode). method_of c.args.line (data_of c.args.whole) c.deref.result.now (arguments_of (folder left) no_arguments (arguments (map (argument_at ts) xs)))) c.deref-in-Method.ensures.value)
+    (comes_then (c.in_ok-method_at-in-Method.ensures.gives files hold) (comes_then asked
+    (comes_as (ap (λ (name : List ℕ). method_called c.args.line (data_of c.args.whole) name (arguments_data c.in_ok-arguments-in-Method.arguments)) (c.deref-in-Method-2.ensures ∙ sym c.deref.ensures))
+    (comes_last (c.in_err-method_called-in-Method.ensures.gives files asked.holds) c.from_residual-in_err-method_called-in-Method.ensures.1))))))
+
+pub link-returns-in-Method-clause-gives : goal.link-returns-in-Method-clause-gives
+link-returns-in-Method-clause-gives g t c = λ files left ts hold reads.
+    let asked = (c.in_ok-arguments-in-Method.ensures.gives files left ts hold reads).comes in
+    comes_given (given_as (ap (λ (x : LinkNode). link_of (folder left) c.args.line (data_of c.args.whole) (link_at ts x)) (sym c.in-Method.is))
+    (given_as (ap (λ (name : List ℕ). method_of c.args.line (data_of c.args.whole) name (arguments_of (folder left) no_arguments (arguments (map (argument_at ts) c.in-Method.arguments.items)))) c.deref.ensures)
+    (given_as (ap (λ (xs : List ArgumentNode). method_of c.args.line (data_of c.args.whole) c.deref.result.now (arguments_of (folder left) no_arguments (arguments (map (argument_at ts) xs)))) c.deref-in-Method.ensures.value)
+    (given_then (c.in_ok-method_at-in-Method.ensures.gives files hold) (given_then asked
+    (given_as (ap (λ (name : List ℕ). method_called c.args.line (data_of c.args.whole) name (arguments_data c.in_ok-arguments-in-Method.arguments)) (c.deref-in-Method-2.ensures ∙ sym c.deref.ensures))
+    (c.in_ok-method_called-in-Method.ensures.gives files asked.holds)))))))
+
+pub link-returns-in_err-at-in-Index-clause-gives : goal.link-returns-in_err-at-in-Index-clause-gives
+link-returns-in_err-at-in-Index-clause-gives g t c = λ files left ts hold reads.
+    comes_as (ap (λ (x : LinkNode). link_of (folder left) c.args.line (data_of c.args.whole) (link_at ts x)) (sym c.in-Index.is))
+    (comes_halt (c.in_err-at-in-Index.ensures.gives files left ts hold reads) c.from_residual-in_err-at-in-Index.ensures.1)
+
+pub link-returns-in_err-part_at-in-Index-clause-gives : goal.link-returns-in_err-part_at-in-Index-clause-gives
+link-returns-in_err-part_at-in-Index-clause-gives g t c = λ files left ts hold reads.
+    let at = (c.in_ok-at-in-Index.ensures.gives files left ts hold reads).comes in
+    comes_as (ap (λ (x : LinkNode). link_of (folder left) c.args.line (data_of c.args.whole) (link_at ts x)) (sym c.in-Index.is))
+    (comes_then at (comes_last (c.in_err-part_at-in-Index.ensures.gives files at.holds) c.from_residual-in_err-part_at-in-Index.ensures.1))
+
+pub link-returns-clause-gives : goal.link-returns-clause-gives
+link-returns-clause-gives g t c = λ files left ts hold reads.
+    let at = (c.in_ok-at-in-Index.ensures.gives files left ts hold reads).comes in
+    comes_given (given_as (ap (λ (x : LinkNode). link_of (folder left) c.args.line (data_of c.args.whole) (link_at ts x)) (sym c.in-Index.is))
+    (given_then at (c.in_ok-part_at-in-Index.ensures.gives files at.holds)))
+
+pub form-returns-in_err-compound-in_default-clause-gives : goal.form-returns-in_err-compound-in_default-clause-gives
+form-returns-in_err-compound-in_default-clause-gives g t c = λ files left ts hold reads.
+    comes_same (c.in_err-compound-in_default.ensures.gives files left ts hold reads) c.from_residual-in_err-compound-in_default.ensures.1

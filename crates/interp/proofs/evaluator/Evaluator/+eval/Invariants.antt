@@ -24,14 +24,14 @@ decreases-eval g l = 8 * l.node + 7
 abbrev pub decreases-form : goal.decreases-form
 decreases-form g l = 8 * l.node + 6
 
+abbrev pub decreases-compound : goal.decreases-compound
+decreases-compound g l = 8 * l.node + 5
+
 abbrev pub decreases-list : goal.decreases-list
-decreases-list g l = 8 * above above_number l.items.now + 5
+decreases-list g l = 8 * above above_number l.items.now + 4
 
 abbrev pub decreases-dictionary : goal.decreases-dictionary
-decreases-dictionary g l = 8 * above above_entry l.entries.now + 5
-
-abbrev pub decreases-call : goal.decreases-call
-decreases-call g l = 8 * above above_argument l.arguments.now + 5
+decreases-dictionary g l = 8 * above above_entry l.entries.now + 4
 
 abbrev pub decreases-arguments : goal.decreases-arguments
 decreases-arguments g l = 8 * above above_argument l.arguments.now
@@ -43,10 +43,10 @@ abbrev pub decreases-link : goal.decreases-link
 decreases-link g l = 8 * above_link l.link.now + 2
 
 abbrev pub decreases-chain : goal.decreases-chain
-decreases-chain g l = 8 * max (suc l.first) (above above_operand l.others.now) + 5
+decreases-chain g l = 8 * max (suc l.first) (above above_operand l.others.now) + 4
 
 abbrev pub decreases-ternary : goal.decreases-ternary
-decreases-ternary g l = 8 * max (suc l.test) (max (suc l.yes) (suc l.no)) + 5
+decreases-ternary g l = 8 * max (suc l.test) (max (suc l.yes) (suc l.no)) + 4
 
 -- ---- loops: what was done, and the rest, are all
 
