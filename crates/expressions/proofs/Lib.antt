@@ -3,4 +3,5 @@ pub mod Evaluating
 pub mod Filling
 mod Meanings
 pub mod Opening
+pub mod Taking
 pub mod Walking

@@ -1,10 +1,12 @@
 //! Names: of variables, of functions, and of the methods of values.
 ghost use Rattle.std.specs.Prelude.{◌≡◌, ◌<◌, ◌||◌, ◌&&◌, ℕ, IfOk, [], false, length, map, option_map, slice_index_or};
 ghost use Rattle.arguments.specs.Arguments.{arguments_data};
+ghost use Rattle.arguments.specs.Misfits.{checked};
 ghost use Rattle.data.specs.View.{data_of};
+ghost use Rattle.language_calls.specs.Rows.{any_values};
 ghost use Rattle.methods.specs.Methods.{has_name};
 ghost use Rattle.world.specs.Gives.{failures_after};
-ghost use Rattle.expressions.specs.Forms.{asked_of, disabler_method, function_at, function_inside, known, known_method};
+ghost use Rattle.expressions.specs.Forms.{asked_of, disabler_method, fitted, function_at, function_inside, known, known_method};
 ghost use Rattle.expressions.specs.Forms.{may_be_asked_first, may_come_first, method_answered, thing, value_method, variable};
 
 use crate::context::Context;
@@ -201,6 +203,19 @@ impl<'a, T: Tree, O: Outputs, L: Ledger> Context<'a, T, O, L> {
         }
     }
 
+    // Refuses keywords, which no method of a value takes. Values may be of any kind and number.
+    fn require_no_keyword(&self, line: usize, arguments: &Arguments) -> Result<(), Stop>
+        ensures gives { Answers T.seen O.seen (λ u. u) (fitted line (checked any_values (arguments_data arguments.now)))
+            self.now result self.now }
+        ensures quiet { (n : ℕ) → failures_after n result ≡ n }
+    {
+        if arguments.named.is_empty() {
+            return Ok(());
+        }
+        let fits = check(self.alloc, &any_values(), arguments)?;
+        self.fitted(line, fits)
+    }
+
     /// A method of a value that is no object.
     pub fn value_method(
         &self,
@@ -213,8 +228,7 @@ impl<'a, T: Tree, O: Outputs, L: Ledger> Context<'a, T, O, L> {
             (value_method line (data_of whole.now) name.now (arguments_data arguments.now)) self.now result self.now }
         ensures quiet { (n : ℕ) → failures_after n result ≡ n }
     {
-        let fits = check(self.alloc, &any_values(), arguments)?;
-        self.fitted(line, fits)?;
+        self.require_no_keyword(line, arguments)?;
         let value = self.method_answered(line, whole, name, &arguments.positional)?;
         Ok(Some(value))
     }
