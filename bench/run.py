@@ -156,7 +156,7 @@ def tenfold(name: str, size: int, make: loads.Maker) -> Load:
     return Load(name, (size // 10, size), make, growth=10**0.1, memory_growth=10**0.1)
 
 
-# Ten times as many libraries have 100 times as many in the lists that they keep: an exponent of 1.1 against these, for one library.
+# Ten times as many libraries have 100 times as many in the lists of those behind each: an exponent of 1.1 against these, for one library.
 LISTS_GROWTH = 100**1.1 / 10
 
 GROUPS = {

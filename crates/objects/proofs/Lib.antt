@@ -1,3 +1,4 @@
 pub mod Others
 pub mod Outputs
 pub mod Keys
+pub mod At

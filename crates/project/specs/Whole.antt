@@ -22,7 +22,7 @@ pub record IsFront (old new : List (String Global)) : Type 0 where
 abbrev pub targets_in : List LinkedData → List TargetData
 targets_in ls = map (λ l. l.target) ls
 
--- The kept libraries are those of the definition, the set has the paths that are taken, none is taken twice, each path that an edge needs
+-- The targets are linked as the definition says, the set has the paths that are taken, none is taken twice, each path that an edge needs
 -- is there before it, no edge makes anything outside the build folder, Ninja can hold each edge, and each target refers to earlier ones.
 pub record IsWhole (s : SurroundingsData) (ls : List LinkedData) (outputs present kept : List Path) : Type 0 where
   pub libraries : ls ≡ linked_of (targets_in ls)
