@@ -1,6 +1,6 @@
 //! The methods of targets, and of the outputs of custom targets: the types `build_tgt`, `custom_tgt` and `custom_idx` of the page
 //! "Reference manual".
-ghost use Rattle.std.specs.Prelude.{◌≡◌, IfOk, Some, map, option_map, string_bytes};
+ghost use Rattle.std.specs.Prelude.{◌≡◌, IfOk, Some, option_map, string_bytes};
 ghost use Rattle.data.specs.Tables.{Answers};
 ghost use Rattle.data.specs.View.{items_of};
 ghost use Rattle.edge.specs.Texts.{texts};

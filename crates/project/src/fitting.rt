@@ -1,5 +1,5 @@
 //! What a target may be.
-ghost use Rattle.std.specs.Prelude.{◌≡◌, ◌+◌, map, min, IfOk, not, ◌&&◌, ◌||◌, string_bytes, option_map};
+ghost use Rattle.std.specs.Prelude.{◌≡◌, ◌+◌, min, IfOk, not, ◌&&◌, ◌||◌, string_bytes, option_map};
 ghost use Rattle.std.specs.List.{list_any, list_all};
 ghost use Rattle.basics.specs.Limits.{items};
 ghost use Rattle.edge.specs.Texts.{texts, holds as is_held};

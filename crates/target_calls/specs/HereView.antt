@@ -1,5 +1,4 @@
 -- Where a call stands, without where it lies in memory.
-use Rattle.std.specs.Prelude.{map}
 use Rattle.targets.specs.LinkedViews.{linked_views}
 use Rattle.target_calls.specs.Here.{HereData}
 use Rattle.target_calls.specs.declared.here.Here.{Here}

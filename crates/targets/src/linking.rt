@@ -1,5 +1,5 @@
 //! The libraries that a target names.
-ghost use Rattle.std.specs.Prelude.{◌≡◌, map, slice_get, option_map, ◌&&◌};
+ghost use Rattle.std.specs.Prelude.{◌≡◌, slice_get, option_map, ◌&&◌};
 ghost use Rattle.std.specs.List.{list_all};
 ghost use Rattle.targets.specs.Libraries.{build_of, build_at, is_library_at, links_libraries};
 ghost use Rattle.targets.specs.LinkedViews.{linked_views};
