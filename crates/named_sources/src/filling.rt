@@ -35,6 +35,7 @@ fn fill_behind(
             return Ok(Some(made));
         }
         let text = parts[i + 1];
+        let behind = i + 2;
         match meaning_of(alloc, scope, place, name)? {
             Meaning::Stays => {
                 made.push_str("@")?;
@@ -45,12 +46,12 @@ fn fill_behind(
             Meaning::Lent(value) => {
                 made.push_str(value)?;
                 made.push_str(text)?;
-                i += 2;
+                i = behind;
             }
             Meaning::Made(value) => {
                 made.push_str(&value)?;
                 made.push_str(text)?;
-                i += 2;
+                i = behind;
             }
         }
     }

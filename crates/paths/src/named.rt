@@ -1,10 +1,11 @@
 //! The paths that texts of a definition file name.
-ghost use Rattle.std.specs.Prelude.{◌≡◌, ◌++◌, IfOk, map, None, Some, option_map, option_copied, string_bytes, codes, [], if◌then◌else◌, not, ◌||◌};
+ghost use Rattle.std.specs.Prelude.{◌≡◌, ◌++◌, ◌||◌, not, IfOk, map, None, Some, option_map, option_copied, string_bytes, codes, []};
+ghost use Rattle.std.specs.Prelude.{if◌then◌else◌};
 ghost use Rattle.std.specs.List.{join_with_byte, list_all};
 ghost use Rattle.std.specs.Str.{bytes_eq};
 ghost use Rattle.paths.specs.Folder.{folder_of, strings_of};
-ghost use Rattle.paths.specs.Paths.{follow_part, follow_parts, folder_below, folder_named, folder_path, folder_paths, from_root, is_below, leads_down, named};
-ghost use Rattle.paths.specs.Paths.{parts_of, path_in, paths_behind, rest_after, tree_path, tree_paths};
+ghost use Rattle.paths.specs.Paths.{follow_part, follow_parts, folder_below, folder_named, folder_path, folder_paths, from_root};
+ghost use Rattle.paths.specs.Paths.{is_below, leads_down, named, parts_of, path_in, paths_behind, rest_after, tree_path, tree_paths};
 
 use std::alloc::{AllocError, Global};
 
