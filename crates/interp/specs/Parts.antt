@@ -45,3 +45,18 @@ has_parts (nodes.Ternary test one other line) = true
 -- the node with this number has parts; there is always one
 abbrev pub has_parts_at : Code → ℕ → Bool
 has_parts_at c i = has_parts (slice_index_or c.nodes.items i (nodes.Name 0 0))
+
+-- those that are no chain and of which nothing is asked
+abbrev pub is_rare : Node → Bool
+is_rare (nodes.Name number line) = false
+is_rare (nodes.Literal literal line) = false
+is_rare (nodes.List items line) = true
+is_rare (nodes.Dictionary entries line) = true
+is_rare (nodes.Call call line) = true
+is_rare (nodes.Postfix first links line) = false
+is_rare (nodes.Prefix prefix value line) = true
+is_rare (nodes.Chain first others line) = false
+is_rare (nodes.Ternary test one other line) = true
+
+abbrev pub is_rare_at : Code → ℕ → Bool
+is_rare_at c i = is_rare (slice_index_or c.nodes.items i (nodes.Name 0 0))

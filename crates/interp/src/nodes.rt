@@ -1,12 +1,12 @@
 //! Expressions: one function for each form of node.
 ghost use Rattle.std.specs.Prelude.{◌≡◌, ◌<◌, ◌≤◌, ◌+◌, ℕ, suc, max, Some, true, length, map, option_map};
-ghost use Rattle.grammar.specs.ExpressionTree.{ListTree, DictionaryTree, FunctionTree, ChainTree, TernaryTree, expressions, entries as entry_trees, arguments as argument_trees, links as link_trees, operands as operand_trees};
+ghost use Rattle.grammar.specs.ExpressionTree.{ListTree, DictionaryTree, FunctionTree, ChainTree, expressions, entries as entry_trees, arguments as argument_trees, links as link_trees, operands as operand_trees};
 ghost use Rattle.code.specs.Nodes.{tree_at, entry_at, argument_at, operand_at, link_at};
 ghost use Rattle.data.specs.View.{data_of};
 ghost use Rattle.arguments.specs.Arguments.{arguments_data, no_arguments};
 ghost use Rattle.world.specs.Plan.{next, ruled};
 ghost use Rattle.interp.specs.Expressions.{value_of, arguments_of, link_of, links_of};
-ghost use Rattle.interp.specs.Parts.{above, above_number, above_entry, above_argument, above_operand, above_link, has_parts_at};
+ghost use Rattle.interp.specs.Parts.{above, above_number, above_entry, above_argument, above_operand, above_link, has_parts_at, is_rare_at};
 
 use crate::evaluator::Evaluator;
 use crate::halt::{Halt, ended_inside};
@@ -72,6 +72,32 @@ impl<'a, T: Tree, O: Outputs, L: Ledger> Evaluator<'a, T, O, L> {
     {
         match &code.nodes[node] {
             Node::Name { .. } | Node::Literal { .. } => unreachable!(),
+            Node::Postfix { first, links, line } => {
+                let given = self.asked(code, *first as usize, links, *line)?;
+                Ok(self.context.needed(*line, given)?)
+            }
+            Node::Chain {
+                first,
+                others,
+                line,
+            } => Ok(self.chain(code, *first as usize, others, *line)?),
+            _ => Ok(self.rare(code, node)?),
+        }
+    }
+
+    // The same of a form that is not asked for so often.
+    #[cycle(eval)]
+    #[inline(never)]
+    fn rare(&mut self, code: &Code, node: usize) -> Result<Value, Halt>
+        requires here { node < length code.now.nodes.items }
+        requires rare { is_rare_at code.now node ≡ true }
+        requires room { HasRoom T.seen O.seen self.old.context }
+        ensures same { Same self.old.context self.new.context }
+        ensures device { FailsInside T.seen O.seen self.old.context result self.new.context }
+        ensures gives { Evaluates T.seen O.seen data_of (λ into ts. value_of into (tree_at ts node))
+            code.now self.old.context result self.new.context }
+    {
+        match &code.nodes[node] {
             Node::List { items, line } => Ok(self.list(code, items, *line)?),
             Node::Dictionary { entries, line } => Ok(self.dictionary(code, entries, *line)?),
             Node::Call { call, line } => {
@@ -79,10 +105,6 @@ impl<'a, T: Tree, O: Outputs, L: Ledger> Evaluator<'a, T, O, L> {
                 let function = self.context.function_inside(*line, &call.name)?;
                 let arguments = self.arguments(code, &call.arguments)?;
                 Ok(self.called_inside(*line, function, &arguments)?)
-            }
-            Node::Postfix { first, links, line } => {
-                let given = self.asked(code, *first as usize, links, *line)?;
-                Ok(self.context.needed(*line, given)?)
             }
             Node::Prefix {
                 prefix,
@@ -92,17 +114,20 @@ impl<'a, T: Tree, O: Outputs, L: Ledger> Evaluator<'a, T, O, L> {
                 let value = self.eval(code, *value)?;
                 Ok(self.context.prefixed(*line, *prefix, value)?)
             }
-            Node::Chain {
-                first,
-                others,
-                line,
-            } => Ok(self.chain(code, *first as usize, others, *line)?),
             Node::Ternary {
                 test,
                 yes,
                 no,
                 line,
-            } => Ok(self.ternary(code, *test, *yes, *no, *line)?),
+            } => {
+                let value = self.eval(code, *test)?;
+                match value.as_boolean() {
+                    Some(true) => self.eval(code, *yes),
+                    Some(false) => self.eval(code, *no),
+                    None => Ok(self.context.unchosen(*line, value)?),
+                }
+            }
+            _ => unreachable!(),
         }
     }
 
@@ -256,32 +281,5 @@ impl<'a, T: Tree, O: Outputs, L: Ledger> Evaluator<'a, T, O, L> {
             value = self.context.answered(line, right_side(right))?;
         }
         Ok(value)
-    }
-
-    // `test ? yes : no`
-    #[cycle(eval)]
-    #[inline(never)]
-    fn ternary(
-        &mut self,
-        code: &Code,
-        test: usize,
-        yes: usize,
-        no: usize,
-        line: usize,
-    ) -> Result<Value, Halt>
-        requires here { max (suc test) (max (suc yes) (suc no)) ≤ length code.now.nodes.items }
-        requires room { HasRoom T.seen O.seen self.old.context }
-        ensures same { Same self.old.context self.new.context }
-        ensures device { FailsInside T.seen O.seen self.old.context result self.new.context }
-        ensures gives { Evaluates T.seen O.seen data_of
-            (λ into ts. value_of into (TernaryTree (tree_at ts test) (tree_at ts yes) (tree_at ts no) line)) code.now
-            self.old.context result self.new.context }
-    {
-        let value = self.eval(code, test)?;
-        match value.as_boolean() {
-            Some(true) => self.eval(code, yes),
-            Some(false) => self.eval(code, no),
-            None => Ok(self.context.unchosen(line, value)?),
-        }
     }
 }

@@ -27,11 +27,14 @@ decreases-form g l = 8 * l.node + 6
 abbrev pub decreases-compound : goal.decreases-compound
 decreases-compound g l = 8 * l.node + 5
 
+abbrev pub decreases-rare : goal.decreases-rare
+decreases-rare g l = 8 * l.node + 4
+
 abbrev pub decreases-list : goal.decreases-list
-decreases-list g l = 8 * above above_number l.items.now + 4
+decreases-list g l = 8 * above above_number l.items.now + 3
 
 abbrev pub decreases-dictionary : goal.decreases-dictionary
-decreases-dictionary g l = 8 * above above_entry l.entries.now + 4
+decreases-dictionary g l = 8 * above above_entry l.entries.now + 3
 
 abbrev pub decreases-arguments : goal.decreases-arguments
 decreases-arguments g l = 8 * above above_argument l.arguments.now
@@ -44,9 +47,6 @@ decreases-link g l = 8 * above_link l.link.now + 2
 
 abbrev pub decreases-chain : goal.decreases-chain
 decreases-chain g l = 8 * max (suc l.first) (above above_operand l.others.now) + 4
-
-abbrev pub decreases-ternary : goal.decreases-ternary
-decreases-ternary g l = 8 * max (suc l.test) (max (suc l.yes) (suc l.no)) + 4
 
 -- ---- loops: what was done, and the rest, are all
 
