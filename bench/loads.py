@@ -236,13 +236,6 @@ def ladder(folder: str, count: int) -> int:
     return count
 
 
-def ladder_by_libraries(folder: str, count: int) -> int:
-    """The same ladder; one item is a library in the list of those that one target links. The i-th library, from 0, has the i before it
-    in its list, since of equal ones one is kept, and the program has all."""
-    ladder(folder, count)
-    return count * (count + 1) // 2
-
-
 def custom_targets(folder: str, count: int) -> int:
     """So many custom targets, each with an input of its own, and with the output of the one before in its command."""
     line = "g = custom_target('g{0}', input: 'g{0}.in', output: 'g{0}.out', command: ['gen', '@INPUT@', '@OUTPUT@', g])\n"

@@ -156,9 +156,6 @@ def tenfold(name: str, size: int, make: loads.Maker) -> Load:
     return Load(name, (size // 10, size), make, growth=10**0.1, memory_growth=10**0.1)
 
 
-# Ten times as many libraries have 100 times as many in the lists of those behind each: an exponent of 1.1 against these, for one library.
-LISTS_GROWTH = 100**1.1 / 10
-
 GROUPS = {
     "run": Group(
         "whole runs, beside others: the smallest project, and great ones of each kind", "one", setup,
@@ -167,7 +164,7 @@ GROUPS = {
             tenfold("programs", 20_000, loads.programs_in_folders),
             tenfold("folders", 2_000, loads.folders),
             tenfold("custom_targets", 5_000, loads.custom_targets),
-            tenfold("ladder", 960, loads.ladder_by_libraries),
+            tenfold("ladder", 960, loads.ladder),
             tenfold("template", 10_000_000, loads.configured),
             tenfold("rounds", 60_000, loads.rounds),
             tenfold("growing_list", 60_000, loads.growing_list),
@@ -201,9 +198,8 @@ GROUPS = {
         [
             tenfold("programs", 20_000, loads.programs),
             tenfold("one_program", 8_000, loads.one_program),
-            # Each library keeps the list of all below it, so together these grow with the square of their number.
-            Load("chain", (400, 4_000), loads.chain, growth=LISTS_GROWTH, seconds=1e-3, peak=256 * 2**20),
-            Load("ladder", (400, 4_000), loads.ladder, growth=LISTS_GROWTH, seconds=1e-3, peak=256 * 2**20),
+            tenfold("chain", 4_000, loads.chain),
+            tenfold("ladder", 4_000, loads.ladder),
             tenfold("custom_targets", 5_000, loads.custom_targets),
         ],
         rounds=3, beside=setup_sources_otherwise, beside_rounds=1,
