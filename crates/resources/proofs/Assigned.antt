@@ -57,3 +57,9 @@ no_names_textless names i ds h = ap (λ ns. first_textless ns ds) (drop_all i na
 pub no_values_textless : (ns : List (List ℕ)) (values : List Value) (i : ℕ) → length values ≤ i
     → first_textless ns (items_of (drop i values)) ≡ []
 no_values_textless ns values i h = ap (λ (vs : List Value). first_textless ns (items_of vs)) (drop_all i values h) ∙ no_values_first ns
+
+-- ---- the lemmas of one function each
+
+pub ruleset assigned_cases = (next_assigned, no_names_left, no_values_left)
+
+pub ruleset textless_cases = (next_textless, no_names_textless, no_values_textless)

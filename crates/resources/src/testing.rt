@@ -32,7 +32,7 @@ fn assignment(alloc: Global, name: &str, value: &str) -> Result<String, AllocErr
 }
 
 // The variables that have these names and values, in order; none where a value is no text.
-#[tactic(auto, using(crate::proofs::Assigned::next_assigned, crate::proofs::Assigned::no_names_left, crate::proofs::Assigned::no_values_left))]
+#[tactic(auto, using(crate::proofs::Assigned::assigned_cases))]
 fn assigned(
     alloc: Global,
     names: &[Text],
@@ -94,7 +94,7 @@ pub fn environment(alloc: Global, arguments: &Arguments) -> Result<Option<Vec<St
 }
 
 // The name of the first of these values that is no text.
-#[tactic(auto, using(crate::proofs::Assigned::next_textless, crate::proofs::Assigned::no_names_textless, crate::proofs::Assigned::no_values_textless))]
+#[tactic(auto, using(crate::proofs::Assigned::textless_cases))]
 fn first_textless<'n>(names: &'n [Text], values: &[Value]) -> &'n str
     ensures { result.now ≡ first_textless names.now (items_of values.now) }
 {
