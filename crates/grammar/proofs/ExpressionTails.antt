@@ -26,7 +26,7 @@ use Rattle.grammar.specs.Form.{same_state}
 use Rattle.grammar.specs.Parts.{after_as, first_line, opened_at, stands_for, taken, token_as_at}
 use Rattle.grammar.specs.ReadingExpressions.{argument_at, atom_at, base_at, branches_at, call_at, chain_at, ternary_at, comparison_operator_at, dictionary_at, disjunction_at, enter_at, entered_at, entry_at, group_at, index_at, inner_at, items_at, link_at, list_at, label_at, links_at, links_on, literal_at, method_at, name_at, name_colon_at, named_at, not_in_at, operand_at, operands_at, plain_comparison_at, positional_at, postfix_at, prefix_of, prefixed_at, unary_at, unary_in_at, word_of}
 use Rattle.grammar.proofs.Steps.{cases_option}
-use Rattle.grammar.proofs.Tails.{length_lexemes, rest_is}
+use Rattle.grammar.proofs.Tails.{fails_at, length_lexemes, rest_is}
 
 -- ---- tokens that stand for something
 
@@ -514,3 +514,13 @@ weight ranks.Product = 8
 weight ranks.Sum = 12
 weight ranks.And = 21
 weight ranks.Or = 25
+
+-- ---- the lemmas of one function each
+
+pub ruleset literal_cases = (literal_end, literal_missing, literal_found, fails_at)
+
+pub ruleset label_cases = (label_some, label_none, label_fails)
+
+pub ruleset taken_cases = (taken_end, taken_missing, taken_found)
+
+pub ruleset enter_cases = (enter_found, enter_fails, enter_deep, enter_missing, fails_at)

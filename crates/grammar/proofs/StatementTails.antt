@@ -18,7 +18,7 @@ use Rattle.grammar.specs.ReadingExpressions.{expr_at}
 use Rattle.grammar.specs.ReadingStatements.{GivesLine, set_at, plain_at, leave_at, simple_at, ends_line, in_line, maybe_at, in_body, ended_line_at, body_at, elif_at, branch_at, parts_at, last_part_at, otherwise_at, foreach_at, conditional_at, begins_block, block_at, stmt_at, line_at, next_line_at, file_at}
 use Rattle.grammar.proofs.Gathered as loops
 use Rattle.grammar.proofs.Gathered.{all, with_one, one_regroup, with_line, line_regroup, begins_long}
-use Rattle.grammar.proofs.Tails.{length_lexemes}
+use Rattle.grammar.proofs.Tails.{fails_at, length_lexemes}
 
 -- ---- statements of one line
 
@@ -333,3 +333,19 @@ module _ (n : ℕ) where
   pub lines_end : (before : List StatementTree) (ts : List Lexeme) (total : Result (List StatementTree × List Lexeme) Stop)
       → StillLines before ts total → begins Kinds.Newline ts ≡ false → total ≡ Ok (before, ts)
   lines_end = loops.still_end (begins Kinds.Newline) (next_line_at n) given with_line append-nil line_regroup (begins_long Kinds.Newline)
+
+-- ---- the lemmas of one function each
+
+pub ruleset break_cases = (break_inside, break_fails, break_outside, fails_at)
+
+pub ruleset continue_cases = (continue_inside, continue_fails, continue_outside, fails_at)
+
+pub ruleset simple_cases = (simple_break, simple_continue, simple_assign, simple_append, simple_plain)
+
+pub ruleset statement_cases = (stmt_simple, stmt_deep, stmt_foreach, stmt_conditional, fails_at)
+
+pub ruleset optional_cases = (optional_some, optional_none, optional_fails)
+
+pub ruleset otherwise_cases = (otherwise_part, otherwise_none)
+
+pub ruleset line_cases = (line_some, line_none, line_fails)

@@ -80,3 +80,9 @@ pub line_some_left : (source : List ℕ) (ts : List Token) (d : Token) (k : ℕ)
 line_some_left source [] d k lt = absurd (omega arith)
 line_some_left source (t ∷ ts) d zero lt = refl
 line_some_left source (t ∷ ts) d (suc k) lt = line_some_left source ts d k (omega arith)
+
+-- ---- the lemmas of one function each
+
+pub ruleset token_cases = (token_found, token_missing, token_end, fails_at)
+
+pub ruleset all_cases = (all_read, all_more, all_fails, fails_at)

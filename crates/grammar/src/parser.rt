@@ -50,7 +50,7 @@ fn fitted<T>(items: Vec<T>) -> Vec<T>
 
 impl<'t, 'a> Parser<'t, 'a> {
     // Takes the first token, where it is of this kind.
-    #[tactic(auto, using(crate::proofs::Tails::token_found, crate::proofs::Tails::token_missing, crate::proofs::Tails::token_end, crate::proofs::Tails::fails_at))]
+    #[tactic(auto, using(crate::proofs::Tails::token_cases))]
     fn take(&mut self, kind: Kind) -> Result<Token<'a>, ReadError>
         ensures read { Gives lexeme_of result (lexemes self.new.rest.now) (token_at kind (lexemes self.old.rest.now)) }
         ensures shorter { OnOk result (length self.new.rest.now < length self.old.rest.now) }
@@ -108,7 +108,7 @@ impl<'t, 'a> Parser<'t, 'a> {
     }
 
     // The file that all tokens spell.
-    #[tactic(auto, using(crate::proofs::Tails::all_read, crate::proofs::Tails::all_more, crate::proofs::Tails::all_fails, crate::proofs::Tails::fails_at))]
+    #[tactic(auto, using(crate::proofs::Tails::all_cases))]
     fn file(&mut self, alloc: Global, levels: u32) -> Result<File<'a>, ReadError>
         ensures { GivesAll file_of result (all_of (file_at levels) (lexemes self.old.rest.now)) }
     {

@@ -42,7 +42,7 @@ impl<'a> Parser<'_, 'a> {
         })
     }
 
-    #[tactic(auto, using(crate::proofs::ExpressionTails::literal_end, crate::proofs::ExpressionTails::literal_missing, crate::proofs::ExpressionTails::literal_found, crate::proofs::Tails::fails_at))]
+    #[tactic(auto, using(crate::proofs::ExpressionTails::literal_cases))]
     fn literal(&mut self) -> Result<Expression<'a>, ReadError>
         ensures read { Gives expression_of result (lexemes self.new.rest.now) (literal_at (lexemes self.old.rest.now)) }
         ensures shorter { OnOk result (length self.new.rest.now < length self.old.rest.now) }

@@ -88,7 +88,7 @@ impl<'a> Parser<'_, 'a> {
     }
 
     // Takes the operator of this rank that comes, if one does.
-    #[tactic(auto, using(crate::proofs::ExpressionTails::taken_end, crate::proofs::ExpressionTails::taken_missing, crate::proofs::ExpressionTails::taken_found))]
+    #[tactic(auto, using(crate::proofs::ExpressionTails::taken_cases))]
     fn operator(&mut self, rank: Rank) -> Option<Operator>
         ensures read { (result, lexemes self.new.rest.now) ≡ taken (operator_of rank) (lexemes self.old.rest.now) }
         ensures within { length self.new.rest.now ≤ length self.old.rest.now }
@@ -115,7 +115,7 @@ impl<'a> Parser<'_, 'a> {
     }
 
     // Takes the comparison of one token that comes, if one does.
-    #[tactic(auto, using(crate::proofs::ExpressionTails::taken_end, crate::proofs::ExpressionTails::taken_missing, crate::proofs::ExpressionTails::taken_found))]
+    #[tactic(auto, using(crate::proofs::ExpressionTails::taken_cases))]
     fn plain_comparison(&mut self) -> Option<Operator>
         ensures read { (result, lexemes self.new.rest.now) ≡ taken comparative (lexemes self.old.rest.now) }
         ensures within { length self.new.rest.now ≤ length self.old.rest.now }
@@ -181,7 +181,7 @@ impl<'a> Parser<'_, 'a> {
     }
 
     // Takes a token that opens a level, with the levels that may be opened behind it.
-    #[tactic(auto, using(crate::proofs::ExpressionTails::enter_found, crate::proofs::ExpressionTails::enter_fails, crate::proofs::ExpressionTails::enter_deep, crate::proofs::ExpressionTails::enter_missing, crate::proofs::Tails::fails_at))]
+    #[tactic(auto, using(crate::proofs::ExpressionTails::enter_cases))]
     pub(super) fn enter(&mut self, kind: Kind, levels: u32) -> Result<(Token<'a>, u32), ReadError>
         ensures read { Gives (λ x. (lexeme_of x.0, x.1)) result (lexemes self.new.rest.now)
             (enter_at kind levels (lexemes self.old.rest.now)) }

@@ -44,7 +44,7 @@ impl<'a> Parser<'_, 'a> {
     }
 
     // The name of an argument and the colon behind it, if they come; they have to behind an argument that has a name.
-    #[tactic(auto, using(crate::proofs::ExpressionTails::label_some, crate::proofs::ExpressionTails::label_none, crate::proofs::ExpressionTails::label_fails))]
+    #[tactic(auto, using(crate::proofs::ExpressionTails::label_cases))]
     fn label(&mut self, behind: bool) -> Result<Option<&'a str>, ReadError>
         ensures read { Gives (option_map (λ name. name.now)) result (lexemes self.new.rest.now)
             (label_at behind (lexemes self.old.rest.now)) }

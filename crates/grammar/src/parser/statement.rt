@@ -108,7 +108,7 @@ impl<'a> Parser<'_, 'a> {
     }
 
     // A `break`, where a `foreach` is open.
-    #[tactic(auto, using(crate::proofs::StatementTails::break_inside, crate::proofs::StatementTails::break_fails, crate::proofs::StatementTails::break_outside, crate::proofs::Tails::fails_at))]
+    #[tactic(auto, using(crate::proofs::StatementTails::break_cases))]
     fn leave_loop(&mut self, inside: bool) -> Result<Statement<'a>, ReadError>
         ensures read { Gives statement_of result (lexemes self.new.rest.now)
             (leave_at Kind.Break BreakTree inside (lexemes self.old.rest.now)) }
@@ -123,7 +123,7 @@ impl<'a> Parser<'_, 'a> {
     }
 
     // A `continue`, where a `foreach` is open.
-    #[tactic(auto, using(crate::proofs::StatementTails::continue_inside, crate::proofs::StatementTails::continue_fails, crate::proofs::StatementTails::continue_outside, crate::proofs::Tails::fails_at))]
+    #[tactic(auto, using(crate::proofs::StatementTails::continue_cases))]
     fn leave_round(&mut self, inside: bool) -> Result<Statement<'a>, ReadError>
         ensures read { Gives statement_of result (lexemes self.new.rest.now)
             (leave_at Kind.Continue ContinueTree inside (lexemes self.old.rest.now)) }
@@ -138,7 +138,7 @@ impl<'a> Parser<'_, 'a> {
     }
 
     // A statement of one line.
-    #[tactic(auto, using(crate::proofs::StatementTails::simple_break, crate::proofs::StatementTails::simple_continue, crate::proofs::StatementTails::simple_assign, crate::proofs::StatementTails::simple_append, crate::proofs::StatementTails::simple_plain))]
+    #[tactic(auto, using(crate::proofs::StatementTails::simple_cases))]
     fn simple(
         &mut self,
         alloc: Global,
@@ -163,7 +163,7 @@ impl<'a> Parser<'_, 'a> {
 
     // A statement, where so many levels may still be opened; inside says whether a `foreach` is open.
     #[cycle(statement)]
-    #[tactic(auto, using(crate::proofs::StatementTails::stmt_simple, crate::proofs::StatementTails::stmt_deep, crate::proofs::StatementTails::stmt_foreach, crate::proofs::StatementTails::stmt_conditional, crate::proofs::Tails::fails_at))]
+    #[tactic(auto, using(crate::proofs::StatementTails::statement_cases))]
     fn statement(
         &mut self,
         alloc: Global,
@@ -196,7 +196,7 @@ impl<'a> Parser<'_, 'a> {
     }
 
     // The second name of a `foreach`, if there is one.
-    #[tactic(auto, using(crate::proofs::StatementTails::optional_some, crate::proofs::StatementTails::optional_none, crate::proofs::StatementTails::optional_fails))]
+    #[tactic(auto, using(crate::proofs::StatementTails::optional_cases))]
     fn second(&mut self) -> Result<Option<&'a str>, ReadError>
         ensures read { Gives (option_map (λ name. name.now)) result (lexemes self.new.rest.now)
             (optional_at (begins Kind.Comma) second_at (lexemes self.old.rest.now)) }
@@ -311,7 +311,7 @@ impl<'a> Parser<'_, 'a> {
 
     // What stands behind `else`, or nothing.
     #[cycle(statement)]
-    #[tactic(auto, using(crate::proofs::StatementTails::otherwise_part, crate::proofs::StatementTails::otherwise_none), unfolding(crate::specs::ReadingStatements::last_part_at))]
+    #[tactic(auto, using(crate::proofs::StatementTails::otherwise_cases), unfolding(crate::specs::ReadingStatements::last_part_at))]
     fn otherwise(
         &mut self,
         alloc: Global,
@@ -352,7 +352,7 @@ impl<'a> Parser<'_, 'a> {
 
     // Puts the statement of a line behind the others, if there is one.
     #[cycle(statement)]
-    #[tactic(auto, using(crate::proofs::StatementTails::line_some, crate::proofs::StatementTails::line_none, crate::proofs::StatementTails::line_fails))]
+    #[tactic(auto, using(crate::proofs::StatementTails::line_cases))]
     pub(super) fn line(
         &mut self,
         alloc: Global,
