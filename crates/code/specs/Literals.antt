@@ -1,11 +1,12 @@
 -- Literals, the tokens that they are, and what they stand for.
-use Rattle.std.specs.Prelude.{ℕ, Bool, true, false, ◌&&◌, ◌==◌, List, string_bytes, bytes_eq}
+use Rattle.std.specs.Prelude.{ℕ, Bool, true, false, ◌&&◌, ◌==◌, not, List, string_bytes, bytes_eq}
 use Rattle.grammar.specs.declared.tree.Literal.{Literal}
 use Rattle.grammar.specs.declared.tree.Literal.TheVariants as literals
 use Rattle.lexer.specs.Numerals.{magnitude}
 use Rattle.lexer.specs.Texts.{text_of}
 use Rattle.lexer.specs.declared.token.Kind.{Kind}
 use Rattle.lexer.specs.declared.token.Kind.TheVariants as kinds
+use Rattle.code.specs.FormatStrings.{written}
 use Rattle.code.specs.declared.literal.Meaning.{Meaning}
 use Rattle.code.specs.declared.literal.Meaning.TheVariants as meanings
 
@@ -46,5 +47,5 @@ abbrev pub means : Literal → List ℕ → Meaning → Bool
 means literal source (meanings.Boolean b) = is_boolean b literal
 means literal source (meanings.Integer n) = is_number literal && (n == magnitude source)
 means literal source (meanings.Text t) = is_plain literal && bytes_eq t.value (text_of (kind_of literal) source)
-means literal source (meanings.Format t) = is_format literal && bytes_eq t.value (text_of (kind_of literal) source)
-means literal source (meanings.Source t) = bytes_eq (string_bytes t.value) source
+means literal source (meanings.Format f) = is_format literal && bytes_eq (written f.value.parts.items) (text_of (kind_of literal) source)
+means literal source (meanings.Source t) = not (is_format literal) && bytes_eq (string_bytes t.value) source

@@ -76,7 +76,7 @@ impl Draft {
         ensures grows { Grows self.old self.new }
         ensures stands { IfOk result (λ number. Stands (trees_in self.new) number (LiteralTree literal text.now line)) }
     {
-        let literal = LiteralNode::new(self.alloc, literal, text)?;
+        let literal = LiteralNode::new(self.alloc, &self.names, literal, text)?;
         self.push(Node::Literal { literal, line })
     }
 

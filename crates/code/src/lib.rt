@@ -27,6 +27,7 @@ mod code;
 mod draft;
 mod expressions;
 mod file_draft;
+mod format_string;
 mod literal;
 mod making;
 mod names;
@@ -34,6 +35,7 @@ pub mod node;
 mod statements;
 
 pub use code::Code;
+pub use format_string::{FormatString, Part};
 pub use literal::{LiteralNode, Meaning};
 pub use making::{flatten, names_may_grow};
 pub use names::Names;

@@ -1,10 +1,12 @@
 //! Literals, and what they stand for.
-ghost use Rattle.std.specs.Prelude.{◌≡◌, IfOk, IsTrue, string_bytes};
+ghost use Rattle.std.specs.Prelude.{◌≡◌, false, IfOk, IsTrue, string_bytes};
 ghost use Rattle.std.specs.Option.{ForSome};
 ghost use Rattle.lexer.specs.Numerals.{magnitude};
 ghost use Rattle.lexer.specs.Texts.{text_of};
 ghost use Rattle.code.specs.Literals.{is_format, is_number, is_plain, kind_of, means};
 
+use crate::format_string::FormatString;
+use crate::names::Names;
 use data::Text;
 use grammar::tree::Literal;
 use lexer::token::Kind;
@@ -21,9 +23,9 @@ pub enum Meaning {
     Integer(u64),
     /// The text that a string stands for.
     Text(Box<Text>),
-    /// The text that an f-string stands for, before its places are filled.
-    Format(Box<Text>),
-    /// The literal as it stands in the source: a number that 64 bits don't hold, or a string whose text is too long.
+    /// The parts of an f-string, before its places are filled.
+    Format(Box<FormatString>),
+    /// The literal as it stands in the source: a number that 64 bits don't hold, or a string that is no f-string and whose text is too long.
     Source(Box<String>),
 }
 
@@ -83,6 +85,7 @@ fn decoded(alloc: Global, literal: Literal, text: &str) -> Result<Option<Box<Tex
 
 // A literal as it stands in the source.
 fn unread(alloc: Global, literal: Literal, text: String) -> Result<Meaning, AllocError>
+    requires { is_format literal ≡ false }
     ensures { IfOk result (λ m. IsTrue (means literal (string_bytes text) m)) }
 {
     let text = Box::new(alloc, text)?;
@@ -112,18 +115,17 @@ fn plain(alloc: Global, literal: Literal, text: String) -> Result<Meaning, Alloc
 }
 
 // What an f-string stands for.
-fn format(alloc: Global, literal: Literal, text: String) -> Result<Meaning, AllocError>
+fn format(alloc: Global, names: &Names, literal: Literal, text: &str) -> Result<Meaning, AllocError>
     requires { IsTrue (is_format literal) }
-    ensures { IfOk result (λ m. IsTrue (means literal (string_bytes text) m)) }
+    ensures { IfOk result (λ m. IsTrue (means literal text.now m)) }
 {
-    match decoded(alloc, literal, text.as_str())? {
-        Some(decoded) => Ok(Meaning::Format(decoded)),
-        None => unread(alloc, literal, text),
-    }
+    let text = text_of_slice(alloc, kind_of(literal), text)?;
+    let format = FormatString::new(alloc, names, text.as_str())?;
+    Ok(Meaning::Format(Box::new(alloc, format)?))
 }
 
 // What a literal stands for.
-fn read(alloc: Global, literal: Literal, text: String) -> Result<Meaning, AllocError>
+fn read(alloc: Global, names: &Names, literal: Literal, text: String) -> Result<Meaning, AllocError>
     ensures { IfOk result (λ m. IsTrue (means literal (string_bytes text) m)) }
 {
     match literal {
@@ -132,20 +134,25 @@ fn read(alloc: Global, literal: Literal, text: String) -> Result<Meaning, AllocE
         Literal::Number => number(alloc, literal, text),
         Literal::String => plain(alloc, literal, text),
         Literal::RawString => plain(alloc, literal, text),
-        Literal::FormatString => format(alloc, literal, text),
-        Literal::RawFormatString => format(alloc, literal, text),
+        Literal::FormatString => format(alloc, names, literal, text.as_str()),
+        Literal::RawFormatString => format(alloc, names, literal, text.as_str()),
     }
 }
 
 impl LiteralNode {
-    /// The literal of a source.
-    pub fn new(alloc: Global, literal: Literal, text: &str) -> Result<LiteralNode, AllocError>
+    /// The literal of a source, over a table of names.
+    pub fn new(
+        alloc: Global,
+        names: &Names,
+        literal: Literal,
+        text: &str,
+    ) -> Result<LiteralNode, AllocError>
         ensures literal { IfOk result (λ node. node.literal ≡ literal) }
         ensures source { IfOk result (λ node. string_bytes node.source.value ≡ text.now) }
     {
         let text = String::from_str(alloc, text)?;
         let source = Snapshot::of(&text);
-        let meaning = read(alloc, literal, text)?;
+        let meaning = read(alloc, names, literal, text)?;
         Ok(LiteralNode {
             literal,
             meaning,

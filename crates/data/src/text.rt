@@ -91,36 +91,42 @@ impl Text {
         }
     }
 
-    /// The text and a piece behind it, or `Refusal::Limit` where that is too long.
+    /// The text without bytes.
+    pub fn empty() -> Text
+        ensures { result ≡ [] }
+    {
+        Text::short("")
+    }
+
+    /// Puts a piece behind the text, or answers `Refusal::Limit` where it becomes longer than 16,777,216 bytes.
     ///
     /// Where nobody else holds the text it grows in place, and the work is that of the piece.
-    pub fn append(self, alloc: Global, piece: &str) -> Result<Result<Text, Refusal>, AllocError>
-        ensures { IfOk result (λ r. r ≡ within_bytes (self ++ piece.now)) }
+    pub fn push(&mut self, alloc: Global, piece: &str) -> Result<Result<(), Refusal>, AllocError>
+        ensures { IfOk result (λ r. Appends self.old piece.now self.new r) }
     {
-        if self.as_str().len() + piece.len() > TEXT_BYTES {
+        let count = self.as_str().len() + piece.len();
+        if count > TEXT_BYTES {
             return Ok(Err(Refusal::Limit));
         }
-        let Text { mut kept } = self;
-        match &mut kept {
+        match &mut self.kept {
             Kept::Short(short) => {
-                if short.as_str().len() + piece.len() <= SHORT_BYTES {
+                if count <= SHORT_BYTES {
                     short.push(piece);
-                    return Ok(Ok(Text { kept }));
+                    return Ok(Ok(()));
                 }
             }
             Kept::Long(string) => {
                 if let Some(own) = Rc::get_mut(string) {
                     own.push_str(piece)?;
-                    return Ok(Ok(Text { kept }));
+                    return Ok(Ok(()));
                 }
             }
         }
-        let text = Text { kept };
-        let text = text.as_str();
-        let mut copy = String::with_capacity(alloc, text.len() + piece.len())?;
-        copy.push_str(text)?;
+        let mut copy = String::with_capacity(alloc, count)?;
+        copy.push_str(self.as_str())?;
         copy.push_str(piece)?;
-        Text::new(alloc, copy)
+        self.kept = Kept::Long(Rc::new(alloc, copy)?);
+        Ok(Ok(()))
     }
 }
 
@@ -203,17 +209,6 @@ impl Hash for Text {
     fn hash<H: Hasher>(&self, state: &mut H) {
         self.as_str().hash(state);
     }
-}
-
-/// Puts a piece behind a string that is to be a text, or answers `Refusal::Limit` where it becomes longer than 16,777,216 bytes.
-pub fn append(string: &mut String, piece: &str) -> Result<Result<(), Refusal>, AllocError>
-    ensures { IfOk result (λ r. Appends (string_bytes string.old) piece.now (string_bytes string.new) r) }
-{
-    if string.len() + piece.len() > TEXT_BYTES {
-        return Ok(Err(Refusal::Limit));
-    }
-    string.push_str(piece)?;
-    Ok(Ok(()))
 }
 
 /// A list of texts, which it shares.

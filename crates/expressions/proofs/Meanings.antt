@@ -1,6 +1,6 @@
 -- The value of a literal, by what it means.
 use Rattle.std.proofs.Common.{◌≡◌, ℕ, Bool, true, false, List, refl, ap, ◌∙◌}
-use Rattle.std.specs.Prelude.{IsTrue, ◌&&◌, ◌==◌, bytes_eq}
+use Rattle.std.specs.Prelude.{IsTrue, ◌&&◌, ◌==◌, not, bytes_eq}
 use Rattle.std.proofs.lemmas.Bool.Decides.{Decides-eqb}
 use Rattle.std.proofs.lemmas.Slice.Eq.{bytes_eq-Decides}
 use Rattle.grammar.specs.declared.tree.Literal.{Literal}
@@ -75,5 +75,17 @@ module _ (line : ℕ) (s : List ℕ) where
       let p = both_true (is_format l) (bytes_eq t (text_of (kind_of l) s)) h in
       ap (format_string line) ((bytes_eq-Decides t (text_of (kind_of l) s)).0 p.1) ∙ of_places l p.0
 
-  pub of_source : (l : Literal) (t : List ℕ) → IsTrue (bytes_eq t s) → literal_value line l t ≡ literal_value line l s
-  of_source l t h = ap (literal_value line l) ((bytes_eq-Decides t s).0 h)
+  no_format : (l : Literal) → IsTrue (not (is_format l)) → is_format l ≡ false
+  no_format literals.True h = refl
+  no_format literals.False h = refl
+  no_format literals.Number h = refl
+  no_format literals.String h = refl
+  no_format literals.RawString h = refl
+  no_format literals.FormatString h = absurd cc
+  no_format literals.RawFormatString h = absurd cc
+
+  pub of_source : (l : Literal) (t : List ℕ) → IsTrue (not (is_format l) && bytes_eq t s)
+      → (is_format l ≡ false) × (literal_value line l t ≡ literal_value line l s)
+  of_source l t h =
+      let p = both_true (not (is_format l)) (bytes_eq t s) h in
+      (no_format l p.0, ap (literal_value line l) ((bytes_eq-Decides t s).0 p.1))

@@ -17,7 +17,7 @@ use Rattle.data.specs.declared.refusal.Refusal.TheVariants as operation
 use Rattle.data.specs.Data.{Data, boolean, integer, text, list, Items}
 use Rattle.data.specs.Limits.{within}
 use Rattle.basics.specs.declared.faults.refusal.Refusal.TheVariants as refusals
-use Rattle.printing.specs.Printed.{printed}
+use Rattle.printing.specs.Printed.{is_plain, printed}
 use Rattle.texts.specs.declared.placed.Places.TheVariants as places
 use Rattle.texts.specs.Segments.{Segment, text as between, place, segments}
 use Rattle.operators.specs.declared.operator.Unary.{Unary}
@@ -75,13 +75,7 @@ variable line name = variable_by (is_predefined name) line name
 
 -- ---- f-strings
 
--- what may stand in an f-string: a boolean, an integer or a text
-abbrev pub is_plain : Data → Bool
-is_plain (boolean b) = true
-is_plain (integer z) = true
-is_plain (text t) = true
-is_plain _ = false
-
+-- a boolean, an integer or a text may stand in an f-string
 abbrev pub printed_plain : ℕ → Bool → Data → Plan (List ℕ)
 printed_plain line true d = answered line (printed d)
 printed_plain line false d = refuse line refusals.Type []

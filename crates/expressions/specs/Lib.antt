@@ -3,6 +3,7 @@ pub mod Codes
 pub mod Conditions
 pub mod Contexts
 pub mod Details
+pub mod Filling
 pub mod Folders
 pub mod Forms
 pub mod Rounds

@@ -1,137 +1,98 @@
 //! The values of f-strings.
-ghost use Rattle.std.specs.Prelude.{◌≡◌, ◌++◌, ℕ, List, IfOk, [], map, string_bytes};
-ghost use Rattle.data.specs.Data.{text as text_data};
+ghost use Rattle.std.specs.Prelude.{◌≡◌, ◌++◌, ℕ, List, IfOk, [], map};
+ghost use Rattle.code.specs.FormatStrings.{part_data};
+ghost use Rattle.data.specs.Data.{text};
 ghost use Rattle.data.specs.Limits.{within, within_bytes};
-ghost use Rattle.data.specs.Tables.{Answers as AnswersSo, string_in};
+ghost use Rattle.data.specs.Tables.{Answers as AnswersSo};
 ghost use Rattle.data.specs.View.{data_of};
-ghost use Rattle.lexer.specs.Texts.{text_of};
-ghost use Rattle.texts.specs.Segments.{segment_data};
 ghost use Rattle.world.specs.Gives.{failures_after};
-ghost use Rattle.expressions.specs.Forms.{at_place, filled, format_string, is_plain, printed_plain};
+ghost use Rattle.expressions.specs.Filling.{Puts};
+ghost use Rattle.expressions.specs.Forms.{filled};
 
 use crate::context::Context;
 use basics::faults::Refusal;
-use data::{Text, Value, append};
-use lexer::text_of_slice;
-use lexer::token::Kind;
+use code::Part;
+use data::{Text, Value};
 use ports::{Outputs, Tree};
-use printing::printed_text;
+use printing::{Digits, plain_text};
 use std::alloc::{AllocError, Global};
 use std::sync::ledger::Ledger;
-use texts::{Places, Segment, segments};
-use world::{Stop, of_operation};
+use world::Stop;
 
-// The bytes that there is room for before the first part is filled in: those of most names of files.
-const FIRST_ROOM: usize = 32;
-
-// Whether a value may stand in an f-string.
-fn is_plain(value: &Value) -> bool
-    ensures { result ≡ is_plain (data_of value.now) }
+// Puts a piece behind a text, which may be too long already.
+fn put(alloc: Global, made: &mut Result<Text, data::Refusal>, piece: &str) -> Result<(), AllocError>
+    ensures { (before : List ℕ) → made.old ≡ within_bytes before → IfOk result (λ _. made.new ≡ within_bytes (before ++ piece.now)) }
 {
-    matches!(
-        value,
-        Value::Boolean(_) | Value::Integer(_) | Value::Text(_)
-    )
+    let put = match made {
+        Ok(text) => text.push(alloc, piece)?,
+        Err(_) => return Ok(()),
+    };
+    if let Err(refusal) = put {
+        *made = Err(refusal);
+    }
+    Ok(())
 }
 
-// A text and a piece behind it.
-fn lengthened(mut text: String, piece: &str) -> Result<Result<String, data::Refusal>, AllocError>
-    ensures { IfOk result (λ r. string_in r ≡ within_bytes (string_bytes text ++ piece.now)) }
+// Puts what a value is printed as. Answers whether it may stand in an f-string.
+fn put_plain(
+    alloc: Global,
+    made: &mut Result<Text, data::Refusal>,
+    value: &Value,
+) -> Result<bool, AllocError>
+    ensures { (before : List ℕ) → made.old ≡ within_bytes before
+        → IfOk result (λ done. Puts (data_of value.now) before made.new done) }
 {
-    match append(&mut text, piece)? {
-        Ok(()) => Ok(Ok(text)),
-        Err(refusal) => Ok(Err(refusal)),
+    let mut digits = Digits::new();
+    match plain_text(value, &mut digits) {
+        Some(piece) => {
+            put(alloc, made, piece)?;
+            Ok(true)
+        }
+        None => Ok(false),
     }
 }
 
-// The same of a text that may be too long already.
-fn with_piece(
-    made: Result<String, data::Refusal>,
-    piece: &str,
-) -> Result<Result<String, data::Refusal>, AllocError>
-    ensures { (before : List ℕ) → string_in made ≡ within_bytes before
-        → IfOk result (λ r. string_in r ≡ within_bytes (before ++ piece.now)) }
+// The same of a value that is let go.
+fn put_value(
+    alloc: Global,
+    made: &mut Result<Text, data::Refusal>,
+    value: Value,
+) -> Result<bool, AllocError>
+    ensures { (before : List ℕ) → made.old ≡ within_bytes before → IfOk result (λ done. Puts (data_of value) before made.new done) }
 {
-    match made {
-        Ok(text) => lengthened(text, piece),
-        Err(refusal) => Ok(Err(refusal)),
-    }
+    put_plain(alloc, made, &value)
 }
 
 // The value of a text, where that is not too long.
-fn text_value(
-    alloc: Global,
-    made: Result<String, data::Refusal>,
-) -> Result<Result<Value, data::Refusal>, AllocError>
-    ensures { (whole : List ℕ) → string_in made ≡ within_bytes whole → IfOk result (λ r. AnswersSo (within (text_data whole)) r) }
+fn text_value(made: Result<Text, data::Refusal>) -> Result<Value, data::Refusal>
+    ensures { (whole : List ℕ) → made ≡ within_bytes whole → AnswersSo (within (text whole)) result }
 {
     match made {
-        Ok(text) => Value::of_string(alloc, text),
-        Err(refusal) => Ok(Err(refusal)),
+        Ok(text) => Ok(Value::Text(text)),
+        Err(refusal) => Err(refusal),
     }
 }
 
 impl<'a, T: Tree, O: Outputs, L: Ledger> Context<'a, T, O, L> {
     ghost use Rattle.expressions.specs.Contexts.{Answers};
 
-    // What a value is printed as that may stand in an f-string.
-    fn printed_plain(&self, line: usize, value: &Value) -> Result<Text, Stop>
-        ensures gives { Answers T.seen O.seen (λ t. t) (printed_plain line (is_plain (data_of value.now)) (data_of value.now))
-            self.now result self.now }
+    /// The value of an f-string of these parts: what its variables are printed as stands in their places.
+    pub fn filled(&self, line: usize, parts: &[Part]) -> Result<Value, Stop>
+        ensures gives { Answers T.seen O.seen data_of (filled line [] (map part_data parts.now)) self.now result self.now }
         ensures quiet { (n : ℕ) → failures_after n result ≡ n }
     {
-        if !is_plain(value) {
-            return self.refuse(line, Refusal::Type, "");
-        }
-        match printed_text(self.alloc, value)? {
-            Ok(text) => Ok(text),
-            Err(refusal) => self.refuse(line, of_operation(refusal), ""),
-        }
-    }
-
-    // What the variable of a place is printed as.
-    fn at_place(&self, line: usize, name: &str) -> Result<Text, Stop>
-        ensures gives { Answers T.seen O.seen (λ t. t) (at_place line name.now) self.now result self.now }
-        ensures quiet { (n : ℕ) → failures_after n result ≡ n }
-    {
-        let value = self.named(line, name)?;
-        self.printed_plain(line, &value)
-    }
-
-    // The value of the text that the parts give.
-    fn filled(&self, line: usize, parts: &[Segment<'_>]) -> Result<Value, Stop>
-        ensures gives { Answers T.seen O.seen data_of (filled line [] (map segment_data parts.now)) self.now result self.now }
-        ensures quiet { (n : ℕ) → failures_after n result ≡ n }
-    {
-        let mut made = Ok(String::with_capacity(self.alloc, FIRST_ROOM)?);
+        let mut made = Ok(Text::empty());
         for part in parts {
             match part {
-                Segment::Text(text) => made = with_piece(made, text)?,
-                Segment::Place(name) => {
-                    let text = self.at_place(line, name)?;
-                    made = with_piece(made, text.as_str())?;
+                Part::Text(text) => put(self.alloc, &mut made, text)?,
+                Part::Place { name, number } => {
+                    let value = self.variable_at(line, *number, name)?;
+                    if !put_value(self.alloc, &mut made, value)? {
+                        return self.refuse(line, Refusal::Type, "");
+                    }
                 }
             }
         }
-        let answer = text_value(self.alloc, made)?;
-        self.answered(line, answer)
-    }
-
-    /// The value of an f-string with this text after its escapes.
-    pub fn with_places(&self, line: usize, text: &str) -> Result<Value, Stop>
-        ensures gives { Answers T.seen O.seen data_of (format_string line text.now) self.now result self.now }
-        ensures quiet { (n : ℕ) → failures_after n result ≡ n }
-    {
-        let parts = segments(self.alloc, Places::Names, text)?;
-        self.filled(line, &parts)
-    }
-
-    /// The value of an f-string of this kind.
-    pub fn decoded_format(&self, line: usize, kind: Kind, slice: &str) -> Result<Value, Stop>
-        ensures gives { Answers T.seen O.seen data_of (format_string line (text_of kind slice.now)) self.now result self.now }
-        ensures quiet { (n : ℕ) → failures_after n result ≡ n }
-    {
-        let string = text_of_slice(self.alloc, kind, slice)?;
-        self.with_places(line, string.as_str())
+        self.answered(line, text_value(made))
     }
 }

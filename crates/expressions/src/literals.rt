@@ -1,5 +1,6 @@
 //! The values of literals.
-ghost use Rattle.std.specs.Prelude.{◌≡◌, ℕ, IfOk, Ok, string_bytes};
+ghost use Rattle.std.specs.Prelude.{◌≡◌, false, ℕ, IfOk, Ok, string_bytes};
+ghost use Rattle.code.specs.Literals.{is_format};
 ghost use Rattle.data.specs.Data.{text};
 ghost use Rattle.data.specs.Limits.{within};
 ghost use Rattle.data.specs.Tables.{Answers as AnswersSo};
@@ -11,7 +12,7 @@ ghost use Rattle.world.specs.Plan.{answered};
 ghost use Rattle.expressions.specs.Forms.{literal_value, number};
 
 use crate::context::Context;
-use code::{LiteralNode, Meaning};
+use code::{FormatString, LiteralNode, Meaning};
 use data::{Text, Value};
 use grammar::tree::Literal;
 use lexer::token::Kind;
@@ -63,9 +64,10 @@ impl<'a, T: Tree, O: Outputs, L: Ledger> Context<'a, T, O, L> {
         self.answered(line, answer)
     }
 
-    // The value of a literal that stands so in the source.
+    // The value of a literal that is no f-string and stands so in the source.
     #[inline(never)]
     fn unread(&self, line: usize, literal: Literal, text: &str) -> Result<Value, Stop>
+        requires { is_format literal ≡ false }
         ensures gives { Answers T.seen O.seen data_of (literal_value line literal text.now) self.now result self.now }
         ensures quiet { (n : ℕ) → failures_after n result ≡ n }
     {
@@ -75,8 +77,7 @@ impl<'a, T: Tree, O: Outputs, L: Ledger> Context<'a, T, O, L> {
             Literal::Number => self.answered(line, number(text)),
             Literal::String => self.decoded(line, Kind::String, text),
             Literal::RawString => self.decoded(line, Kind::RawString, text),
-            Literal::FormatString => self.decoded_format(line, Kind::FormatString, text),
-            Literal::RawFormatString => self.decoded_format(line, Kind::RawFormatString, text),
+            Literal::FormatString | Literal::RawFormatString => unreachable!(),
         }
     }
 
@@ -93,9 +94,9 @@ impl<'a, T: Tree, O: Outputs, L: Ledger> Context<'a, T, O, L> {
                 let text: &Text = text;
                 Ok(shared(text)?)
             }
-            Meaning::Format(text) => {
-                let text: &Text = text;
-                Ok(self.with_places(line, text.as_str())?)
+            Meaning::Format(format) => {
+                let format: &FormatString = format;
+                Ok(self.filled(line, &format.parts)?)
             }
             Meaning::Source(text) => Ok(self.unread(line, node.literal, text.as_str())?),
         }

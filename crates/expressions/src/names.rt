@@ -88,15 +88,15 @@ impl<'a, T: Tree, O: Outputs, L: Ledger> Context<'a, T, O, L> {
         self.known(line, name, value)
     }
 
-    // The value of the variable of a name.
-    pub fn named(&self, line: usize, name: &str) -> Result<Value, Stop>
+    /// The value of the variable of a name, which is looked for at this number first.
+    pub fn variable_at(&self, line: usize, number: Option<usize>, name: &str) -> Result<Value, Stop>
         ensures gives { Answers T.seen O.seen data_of (variable line name.now) self.now result self.now }
         ensures quiet { (n : ℕ) → failures_after n result ≡ n }
     {
         if is_predefined(name) {
             return self.thing(name);
         }
-        let value = self.store.find(name)?;
+        let value = self.store.find_at(number, name)?;
         self.known(line, name, value)
     }
 

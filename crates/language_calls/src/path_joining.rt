@@ -11,7 +11,8 @@ ghost use Rattle.world.specs.Caller.{state_of};
 ghost use Rattle.language_calls.specs.JoinPaths.{join_paths, path_of};
 
 use arguments::Arguments;
-use data::{Refusal, Value, append};
+use basics::limits::TEXT_BYTES;
+use data::{Refusal, Value};
 use operators::{begins_with_slash, ends_with_slash};
 use ports::{Outputs, Tree};
 use std::alloc::{AllocError, Global};
@@ -21,10 +22,11 @@ use world::{Caller, Stop};
 fn lengthened(mut path: String, piece: &str) -> Result<Result<String, Refusal>, AllocError>
     ensures { IfOk result (λ r. string_in r ≡ within_bytes (string_bytes path ++ piece.now)) }
 {
-    match append(&mut path, piece)? {
-        Ok(()) => Ok(Ok(path)),
-        Err(refusal) => Ok(Err(refusal)),
+    if path.len() + piece.len() > TEXT_BYTES {
+        return Ok(Err(Refusal::Limit));
     }
+    path.push_str(piece)?;
+    Ok(Ok(path))
 }
 
 // A path that is not empty and a relative one below it.

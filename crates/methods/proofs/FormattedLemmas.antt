@@ -7,10 +7,9 @@ use Rattle.data.specs.declared.refusal.Refusal.{Refusal}
 use Rattle.data.specs.declared.refusal.Refusal.TheVariants as refusal
 use Rattle.data.specs.declared.value.Value.{Value}
 use Rattle.data.specs.Data.{Data}
-use Rattle.data.specs.Limits.{within_bytes}
+use Rattle.data.specs.Limits.{within_bytes, Appends}
 use Rattle.data.specs.View.{data_of}
 use Rattle.printing.specs.Printed.{is_printable}
-use Rattle.printing.specs.Writes.{Writes}
 use Rattle.texts.specs.declared.placed.Places.TheVariants as places
 use Rattle.texts.specs.Segments.{Segment, segments}
 use Rattle.methods.specs.Formatted.{has_value, filled, formatted_text}
@@ -68,17 +67,16 @@ long t h =
 
 pub formatted_made : (t : List ℕ) (vs : List Value) (ss : List Segment) (before made : List ℕ)
     → list_all (λ v. is_printable (data_of v)) vs ≡ true → ss ≡ segments places.Numbers t → list_all (has_value (map data_of vs)) ss ≡ true
-    → before ≡ [] → Writes before (flat_map (filled (map data_of vs)) ss) made (Ok tt) → Ok made ≡ formatted_text t (map data_of vs)
+    → before ≡ [] → Appends before (flat_map (filled (map data_of vs)) ss) made (Ok tt) → Ok made ≡ formatted_text t (map data_of vs)
 formatted_made t vs ss before made e is all empty wrote =
     let whole : made ≡ flat_map (filled (map data_of vs)) (segments places.Numbers t) =
     wrote.0 ∙ ap (λ x. x ++ flat_map (filled (map data_of vs)) ss) empty ∙ ap (flat_map (filled (map data_of vs))) is in
-    let some : length before ≤ 16777216 = let n = ap length empty in omega arith in
-    short (flat_map (filled (map data_of vs)) (segments places.Numbers t)) made whole (wrote.1 some)
+    short (flat_map (filled (map data_of vs)) (segments places.Numbers t)) made whole wrote.1
     ∙ sym (filled_is t vs e (ap (list_all (has_value (map data_of vs))) (sym is) ∙ all))
 
 pub formatted_long : (t : List ℕ) (vs : List Value) (ss : List Segment) (before made : List ℕ) (r : Refusal)
     → list_all (λ v. is_printable (data_of v)) vs ≡ true → ss ≡ segments places.Numbers t → list_all (has_value (map data_of vs)) ss ≡ true
-    → before ≡ [] → Writes before (flat_map (filled (map data_of vs)) ss) made (Err r) → Err r ≡ formatted_text t (map data_of vs)
+    → before ≡ [] → Appends before (flat_map (filled (map data_of vs)) ss) made (Err r) → Err r ≡ formatted_text t (map data_of vs)
 formatted_long t vs ss before made r e is all empty wrote =
     let whole : before ++ flat_map (filled (map data_of vs)) ss ≡ flat_map (filled (map data_of vs)) (segments places.Numbers t) =
     ap (λ x. x ++ flat_map (filled (map data_of vs)) ss) empty ∙ ap (flat_map (filled (map data_of vs))) is in

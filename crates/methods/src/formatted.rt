@@ -1,15 +1,14 @@
 //! Texts with places for values.
 
-ghost use Rattle.std.specs.Prelude.{◌≡◌, map, option_map, IfOk, string_bytes};
+ghost use Rattle.std.specs.Prelude.{◌≡◌, map, option_map, IfOk};
 ghost use Rattle.std.specs.List.{list_all, flat_map};
 ghost use Rattle.data.specs.View.{data_of};
-ghost use Rattle.data.specs.Tables.{string_in};
+ghost use Rattle.data.specs.Limits.{Appends};
 ghost use Rattle.printing.specs.Printed.{is_printable};
-ghost use Rattle.printing.specs.Writes.{Writes};
 ghost use Rattle.texts.specs.Segments.{segment_data};
 ghost use Rattle.methods.specs.Formatted.{formatted_text, has_value, value_at, filled};
 
-use data::{Refusal, Value, append};
+use data::{Refusal, Text, Value};
 use printing::{is_printable, write};
 use std::alloc::{AllocError, Global};
 use texts::{Places, Segment, number_of, segments};
@@ -24,8 +23,8 @@ pub fn format_text(
     alloc: Global,
     text: &str,
     values: &[Value],
-) -> Result<Result<String, Refusal>, AllocError>
-    ensures { IfOk result (λ r. string_in r ≡ formatted_text text.now (map data_of values.now)) }
+) -> Result<Result<Text, Refusal>, AllocError>
+    ensures { IfOk result (λ r. r ≡ formatted_text text.now (map data_of values.now)) }
 {
     if !are_printable(values) {
         return Ok(Err(Refusal::Arguments));
@@ -34,7 +33,7 @@ pub fn format_text(
     if !have_values(&segments, values) {
         return Ok(Err(Refusal::Absent));
     }
-    let mut made = String::with_capacity(alloc, 2 * text.len())?;
+    let mut made = Text::empty();
     match write_segments(alloc, &mut made, &segments, values)? {
         Ok(()) => Ok(Ok(made)),
         Err(refusal) => Ok(Err(refusal)),
@@ -77,13 +76,14 @@ fn value_at<'v>(name: &str, values: &'v [Value]) -> Option<&'v Value>
 // Puts the segments behind a text, with values in their places.
 fn write_segments(
     alloc: Global,
-    made: &mut String,
+    made: &mut Text,
     segments: &[Segment<'_>],
     values: &[Value],
 ) -> Result<Result<(), Refusal>, AllocError>
-    ensures { IfOk result (λ r. Writes (string_bytes made.old) (flat_map (filled (map data_of values.now)) (map segment_data segments.now))
-        (string_bytes made.new) r) }
+    ensures { IfOk result (λ r. Appends made.old (flat_map (filled (map data_of values.now)) (map segment_data segments.now))
+        made.new r) }
 {
+    let _within = made.as_str();
     for segment in segments {
         if let Err(refusal) = write_segment(alloc, made, *segment, values)? {
             return Ok(Err(refusal));
@@ -94,18 +94,18 @@ fn write_segments(
 
 fn write_segment(
     alloc: Global,
-    made: &mut String,
+    made: &mut Text,
     segment: Segment<'_>,
     values: &[Value],
 ) -> Result<Result<(), Refusal>, AllocError>
-    ensures { IfOk result (λ r. Writes (string_bytes made.old) (filled (map data_of values.now) (segment_data segment.entry))
-        (string_bytes made.new) r) }
+    ensures { IfOk result (λ r. Appends made.old (filled (map data_of values.now) (segment_data segment.entry))
+        made.new r) }
 {
     match segment {
-        Segment::Text(text) => append(made, text),
+        Segment::Text(text) => made.push(alloc, text),
         Segment::Place(name) => match value_at(name, values) {
             Some(value) => write(alloc, made, value),
-            None => Ok(Ok(())),
+            None => made.push(alloc, ""),
         },
     }
 }

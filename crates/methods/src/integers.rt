@@ -69,5 +69,6 @@ fn to_string(alloc: Global, integer: i128, arguments: &[Value]) -> Result<Value,
 {
     none(arguments)?;
     let text = printed(alloc, &Value::Integer(integer))??;
-    Ok(Value::of_string(alloc, text)??)
+    let _within = text.as_str();
+    Ok(Value::Text(text))
 }

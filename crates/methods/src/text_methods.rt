@@ -12,7 +12,7 @@ use crate::flattening::flat_texts;
 use crate::formatted::format_text;
 use crate::readers::{bounds, none, one_text, two_texts};
 use crate::stop::Stop;
-use data::{Refusal, Value};
+use data::{Refusal, Text, Value};
 use operators::text_list;
 use std::alloc::Global;
 
@@ -128,7 +128,7 @@ fn format(alloc: Global, text: &str, arguments: &[Value]) -> Result<Value, Stop>
     ensures { Gives (format text.now (map data_of arguments.now)) result }
 {
     let formatted = format_text(alloc, text, arguments)??;
-    value_of(alloc, formatted)
+    value_of_text(formatted)
 }
 
 fn join(alloc: Global, text: &str, arguments: &[Value]) -> Result<Value, Stop>
@@ -136,7 +136,7 @@ fn join(alloc: Global, text: &str, arguments: &[Value]) -> Result<Value, Stop>
 {
     let pieces = flat_texts(alloc, arguments)??;
     let joined = texts::join(alloc, text, &pieces)??;
-    value_of(alloc, joined)
+    value_of_text(joined)
 }
 
 fn replace(alloc: Global, text: &str, arguments: &[Value]) -> Result<Value, Stop>
@@ -144,7 +144,7 @@ fn replace(alloc: Global, text: &str, arguments: &[Value]) -> Result<Value, Stop
 {
     let (old, new) = two_texts(arguments)?;
     let replaced = texts::replace(alloc, text, old.as_str(), new.as_str())??;
-    value_of(alloc, replaced)
+    value_of_text(replaced)
 }
 
 fn split(alloc: Global, text: &str, arguments: &[Value]) -> Result<Value, Stop>
@@ -218,6 +218,13 @@ fn version_compare(text: &str, arguments: &[Value]) -> Result<Value, Stop>
 {
     let condition = one_text(arguments)?;
     Ok(Value::Boolean(texts::version_compare(text, condition.as_str())))
+}
+
+fn value_of_text(text: Text) -> Result<Value, Stop>
+    ensures { Gives (within (text_data text)) result }
+{
+    let _within = text.as_str();
+    Ok(Value::Text(text))
 }
 
 fn value_of(alloc: Global, string: String) -> Result<Value, Stop>

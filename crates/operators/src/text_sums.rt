@@ -12,13 +12,13 @@ use std::alloc::{AllocError, Global};
 /// One text and then another. It grows in place where nobody else holds it.
 pub fn concatenate(
     alloc: Global,
-    first: Text,
+    mut first: Text,
     second: &str,
 ) -> Result<Result<Value, Refusal>, AllocError>
     ensures { IfOk result (λ r. Answers (within (text_data (first ++ second.now))) r) }
 {
-    match first.append(alloc, second)? {
-        Ok(text) => Ok(Ok(Value::Text(text))),
+    match first.push(alloc, second)? {
+        Ok(()) => Ok(Ok(Value::Text(first))),
         Err(refusal) => Ok(Err(refusal)),
     }
 }

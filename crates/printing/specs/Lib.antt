@@ -1,4 +1,3 @@
 pub mod Printed
 pub mod Pieces
 pub mod Parts
-pub mod Writes

@@ -25,6 +25,13 @@ abbrev mutual
   are_entries_printable no_entries = true
   are_entries_printable (entry k d es) = is_printable d && are_entries_printable es
 
+-- a boolean, an integer or a text
+abbrev pub is_plain : Data → Bool
+is_plain (boolean b) = true
+is_plain (integer z) = true
+is_plain (text t) = true
+is_plain _ = false
+
 abbrev pub boolean_text : Bool → List ℕ
 boolean_text true = codes "true"
 boolean_text false = codes "false"

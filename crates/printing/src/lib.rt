@@ -14,6 +14,7 @@ mod pieces;
 mod printable;
 mod writing;
 
+pub use itoa::Buffer as Digits;
 pub use pieces::{Piece, Printer};
 pub use printable::is_printable;
-pub use writing::{printed, printed_text, write};
+pub use writing::{plain_text, printed, write};

@@ -1,16 +1,14 @@
 //! Values printed into texts.
 
-ghost use Rattle.std.specs.Prelude.{◌≡◌, IfOk, string_bytes};
+ghost use Rattle.std.specs.Prelude.{◌≡◌, true, false, IfOk, MatchOption, Ok};
 ghost use Rattle.data.specs.Limits.{Appends};
-ghost use Rattle.data.specs.Tables.{string_in};
 ghost use Rattle.data.specs.View.{data_of};
-ghost use Rattle.printing.specs.Printed.{printed, shown};
+ghost use Rattle.printing.specs.Printed.{is_plain, printed, shown};
 ghost use Rattle.printing.specs.Parts.{piece_bytes};
-ghost use Rattle.printing.specs.Writes.{Writes};
 
 use crate::pieces::{Piece, Printer};
 use crate::printable::is_printable;
-use data::{Refusal, Text, Value, append};
+use data::{Refusal, Text, Value};
 use itoa::Buffer;
 use std::alloc::{AllocError, Global};
 
@@ -21,33 +19,30 @@ use std::alloc::{AllocError, Global};
 ///
 /// `Refusal::Arguments` where the value is an object or holds one, else `Refusal::Limit` where the text is longer
 /// than 16,777,216 bytes. No text is made that is longer.
-pub fn printed(alloc: Global, value: &Value) -> Result<Result<String, Refusal>, AllocError>
-    ensures { IfOk result (λ r. string_in r ≡ printed (data_of value.now)) }
+pub fn printed(alloc: Global, value: &Value) -> Result<Result<Text, Refusal>, AllocError>
+    ensures { IfOk result (λ r. r ≡ printed (data_of value.now)) }
 {
     if !is_printable(value) {
         return Ok(Err(Refusal::Arguments));
     }
-    let mut text = String::new(alloc);
+    let mut text = Text::empty();
     match write(alloc, &mut text, value)? {
         Ok(()) => Ok(Ok(text)),
         Err(refusal) => Ok(Err(refusal)),
     }
 }
 
-/// The same as a text of the language, which a short one needs no memory for.
-pub fn printed_text(alloc: Global, value: &Value) -> Result<Result<Text, Refusal>, AllocError>
-    ensures { IfOk result (λ r. r ≡ printed (data_of value.now)) }
+/// What a boolean, an integer or a text is printed as; none for others. The digits of an integer come to stand in the buffer.
+pub fn plain_text<'v>(value: &'v Value, digits: &'v mut Buffer) -> Option<&'v str>
+    ensures { MatchOption result (is_plain (data_of value.entry.now) ≡ false)
+        (λ t. (is_plain (data_of value.entry.now) ≡ true) × (printed (data_of value.entry.now) ≡ Ok t.now) × (shown (data_of value.entry.now) ≡ t.now)) }
 {
     match value {
-        Value::Text(text) => {
-            let _within = text.as_str();
-            Ok(Ok(text.clone()?))
-        }
-        Value::Integer(integer) => Text::of_str(alloc, Buffer::new().format(*integer)),
-        _ => match printed(alloc, value)? {
-            Ok(text) => Text::new(alloc, text),
-            Err(refusal) => Ok(Err(refusal)),
-        },
+        Value::Boolean(true) => Some("true"),
+        Value::Boolean(false) => Some("false"),
+        Value::Integer(integer) => Some(digits.format(*integer)),
+        Value::Text(text) => Some(text.as_str()),
+        Value::List(_) | Value::Dictionary(_) | Value::Object(_) => None,
     }
 }
 
@@ -56,40 +51,44 @@ pub fn printed_text(alloc: Global, value: &Value) -> Result<Result<Text, Refusal
 /// Of an object nothing is printed.
 pub fn write(
     alloc: Global,
-    text: &mut String,
+    text: &mut Text,
     value: &Value,
 ) -> Result<Result<(), Refusal>, AllocError>
-    ensures { IfOk result (λ r. Writes (string_bytes text.old) (shown (data_of value.now)) (string_bytes text.new) r) }
+    ensures { IfOk result (λ r. Appends text.old (shown (data_of value.now)) text.new r) }
 {
-    match value {
-        Value::Text(piece) => append(text, piece.as_str()),
-        Value::Integer(integer) => append(text, Buffer::new().format(*integer)),
-        _ => write_pieces(alloc, text, value),
+    match plain_text(value, &mut Buffer::new()) {
+        Some(piece) => text.push(alloc, piece),
+        None => write_pieces(alloc, text, value),
     }
 }
 
 // The same, piece by piece.
 fn write_pieces(
     alloc: Global,
-    text: &mut String,
+    text: &mut Text,
     value: &Value,
 ) -> Result<Result<(), Refusal>, AllocError>
-    ensures { IfOk result (λ r. Writes (string_bytes text.old) (shown (data_of value.now)) (string_bytes text.new) r) }
+    ensures { IfOk result (λ r. Appends text.old (shown (data_of value.now)) text.new r) }
 {
+    let _within = text.as_str();
     let mut printer = Printer::new(alloc, value)?;
     while let Some(piece) = printer.next()? {
-        if let Err(refusal) = append_piece(text, piece)? {
+        if let Err(refusal) = push_piece(alloc, text, piece)? {
             return Ok(Err(refusal));
         }
     }
     Ok(Ok(()))
 }
 
-fn append_piece(text: &mut String, piece: Piece<'_>) -> Result<Result<(), Refusal>, AllocError>
-    ensures { IfOk result (λ r. Appends (string_bytes text.old) (piece_bytes piece.entry) (string_bytes text.new) r) }
+fn push_piece(
+    alloc: Global,
+    text: &mut Text,
+    piece: Piece<'_>,
+) -> Result<Result<(), Refusal>, AllocError>
+    ensures { IfOk result (λ r. Appends text.old (piece_bytes piece.entry) text.new r) }
 {
     match piece {
-        Piece::Text(piece) => append(text, piece),
-        Piece::Integer(integer) => append(text, Buffer::new().format(integer)),
+        Piece::Text(piece) => text.push(alloc, piece),
+        Piece::Integer(integer) => text.push(alloc, Buffer::new().format(integer)),
     }
 }

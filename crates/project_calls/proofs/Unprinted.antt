@@ -34,3 +34,6 @@ no_names_left names i ds h = ap (λ ns. first_unprinted ns ds) (drop_all i names
 pub no_values_left : (ns : List (List ℕ)) (values : List Value) (i : ℕ) → length values ≤ i
     → first_unprinted ns (items_of (drop i values)) ≡ []
 no_values_left ns values i h = ap (λ (vs : List Value). first_unprinted ns (items_of vs)) (drop_all i values h) ∙ no_values ns
+
+-- what comes next, at a place
+pub ruleset unprinted_cases = (next_unprinted, no_names_left, no_values_left)

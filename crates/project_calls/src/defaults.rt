@@ -51,7 +51,7 @@ pub fn keys_given(arguments: &Arguments) -> &[Text]
 pub fn printed_all(
     alloc: Global,
     values: &[Value],
-) -> Result<Result<Vec<String>, Refusal>, AllocError>
+) -> Result<Result<Vec<Text>, Refusal>, AllocError>
     ensures { IfOk result (λ r. answer_in r ≡ printed_all (items_of values.now)) }
 {
     let mut texts = Vec::new(alloc);
@@ -65,7 +65,7 @@ pub fn printed_all(
 }
 
 /// The name of the first of these values that can't be printed.
-#[tactic(auto, using(crate::proofs::Unprinted::next_unprinted, crate::proofs::Unprinted::no_names_left, crate::proofs::Unprinted::no_values_left))]
+#[tactic(auto, using(crate::proofs::Unprinted::unprinted_cases))]
 pub fn first_unprinted<'n>(
     alloc: Global,
     names: &'n [Text],
@@ -90,10 +90,10 @@ pub fn defaults<'a>(
     alloc: Global,
     texts: &'a [String],
     keys: &'a [Text],
-    printed: &'a [String],
+    printed: &'a [Text],
 ) -> Result<Vec<ProjectDefault<'a>>, AllocError>
     ensures { IfOk result (λ v. defaults_in v.items
-        ≡ map Assignment (strings_in texts.now) ++ entry_defaults keys.now (strings_in printed.now)) }
+        ≡ map Assignment (strings_in texts.now) ++ entry_defaults keys.now printed.now) }
 {
     let mut defaults = Vec::new(alloc);
     for text in texts {

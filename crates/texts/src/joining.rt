@@ -1,12 +1,11 @@
 //! Texts made of pieces, within the limit of a text.
 
-ghost use Rattle.std.specs.Prelude.{◌≡◌, ◌++◌, map, IfOk, string_bytes};
+ghost use Rattle.std.specs.Prelude.{◌≡◌, ◌++◌, map, IfOk};
 ghost use Rattle.texts.specs.Joined.{joined, replaced};
 ghost use Rattle.data.specs.Limits.{within_bytes, Appends};
-ghost use Rattle.data.specs.Tables.{string_in};
 
 use crate::cut::first_part;
-use data::{Refusal, append};
+use data::{Refusal, Text};
 use std::alloc::{AllocError, Global};
 
 /// The pieces in order, with `separator` between each two.
@@ -16,18 +15,18 @@ pub fn join(
     alloc: Global,
     separator: &str,
     pieces: &[&str],
-) -> Result<Result<String, Refusal>, AllocError>
-    ensures { IfOk result (λ r. string_in r ≡ within_bytes (joined separator.now (map (λ p. p.now) pieces.now))) }
+) -> Result<Result<Text, Refusal>, AllocError>
+    ensures { IfOk result (λ r. r ≡ within_bytes (joined separator.now (map (λ p. p.now) pieces.now))) }
 {
-    let mut made = String::new(alloc);
+    let mut made = Text::empty();
     let Some((first, others)) = pieces.split_first() else {
         return Ok(Ok(made));
     };
-    if let Err(refusal) = append(&mut made, first)? {
+    if let Err(refusal) = made.push(alloc, first)? {
         return Ok(Err(refusal));
     }
     for piece in others {
-        if let Err(refusal) = append_both(&mut made, separator, piece)? {
+        if let Err(refusal) = push_both(alloc, &mut made, separator, piece)? {
             return Ok(Err(refusal));
         }
     }
@@ -42,23 +41,23 @@ pub fn replace(
     text: &str,
     old: &str,
     new: &str,
-) -> Result<Result<String, Refusal>, AllocError>
-    ensures { IfOk result (λ r. string_in r ≡ replaced text.now old.now new.now) }
+) -> Result<Result<Text, Refusal>, AllocError>
+    ensures { IfOk result (λ r. r ≡ replaced text.now old.now new.now) }
 {
     if old.is_empty() {
         return Ok(Err(Refusal::Arguments));
     }
-    let mut made = String::with_capacity(alloc, text.len() + new.len())?;
+    let mut made = Text::empty();
     let mut rest = text;
     loop {
         let (part, after) = first_part(rest, old);
         let Some(after) = after else {
-            if let Err(refusal) = append(&mut made, part)? {
+            if let Err(refusal) = made.push(alloc, part)? {
                 return Ok(Err(refusal));
             }
             return Ok(Ok(made));
         };
-        if let Err(refusal) = append_both(&mut made, part, new)? {
+        if let Err(refusal) = push_both(alloc, &mut made, part, new)? {
             return Ok(Err(refusal));
         }
         rest = after;
@@ -66,15 +65,16 @@ pub fn replace(
 }
 
 // Two pieces behind the text, unless the text becomes too long.
-fn append_both(
-    made: &mut String,
+fn push_both(
+    alloc: Global,
+    made: &mut Text,
     first: &str,
     second: &str,
 ) -> Result<Result<(), Refusal>, AllocError>
-    ensures { IfOk result (λ r. Appends (string_bytes made.old) (first.now ++ second.now) (string_bytes made.new) r) }
+    ensures { IfOk result (λ r. Appends made.old (first.now ++ second.now) made.new r) }
 {
-    if let Err(refusal) = append(made, first)? {
+    if let Err(refusal) = made.push(alloc, first)? {
         return Ok(Err(refusal));
     }
-    append(made, second)
+    made.push(alloc, second)
 }

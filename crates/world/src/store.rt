@@ -1,6 +1,6 @@
 //! What a run keeps: its world.
 ghost use Rattle.std.specs.Prelude.{◌≡◌, ◌≢◌, ◌<◌, ◌≤◌, ◌+◌, ◌==◌, ℕ, List, IfOk, OnOk, is_ok, not, None, Some, false, true, length, map};
-ghost use Rattle.std.specs.Prelude.{max, option_map, slice_index_or, string_bytes, [], bytes_eq};
+ghost use Rattle.std.specs.Prelude.{max, option_map, slice_index_or, string_bytes, [], bytes_eq, IsTrue};
 ghost use Rattle.std.specs.List.{list_any};
 ghost use Rattle.code.specs.Code.{code_tree};
 ghost use Rattle.code.specs.Draft.{IsFront};
@@ -302,6 +302,25 @@ impl Store {
             Some(number) => slot(&self.slots, number),
             None => Ok(None),
         }
+    }
+
+    // Whether a number is that of a name.
+    fn is_named(&self, number: usize, name: &str) -> bool
+        ensures { IsTrue result → (number < length self.now.names) × (slice_index_or self.now.names number [] ≡ name.now) }
+    {
+        number < self.names.len() && self.name(number) == name
+    }
+
+    /// The value of the variable of a name. It needs no search where the name has this number.
+    pub fn find_at(&self, number: Option<usize>, name: &str) -> Result<Option<Value>, AllocError>
+        ensures { IfOk result (λ v. option_map data_of v ≡ (world_of self.now).facts.variables name.now) }
+    {
+        if let Some(number) = number {
+            if self.is_named(number, name) {
+                return self.value(number);
+            }
+        }
+        self.find(name)
     }
 
     /// The variable of a name, which may be new, takes a value.

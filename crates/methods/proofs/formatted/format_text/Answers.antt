@@ -1,4 +1,4 @@
-use Rattle.std.proofs.Common.{map, sym, ap, ◌∙◌, string_bytes}
+use Rattle.std.proofs.Common.{map, sym, ap, ◌∙◌}
 use Rattle.std.specs.List.{list_all}
 use Rattle.data.specs.View.{data_of}
 use Rattle.texts.specs.Segments.{segment_data}
@@ -20,20 +20,18 @@ pub returns-in-Ok : goal.returns-in-Ok
 returns-in-Ok c =
     let values = map data_of c.args.values.now in
     let wrote = rw c.in-Ok.is at c.in_ok-write_segments.ensures in
-    formatted_made c.args.text.now c.args.values.now (map segment_data c.deref-2.result.now) (string_bytes c.in_ok-made.made)
-    (string_bytes c.write_segments.new.made) (sym c.are_printable.ensures ∙ c.if-not-are_printable.false)
+    formatted_made c.args.text.now c.args.values.now (map segment_data c.deref-2.result.now) c.empty-made.result c.write_segments.new.made (sym c.are_printable.ensures ∙ c.if-not-are_printable.false)
     (ap (map segment_data) c.deref-2.ensures.value ∙ c.in_ok-segments.ensures.segments)
     (ap (λ ss. list_all (has_value values) (map segment_data ss)) (c.deref-2.ensures.value ∙ sym c.deref.ensures.value)
     ∙ sym c.have_values.ensures ∙ c.if-not-have_values.false)
-    c.in_ok-made.ensures.bytes wrote
+    c.empty-made.ensures wrote
 
 pub returns : goal.returns
 returns c =
     let values = map data_of c.args.values.now in
     let wrote = rw c.in-Err.is at c.in_ok-write_segments.ensures in
-    formatted_long c.args.text.now c.args.values.now (map segment_data c.deref-2.result.now) (string_bytes c.in_ok-made.made)
-    (string_bytes c.write_segments.new.made) c.in-Err.refusal (sym c.are_printable.ensures ∙ c.if-not-are_printable.false)
+    formatted_long c.args.text.now c.args.values.now (map segment_data c.deref-2.result.now) c.empty-made.result c.write_segments.new.made c.in-Err.refusal (sym c.are_printable.ensures ∙ c.if-not-are_printable.false)
     (ap (map segment_data) c.deref-2.ensures.value ∙ c.in_ok-segments.ensures.segments)
     (ap (λ ss. list_all (has_value values) (map segment_data ss)) (c.deref-2.ensures.value ∙ sym c.deref.ensures.value)
     ∙ sym c.have_values.ensures ∙ c.if-not-have_values.false)
-    c.in_ok-made.ensures.bytes wrote
+    c.empty-made.ensures wrote

@@ -1,4 +1,4 @@
-use Rattle.std.proofs.Common.{◌≡◌, ◌≤◌, ◌++◌, map, drop, length, string_bytes}
+use Rattle.std.proofs.Common.{◌≡◌, ◌≤◌, ◌++◌, map, drop, length}
 use Rattle.std.specs.List.{flat_map}
 use Rattle.data.specs.View.{data_of}
 use Rattle.texts.specs.Segments.{segment_data}
@@ -8,8 +8,5 @@ use Rattle.methods.proofs.formatted.write_segments.Given as goal
 -- what is written and what is left are all
 abbrev pub invariant-loop-segment : goal.invariant-loop-segment
 invariant-loop-segment l =
-    record {
-      all : string_bytes l.made ++ flat_map (filled (map data_of l.values)) (map segment_data (drop l.segment-index l.segments))
-          ≡ string_bytes l.initial.made ++ flat_map (filled (map data_of l.values)) (map segment_data l.segments);
-      within : length (string_bytes l.initial.made) ≤ 16777216 → length (string_bytes l.made) ≤ 16777216;
-    }
+    (l.made ++ flat_map (filled (map data_of l.values)) (map segment_data (drop l.segment-index l.segments))
+    ≡ l.initial.made ++ flat_map (filled (map data_of l.values)) (map segment_data l.segments)) × (length l.made ≤ 16777216)

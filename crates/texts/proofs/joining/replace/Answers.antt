@@ -1,4 +1,4 @@
-use Rattle.std.proofs.Common.{◌<◌, ◌++◌, ◌∷◌, [], ℕ, List, Bor, Option, Err, length, string_bytes, rules, sym, ◌∙◌, ap, subst}
+use Rattle.std.proofs.Common.{◌<◌, ◌++◌, ◌∷◌, [], ℕ, List, Bor, Option, Err, length, rules, sym, ◌∙◌, ap, subst}
 use Rattle.std.specs.Prelude.{IfSome}
 use Rattle.std.proofs.lemmas.List.{append-nil}
 use Rattle.texts.specs.Pieces.{parts}
@@ -11,15 +11,15 @@ pub loop-after-init : goal.loop-after-init
 loop-after-init c = (
   c.utf8.text,
   ap (λ made. made ++ joined c.args.new.now (parts c.args.old.now c.args.text.now))
-      (sym c.in_ok-made.ensures.bytes),
+      (sym c.empty-made.ensures),
 )
 
 pub returns-in-Err : goal.returns-in-Err
 returns-in-Err c =
     let refused = rw c.in-Err.is at c.in_ok-refusal.ensures in
     ap (λ e. Err e) refused.0
-    ∙ too_long _ (string_bytes c.loop-after.made) c.first_part.result.0.now []
-    (c.loop-after.invariant.1 ∙ ap (λ ps. string_bytes c.loop-after.made ++ joined c.args.new.now ps) (c.first_part.ensures.first
+    ∙ too_long _ c.loop-after.made c.first_part.result.0.now []
+    (c.loop-after.invariant.1 ∙ ap (λ ps. c.loop-after.made ++ joined c.args.new.now ps) (c.first_part.ensures.first
     ∙ ap (λ o. c.first_part.result.0.now ∷ left (parts c.args.old.now) o) c.in_default.is))
     refused.1
     ∙ sym (replaced_is c.args.text.now c.args.old.now c.args.new.now (sym c.is_empty.ensures ∙ c.if-is_empty.false))
@@ -27,11 +27,11 @@ returns-in-Err c =
 pub returns-in_default : goal.returns-in_default
 returns-in_default c =
     let appended = rw c.in_default-2.is at c.in_ok-refusal.ensures in
-    short_enough _ (string_bytes c.append.new.string)
-    (grown _ (string_bytes c.loop-after.made) c.first_part.result.0.now [] (string_bytes c.append.new.string)
-    (c.loop-after.invariant.1 ∙ ap (λ ps. string_bytes c.loop-after.made ++ joined c.args.new.now ps) (c.first_part.ensures.first
+    short_enough _ c.push.new.self
+    (grown _ c.loop-after.made c.first_part.result.0.now [] c.push.new.self
+    (c.loop-after.invariant.1 ∙ ap (λ ps. c.loop-after.made ++ joined c.args.new.now ps) (c.first_part.ensures.first
     ∙ ap (λ o. c.first_part.result.0.now ∷ left (parts c.args.old.now) o) c.in_default.is))
-    appended.0 ∙ append-nil (string_bytes c.append.new.string))
+    appended.0 ∙ append-nil c.push.new.self)
     appended.1
     ∙ sym (replaced_is c.args.text.now c.args.old.now c.args.new.now (sym c.is_empty.ensures ∙ c.if-is_empty.false))
 
@@ -39,11 +39,11 @@ pub returns-in-Err-2 : goal.returns-in-Err-2
 returns-in-Err-2 c =
     let refused = rw c.in-Err-2.is at c.in_ok-refusal-2.ensures in
     ap (λ e. Err e) refused.0
-    ∙ too_long _ (string_bytes c.loop-after.made) (c.first_part.result.0.now ++ c.args.new.now)
+    ∙ too_long _ c.loop-after.made (c.first_part.result.0.now ++ c.args.new.now)
     (joined c.args.new.now (parts c.args.old.now c.in-Some.after.now))
-    (c.loop-after.invariant.1 ∙ ap (λ ps. string_bytes c.loop-after.made ++ joined c.args.new.now ps) (c.first_part.ensures.first
+    (c.loop-after.invariant.1 ∙ ap (λ ps. c.loop-after.made ++ joined c.args.new.now ps) (c.first_part.ensures.first
     ∙ ap (λ o. c.first_part.result.0.now ∷ left (parts c.args.old.now) o) c.in-Some.is)
-    ∙ ap (λ more. string_bytes c.loop-after.made ++ more)
+    ∙ ap (λ more. c.loop-after.made ++ more)
     (joined_more c.args.new.now c.first_part.result.0.now c.args.old.now c.in-Some.after.now))
     refused.1
     ∙ sym (replaced_is c.args.text.now c.args.old.now c.args.new.now (sym c.is_empty.ensures ∙ c.if-is_empty.false))
@@ -57,11 +57,11 @@ pub loop-after-preserved : goal.loop-after-preserved
 loop-after-preserved c =
     let appended = rw c.in_default-3.is at c.in_ok-refusal-2.ensures in (
       search rules,
-      grown _ (string_bytes c.loop-after.made) (c.first_part.result.0.now ++ c.args.new.now)
-          (joined c.args.new.now (parts c.args.old.now c.in-Some.after.now)) (string_bytes c.append_both.new.made)
-          (c.loop-after.invariant.1 ∙ ap (λ ps. string_bytes c.loop-after.made ++ joined c.args.new.now ps) (c.first_part.ensures.first
+      grown _ c.loop-after.made (c.first_part.result.0.now ++ c.args.new.now)
+          (joined c.args.new.now (parts c.args.old.now c.in-Some.after.now)) c.push_both.new.made
+          (c.loop-after.invariant.1 ∙ ap (λ ps. c.loop-after.made ++ joined c.args.new.now ps) (c.first_part.ensures.first
           ∙ ap (λ o. c.first_part.result.0.now ∷ left (parts c.args.old.now) o) c.in-Some.is)
-          ∙ ap (λ more. string_bytes c.loop-after.made ++ more)
+          ∙ ap (λ more. c.loop-after.made ++ more)
           (joined_more c.args.new.now c.first_part.result.0.now c.args.old.now c.in-Some.after.now))
           appended.0,
     )

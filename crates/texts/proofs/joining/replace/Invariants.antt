@@ -1,4 +1,4 @@
-use Rattle.std.proofs.Common.{◌≡◌, ◌++◌, length, string_bytes}
+use Rattle.std.proofs.Common.{◌≡◌, ◌++◌, length}
 use denote.Text.{Utf8}
 use denote.Shadow.{shadow}
 use Rattle.texts.specs.Pieces.{parts}
@@ -6,7 +6,7 @@ use Rattle.texts.specs.Joined.{joined}
 use Rattle.texts.proofs.joining.replace.Given as goal
 
 abbrev pub invariant-loop-after : goal.invariant-loop-after
-invariant-loop-after l = shadow (Utf8 l.rest) × (joined l.new (parts l.old l.text) ≡ string_bytes l.made ++ joined l.new
+invariant-loop-after l = shadow (Utf8 l.rest) × (joined l.new (parts l.old l.text) ≡ l.made ++ joined l.new
     (parts l.old l.rest))
 
 abbrev pub decreases-loop-after : goal.decreases-loop-after

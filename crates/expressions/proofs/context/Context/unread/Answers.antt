@@ -17,9 +17,3 @@ returns-in-String-clause-gives g c = λ files h. given_as (ap (λ l. literal_val
 
 pub returns-in-RawString-clause-gives : goal.returns-in-RawString-clause-gives
 returns-in-RawString-clause-gives g c = λ files h. given_as (ap (λ l. literal_value c.args.line l c.args.text.now) (sym c.in-RawString.is)) (c.decoded-in-RawString.ensures.gives files h)
-
-pub returns-in-FormatString-clause-gives : goal.returns-in-FormatString-clause-gives
-returns-in-FormatString-clause-gives g c = λ files h. given_as (ap (λ l. literal_value c.args.line l c.args.text.now) (sym c.in-FormatString.is)) (c.decoded_format.ensures.gives files h)
-
-pub returns-in-RawFormatString-clause-gives : goal.returns-in-RawFormatString-clause-gives
-returns-in-RawFormatString-clause-gives g c = λ files h. given_as (ap (λ l. literal_value c.args.line l c.args.text.now) (sym c.in-RawFormatString.is)) (c.decoded_format-in-RawFormatString.ensures.gives files h)

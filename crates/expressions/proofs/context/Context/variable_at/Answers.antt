@@ -1,7 +1,7 @@
 use Rattle.std.proofs.Common.{ap, sym, ◌∙◌}
 use Rattle.expressions.specs.Forms.{known, variable_by}
 use Rattle.expressions.proofs.Evaluating.{given_as, given_none, given_read}
-use Rattle.expressions.proofs.context.Context.named.Goals as goal
+use Rattle.expressions.proofs.context.Context.variable_at.Goals as goal
 
 pub returns-then-is_predefined-clause-gives : goal.returns-then-is_predefined-clause-gives
 returns-then-is_predefined-clause-gives g c = λ files h.
