@@ -1,9 +1,12 @@
 -- Texts of an answer, as plain data.
-use Rattle.std.specs.Prelude.{ℕ, List, Result, Ok, Err}
+use Rattle.std.specs.Prelude.{ℕ, List, map, string_bytes, Result, Ok, Err, String}
 use Rattle.std.specs.declared.alloc.Global.{Global}
 use Rattle.std.specs.declared.vec.Vec.{Vec}
 use Rattle.data.specs.declared.refusal.Refusal.{Refusal}
 
-abbrev pub answer_in : Result (Vec (List ℕ) Global) Refusal → Result (List (List ℕ)) Refusal
-answer_in (Ok texts) = Ok texts.items
+abbrev pub strings_of : Vec (String Global) Global → List (List ℕ)
+strings_of strings = map string_bytes strings.items
+
+abbrev pub answer_in : Result (Vec (String Global) Global) Refusal → Result (List (List ℕ)) Refusal
+answer_in (Ok strings) = Ok (strings_of strings)
 answer_in (Err refusal) = Err refusal

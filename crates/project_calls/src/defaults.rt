@@ -51,13 +51,13 @@ pub fn keys_given(arguments: &Arguments) -> &[Text]
 pub fn printed_all(
     alloc: Global,
     values: &[Value],
-) -> Result<Result<Vec<Text>, Refusal>, AllocError>
+) -> Result<Result<Vec<String>, Refusal>, AllocError>
     ensures { IfOk result (λ r. answer_in r ≡ printed_all (items_of values.now)) }
 {
     let mut texts = Vec::new(alloc);
     for value in values {
         match printed(alloc, value)? {
-            Ok(text) => texts.push(text)?,
+            Ok(text) => texts.push(String::from_str(alloc, text.as_str())?)?,
             Err(refusal) => return Ok(Err(refusal)),
         }
     }
@@ -90,10 +90,10 @@ pub fn defaults<'a>(
     alloc: Global,
     texts: &'a [String],
     keys: &'a [Text],
-    printed: &'a [Text],
+    printed: &'a [String],
 ) -> Result<Vec<ProjectDefault<'a>>, AllocError>
     ensures { IfOk result (λ v. defaults_in v.items
-        ≡ map Assignment (strings_in texts.now) ++ entry_defaults keys.now printed.now) }
+        ≡ map Assignment (strings_in texts.now) ++ entry_defaults keys.now (strings_in printed.now)) }
 {
     let mut defaults = Vec::new(alloc);
     for text in texts {

@@ -9,6 +9,7 @@ ghost use Rattle.targets.specs.View.{facts_view};
 ghost use Rattle.world.specs.Answering.{Carries, HasRoom};
 ghost use Rattle.world.specs.Caller.{state_of};
 ghost use Rattle.world.specs.Store.{world_of};
+ghost use Rattle.project_calls.specs.DefaultsView.{strings_of};
 ghost use Rattle.project_calls.specs.Project.{begin, c_alone, defaults_printed, facts_of, first_project, languages_taken, other_language};
 ghost use Rattle.project_calls.specs.Project.{project, settled, texts_behind, version_of, warned};
 ghost use Rattle.project_calls.specs.ProgramsView.{programs_in};
@@ -21,7 +22,7 @@ use crate::resolution::resolution;
 use crate::shown_options::option_entries;
 use arguments::{Arguments, Rule};
 use basics::faults::Refusal;
-use data::{Text, Value};
+use data::Value;
 use options::{OptionFault, Options, Resolved};
 use ports::{Outputs, Tree};
 use std::alloc::{AllocError, Global};
@@ -164,8 +165,8 @@ fn begin<T: Tree, O: Outputs>(
 fn printed_defaults<T: Tree, O: Outputs>(
     caller: &Caller<'_, T, O>,
     arguments: &Arguments,
-) -> Result<Vec<Text>, Stop>
-    ensures { Carries (λ v. v.items) (defaults_printed (arguments_data arguments.now)) (state_of T.seen O.seen caller.now) result
+) -> Result<Vec<String>, Stop>
+    ensures { Carries strings_of (defaults_printed (arguments_data arguments.now)) (state_of T.seen O.seen caller.now) result
         (state_of T.seen O.seen caller.now) }
 {
     let (keys, values) = (keys_given(arguments), values_given(arguments));

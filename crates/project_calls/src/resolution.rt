@@ -5,6 +5,7 @@ ghost use Rattle.edge.specs.Texts.{texts};
 ghost use Rattle.machine_file.specs.Questions.{answer_to, plain};
 ghost use Rattle.machine_file.specs.QuestionsView.{topic_in};
 ghost use Rattle.option_file.specs.View.{options_in as declared_in};
+ghost use Rattle.option_values.specs.View.{strings_in};
 ghost use Rattle.options.specs.View.{resolved_in};
 ghost use Rattle.world.specs.Answering.{Carries};
 ghost use Rattle.world.specs.Caller.{state_of};
@@ -14,7 +15,6 @@ ghost use Rattle.project_calls.specs.Resolution.{built_in_names, declared_names,
 
 use crate::defaults::{defaults, keys_given};
 use arguments::Arguments;
-use data::Text;
 use machine_file::{Question, Topic};
 use option_values::{BuiltIn, built_ins};
 use options::{Declared, Resolved, resolve};
@@ -80,12 +80,12 @@ fn ask_options<T: Tree, O: Outputs>(
 fn resolved_by(
     alloc: Global,
     arguments: &Arguments,
-    printed: &[Text],
+    printed: &[String],
     declared: &Declared,
     store: &Store,
 ) -> Result<Resolved, AllocError>
     ensures { IfOk result (λ r. resolved_in r
-        ≡ resolution_by (arguments_data arguments.now) printed.now (declared_in declared.now)
+        ≡ resolution_by (arguments_data arguments.now) (strings_in printed.now) (declared_in declared.now)
         (answer_to store.now.machine (options_topic (declared_in declared.now))) (world_of store.now).facts) }
 {
     let texts = arguments.texts(alloc, "default_options")?;
@@ -99,10 +99,10 @@ fn resolved_by(
 pub fn resolution<T: Tree, O: Outputs>(
     caller: &mut Caller<'_, T, O>,
     arguments: &Arguments,
-    printed: &[Text],
+    printed: &[String],
     declared: &Declared,
 ) -> Result<Resolved, Stop>
-    ensures { Carries resolved_in (resolution (arguments_data arguments.now) printed.now (declared_in declared.now))
+    ensures { Carries resolved_in (resolution (arguments_data arguments.now) (strings_in printed.now) (declared_in declared.now))
         (state_of T.seen O.seen caller.old) result (state_of T.seen O.seen caller.new) }
 {
     ask_options(caller, declared)?;

@@ -2,6 +2,7 @@ use Rattle.std.proofs.Common.{ap, ◌∙◌}
 use Rattle.arguments.specs.Arguments.{arguments_data}
 use Rattle.machine_file.specs.Questions.{answer_to}
 use Rattle.option_file.specs.View.{options_in}
+use Rattle.option_values.specs.View.{strings_in}
 use Rattle.world.specs.Store.{world_of}
 use Rattle.world.proofs.Answering.{carries_give, carries_none, carries_read, carries_stop, carries_then}
 use Rattle.project_calls.specs.Resolution.{options_topic, resolution, resolution_by}
@@ -21,6 +22,6 @@ returns g c =
     let a = arguments_data c.args.arguments.now in
     let ds = options_in c.args.declared.now in
     carries_then c.in_ok-ask_options.ensures.deed (carries_read (carries_give (c.in_ok-resolved.ensures
-    ∙ ap (λ m. resolution_by a c.args.printed.now ds (answer_to m (options_topic ds))
+    ∙ ap (λ m. resolution_by a (strings_in c.args.printed.now) ds (answer_to m (options_topic ds))
     (world_of c.ask_options.new.caller.store.now).facts)
     c.in_ok-ask_options.ensures.machine)))
