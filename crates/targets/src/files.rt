@@ -153,7 +153,7 @@ pub fn link_names(alloc: Global, target: &BuildTarget) -> Result<Vec<String>, Al
 fn paths_in(alloc: Global, folder: &str, names: &[String]) -> Result<Vec<String>, AllocError>
     ensures { IfOk result (λ v. texts v.items ≡ map (path_in folder.now) (texts names.now)) }
 {
-    let mut paths = Vec::new(alloc);
+    let mut paths = Vec::with_capacity(alloc, names.len())?;
     for name in names {
         paths.push(path_in(alloc, folder, name)?)?;
     }
