@@ -84,7 +84,7 @@ pub fn sources_in(
     ensures { IfOk result (λ ss. option_map (λ v. map source_view v.items) ss
         ≡ sources_in (linked_views earlier.now) (map named_view named.items)) }
 {
-    let mut sources = Vec::new(alloc);
+    let mut sources = Vec::with_capacity(alloc, named.len())?;
     for one in named {
         match source_in(alloc, earlier, one)? {
             Some(source) => sources.push(source)?,
