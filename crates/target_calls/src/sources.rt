@@ -8,7 +8,7 @@ ghost use Rattle.named_sources.specs.Outputs.{output_at, outputs_at};
 ghost use Rattle.named_sources.specs.SourcesView.{named_view};
 ghost use Rattle.target_calls.specs.Sources.{file_in, one_made, source_in, sources_in};
 
-use edge::copies;
+use edge::push_copies;
 use named_sources::{NamedSource, output_at, outputs_at};
 use std::alloc::{AllocError, Global};
 use std::rc::Rc;
@@ -18,8 +18,9 @@ use targets::{Linked, Source};
 pub fn made_of(alloc: Global, paths: &[String]) -> Result<Source, AllocError>
     ensures { IfOk result (λ s. source_view s ≡ Made (texts paths.now)) }
 {
-    let paths = copies(alloc, paths)?;
-    Ok(Source::Made(Rc::new(alloc, paths)?))
+    let mut own = Vec::with_capacity(alloc, paths.len())?;
+    push_copies(&mut own, paths)?;
+    Ok(Source::Made(Rc::new(alloc, own)?))
 }
 
 /// One output of a target.
