@@ -11,8 +11,8 @@ mod walk;
 
 pub use facts::{Facts, Flags, OptionEntry, OptionType, OptionValue, Surroundings};
 pub use files::{
-    default_paths, depfile_path, file_name, file_path, link_names, link_paths, objects,
-    output_paths, path_in, so_name,
+    depfile_path, file_name, file_path, link_names, link_paths, objects, output_paths, path_in,
+    so_name,
 };
 pub use linked_target::Linked;
 pub use linking::{
