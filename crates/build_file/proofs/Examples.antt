@@ -1,12 +1,11 @@
 -- What the definitions say of projects and of edges that are written out.
-use Rattle.std.proofs.Common.{◌≡◌, ℕ, ◌≤◌, Bool, true, false, None, List, [], ◌∷◌, codes, refl, arith}
-use Rattle.std.proofs.lemmas.Bool.{false≢true}
+use Rattle.std.proofs.Common.{◌≡◌, Bool, true, false, None, List, [], ◌∷◌, codes, refl, arith}
 use Rattle.edge.specs.Texts.{Path, Text}
 use Rattle.targets.specs.Data.{FactsData, TargetData, Custom}
 use Rattle.project.specs.World.{WorldData, new_world}
 use Rattle.ninja.specs.Reading.{BuildEdge}
 use Rattle.build_file.specs.BuildFile.{default_outputs}
-use Rattle.build_file.specs.FileEdges.{are_made, Feeds, Reaches, at_once, through}
+use Rattle.build_file.specs.FileEdges.{are_made, Reaches, at_once, through}
 use Rattle.build_file.specs.Means.{Means}
 
 abbrev facts : FactsData

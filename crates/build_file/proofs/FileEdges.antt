@@ -1,7 +1,6 @@
 -- What holds of the project's edges holds of the edges of the file, with the edge `all` behind them.
-use Rattle.std.proofs.Common.{◌≡◌, ℕ, zero, suc, ◌+◌, ◌<◌, ◌≤◌, Bool, true, false, List, [], ◌∷◌, ◌++◌, length, map, refl, sym, ap, ◌∙◌, subst, bytes_eq, codes, append_assoc, append-nil, arith, ◌⊎◌, inl, inr}
-use Rattle.std.specs.Prelude.{◌||◌, ◌&&◌, slice_get, flat_map, if◌then◌else◌}
-use Rattle.std.specs.List.{list_all}
+use Rattle.std.proofs.Common.{◌≡◌, ℕ, zero, suc, ◌<◌, Bool, true, false, List, [], ◌∷◌, ◌++◌, length, map, refl, sym, ap, ◌∙◌, bytes_eq, codes, append_assoc, append-nil, arith, ◌⊎◌, inl, inr}
+use Rattle.std.specs.Prelude.{◌&&◌, slice_get, flat_map, if◌then◌else◌}
 use Rattle.std.proofs.lemmas.Bool.{false≢true}
 use Rattle.std.proofs.lemmas.Slice.Eq.{bytes_eq-Decides}
 use Rattle.std.proofs.lemmas.Grind.{flat_map-append}
@@ -14,9 +13,9 @@ use Rattle.targets.specs.Libraries.{LinkedData, linked}
 use Rattle.target_edges.specs.Edges.{edges_of, edges_after, all_edges}
 use Rattle.project.specs.Laws.{outputs_of, times, AtMostOnce, all_held, all_made, outputs_if}
 use Rattle.project.specs.Laws as laws
-use Rattle.project.specs.World.{WorldData, edges_in, known_in, known_of, reserved, taken_in}
+use Rattle.project.specs.World.{WorldData, edges_in, known_in, reserved, taken_in}
 use Rattle.project.proofs.PathLists.{times-append}
-use Rattle.project.proofs.EdgeOrder.{split_and, both, or_left, or_right, or_cases, list_all-weaker, list_all-joined, holds_append, holds_left, holds_right, held_more, held_self}
+use Rattle.project.proofs.EdgeOrder.{split_and, both, or_cases, list_all-weaker, list_all-joined, holds_append, holds_left, holds_right, held_more, held_self}
 use Rattle.project.proofs.NoCycle.{member, times_held, sources_up}
 use Rattle.project.proofs.NextMade.{outputs-build}
 use Rattle.ninja.specs.Meaning.{edge_seen, edges_seen, all_seen}

@@ -15,7 +15,8 @@ use Rattle.targets.specs.Inputs.{input_view}
 use Rattle.targets.specs.Sources.{InputData}
 use Rattle.targets.specs.declared.sources.Input.{Input}
 use Rattle.target_edges.specs.Parts.{compile_own, compile_shared, has_first, joined_edge}
-use Rattle.target_edges.specs.PartsView.{parts_edges}
+use Rattle.target_edges.specs.PartsView.{build_parts_edges, parts_edges}
+use Rattle.target_edges.specs.declared.parts.BuildParts.{BuildParts}
 use Rattle.target_edges.specs.declared.parts.TargetParts.{TargetParts}
 use Rattle.project.specs.Adding.{edges_at}
 use Rattle.project.specs.World.{WorldData}
@@ -59,18 +60,17 @@ map-map f g [] = refl
 map-map f g (x ∷ xs) = ap (λ r. f (g x) ∷ r) (map-map f g xs)
 
 -- the edge of an input
-abbrev pub edge_for : TargetParts → Input → EdgeData
+abbrev pub edge_for : BuildParts → Input → EdgeData
 edge_for p i = joined_edge (texts p.words.items) (texts p.generated.items) (string_bytes p.file) (input_view i)
 
-abbrev pub compile_steps : TargetParts → List Step
+abbrev pub compile_steps : BuildParts → List Step
 compile_steps p = flat_map (λ i. puts (edge_text (edge_for p i))) p.inputs.items
 
 abbrev pub rest_steps : List Edge → List Step
 rest_steps es = flat_map (λ e. puts (edge_text (edge_view e))) es
 
-pub target_is : (w : WorldData) (n : ℕ) (p : TargetParts) → parts_edges p ≡ edges_at w n → compile_steps p ++ rest_steps p.rest.items ≡ target_steps w n
-unfolding target_steps
-target_is w n p e =
+pub build_is : (p : BuildParts) → compile_steps p ++ rest_steps p.rest.items ≡ puts (edges_text (build_parts_edges p))
+build_is p =
     let compiles = map (edge_for p) p.inputs.items in
     let rest = map edge_view p.rest.items in
     let same : compiles ≡ map (joined_edge (texts p.words.items) (texts p.generated.items) (string_bytes p.file)) (map input_view p.inputs.items) =
@@ -80,4 +80,7 @@ target_is w n p e =
     ∙ sym (puts-append (edges_text compiles) (edges_text rest))
     ∙ ap puts (sym (flat_map-append edge_text compiles rest))
     ∙ ap (λ es. puts (edges_text (es ++ rest))) same
-    ∙ ap (λ es. puts (edges_text es)) e
+
+pub target_is : (w : WorldData) (n : ℕ) (p : TargetParts) → parts_edges p ≡ edges_at w n → puts (edges_text (parts_edges p)) ≡ target_steps w n
+unfolding target_steps
+target_is w n p e = ap (λ es. puts (edges_text es)) e

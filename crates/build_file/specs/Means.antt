@@ -1,5 +1,5 @@
 -- What `build.ninja` of a project means.
-use Rattle.std.specs.Prelude.{◌≡◌, ℕ, true, List, [], ◌∷◌, ◌++◌, Some, codes}
+use Rattle.std.specs.Prelude.{◌≡◌, ℕ, true, List, ◌∷◌, ◌++◌, Some, codes}
 use Rattle.edge.specs.Texts.{Path}
 use Rattle.ninja.specs.Reading.{BuildEdge, manifest_of}
 use Rattle.ninja.specs.Meaning.{file_seen, EachRunsWords}

@@ -4,22 +4,24 @@ ghost use Rattle.ports.specs.Endings.{HasRoom, ended};
 ghost use Rattle.ports.specs.Outputs.{IsOpen, Makes, Writes, puts};
 ghost use Rattle.edge.specs.Holding.{is_some_list};
 ghost use Rattle.edge.specs.Texts.{texts};
+ghost use Rattle.edge.specs.Own.{lent_view};
 ghost use Rattle.edge.specs.View.{edge_view};
 ghost use Rattle.targets.specs.Inputs.{input_view};
 ghost use Rattle.target_edges.specs.Parts.{joined_edge};
+ghost use Rattle.target_edges.specs.PartsView.{build_parts_edges, parts_edges};
 ghost use Rattle.ninja.specs.Parts.{shared_text};
-ghost use Rattle.ninja.specs.Writing.{edge_text};
+ghost use Rattle.ninja.specs.Writing.{edge_text, edges_text};
 ghost use Rattle.build_file.specs.BuildFile.{build_steps, ending_of};
 ghost use Rattle.build_file.specs.Parts.{head_steps, parts_steps, tail_steps, target_steps, targets_steps};
 
 use crate::defaults::default_paths;
 use crate::stop::WriteStop;
-use edge::{Edge, Rule};
+use edge::{Edge, LentEdge, Rule};
 use ninja::{head, push_edge, push_joined, push_shared, push_tail};
 use ports::{DeviceFault, Outputs, put_all};
 use project::{Project, edges_stand_in_order, parts};
 use std::alloc::{AllocError, Global};
-use target_edges::{TargetParts, last_words, own_parts, source_texts};
+use target_edges::{BuildParts, TargetParts, last_words, own_parts, source_texts};
 use targets::Input;
 
 // ---- the edges of a target
@@ -28,12 +30,12 @@ use targets::Input;
 #[derive(Clone, Copy)]
 struct Compiling<'a> {
     alloc: Global,
-    parts: &'a TargetParts,
+    parts: &'a BuildParts,
     // What they share, as text.
     shared: &'a [u8],
 }
 
-fn shared_of(alloc: Global, parts: &TargetParts) -> Result<Vec<u8>, AllocError>
+fn shared_of(alloc: Global, parts: &BuildParts) -> Result<Vec<u8>, AllocError>
     ensures { IfOk result (λ v. v.items ≡ shared_text (texts parts.now.generated.items) (texts parts.now.words.items)) }
 {
     let mut text = Vec::new(alloc);
@@ -93,14 +95,21 @@ fn write_compiles<O: Outputs>(
     Ok(())
 }
 
-fn write_edge<O: Outputs>(text: &mut Vec<u8>, edge: &Edge, out: &mut O) -> Result<(), WriteStop>
+fn write_edge<O: Outputs>(text: &mut Vec<u8>, edge: &LentEdge, out: &mut O) -> Result<(), WriteStop>
     requires { IsOpen (O.seen out.old) }
-    ensures { Writes (O.seen out.old) (puts (edge_text (edge_view edge.now))) (ending_of result) (O.seen out.new) }
+    ensures { Writes (O.seen out.old) (puts (edge_text (lent_view edge.now))) (ending_of result) (O.seen out.new) }
 {
     text.clear();
     push_edge(text, edge)?;
     put_all(out, text)?;
     Ok(())
+}
+
+fn write_made<O: Outputs>(text: &mut Vec<u8>, edge: &Edge, out: &mut O) -> Result<(), WriteStop>
+    requires { IsOpen (O.seen out.old) }
+    ensures { Writes (O.seen out.old) (puts (edge_text (edge_view edge.now))) (ending_of result) (O.seen out.new) }
+{
+    write_edge(text, &edge.lent(), out)
 }
 
 #[tactic(auto, using(ports::proofs::Sending::sending))]
@@ -109,9 +118,45 @@ fn write_edges<O: Outputs>(text: &mut Vec<u8>, edges: &[Edge], out: &mut O) -> R
     ensures { Writes (O.seen out.old) (flat_map (λ e. puts (edge_text (edge_view e))) edges.now) (ending_of result) (O.seen out.new) }
 {
     for edge in edges {
-        write_edge(text, edge, out)?;
+        write_made(text, edge, out)?;
     }
     Ok(())
+}
+
+// The edges of one build target.
+#[tactic(auto, using(ports::proofs::Sending::sending))]
+fn write_build<O: Outputs>(
+    alloc: Global,
+    text: &mut Vec<u8>,
+    parts: &BuildParts,
+    out: &mut O,
+) -> Result<(), WriteStop>
+    requires { IsOpen (O.seen out.old) }
+    ensures { Writes (O.seen out.old) (puts (edges_text (build_parts_edges parts.now))) (ending_of result) (O.seen out.new) }
+{
+    let shared = shared_of(alloc, parts)?;
+    let from = Compiling {
+        alloc,
+        parts,
+        shared: &shared,
+    };
+    write_compiles(text, &from, out)?;
+    write_edges(text, &parts.rest, out)
+}
+
+fn write_parts_of<O: Outputs>(
+    alloc: Global,
+    text: &mut Vec<u8>,
+    parts: &TargetParts,
+    out: &mut O,
+) -> Result<(), WriteStop>
+    requires { IsOpen (O.seen out.old) }
+    ensures { Writes (O.seen out.old) (puts (edges_text (parts_edges parts.now))) (ending_of result) (O.seen out.new) }
+{
+    match parts {
+        TargetParts::Build(parts) => write_build(alloc, text, parts, out),
+        TargetParts::Custom(parts) => write_edge(text, &parts.edge(), out),
+    }
 }
 
 // The edges of one target. No more than its parts are held at a time, and the text of one edge.
@@ -127,14 +172,7 @@ fn write_target<O: Outputs>(
     ensures { Writes (O.seen out.old) (target_steps project.now number) (ending_of result) (O.seen out.new) }
 {
     let parts = parts(project, number)?;
-    let shared = shared_of(alloc, &parts)?;
-    let from = Compiling {
-        alloc,
-        parts: &parts,
-        shared: &shared,
-    };
-    write_compiles(text, &from, out)?;
-    write_edges(text, &parts.rest, out)
+    write_parts_of(alloc, text, &parts, out)
 }
 
 // ---- the file

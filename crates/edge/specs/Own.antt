@@ -1,6 +1,9 @@
 -- The parts of an edge without where they lie in memory.
-use Rattle.std.specs.Prelude.{map}
+use Rattle.std.specs.Prelude.{map, option_map}
+use Rattle.edge.specs.Data.{EdgeData}
 use Rattle.edge.specs.Parts.{OwnData}
+use Rattle.edge.specs.Texts.{texts}
+use Rattle.edge.specs.declared.parts.LentEdge.{LentEdge}
 use Rattle.edge.specs.declared.parts.OwnParts.{OwnParts}
 
 abbrev pub own_view : OwnParts → OwnData
@@ -10,4 +13,18 @@ own_view o = record {
   words = map (λ w. w.now) o.words.now;
   description = o.description.now;
   depfile = o.depfile.now;
+}
+
+-- an edge of which all is lent
+abbrev pub lent_view : LentEdge → EdgeData
+lent_view e = record {
+  rule = e.rule;
+  outputs = texts e.outputs.now;
+  inputs = texts e.inputs.now;
+  implicit = texts e.implicit.now;
+  order_only = texts e.order_only.now;
+  words = texts e.words.now;
+  redirect = option_map (λ t. t.now) e.redirect;
+  description = e.description.now;
+  depfile = option_map (λ t. t.now) e.depfile;
 }

@@ -1,3 +1,6 @@
+ghost use Rattle.std.specs.Prelude.{◌≡◌, option_map, string_bytes};
+
+use crate::parts::LentEdge;
 use crate::rule::Rule;
 
 /// A build edge (the Ninja manual's "build statement"): outputs, and the command that makes them.
@@ -35,5 +38,36 @@ impl Drop for Edge {
             description: _,
             depfile: _,
         } = self;
+    }
+}
+
+fn lent_text(text: &Option<String>) -> Option<&str>
+    ensures { option_map (λ s. s.now) result ≡ option_map string_bytes text.now }
+{
+    match text {
+        None => None,
+        Some(string) => Some(string.as_str()),
+    }
+}
+
+impl Edge {
+    ghost use Rattle.edge.specs.View.{edge_view};
+    ghost use Rattle.edge.specs.Own.{lent_view};
+
+    /// The same edge, lent.
+    pub fn lent(&self) -> LentEdge<'_>
+        ensures { lent_view result ≡ edge_view self.now }
+    {
+        LentEdge {
+            rule: self.rule,
+            outputs: &self.outputs,
+            inputs: &self.inputs,
+            implicit: &self.implicit,
+            order_only: &self.order_only,
+            words: &self.words,
+            redirect: lent_text(&self.redirect),
+            description: &self.description,
+            depfile: lent_text(&self.depfile),
+        }
     }
 }

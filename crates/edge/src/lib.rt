@@ -13,7 +13,7 @@ pub use edge::Edge;
 pub use holding::{
     are_paths, are_writable, can_hold_path, can_hold_value, can_hold_values, is_path, is_some_list,
 };
-pub use parts::OwnParts;
+pub use parts::{LentEdge, OwnParts};
 pub use paths::{is_upward, object_path, source_path, source_root};
 pub use rule::Rule;
 pub use texts::{first_kept, holds, push_all, push_copies};

@@ -1,3 +1,19 @@
+use crate::rule::Rule;
+
+/// An edge, of which all is lent.
+#[derive(Clone, Copy)]
+pub struct LentEdge<'a> {
+    pub rule: Rule,
+    pub outputs: &'a [String],
+    pub inputs: &'a [String],
+    pub implicit: &'a [String],
+    pub order_only: &'a [String],
+    pub words: &'a [String],
+    pub redirect: Option<&'a str>,
+    pub description: &'a str,
+    pub depfile: Option<&'a str>,
+}
+
 /// What an edge has of its own, where it shares its rule, its order-only paths and the first words of its command with others: lent.
 #[derive(Clone, Copy)]
 pub struct OwnParts<'a> {

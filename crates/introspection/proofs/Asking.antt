@@ -1,7 +1,7 @@
 -- Lines of questions.
 use Rattle.std.proofs.Common.{◌≡◌, ◌∙◌, ◌<◌, ◌+◌, arith}
 use Rattle.std.proofs.Common.{◌++◌, ◌∷◌, [], ℕ, Bool, true, false, List, Some, None, map, take}
-use Rattle.std.proofs.Common.{get_or, length, codes, bytes_eq, if◌then◌else◌, refl, sym, ap, Result, IfOk, String, Global, string_bytes}
+use Rattle.std.proofs.Common.{get_or, length, bytes_eq, refl, sym, ap, Result, IfOk, String, Global, string_bytes}
 use Rattle.std.specs.Option.{option_map, option_and_then}
 use Rattle.std.specs.Prelude.{slice_get}
 use Rattle.std.proofs.lemmas.List.{map-append, take_more}
@@ -13,7 +13,7 @@ use Rattle.serde_json.specs.View.{view}
 use Rattle.serde_json.specs.Written.{compact_text, has_float}
 use Rattle.serde_json.specs.declared.value.Value.{Value as Json}
 use Rattle.edge.specs.Texts.{Text}
-use Rattle.machine_file.specs.Files.{Entry, Section as SectionSaid}
+use Rattle.machine_file.specs.Files.{Section as SectionSaid}
 use Rattle.machine_file.specs.Lookups.{entries_at, entry_at}
 use Rattle.machine_file.specs.Questions.{Aside, gives_options, options_at}
 use Rattle.machine_file.specs.Values as written

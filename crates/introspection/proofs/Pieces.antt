@@ -1,8 +1,8 @@
 -- The document's text is what is written piece by piece.
-use Rattle.std.proofs.Common.{◌≡◌, true, false, List, [], ◌∷◌, ◌++◌, map, codes, Result, Ok, Err, IfOk, is_ok, refl, sym, ap, ◌∙◌, append_assoc}
+use Rattle.std.proofs.Common.{◌≡◌, true, false, List, [], ◌∷◌, ◌++◌, map, take, codes, Result, Ok, Err, IfOk, String, Global, is_ok, string_bytes, refl, sym, ap, ◌∙◌, append_assoc}
 use Rattle.std.specs.Prelude.{flat_map, if◌then◌else◌}
 use Rattle.std.proofs.lemmas.Result.{IfOk-weaker, IfOk-from_err}
-use Rattle.edge.specs.Texts.{Path, Text}
+use Rattle.edge.specs.Texts.{Path, Text, texts}
 use Rattle.serde_json.specs.Data.{Data}
 use Rattle.serde_json.specs.View.{items_of, view}
 use Rattle.serde_json.specs.declared.value.Value.{Value}
@@ -70,6 +70,12 @@ build_text_by t folder files name kind a b c d = rw (a, b, c, d) (build_text t)
 pub custom_text_by : (t : CustomData) (folder : Path) (files : List Path) (name : Text) → folder ≡ t.folder → files ≡ output_paths t → name ≡ t.name
     → entry_text t.is_default folder files t.is_installed name (codes "custom") ≡ compact_text (custom_entry t)
 custom_text_by t folder files name a b c = rw (a, b, c) (custom_text t)
+
+-- ---- the file of a build target among what it is asked for
+
+pub first_file : (paths : List (String Global)) (file : Path) (links : List Path) → texts paths ≡ file ∷ links → texts (take 1 paths) ≡ file ∷ []
+first_file [] file links e = absurd cc
+first_file (p ∷ ps) file links e = let same : string_bytes p ≡ file = cc in ap (λ f. f ∷ []) same
 
 -- ---- the whole
 

@@ -1,12 +1,9 @@
 -- The text of lines of questions that are written out.
 use Rattle.std.proofs.Common.{◌≡◌, true, None, Some, [], ◌∷◌, ◌++◌, codes, refl}
-use Rattle.std.specs.Prelude.{pos, negsuc}
 use Rattle.std.specs.Fmt.{digits}
 use Rattle.serde_json.proofs.OnLiterals.{serde_json_on_literals}
-use Rattle.machine_file.specs.Files.{Section}
-use Rattle.machine_file.specs.Questions.{Question, answer_to, check_topic, dependency_topic, plain, Key, Options}
-use Rattle.machine_file.specs.Values.{Boolean, Integer, Text, Texts}
-use Rattle.introspection.specs.Questions.{Value, label_text, line_text, lines_of}
+use Rattle.machine_file.specs.Values.{Boolean, Text, Texts}
+use Rattle.introspection.specs.Questions.{Value, label_text, line_text}
 use Rattle.introspection.specs.Questions.{Section as Whole}
 
 -- a check beside which words were said

@@ -1,8 +1,5 @@
 -- What lines of questions stand for.
-use Rattle.std.specs.Prelude.{ℕ, List, map, string_bytes, String, Option, option_map}
-use Rattle.std.specs.Borrow.{Bor}
-use Rattle.std.specs.declared.alloc.Global.{Global}
-use Rattle.edge.specs.Texts.{Text}
+use Rattle.std.specs.Prelude.{option_map}
 use Rattle.machine_file.specs.QuestionsView.{asides_in}
 use Rattle.machine_file.specs.View.{entries_of, value_in}
 use Rattle.introspection.specs.Questions as plain

@@ -1,8 +1,10 @@
 //! What each part of the document shows of one option, dependency, target or test.
-ghost use Rattle.std.specs.Prelude.{◌≡◌, ◌++◌, IfOk, string_bytes};
+ghost use Rattle.std.specs.Prelude.{◌≡◌, ◌++◌, IfOk, string_bytes, take};
 ghost use Rattle.edge.specs.Texts.{texts};
 ghost use Rattle.serde_json.specs.View.{view};
 ghost use Rattle.serde_json.specs.Written.{compact_text};
+ghost use Rattle.targets.specs.Data.{Build, Custom};
+ghost use Rattle.targets.specs.Files.{default_paths};
 ghost use Rattle.targets.specs.View.{build_view, custom_view, option_entry_view, option_view, target_view};
 ghost use Rattle.project.specs.View.{answer_view, test_view};
 ghost use Rattle.introspection.specs.Document.{build_entry, custom_entry, definition_file, dependency_entry};
@@ -15,8 +17,7 @@ use project::{Answer, Test};
 use serde_json::Value;
 use std::alloc::{AllocError, Global};
 use targets::{
-    BuildTarget, CustomTarget, Kind, Linked, OptionEntry, OptionType, OptionValue, Target,
-    file_path, output_paths, path_in,
+    BuildTarget, CustomTarget, Kind, Linked, OptionEntry, OptionType, OptionValue, Target, path_in,
 };
 
 fn type_name(kind: OptionType) -> &'static str
@@ -144,14 +145,28 @@ fn push_entry(text: &mut String, alloc: Global, entry: &Entry) -> Result<(), All
     text.push_str("}")
 }
 
-fn push_build(text: &mut String, alloc: Global, target: &BuildTarget) -> Result<(), AllocError>
+// The first of the paths, if there is one.
+fn first_alone(paths: &[String]) -> &[String]
+    ensures { result.now ≡ take 1 paths.now }
+{
+    let count = paths.len().min(1);
+    &paths[..count]
+}
+
+// The first of the paths is the file of a build target.
+fn push_build(
+    text: &mut String,
+    alloc: Global,
+    target: &BuildTarget,
+    paths: &[String],
+) -> Result<(), AllocError>
+    requires { texts paths.now ≡ default_paths (Build (build_view target.now)) }
     ensures { IfOk result (λ _. string_bytes text.new ≡ string_bytes text.old ++ compact_text (build_entry (build_view target.now))) }
 {
-    let files = [file_path(alloc, target)?];
     let entry = Entry {
         is_default: target.is_default,
         folder: &target.folder,
-        files: &files,
+        files: first_alone(paths),
         is_installed: target.is_installed,
         name: &target.name,
         kind: kind_name(target.kind),
@@ -159,14 +174,19 @@ fn push_build(text: &mut String, alloc: Global, target: &BuildTarget) -> Result<
     push_entry(text, alloc, &entry)
 }
 
-fn push_custom(text: &mut String, alloc: Global, target: &CustomTarget) -> Result<(), AllocError>
+fn push_custom(
+    text: &mut String,
+    alloc: Global,
+    target: &CustomTarget,
+    paths: &[String],
+) -> Result<(), AllocError>
+    requires { texts paths.now ≡ default_paths (Custom (custom_view target.now)) }
     ensures { IfOk result (λ _. string_bytes text.new ≡ string_bytes text.old ++ compact_text (custom_entry (custom_view target.now))) }
 {
-    let files = output_paths(alloc, target)?;
     let entry = Entry {
         is_default: target.is_default,
         folder: &target.folder,
-        files: &files,
+        files: paths,
         is_installed: target.is_installed,
         name: &target.name,
         kind: "custom",
@@ -179,8 +199,8 @@ impl Written for Linked {
 
     fn push(&self, text: &mut String, alloc: Global) -> Result<(), AllocError> {
         match &self.target {
-            Target::Build(target) => push_build(text, alloc, target),
-            Target::Custom(target) => push_custom(text, alloc, target),
+            Target::Build(target) => push_build(text, alloc, target, &self.paths),
+            Target::Custom(target) => push_custom(text, alloc, target, &self.paths),
         }
     }
 }

@@ -1,10 +1,9 @@
 //! The blocks of edges.
-ghost use Rattle.std.specs.Prelude.{◌≡◌, true, ℕ, List, ◌∷◌, ◌++◌, None, IfOk, option_map, string_bytes};
+ghost use Rattle.std.specs.Prelude.{◌≡◌, true, ℕ, List, ◌∷◌, ◌++◌, None, IfOk, option_map};
 ghost use Rattle.edge.specs.Holding.{is_writable};
-ghost use Rattle.edge.specs.Own.{own_view};
+ghost use Rattle.edge.specs.Own.{lent_view, own_view};
 ghost use Rattle.edge.specs.Parts.{joined};
 ghost use Rattle.edge.specs.Texts.{texts};
-ghost use Rattle.edge.specs.View.{edge_view};
 ghost use Rattle.ninja.specs.Writing.{rule_text, spaced_path_text, paths_text, signed_paths_text, needs_text, build_line, edge_text};
 ghost use Rattle.ninja.specs.Escapes.{value_text};
 ghost use Rattle.ninja.specs.Words.{words_text};
@@ -14,7 +13,7 @@ ghost use Rattle.ninja.specs.Parts.{end_text, bindings_text, shared_text, own_bu
 
 use crate::escapes::{push_path, push_value};
 use crate::words::{push_last_words, push_words};
-use edge::{Edge, OwnParts, Rule};
+use edge::{LentEdge, OwnParts, Rule};
 use std::alloc::AllocError;
 
 fn rule_name(rule: Rule) -> &'static [u8]
@@ -27,15 +26,6 @@ fn rule_name(rule: Rule) -> &'static [u8]
         Rule::Symlink => b"symlink",
         Rule::Custom => b"custom",
         Rule::CustomDep => b"custom_dep",
-    }
-}
-
-fn text_of(text: &Option<String>) -> Option<&str>
-    ensures { option_map (λ s. s.now) result ≡ option_map string_bytes text.now }
-{
-    match text {
-        None => None,
-        Some(string) => Some(string.as_str()),
     }
 }
 
@@ -83,18 +73,18 @@ fn push_needs(
 }
 
 // The line that names outputs, rule and what is needed, without its end.
-fn push_build(text: &mut Vec<u8>, edge: &Edge) -> Result<(), AllocError>
-    ensures { IfOk result (λ _. text.new.items ≡ text.old.items ++ build_line (edge_view edge.now)) }
+fn push_build(text: &mut Vec<u8>, edge: &LentEdge) -> Result<(), AllocError>
+    ensures { IfOk result (λ _. text.new.items ≡ text.old.items ++ build_line (lent_view edge.now)) }
 {
     text.extend_from_slice(b"build")?;
-    push_paths(text, &edge.outputs)?;
+    push_paths(text, edge.outputs)?;
     text.extend_from_slice(b": ")?;
     text.extend_from_slice(rule_name(edge.rule))?;
-    push_needs(text, &edge.inputs, &edge.implicit, &edge.order_only)
+    push_needs(text, edge.inputs, edge.implicit, edge.order_only)
 }
 
-fn push_end(text: &mut Vec<u8>, depfile: &Option<String>) -> Result<(), AllocError>
-    ensures { IfOk result (λ _. text.new.items ≡ text.old.items ++ end_text (option_map string_bytes depfile.now)) }
+fn push_end(text: &mut Vec<u8>, depfile: Option<&str>) -> Result<(), AllocError>
+    ensures { IfOk result (λ _. text.new.items ≡ text.old.items ++ end_text (option_map (λ d. d.now) depfile.entry)) }
 {
     match depfile {
         None => text.extend_from_slice(b"\n"),
@@ -106,27 +96,27 @@ fn push_end(text: &mut Vec<u8>, depfile: &Option<String>) -> Result<(), AllocErr
     }
 }
 
-fn push_command(text: &mut Vec<u8>, edge: &Edge) -> Result<(), AllocError>
-    ensures { let e = edge_view edge.now in
+fn push_command(text: &mut Vec<u8>, edge: &LentEdge) -> Result<(), AllocError>
+    ensures { let e = lent_view edge.now in
         IfOk result (λ _. text.new.items ≡ text.old.items ++ value_text (words_text e.words e.redirect)) }
 {
-    push_words(text, &edge.words, text_of(&edge.redirect))
+    push_words(text, edge.words, edge.redirect)
 }
 
 // The lines that belong to the edge, behind the end of its own.
-fn push_bindings(text: &mut Vec<u8>, edge: &Edge) -> Result<(), AllocError>
-    ensures { IfOk result (λ _. text.new.items ≡ text.old.items ++ bindings_text (edge_view edge.now)) }
+fn push_bindings(text: &mut Vec<u8>, edge: &LentEdge) -> Result<(), AllocError>
+    ensures { IfOk result (λ _. text.new.items ≡ text.old.items ++ bindings_text (lent_view edge.now)) }
 {
     text.extend_from_slice(b"\n COMMAND = ")?;
     push_command(text, edge)?;
     text.extend_from_slice(b"\n DESC = ")?;
-    push_value(text, &edge.description)?;
+    push_value(text, edge.description)?;
     text.extend_from_slice(b"\n")?;
-    push_end(text, &edge.depfile)
+    push_end(text, edge.depfile)
 }
 
-fn push_block(text: &mut Vec<u8>, edge: &Edge) -> Result<(), AllocError>
-    ensures { IfOk result (λ _. text.new.items ≡ text.old.items ++ edge_text (edge_view edge.now)) }
+fn push_block(text: &mut Vec<u8>, edge: &LentEdge) -> Result<(), AllocError>
+    ensures { IfOk result (λ _. text.new.items ≡ text.old.items ++ edge_text (lent_view edge.now)) }
 {
     push_build(text, edge)?;
     push_bindings(text, edge)
@@ -134,14 +124,14 @@ fn push_block(text: &mut Vec<u8>, edge: &Edge) -> Result<(), AllocError>
 
 /// Appends the block of an edge: the line that names its outputs, its rule and what it needs, its command, its description, its
 /// depfile if it has one, and an empty line.
-pub fn push_edge(text: &mut Vec<u8>, edge: &Edge) -> Result<(), AllocError>
-    ensures text { IfOk result (λ _. text.new.items ≡ text.old.items ++ edge_text (edge_view edge.now)) }
+pub fn push_edge(text: &mut Vec<u8>, edge: &LentEdge) -> Result<(), AllocError>
+    ensures text { IfOk result (λ _. text.new.items ≡ text.old.items ++ edge_text (lent_view edge.now)) }
     // What is written is read as the edge, whatever was read before and follows.
-    ensures read { is_writable (edge_view edge.now) ≡ true → (m : Manifest) (rest : List ℕ)
-        → reads_from (after_reading m) (edge_text (edge_view edge.now) ++ rest)
-        ≡ reads_from (after_reading (with_edge m (edge_seen (edge_view edge.now)))) rest }
+    ensures read { is_writable (lent_view edge.now) ≡ true → (m : Manifest) (rest : List ℕ)
+        → reads_from (after_reading m) (edge_text (lent_view edge.now) ++ rest)
+        ≡ reads_from (after_reading (with_edge m (edge_seen (lent_view edge.now)))) rest }
     // Under the six rules its command is its words.
-    ensures runs { is_writable (edge_view edge.now) ≡ true → (m : Manifest) → m.rules ≡ six_rules → RunsWords m (edge_view edge.now) }
+    ensures runs { is_writable (lent_view edge.now) ≡ true → (m : Manifest) → m.rules ≡ six_rules → RunsWords m (lent_view edge.now) }
 {
     push_block(text, edge)
 }

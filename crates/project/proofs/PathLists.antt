@@ -1,5 +1,5 @@
 -- Lists of paths.
-use Rattle.std.proofs.Common.{◌≡◌, ℕ, ◌+◌, ◌<◌, ◌≤◌, Bool, true, false, List, [], ◌∷◌, ◌++◌, length, map, take, drop, get_or, string_bytes, bytes_eq, String, refl, sym, ap, ◌∙◌, append_assoc, add-one, drop-cons, arith}
+use Rattle.std.proofs.Common.{◌≡◌, ℕ, ◌+◌, ◌<◌, ◌≤◌, Bool, true, false, List, [], ◌∷◌, ◌++◌, length, map, take, drop, get_or, string_bytes, bytes_eq, String, refl, sym, ap, ◌∙◌, append_assoc, append-nil, add-one, drop-cons, arith}
 use Rattle.std.specs.Prelude.{not, ◌||◌, if◌then◌else◌, string_eq, Option, Some, None}
 use Rattle.std.specs.List.{list_any}
 use Rattle.std.specs.Global.{Global}
@@ -136,3 +136,27 @@ once_more seen (x ∷ ps) once new =
     let b = none_later (holds x seen) x (first_taken (seen ++ x ∷ []) ps) new in
     λ p. let h = once_more (seen ++ x ∷ []) ps (once_push seen x once a) b p in
     let e = times-append p (seen ++ x ∷ []) ps in let f = times-append p seen (x ∷ []) in let g = times-append p seen (x ∷ ps) in omega arith
+
+-- ---- two lists, one behind the other
+
+first_step : (b : Bool) (x p : Path) (l m : Option Path) → (l ≡ Some p → m ≡ Some p) → (if b then Some x else l) ≡ Some p → (if b then Some x else m) ≡ Some p
+first_step true x p l m f e = e
+first_step false x p l m f e = f e
+
+pub taken_first : (seen ps qs : List Path) (p : Path) → first_taken seen ps ≡ Some p → first_taken seen (ps ++ qs) ≡ Some p
+taken_first seen [] qs p e = absurd cc
+taken_first seen (x ∷ ps) qs p e =
+    first_step (holds x seen) x p (first_taken (seen ++ x ∷ []) ps) (first_taken (seen ++ x ∷ []) (ps ++ qs)) (taken_first (seen ++ x ∷ []) ps qs p) e
+
+pub taken_then : (seen ps qs : List Path) → first_taken seen ps ≡ None → first_taken seen (ps ++ qs) ≡ first_taken (seen ++ ps) qs
+taken_then seen [] qs e = ap (λ s. first_taken s qs) (sym (append-nil seen))
+taken_then seen (x ∷ ps) qs e =
+    let a = none_first (holds x seen) x (first_taken (seen ++ x ∷ []) ps) e in
+    let b = none_later (holds x seen) x (first_taken (seen ++ x ∷ []) ps) e in
+    ap (λ c. if c then Some x else first_taken (seen ++ x ∷ []) (ps ++ qs)) a
+    ∙ taken_then (seen ++ x ∷ []) ps qs b
+    ∙ ap (λ s. first_taken s qs) (append_assoc seen (x ∷ []) ps)
+
+pub begins_then : (old mid new : List (String Global)) → IsFront old mid → IsFront mid new → IsFront old new
+begins_then old mid new a b =
+    record { more = a.more ++ b.more; is = b.is ∙ ap (λ l. l ++ b.more) a.is ∙ append_assoc old a.more b.more }

@@ -5,7 +5,7 @@ use Rattle.std.specs.List.{list_all}
 use Rattle.std.proofs.lemmas.Bool.{ltb-true}
 use Rattle.std.proofs.lemmas.List.{map-append, take-map}
 use Rattle.std.proofs.lemmas.Option.{slice_get-map, slice_get-get_or}
-use Rattle.edge.specs.Texts.{Path, holds}
+use Rattle.edge.specs.Texts.{Path, holds, texts}
 use Rattle.edge.specs.Data.{EdgeData}
 use Rattle.targets.specs.Data.{SurroundingsData, TargetData, Build, Custom}
 use Rattle.targets.specs.Files.{is_static, file_path, object_paths}
@@ -57,6 +57,15 @@ views-push xs x e =
     ap linked_of (map-append (λ (l : Linked). target_view l.target) xs (x ∷ []))
     ∙ linked_after-push [] ts (target_view x.target)
     ∙ ap (λ ls. linked_views xs ++ linked ls (target_view x.target) ∷ []) e
+
+last_got : {X : Type 0} (xs : List X) (x d : X) → get_or (xs ++ x ∷ []) (length xs) d ≡ x
+last_got [] x d = refl
+last_got (z ∷ xs) x d = last_got xs x d
+
+-- and what it is asked for
+pub asked_last : (xs ys : List Linked) (x y : Linked) (n : ℕ) → ys ≡ xs ++ x ∷ [] → n ≡ length xs → y ≡ get_or ys n y → texts y.paths.items ≡ texts x.paths.items
+asked_last xs ys x y n e f at =
+    ap (λ (l : Linked). texts l.paths.items) (at ∙ ap (λ ls. get_or ls n y) e ∙ ap (λ m. get_or (xs ++ x ∷ []) m y) f ∙ last_got xs x y)
 
 -- those of a whole project name earlier ones alone
 pub whole_back : (s : SurroundingsData) (xs : List Linked) (outputs present kept : List Path) → IsWhole s (linked_views xs) outputs present kept → LinkBack (map (λ l. target_view l.target) xs)

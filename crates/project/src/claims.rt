@@ -24,19 +24,41 @@ fn insert_new<'p>(
     Ok(None)
 }
 
-/// Gives the first of the paths that is there already or stands twice; and adds all of them, where there is none and they are to be kept.
+// Inserts each path of both lists, up to the first that is there, and gives that one.
+fn insert_both<'p>(
+    paths: &mut SipSet<String>,
+    these: &'p [String],
+    others: &'p [String],
+) -> Result<Option<&'p str>, AllocError>
+    ensures tested { IfOk result (λ taken. option_map (λ p. p.now) taken
+        ≡ first_taken (texts paths.old.keys) (texts these.now ++ texts others.now)) }
+    ensures added { IfOk result (λ taken. taken ≡ None → texts paths.new.keys
+        ≡ texts paths.old.keys ++ (texts these.now ++ texts others.now)) }
+    ensures begins { IsFront paths.old.keys paths.new.keys }
+{
+    match insert_new(paths, these) {
+        Ok(None) => insert_new(paths, others),
+        Ok(Some(path)) => Ok(Some(path)),
+        Err(refused) => Err(refused),
+    }
+}
+
+/// Gives the first of the paths of both lists that is there already or stands twice; and adds all of them, where there is none and they
+/// are to be kept.
 pub fn claim<'p>(
     paths: &mut SipSet<String>,
-    fresh: &'p [String],
+    these: &'p [String],
+    others: &'p [String],
     keep: bool,
 ) -> Result<Option<&'p str>, AllocError>
-    ensures tested { IfOk result (λ taken. option_map (λ p. p.now) taken ≡ first_taken (texts paths.old.keys) (texts fresh.now)) }
+    ensures tested { IfOk result (λ taken. option_map (λ p. p.now) taken
+        ≡ first_taken (texts paths.old.keys) (texts these.now ++ texts others.now)) }
     ensures added { IfOk result (λ taken. texts paths.new.keys
-        ≡ (if not (is_some taken) && keep then texts paths.old.keys ++ texts fresh.now else texts paths.old.keys)) }
+        ≡ (if not (is_some taken) && keep then texts paths.old.keys ++ (texts these.now ++ texts others.now) else texts paths.old.keys)) }
     ensures err { OnErr result (paths.new.keys ≡ paths.old.keys) }
 {
     let mark = paths.len();
-    match insert_new(paths, fresh) {
+    match insert_both(paths, these, others) {
         Ok(None) => {
             if !keep {
                 paths.truncate(mark);

@@ -15,7 +15,7 @@ ghost use Rattle.project.specs.Adding.{first_build, is_build as is_build_target}
 ghost use Rattle.std.specs.List.{list_any};
 ghost use Rattle.edge.specs.Paths.{is_upward};
 ghost use Rattle.edge.specs.Holding.{are_writable};
-ghost use Rattle.targets.specs.Files.{path_in as path_of};
+ghost use Rattle.targets.specs.Files.{default_paths, path_in as path_of};
 ghost use Rattle.project.specs.Laws.{AtMostOnce, all_made, outputs_of, Reaches};
 ghost use Rattle.project.specs.World.{new_world, edges_in, known_in, taken_in};
 ghost use Rattle.project.specs.Refused.{answer_data};
@@ -35,7 +35,7 @@ use edge::{can_hold_path, can_hold_values, copies, strings};
 use std::alloc::{AllocError, Global};
 use std::marker::Model;
 use target_edges::{Claims, Context, TargetParts, claims_of, no_parts, target_parts};
-use targets::{Facts, Linked, Surroundings, Target, default_paths, linked_libraries, path_in};
+use targets::{Facts, Linked, Surroundings, Target, linked_libraries, path_in};
 
 // What was looked at, and what was noted.
 struct Notes {
@@ -112,7 +112,7 @@ impl Project {
     {
         let reserved = strings(alloc, &["all", "build.ninja", "meson-info/introspect.json"])?;
         let mut taken = new_set(alloc);
-        let _taken = claim(&mut taken, &reserved, true)?;
+        let _taken = claim(&mut taken, &reserved, &[], true)?;
         Ok(Project {
             alloc,
             surroundings: Surroundings {
@@ -152,23 +152,25 @@ impl Project {
         Ok(fits && has_made_sources(&self.taken, target))
     }
 
-    // Adds a target that fits, unless one of its paths is taken or one of its lists is too long.
+    // Adds a target that fits, unless one of its paths is taken or one of its lists is too long. These are the paths that its edges make
+    // beside those that it is asked for.
     fn place(
         &mut self,
         one: Linked,
-        paths: &[String],
+        objects: &[String],
         within: bool,
     ) -> Result<Result<usize, Refused>, AllocError>
         requires { IsNext self.old.surroundings self.old.targets self.old.outputs self.old.present
-            (linked (linked_of self.old.targets) (target_view one.target)) (texts paths.now) }
-        ensures answer { IfOk result (λ r. answer_data r ≡ place_answer self.old (texts paths.now) within) }
+            (linked (linked_of self.old.targets) (target_view one.target)) (texts objects.now ++ texts one.paths.items) }
+        ensures answer { IfOk result (λ r. answer_data r ≡ place_answer self.old (texts objects.now ++ texts one.paths.items) within) }
         ensures ok { OnOk result (self.new
-            ≡ after_answer (place_answer self.old (texts paths.now) within) (with_target self.old (target_view one.target)) self.old) }
+            ≡ after_answer (place_answer self.old (texts objects.now ++ texts one.paths.items) within)
+            (with_target self.old (target_view one.target)) self.old) }
         ensures err { OnErr result (self.new ≡ self.old) }
     {
         let number = self.linked.len();
         self.linked.push(one)?;
-        match claim(&mut self.taken, paths, within) {
+        match claim(&mut self.taken, objects, &self.linked[number].paths, within) {
             Ok(None) => {
                 if within {
                     Ok(Ok(number))
@@ -178,8 +180,9 @@ impl Project {
                 }
             }
             Ok(Some(path)) => {
+                let answer = refuse(self.alloc, Refusal::Duplicate, path);
                 self.linked.truncate(number);
-                refuse(self.alloc, Refusal::Duplicate, path)
+                answer
             }
             Err(refused) => {
                 self.linked.truncate(number);
@@ -211,23 +214,20 @@ impl Project {
             return refuse(self.alloc, Refusal::Unholdable, unheld(&target));
         }
         let within = is_within(&target);
-        let named = default_paths(self.alloc, &target)?;
-        self.place(
-            Linked {
-                target,
-                paths: named,
-            },
-            &claims.paths,
-            within,
-        )
+        let one = Linked {
+            target,
+            paths: claims.asked,
+        };
+        self.place(one, &claims.objects, within)
     }
 
     // What is asked of the edges that a target with these libraries would have.
     fn claims_with(&self, target: &Target, libraries: &[u32]) -> Result<Claims, AllocError>
         ensures writable { IfOk result (λ c. c.writable
             ≡ are_writable (target_edges_of self.now.surroundings (linked_of self.now.targets) libraries.now (target_view target.now))) }
-        ensures paths { IfOk result (λ c. texts c.paths.items
+        ensures paths { IfOk result (λ c. texts c.objects.items ++ texts c.asked.items
             ≡ outputs_of (target_edges_of self.now.surroundings (linked_of self.now.targets) libraries.now (target_view target.now))) }
+        ensures asked { IfOk result (λ c. texts c.asked.items ≡ default_paths (target_view target.now)) }
     {
         let context = Context {
             alloc: self.alloc,
@@ -249,7 +249,7 @@ impl Project {
         let own = [path.clone()?];
         let number = self.outputs.len();
         self.outputs.push(path)?;
-        match claim(&mut self.taken, &own, true) {
+        match claim(&mut self.taken, &own, &[], true) {
             Ok(None) => Ok(Ok(())),
             Ok(Some(path)) => {
                 self.outputs.truncate(number);
@@ -470,12 +470,12 @@ fn output_fits(folder: &str, name: &str) -> bool
 }
 
 // The edges of a target that stands behind these, in parts.
-fn parts_behind(
+fn parts_behind<'a>(
     alloc: Global,
     surroundings: &Surroundings,
     earlier: &[Linked],
-    one: &Linked,
-) -> Result<TargetParts, AllocError>
+    one: &'a Linked,
+) -> Result<TargetParts<'a>, AllocError>
     requires { LinkBack (map (λ l. target_view l.target) earlier.now) }
     ensures { IfOk result (λ p. parts_edges p ≡ edges_of (surroundings_view surroundings.now) (linked_views earlier.now)
         (linked (linked_views earlier.now) (target_view one.now.target))) }
@@ -487,11 +487,11 @@ fn parts_behind(
         earlier,
         libraries: &libraries,
     };
-    target_parts(&context, &one.target)
+    target_parts(&context, one)
 }
 
 /// The edges of a target in parts, made anew at each call; of a number that no target has, none.
-pub fn parts(project: &Project, target: usize) -> Result<TargetParts, AllocError>
+pub fn parts(project: &Project, target: usize) -> Result<TargetParts<'_>, AllocError>
     ensures { IfOk result (λ p. parts_edges p ≡ edges_at project.now target) }
 {
     match project.linked.get(target) {

@@ -1,7 +1,9 @@
 //! A custom target as the arguments of a call say it.
-ghost use Rattle.std.specs.Prelude.{◌≡◌, ◌++◌, IfOk, flat_map, map, option_map, string_bytes};
+ghost use Rattle.std.specs.Prelude.{◌≡◌, ◌++◌, IfOk, Some, codes, count_by, flat_map, map, option_map, string_bytes};
+ghost use Rattle.std.specs.Bool.{OnTrue};
 ghost use Rattle.arguments.specs.Arguments.{arguments_data, named_data};
 ghost use Rattle.arguments.specs.Given.{texts as texts_given};
+ghost use Rattle.arguments.specs.Leaves.{leaves_named};
 ghost use Rattle.data.specs.View.{data_of};
 ghost use Rattle.edge.specs.Texts.{texts};
 ghost use Rattle.edge.specs.Paths.{source_root};
@@ -9,7 +11,8 @@ ghost use Rattle.named_sources.specs.Holes.{build_folder, source_folder, first_o
 ghost use Rattle.named_sources.specs.HolesView.{place_view};
 ghost use Rattle.targets.specs.Files.{path_in as path_of_file};
 ghost use Rattle.targets.specs.View.{custom_view, source_view};
-ghost use Rattle.named_sources.specs.SourcesView.{named_view};
+ghost use Rattle.named_sources.specs.Sources.{sources_of as named_in};
+ghost use Rattle.named_sources.specs.SourcesView.{named_views};
 ghost use Rattle.target_calls.specs.BuildTargetsView.{named_target_view};
 ghost use Rattle.target_calls.specs.CommandsView.{part_view};
 ghost use Rattle.target_calls.specs.CustomTargets.{call_fits, captures_one, count_named, custom_from, custom_target};
@@ -25,7 +28,7 @@ use crate::here::Here;
 use crate::sources::{files_among, sources_in};
 use arguments::{Arguments, Named};
 use data::{Value, flat, opened, opened_count};
-use named_sources::{Place, Scope, filled, sources_of};
+use named_sources::{NamedSource, Place, Scope, filled, sources_of};
 use std::alloc::{AllocError, Global};
 use targets::{CustomTarget, Source, Target, path_in, source_paths};
 
@@ -133,6 +136,18 @@ pub(crate) fn written(alloc: Global, arguments: &Arguments) -> Result<Vec<&Value
     Ok(values)
 }
 
+// What the call names of sources.
+fn written_sources(
+    here: &Here<'_>,
+    arguments: &Arguments,
+) -> Result<Option<Vec<NamedSource>>, AllocError>
+    ensures { IfOk result (λ ss. option_map named_views ss
+        ≡ named_in (here_view here.now).source_root (here_view here.now).folder (written (arguments_data arguments.now))) }
+{
+    let values = written(here.alloc, arguments)?;
+    sources_of(here.alloc, here.source_root, here.folder, &values)
+}
+
 /// The files of the tree among the sources.
 pub(crate) fn written_files(
     here: &Here<'_>,
@@ -140,8 +155,7 @@ pub(crate) fn written_files(
 ) -> Result<Option<Vec<String>>, AllocError>
     ensures { IfOk result (λ fs. option_map (λ v. texts v.items) fs ≡ written_files (here_view here.now) (arguments_data arguments.now)) }
 {
-    let values = written(here.alloc, arguments)?;
-    match sources_of(here.alloc, here.source_root, here.folder, &values)? {
+    match written_sources(here, arguments)? {
         Some(named) => Ok(Some(files_among(here.alloc, &named)?)),
         None => Ok(None),
     }
@@ -160,6 +174,44 @@ pub(crate) fn sources_by(
     match sources_of(here.alloc, here.source_root, here.folder, &values)? {
         Some(named) => sources_in(here.alloc, here.earlier, named),
         None => Ok(None),
+    }
+}
+
+// How many keywords say sources.
+fn count_sources(named: &[Named]) -> usize
+    ensures { result ≡ count_by (λ n. is_source_keyword (string_bytes n.name)) named.now }
+{
+    let mut count: usize = 0;
+    for one in named {
+        if is_source_keyword(one.name.as_str()) {
+            count += 1;
+        }
+    }
+    count
+}
+
+// Whether `input` alone says sources, and once.
+fn says_input_alone(arguments: &Arguments) -> bool
+    ensures { OnTrue result (written (arguments_data arguments.now) ≡ leaves_named (codes "input") (arguments_data arguments.now)) }
+{
+    count_sources(&arguments.named) == 1 && arguments.keyword("input").is_some()
+}
+
+// The sources that `input` names, of all that the call names: most often it is these, and they are not named again.
+fn inputs_among(
+    here: &Here<'_>,
+    arguments: &Arguments,
+    named: Vec<NamedSource>,
+) -> Result<Option<Vec<Source>>, AllocError>
+    requires { named_in (here_view here.now).source_root (here_view here.now).folder (written (arguments_data arguments.now))
+        ≡ Some (named_views named) }
+    ensures { IfOk result (λ ss. option_map (λ v. map source_view v.items) ss
+        ≡ sources_by (here_view here.now) (arguments_data arguments.now) (codes "input")) }
+{
+    if says_input_alone(arguments) {
+        sources_in(here.alloc, here.earlier, named)
+    } else {
+        sources_by(here, arguments, "input")
     }
 }
 
@@ -200,7 +252,7 @@ fn names_in(
     ensures { IfOk result (λ ns. option_map (λ v. map string_bytes v.items) ns
         ≡ names_in (place_view place.now) (map (λ t. t.now) texts.now)) }
 {
-    let mut names = Vec::new(alloc);
+    let mut names = Vec::with_capacity(alloc, texts.len())?;
     for text in texts {
         match filled(alloc, Scope::FileName, place, text)? {
             Some(name) => names.push(name)?,
@@ -253,7 +305,7 @@ pub(crate) fn names_of(
 fn paths_in(alloc: Global, folder: &str, names: &[String]) -> Result<Vec<String>, AllocError>
     ensures { IfOk result (λ v. texts v.items ≡ map (path_of_file folder.now) (texts names.now)) }
 {
-    let mut paths = Vec::new(alloc);
+    let mut paths = Vec::with_capacity(alloc, names.len())?;
     for name in names {
         paths.push(path_in(alloc, folder, name)?)?;
     }
@@ -401,10 +453,11 @@ pub fn declared_custom(
     if !call_fits(arguments) {
         return Ok(None);
     }
-    let Some(files) = written_files(here, arguments)? else {
+    let Some(named) = written_sources(here, arguments)? else {
         return Ok(None);
     };
-    let Some(inputs) = sources_by(here, arguments, "input")? else {
+    let files = files_among(here.alloc, &named)?;
+    let Some(inputs) = inputs_among(here, arguments, named)? else {
         return Ok(None);
     };
     declared_files(here, arguments, inputs, files)

@@ -13,7 +13,7 @@ use crate::breaches::build_breach;
 use crate::build_target::{NamedTarget, declared};
 use crate::fit_breaches::fit_breach;
 use crate::here::here_of;
-use crate::installs::{folders_in, install_of, note};
+use crate::installs::{install_of, note};
 use crate::tree::require_all;
 use arguments::Arguments;
 use data::{Object, Value};
@@ -69,8 +69,7 @@ fn add_installed<T: Tree, O: Outputs>(
     ensures { Carries (λ n. n) (add_installed (arguments_data arguments.now) (target_view target))
         (state_of T.seen O.seen caller.old) result (state_of T.seen O.seen caller.new) }
 {
-    let folders = folders_in(caller);
-    let install = install_of(&folders, arguments, &target)?;
+    let install = install_of(caller, arguments, &target)?;
     let number = caller.add_target(target)?;
     note(caller, install)?;
     Ok(number)

@@ -82,32 +82,34 @@ fn build_install(
     })
 }
 
-fn asked_install(
-    folders: &Folders<'_>,
+// The folders are looked up only where they are asked for.
+fn asked_install<T: Tree, O: Outputs>(
+    caller: &Caller<'_, T, O>,
     arguments: &Arguments,
     target: &BuildTarget,
 ) -> Result<Option<Install>, AllocError>
-    ensures { IfOk result (λ i. option_map install_view i
-        ≡ asked_install (folders_view folders.now) (arguments_data arguments.now) (build_view target.now)) }
+    ensures { IfOk result (λ i. option_map install_view i ≡ asked_install (folders_in (state_of T.seen O.seen caller.now).world.facts)
+        (arguments_data arguments.now) (build_view target.now)) }
 {
     if target.is_installed {
-        Ok(Some(build_install(folders, arguments, target)?))
+        let folders = folders_in(caller);
+        Ok(Some(build_install(&folders, arguments, target)?))
     } else {
         Ok(None)
     }
 }
 
 /// Where the target's file goes, if it is installed.
-pub fn install_of(
-    folders: &Folders<'_>,
+pub fn install_of<T: Tree, O: Outputs>(
+    caller: &Caller<'_, T, O>,
     arguments: &Arguments,
     target: &Target,
 ) -> Result<Option<Install>, AllocError>
-    ensures { IfOk result (λ i. option_map install_view i
-        ≡ install_of (folders_view folders.now) (arguments_data arguments.now) (target_view target.now)) }
+    ensures { IfOk result (λ i. option_map install_view i ≡ install_of (folders_in (state_of T.seen O.seen caller.now).world.facts)
+        (arguments_data arguments.now) (target_view target.now)) }
 {
     match target {
-        Target::Build(target) => asked_install(folders, arguments, target),
+        Target::Build(target) => asked_install(caller, arguments, target),
         Target::Custom(_) => Ok(None),
     }
 }

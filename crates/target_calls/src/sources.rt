@@ -8,7 +8,7 @@ ghost use Rattle.named_sources.specs.Outputs.{output_at, outputs_at};
 ghost use Rattle.named_sources.specs.SourcesView.{named_view};
 ghost use Rattle.target_calls.specs.Sources.{file_in, one_made, source_in, sources_in};
 
-use edge::copies;
+use edge::push_copies;
 use named_sources::{NamedSource, output_at, outputs_at};
 use std::alloc::{AllocError, Global};
 use std::rc::Rc;
@@ -18,8 +18,9 @@ use targets::{Linked, Source};
 pub fn made_of(alloc: Global, paths: &[String]) -> Result<Source, AllocError>
     ensures { IfOk result (λ s. source_view s ≡ Made (texts paths.now)) }
 {
-    let paths = copies(alloc, paths)?;
-    Ok(Source::Made(Rc::new(alloc, paths)?))
+    let mut own = Vec::with_capacity(alloc, paths.len())?;
+    push_copies(&mut own, paths)?;
+    Ok(Source::Made(Rc::new(alloc, own)?))
 }
 
 /// One output of a target.
@@ -84,7 +85,7 @@ pub fn sources_in(
     ensures { IfOk result (λ ss. option_map (λ v. map source_view v.items) ss
         ≡ sources_in (linked_views earlier.now) (map named_view named.items)) }
 {
-    let mut sources = Vec::new(alloc);
+    let mut sources = Vec::with_capacity(alloc, named.len())?;
     for one in named {
         match source_in(alloc, earlier, one)? {
             Some(source) => sources.push(source)?,

@@ -8,13 +8,13 @@ use Rattle.edge.specs.Texts.{Path, Text}
 use Rattle.edge.specs.Paths.{object_path}
 use Rattle.edge.specs.Holding.{is_path, value_held, is_some_list, is_writable, are_writable}
 use Rattle.edge.proofs.Held.{path_as_value}
-use Rattle.targets.specs.Data.{SurroundingsData, BuildData}
-use Rattle.targets.specs.Files.{file_path, is_static}
+use Rattle.targets.specs.Data.{SurroundingsData, BuildData, Build}
+use Rattle.targets.specs.Files.{default_paths, file_name, file_path, is_static, link_paths}
 use Rattle.targets.specs.Inputs.{input_view}
 use Rattle.targets.specs.Libraries.{LinkedData}
 use Rattle.targets.specs.Sources.{InputData, compiled, generated}
 use Rattle.targets.specs.declared.sources.Input.{Input}
-use Rattle.target_edges.specs.Edges.{archiving, linking, file_edge, link_edges, compile_edges, build_edges}
+use Rattle.target_edges.specs.Edges.{archiving, linking, naming, file_edge, link_edges, compile_edges, build_edges}
 use Rattle.target_edges.specs.Parts.{front_words, joined_edge, is_none, compiles_held, archive_held, link_held}
 use Rattle.target_edges.specs.Words.{compile_words, library_files, library_words, link_words, shared_words}
 use Rattle.target_edges.proofs.Holding.{and_true, some_behind, compiles_held as each_compile_held}
@@ -82,6 +82,24 @@ link_is s earlier ns t file objects =
     ∙ ap (λ b. is_path file && (list_all is_path objects && (list_all is_path libraries && (list_all value_held compiler && b))))
     (sym (list_all-append value_held shared behind)))
 
+-- the files of the libraries are words that need not be asked for: they are paths
+words_shape : (pf po pl c s vl b : Bool) → (pl ≡ true → vl ≡ true)
+    → (pf && (po && (pl && (c && (s && b))))) ≡ (pf && (po && (pl && (c && (s && (vl && b))))))
+words_shape false po pl c s vl b h = refl
+words_shape true false pl c s vl b h = refl
+words_shape true true false c s vl b h = refl
+words_shape true true true c s vl b h = rw (h refl) refl
+
+pub without_libraries : (compiler shared behind : List Text) (file : Path) (objects libraries : List Path)
+    → (is_path file && (list_all is_path objects && (list_all is_path libraries && (list_all value_held compiler && list_all value_held (shared ++ behind)))))
+    ≡ link_held compiler (shared ++ (libraries ++ behind)) file objects libraries
+without_libraries compiler shared behind file objects libraries =
+    let asked = λ (b : Bool). is_path file && (list_all is_path objects && (list_all is_path libraries && (list_all value_held compiler && b))) in
+    ap asked (list_all-append value_held shared behind)
+    ∙ words_shape (is_path file) (list_all is_path objects) (list_all is_path libraries) (list_all value_held compiler) (list_all value_held shared)
+    (list_all value_held libraries) (list_all value_held behind) (paths_as_values libraries)
+    ∙ sym (ap asked (list_all-append value_held shared (libraries ++ behind) ∙ ap (λ b. list_all value_held shared && b) (list_all-append value_held libraries behind)))
+
 -- ---- all edges of a build target
 
 abbrev pub compiles_asked : SurroundingsData → BuildData → List Path → List Input → Bool
@@ -127,3 +145,13 @@ build_outputs s earlier ns t xs file objects rest inputs is made links =
     (linking (link_words s earlier ns t (file_path t) os) (file_path t) os (library_files earlier ns)) (file_path t) refl refl))
     ∙ outputs_are (front_words (compile_words s t)) (generated t) (file_path t) (compiled s.facts.depth t) (one ∷ link_edges t)
     ∙ ap (λ es. outputs (es ++ (one ∷ link_edges t))) (joined_all (compile_words s t) (generated t) (file_path t) (compiled s.facts.depth t))
+
+-- ---- what a build target is asked for
+
+links_made : (file : Path) (name : Text) (links : List Path) → flat_map (λ (e : EdgeData). e.outputs) (map (naming file name) links) ≡ links
+links_made file name [] = refl
+links_made file name (l ∷ ls) = ap (λ r. l ∷ r) (links_made file name ls)
+
+pub links_asked : (t : BuildData) (file : Path) → file ≡ file_path t → file ∷ flat_map (λ (e : EdgeData). e.outputs) (link_edges t) ≡ default_paths (Build t)
+links_asked t file is =
+    ap (λ f. f ∷ flat_map (λ (e : EdgeData). e.outputs) (link_edges t)) is ∙ ap (λ ls. file_path t ∷ ls) (links_made (file_path t) (file_name t) (link_paths t))

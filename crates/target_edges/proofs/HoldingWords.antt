@@ -53,7 +53,7 @@ first_kept_all p ts = all_more p [] ts
 
 -- ---- lists of lists
 
-flat_all : {X : Type 0} (p : Text → Bool) (g : X → List Text) (xs : List X) → list_all p (flat_map g xs) ≡ list_all (λ x. list_all p (g x)) xs
+pub flat_all : {X : Type 0} (p : Text → Bool) (g : X → List Text) (xs : List X) → list_all p (flat_map g xs) ≡ list_all (λ x. list_all p (g x)) xs
 flat_all p g [] = refl
 flat_all p g (x ∷ xs) = list_all-append p (g x) (flat_map g xs) ∙ ap (λ b. list_all p (g x) && b) (flat_all p g xs)
 

@@ -5,19 +5,19 @@ ghost use Rattle.edge.specs.View.{edge_view};
 ghost use Rattle.targets.specs.Files.{file_path as path_of};
 ghost use Rattle.targets.specs.Inputs.{input_view};
 ghost use Rattle.targets.specs.LinkedViews.{linked_views};
-ghost use Rattle.targets.specs.View.{surroundings_view, build_view, custom_view, target_view};
-ghost use Rattle.target_edges.specs.Edges.{file_edge, link_edges, build_edges, custom_edge, target_edges};
-ghost use Rattle.target_edges.specs.PartsView.{parts_edges};
+ghost use Rattle.targets.specs.View.{surroundings_view, build_view, target_view};
+ghost use Rattle.target_edges.specs.Edges.{file_edge, link_edges, build_edges, target_edges};
+ghost use Rattle.target_edges.specs.PartsView.{build_parts_edges, parts_edges};
 
 use crate::compiling::front_words;
-use crate::custom::custom_edge;
+use crate::custom::custom_parts;
 use crate::linking::{Context, file_edge, link_edges};
-use crate::parts::TargetParts;
+use crate::parts::{BuildParts, TargetParts};
 use edge::Edge;
 use std::alloc::{AllocError, Global};
 use targets::{
-    BuildTarget, CustomTarget, Input, Target, compiled, file_name, file_path, generated,
-    link_paths, objects,
+    BuildTarget, Input, Linked, Target, compiled, file_name, file_path, generated, link_paths,
+    objects,
 };
 
 /// The edges that make the links to the target's file.
@@ -54,8 +54,8 @@ fn file_edges(
     Ok(edges)
 }
 
-fn build_parts(context: &Context, target: &BuildTarget) -> Result<TargetParts, AllocError>
-    ensures { IfOk result (λ p. parts_edges p
+fn build_parts(context: &Context, target: &BuildTarget) -> Result<BuildParts, AllocError>
+    ensures { IfOk result (λ p. build_parts_edges p
         ≡ build_edges (surroundings_view context.now.surroundings.now)
         (linked_views context.now.earlier.now) context.now.libraries.now (build_view target.now)) }
 {
@@ -65,7 +65,7 @@ fn build_parts(context: &Context, target: &BuildTarget) -> Result<TargetParts, A
     let rest = file_edges(context, target, &file, &inputs)?;
     let words = front_words(alloc, context.surroundings, target)?;
     let generated = generated(alloc, target)?;
-    Ok(TargetParts {
+    Ok(BuildParts {
         words,
         generated,
         file,
@@ -74,44 +74,32 @@ fn build_parts(context: &Context, target: &BuildTarget) -> Result<TargetParts, A
     })
 }
 
-// The parts of a target that compiles nothing.
-fn parts_of(alloc: Global, rest: Vec<Edge>) -> TargetParts
-    ensures { parts_edges result ≡ map edge_view rest.items }
+/// The parts of no edges.
+pub fn no_parts<'a>(alloc: Global) -> TargetParts<'a>
+    ensures { parts_edges result ≡ [] }
 {
-    TargetParts {
+    TargetParts::Build(BuildParts {
         words: Vec::new(alloc),
         generated: Vec::new(alloc),
         file: String::new(alloc),
         inputs: Vec::new(alloc),
-        rest,
-    }
-}
-
-/// The parts of no edges.
-pub fn no_parts(alloc: Global) -> TargetParts
-    ensures { parts_edges result ≡ [] }
-{
-    parts_of(alloc, Vec::new(alloc))
-}
-
-fn custom_parts(context: &Context, target: &CustomTarget) -> Result<TargetParts, AllocError>
-    ensures { IfOk result (λ p. parts_edges p
-        ≡ custom_edge (surroundings_view context.now.surroundings.now).facts.depth (custom_view target.now) ∷ []) }
-{
-    let mut rest = Vec::new(context.alloc);
-    rest.push(custom_edge(context.alloc, context.surroundings.facts.depth, target)?)?;
-    Ok(parts_of(context.alloc, rest))
+        rest: Vec::new(alloc),
+    })
 }
 
 /// The edges of a target: of a build target those that compile its sources, the one that makes its file and those that make symbolic
 /// links to it; of a custom target the one that runs its command.
-pub fn target_parts(context: &Context, target: &Target) -> Result<TargetParts, AllocError>
+pub fn target_parts<'a>(context: &Context, one: &'a Linked) -> Result<TargetParts<'a>, AllocError>
     ensures { IfOk result (λ p. parts_edges p
         ≡ target_edges (surroundings_view context.now.surroundings.now)
-        (linked_views context.now.earlier.now) context.now.libraries.now (target_view target.now)) }
+        (linked_views context.now.earlier.now) context.now.libraries.now (target_view one.now.target)) }
 {
-    match target {
-        Target::Build(target) => build_parts(context, target),
-        Target::Custom(target) => custom_parts(context, target),
+    match &one.target {
+        Target::Build(target) => Ok(TargetParts::Build(build_parts(context, target)?)),
+        Target::Custom(target) => {
+            let depth = context.surroundings.facts.depth;
+            let parts = custom_parts(context.alloc, depth, target, &one.paths)?;
+            Ok(TargetParts::Custom(parts))
+        }
     }
 }

@@ -4,6 +4,8 @@ ghost use Rattle.std.specs.List.{list_all};
 ghost use Rattle.edge.specs.Holding.{is_path as is_path_of, is_writable, are_writable as are_writable_of};
 ghost use Rattle.edge.specs.Texts.{texts};
 ghost use Rattle.edge.specs.View.{edge_view};
+ghost use Rattle.targets.specs.Data.{Build, Custom};
+ghost use Rattle.targets.specs.Files.{default_paths};
 ghost use Rattle.targets.specs.LinkedViews.{linked_views};
 ghost use Rattle.targets.specs.View.{build_view, custom_view, source_view, surroundings_view, target_view};
 ghost use Rattle.target_edges.specs.Edges.{build_edges, custom_edge, target_edges};
@@ -16,7 +18,7 @@ use edge::{
     Edge, are_paths, are_writable, can_hold_path, can_hold_value, can_hold_values, is_path,
     is_some_list, push_copies,
 };
-use std::alloc::AllocError;
+use std::alloc::{AllocError, Global};
 use targets::{
     BuildTarget, CustomTarget, Input, Source, Target, compiled, file_path, generated, objects,
     output_paths,
@@ -27,8 +29,10 @@ use targets::{
 pub struct Claims {
     /// Whether `build.ninja` can hold each of them.
     pub writable: bool,
-    /// What they make, in their order.
-    pub paths: Vec<String>,
+    /// The objects that they make.
+    pub objects: Vec<String>,
+    /// What else they make, which is what the target is asked for.
+    pub asked: Vec<String>,
 }
 
 fn sources_are_paths(inputs: &[Input]) -> bool
@@ -78,6 +82,17 @@ fn push_outputs(paths: &mut Vec<String>, edges: &[Edge]) -> Result<(), AllocErro
     Ok(())
 }
 
+// A file, and what these edges make.
+fn asked_with(alloc: Global, file: String, names: &[Edge]) -> Result<Vec<String>, AllocError>
+    ensures { IfOk result (λ v. texts v.items
+        ≡ string_bytes file ∷ flat_map (λ e. e.outputs) (map edge_view names.now)) }
+{
+    let mut asked = Vec::with_capacity(alloc, 1)?;
+    asked.push(file)?;
+    push_outputs(&mut asked, names)?;
+    Ok(asked)
+}
+
 fn all_are_held(compiles: bool, made: bool, names: &[Edge]) -> bool
     ensures { result ≡ (compiles && (made && are_writable_of (map edge_view names.now))) }
 {
@@ -88,20 +103,24 @@ fn build_claims(context: &Context, target: &BuildTarget) -> Result<Claims, Alloc
     ensures writable { IfOk result (λ c. c.writable
         ≡ are_writable_of (build_edges (surroundings_view context.now.surroundings.now)
         (linked_views context.now.earlier.now) context.now.libraries.now (build_view target.now))) }
-    ensures paths { IfOk result (λ c. texts c.paths.items
+    ensures paths { IfOk result (λ c. texts c.objects.items ++ texts c.asked.items
         ≡ flat_map (λ e. e.outputs) (build_edges (surroundings_view context.now.surroundings.now)
         (linked_views context.now.earlier.now) context.now.libraries.now (build_view target.now))) }
+    ensures asked { IfOk result (λ c. texts c.asked.items ≡ default_paths (Build (build_view target.now))) }
 {
     let inputs = compiled(context.alloc, context.surroundings.facts.depth, target)?;
     let file = file_path(context.alloc, target)?;
     let names = names(context, target, &file)?;
-    let mut paths = objects(context.alloc, &file, &inputs)?;
-    let compiles = compiles_are_held(context, target, &inputs, &paths)?;
-    let made = file_is_held(context, target, &file, &paths)?;
+    let objects = objects(context.alloc, &file, &inputs)?;
+    let compiles = compiles_are_held(context, target, &inputs, &objects)?;
+    let made = file_is_held(context, target, &file, &objects)?;
     let writable = all_are_held(compiles, made, &names);
-    paths.push(file)?;
-    push_outputs(&mut paths, &names)?;
-    Ok(Claims { writable, paths })
+    let asked = asked_with(context.alloc, file, &names)?;
+    Ok(Claims {
+        writable,
+        objects,
+        asked,
+    })
 }
 
 // ---- custom targets
@@ -159,13 +178,18 @@ fn custom_is_held(target: &CustomTarget, outputs: &[String]) -> bool
 fn custom_claims(context: &Context, target: &CustomTarget) -> Result<Claims, AllocError>
     ensures writable { IfOk result (λ c. c.writable
         ≡ are_writable_of (custom_edge (surroundings_view context.now.surroundings.now).facts.depth (custom_view target.now) ∷ [])) }
-    ensures paths { IfOk result (λ c. texts c.paths.items
+    ensures paths { IfOk result (λ c. texts c.objects.items ++ texts c.asked.items
         ≡ flat_map (λ e. e.outputs)
         (custom_edge (surroundings_view context.now.surroundings.now).facts.depth (custom_view target.now) ∷ [])) }
+    ensures asked { IfOk result (λ c. texts c.asked.items ≡ default_paths (Custom (custom_view target.now))) }
 {
-    let paths = output_paths(context.alloc, target)?;
-    let writable = custom_is_held(target, &paths);
-    Ok(Claims { writable, paths })
+    let asked = output_paths(context.alloc, target)?;
+    let writable = custom_is_held(target, &asked);
+    Ok(Claims {
+        writable,
+        objects: Vec::new(context.alloc),
+        asked,
+    })
 }
 
 /// What a project has to know of the target's edges.
@@ -173,9 +197,10 @@ pub fn claims_of(context: &Context, target: &Target) -> Result<Claims, AllocErro
     ensures writable { IfOk result (λ c. c.writable
         ≡ are_writable_of (target_edges (surroundings_view context.now.surroundings.now)
         (linked_views context.now.earlier.now) context.now.libraries.now (target_view target.now))) }
-    ensures paths { IfOk result (λ c. texts c.paths.items
+    ensures paths { IfOk result (λ c. texts c.objects.items ++ texts c.asked.items
         ≡ flat_map (λ e. e.outputs) (target_edges (surroundings_view context.now.surroundings.now)
         (linked_views context.now.earlier.now) context.now.libraries.now (target_view target.now))) }
+    ensures asked { IfOk result (λ c. texts c.asked.items ≡ default_paths (target_view target.now)) }
 {
     match target {
         Target::Build(target) => build_claims(context, target),

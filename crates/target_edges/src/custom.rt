@@ -1,13 +1,16 @@
-//! The edge of a custom target.
+//! The edge of a custom target. It is not made: what it has of the target is lent.
 ghost use Rattle.std.specs.Prelude.{◌≡◌, ◌++◌, [], map, flat_map, IfOk, string_bytes, option_map, codes, None, if◌then◌else◌};
 ghost use Rattle.edge.specs.Texts.{texts};
-ghost use Rattle.edge.specs.View.{edge_view};
+ghost use Rattle.edge.specs.Own.{lent_view};
+ghost use Rattle.targets.specs.Files.{output_paths};
 ghost use Rattle.targets.specs.View.{custom_view};
 ghost use Rattle.target_edges.specs.Edges.{first_of, custom_rule, and_path, custom_edge};
+ghost use Rattle.target_edges.specs.PartsView.{custom_parts_edge};
 
-use edge::{Edge, Rule, copies};
+use crate::parts::CustomParts;
+use edge::{LentEdge, Rule};
 use std::alloc::{AllocError, Global};
-use targets::{CustomTarget, depfile_path, output_paths, source_paths};
+use targets::{CustomTarget, depfile_path, source_paths};
 
 fn custom_rule(depfile: &Option<String>) -> Rule
     ensures { result ≡ custom_rule (option_map string_bytes depfile.now) }
@@ -18,24 +21,20 @@ fn custom_rule(depfile: &Option<String>) -> Rule
     }
 }
 
-fn first_of(paths: &[String]) -> Result<Option<String>, AllocError>
-    ensures { IfOk result (λ first. option_map string_bytes first ≡ first_of (texts paths.now)) }
+fn first_of(paths: &[String]) -> Option<&str>
+    ensures { option_map (λ p. p.now) result ≡ first_of (texts paths.now) }
 {
     match paths {
-        [] => Ok(None),
-        [first, ..] => Ok(Some(first.clone()?)),
+        [] => None,
+        [first, ..] => Some(first.as_str()),
     }
 }
 
 // Where the output of the command goes.
-fn redirect(captures: bool, outputs: &[String]) -> Result<Option<String>, AllocError>
-    ensures { IfOk result (λ path. option_map string_bytes path ≡ (if captures then first_of (texts outputs.now) else None)) }
+fn redirect(captures: bool, outputs: &[String]) -> Option<&str>
+    ensures { option_map (λ p. p.now) result ≡ (if captures then first_of (texts outputs.now) else None) }
 {
-    if captures {
-        first_of(outputs)
-    } else {
-        Ok(None)
-    }
+    if captures { first_of(outputs) } else { None }
 }
 
 // The bytes that there is room for before a path is named: those of most descriptions.
@@ -53,20 +52,52 @@ fn description(alloc: Global, paths: &[String]) -> Result<String, AllocError>
     Ok(text)
 }
 
-/// The edge that runs the command of a custom target.
-pub fn custom_edge(alloc: Global, depth: usize, target: &CustomTarget) -> Result<Edge, AllocError>
-    ensures { IfOk result (λ e. edge_view e ≡ custom_edge depth (custom_view target.now)) }
+fn lent(path: &Option<String>) -> Option<&str>
+    ensures { option_map (λ p. p.now) result ≡ option_map string_bytes path.now }
 {
-    let outputs = output_paths(alloc, target)?;
-    Ok(Edge {
+    match path {
+        None => None,
+        Some(path) => Some(path.as_str()),
+    }
+}
+
+impl<'a> CustomParts<'a> {
+    /// The edge.
+    pub fn edge(&self) -> LentEdge<'_>
+        ensures { lent_view result ≡ custom_parts_edge self.now }
+    {
+        LentEdge {
+            rule: self.rule,
+            outputs: self.outputs,
+            inputs: &self.inputs,
+            implicit: &self.needs,
+            order_only: &[],
+            words: self.words,
+            redirect: self.redirect,
+            description: &self.description,
+            depfile: lent(&self.depfile),
+        }
+    }
+}
+
+/// The parts of the edge that runs the command of a custom target, which makes these outputs.
+pub fn custom_parts<'a>(
+    alloc: Global,
+    depth: usize,
+    target: &'a CustomTarget,
+    outputs: &'a [String],
+) -> Result<CustomParts<'a>, AllocError>
+    requires { texts outputs.now ≡ output_paths (custom_view target.now) }
+    ensures { IfOk result (λ p. custom_parts_edge p ≡ custom_edge depth (custom_view target.now)) }
+{
+    Ok(CustomParts {
         rule: custom_rule(&target.depfile),
-        inputs: source_paths(alloc, depth, &target.inputs)?,
-        implicit: source_paths(alloc, depth, &target.needs)?,
-        order_only: Vec::new(alloc),
-        words: copies(alloc, &target.words)?,
-        redirect: redirect(target.captures, &outputs)?,
-        description: description(alloc, &outputs)?,
-        depfile: depfile_path(alloc, target)?,
         outputs,
+        inputs: source_paths(alloc, depth, &target.inputs)?,
+        needs: source_paths(alloc, depth, &target.needs)?,
+        words: &target.words,
+        redirect: redirect(target.captures, outputs),
+        description: description(alloc, outputs)?,
+        depfile: depfile_path(alloc, target)?,
     })
 }

@@ -16,4 +16,4 @@ pub use building::{no_parts, target_parts};
 pub use claiming::{Claims, claims_of};
 pub use linking::Context;
 pub use own::{SourceTexts, last_words, own_parts, source_texts};
-pub use parts::TargetParts;
+pub use parts::{BuildParts, CustomParts, TargetParts};

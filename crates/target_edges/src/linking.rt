@@ -1,6 +1,7 @@
 //! The edges that link and archive objects.
-ghost use Rattle.std.specs.Prelude.{◌≡◌, ◌++◌, ◌∷◌, [], Some, map, flat_map, IfOk, string_bytes, codes};
-ghost use Rattle.edge.specs.Holding.{is_writable};
+ghost use Rattle.std.specs.Prelude.{◌≡◌, ◌++◌, ◌∷◌, ◌&&◌, [], Some, map, flat_map, IfOk, string_bytes, codes};
+ghost use Rattle.std.specs.List.{list_all};
+ghost use Rattle.edge.specs.Holding.{is_path as is_path_of, is_writable, value_held};
 ghost use Rattle.edge.specs.Texts.{texts, first_kept as first_of_texts};
 ghost use Rattle.edge.specs.View.{edge_view};
 ghost use Rattle.targets.specs.LinkedViews.{linked_views};
@@ -19,7 +20,7 @@ use edge::{
     strings,
 };
 use std::alloc::{AllocError, Global};
-use targets::{BuildTarget, Kind, Linked, Surroundings, build_target_at, file_path, so_name};
+use targets::{BuildTarget, Kind, Linked, Surroundings, build_target_at, file_at, so_name};
 
 /// What a target's edges are made from, besides the target.
 #[derive(Clone, Copy)]
@@ -43,8 +44,8 @@ fn push_library(
 ) -> Result<(), AllocError>
     ensures { IfOk result (λ _. texts files.new.items ≡ texts files.old.items ++ library_file (linked_views earlier.now) number) }
 {
-    if let Some(target) = build_target_at(earlier, number) {
-        files.push(file_path(alloc, target)?)?;
+    if let Some(file) = file_at(earlier, number) {
+        files.push(String::from_str(alloc, file)?)?;
     }
     Ok(())
 }
@@ -57,11 +58,35 @@ fn library_files(
 ) -> Result<Vec<String>, AllocError>
     ensures { IfOk result (λ v. texts v.items ≡ library_files (linked_views earlier.now) numbers.now) }
 {
-    let mut files = Vec::new(alloc);
+    let mut files = Vec::with_capacity(alloc, numbers.len())?;
     for number in numbers {
         push_library(&mut files, alloc, earlier, *number as usize)?;
     }
     Ok(files)
+}
+
+fn library_is_held(earlier: &[Linked], number: usize) -> bool
+    ensures { result ≡ list_all is_path_of (library_file (linked_views earlier.now) number) }
+{
+    match file_at(earlier, number) {
+        Some(file) => is_path(file),
+        None => true,
+    }
+}
+
+fn each_library_is_held(earlier: &[Linked], numbers: &[u32]) -> bool
+    ensures { result ≡ list_all (λ n. list_all is_path_of (library_file (linked_views earlier.now) n)) numbers.now }
+{
+    numbers
+        .iter()
+        .all(|number| library_is_held(earlier, *number as usize))
+}
+
+// Whether `build.ninja` can hold the files of the libraries.
+fn libraries_are_held(earlier: &[Linked], numbers: &[u32]) -> bool
+    ensures { result ≡ list_all is_path_of (library_files (linked_views earlier.now) numbers.now) }
+{
+    each_library_is_held(earlier, numbers)
 }
 
 // The folder of a shared library.
@@ -227,17 +252,18 @@ fn push_link_arguments(
     push_static_arguments(words, context.earlier, context.libraries)
 }
 
-fn push_libraries(
+// What stands behind the files of the libraries.
+fn push_behind(
     words: &mut Vec<String>,
     context: &Context,
     target: &BuildTarget,
 ) -> Result<(), AllocError>
-    ensures { IfOk result (λ _. texts words.new.items
-        ≡ texts words.old.items ++ library_words (surroundings_view context.now.surroundings.now)
-        (linked_views context.now.earlier.now) context.now.libraries.now (build_view target.now)) }
+    ensures { let earlier = linked_views context.now.earlier.now in
+        let t = build_view target.now in
+        IfOk result (λ _. texts words.new.items
+        ≡ texts words.old.items ++ (search_words earlier t.folder context.now.libraries.now
+        ++ link_arguments (surroundings_view context.now.surroundings.now) earlier context.now.libraries.now t)) }
 {
-    let mut files = library_files(context.alloc, context.earlier, context.libraries)?;
-    words.append(&mut files)?;
     push_search_words(
         words,
         context.alloc,
@@ -253,7 +279,9 @@ fn link_words(
     target: &BuildTarget,
     file: &str,
     objects: &[String],
+    libraries: &[String],
 ) -> Result<Vec<String>, AllocError>
+    requires { texts libraries.now ≡ library_files (linked_views context.now.earlier.now) context.now.libraries.now }
     ensures { IfOk result (λ v. texts v.items
         ≡ link_words (surroundings_view context.now.surroundings.now) (linked_views context.now.earlier.now) context.now.libraries.now
         (build_view target.now) file.now (texts objects.now)) }
@@ -263,7 +291,8 @@ fn link_words(
     push_shared(&mut words, context.alloc, target)?;
     push_all(&mut words, context.alloc, &["-o", file])?;
     push_copies(&mut words, objects)?;
-    push_libraries(&mut words, context, target)?;
+    push_copies(&mut words, libraries)?;
+    push_behind(&mut words, context, target)?;
     Ok(words)
 }
 
@@ -306,12 +335,13 @@ fn link_edge(
         (library_files (linked_views context.now.earlier.now) context.now.libraries.now)) }
 {
     let alloc = context.alloc;
-    let words = link_words(context, target, file, &objects)?;
+    let libraries = library_files(alloc, context.earlier, context.libraries)?;
+    let words = link_words(context, target, file, &objects, &libraries)?;
     Ok(Edge {
         rule: Rule::CLink,
         outputs: strings(alloc, &[file])?,
         inputs: objects,
-        implicit: library_files(alloc, context.earlier, context.libraries)?,
+        implicit: libraries,
         order_only: Vec::new(alloc),
         words,
         redirect: None,
@@ -351,6 +381,21 @@ fn archive_is_held(archiver: &[String], file: &str, objects: &[String]) -> bool
     is_path(file) && are_paths(objects) && can_hold_values(archiver)
 }
 
+// The same of what is linked with these words beside the files.
+fn parts_are_held(context: &Context, file: &str, objects: &[String], words: &[String]) -> bool
+    ensures { let libraries = library_files (linked_views context.now.earlier.now) context.now.libraries.now in
+        let compiler = texts context.now.surroundings.now.facts.compiler.items in
+        result ≡ (is_path_of file.now && (list_all is_path_of (texts objects.now) && (list_all is_path_of libraries
+        && (list_all value_held compiler && list_all value_held (texts words.now))))) }
+{
+    is_path(file)
+        && are_paths(objects)
+        && libraries_are_held(context.earlier, context.libraries)
+        && can_hold_values(&context.surroundings.facts.compiler)
+        && can_hold_values(words)
+}
+
+// The files of the libraries are words too, but what is a path can be held as a word.
 fn link_is_held(
     context: &Context,
     target: &BuildTarget,
@@ -364,18 +409,10 @@ fn link_is_held(
         IfOk result (λ held. held ≡ link_held (texts context.now.surroundings.now.facts.compiler.items) words file.now (texts objects.now)
         (library_files earlier context.now.libraries.now)) }
 {
-    let libraries = library_files(context.alloc, context.earlier, context.libraries)?;
     let mut words = Vec::new(context.alloc);
     push_shared(&mut words, context.alloc, target)?;
-    push_libraries(&mut words, context, target)?;
-    let compiler = &context.surroundings.facts.compiler;
-    Ok(
-        is_path(file)
-            && are_paths(objects)
-            && are_paths(&libraries)
-            && can_hold_values(compiler)
-            && can_hold_values(&words),
-    )
+    push_behind(&mut words, context, target)?;
+    Ok(parts_are_held(context, file, objects, &words))
 }
 
 /// Whether `build.ninja` can hold the edge that makes the target's file of its objects.

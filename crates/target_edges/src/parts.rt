@@ -1,11 +1,12 @@
 ghost use Rattle.std.specs.Prelude.{◌≡◌, true};
 ghost use Rattle.target_edges.specs.Parts.{has_first};
 
-use edge::Edge;
+use edge::{Edge, Rule};
 use targets::Input;
 
-/// The edges of a target in parts. Those that compile its sources come first: they share all but three texts of each, and are not made.
-pub struct TargetParts {
+/// The edges of a build target in parts. Those that compile its sources come first: they share all but three texts of each, and are not
+/// made.
+pub struct BuildParts {
     /// The words of the compile commands, up to the first that names the object.
     pub words: Vec<String>,
     /// What is only made before a source is compiled.
@@ -19,9 +20,9 @@ pub struct TargetParts {
     pub ghost first: { has_first words.items inputs.items ≡ true },
 }
 
-impl Drop for TargetParts {
+impl Drop for BuildParts {
     fn drop(self) {
-        let TargetParts {
+        let BuildParts {
             words: _,
             generated: _,
             file: _,
@@ -29,4 +30,24 @@ impl Drop for TargetParts {
             rest: _,
         } = self;
     }
+}
+
+/// The edge of a custom target: what is lent of the target, and what is made of it.
+#[derive(Drop)]
+pub struct CustomParts<'a> {
+    pub rule: Rule,
+    pub outputs: &'a [String],
+    pub inputs: Vec<String>,
+    pub needs: Vec<String>,
+    pub words: &'a [String],
+    pub redirect: Option<&'a str>,
+    pub description: String,
+    pub depfile: Option<String>,
+}
+
+/// The edges of a target, in parts.
+#[derive(Drop)]
+pub enum TargetParts<'a> {
+    Build(BuildParts),
+    Custom(CustomParts<'a>),
 }

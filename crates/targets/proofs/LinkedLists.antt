@@ -59,6 +59,21 @@ paths_are : (o : Option Linked) → option_map default_paths (option_map (λ x. 
 paths_are None = refl
 paths_are (Some x) = ap Some (sym x.paths_are)
 
+build_by : (o : Option LinkedData) (t : TargetData) → Some t ≡ option_map (λ l. l.target) o → build_in o ≡ build_of t
+build_by None t e = absurd cc
+build_by (Some l) t e = let same : l.target ≡ t = cc in ap build_of same
+
+no_build_by : (o : Option LinkedData) → None ≡ option_map (λ l. l.target) o → build_in o ≡ None
+no_build_by None e = refl
+no_build_by (Some l) e = absurd cc
+
+-- the build target at a number
+pub build_got : (xs : List Linked) (n : ℕ) (x : Linked) → true ≡ nat_lt n (length xs) → x ≡ get_or xs n x → build_in (slice_get (linked_views xs) n) ≡ build_of (target_view x.target)
+build_got xs n x lt at = build_by (slice_get (linked_views xs) n) (target_view x.target) (target_got xs n x lt at)
+
+pub build_missed : (xs : List Linked) (n : ℕ) → false ≡ nat_lt n (length xs) → build_in (slice_get (linked_views xs) n) ≡ None
+build_missed xs n e = no_build_by (slice_get (linked_views xs) n) (target_missed xs n e)
+
 -- and its paths
 pub paths_found : (xs : List Linked) (n : ℕ) → option_map (λ l. l.paths) (slice_get (linked_views xs) n) ≡ option_map (λ x. texts x.paths.items) (slice_get xs n)
 paths_found xs n =

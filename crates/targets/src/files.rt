@@ -1,15 +1,15 @@
 //! The files that a target makes.
-ghost use Rattle.std.specs.Prelude.{◌≡◌, ◌++◌, ◌∷◌, [], map, IfOk, codes, string_bytes, option_map};
+ghost use Rattle.std.specs.Prelude.{◌≡◌, ◌++◌, map, IfOk, codes, string_bytes, option_map};
 ghost use Rattle.edge.specs.Texts.{texts};
 ghost use Rattle.edge.specs.Paths.{object_path};
 ghost use Rattle.targets.specs.Files.{path_in, first_number, so_number, file_number, numbered_so, so_name, file_name, file_path};
-ghost use Rattle.targets.specs.Files.{numbered_names, link_names, link_paths, output_paths, depfile_path, default_paths};
+ghost use Rattle.targets.specs.Files.{numbered_names, link_names, link_paths, output_paths, depfile_path};
 ghost use Rattle.targets.specs.Inputs.{input_view};
-ghost use Rattle.targets.specs.View.{build_view, custom_view, target_view};
+ghost use Rattle.targets.specs.View.{build_view, custom_view};
 
 use crate::sources::Input;
-use crate::target::{BuildTarget, CustomTarget, Kind, Target};
-use edge::{object_path, push_copies};
+use crate::target::{BuildTarget, CustomTarget, Kind};
+use edge::object_path;
 use std::alloc::{AllocError, Global};
 
 // A name with something before it and something behind it.
@@ -153,7 +153,7 @@ pub fn link_names(alloc: Global, target: &BuildTarget) -> Result<Vec<String>, Al
 fn paths_in(alloc: Global, folder: &str, names: &[String]) -> Result<Vec<String>, AllocError>
     ensures { IfOk result (λ v. texts v.items ≡ map (path_in folder.now) (texts names.now)) }
 {
-    let mut paths = Vec::new(alloc);
+    let mut paths = Vec::with_capacity(alloc, names.len())?;
     for name in names {
         paths.push(path_in(alloc, folder, name)?)?;
     }
@@ -179,16 +179,6 @@ pub fn objects(alloc: Global, file: &str, inputs: &[Input]) -> Result<Vec<String
     Ok(objects)
 }
 
-// The file of a build target and the links that lead to it.
-fn build_paths(alloc: Global, target: &BuildTarget) -> Result<Vec<String>, AllocError>
-    ensures { IfOk result (λ v. texts v.items ≡ file_path (build_view target.now) ∷ link_paths (build_view target.now)) }
-{
-    let mut paths = Vec::new(alloc);
-    paths.push(file_path(alloc, target)?)?;
-    push_copies(&mut paths, &link_paths(alloc, target)?)?;
-    Ok(paths)
-}
-
 /// The outputs of a custom target.
 pub fn output_paths(alloc: Global, target: &CustomTarget) -> Result<Vec<String>, AllocError>
     ensures { IfOk result (λ v. texts v.items ≡ output_paths (custom_view target.now)) }
@@ -203,15 +193,5 @@ pub fn depfile_path(alloc: Global, target: &CustomTarget) -> Result<Option<Strin
     match &target.depfile {
         None => Ok(None),
         Some(name) => Ok(Some(path_in(alloc, &target.folder, name)?)),
-    }
-}
-
-/// What the target is asked for, as the edge `all` names it: its outputs and the symbolic links.
-pub fn default_paths(alloc: Global, target: &Target) -> Result<Vec<String>, AllocError>
-    ensures { IfOk result (λ v. texts v.items ≡ default_paths (target_view target.now)) }
-{
-    match target {
-        Target::Build(target) => build_paths(alloc, target),
-        Target::Custom(target) => output_paths(alloc, target),
     }
 }

@@ -11,11 +11,13 @@ mod walk;
 
 pub use facts::{Facts, Flags, OptionEntry, OptionType, OptionValue, Surroundings};
 pub use files::{
-    default_paths, depfile_path, file_name, file_path, link_names, link_paths, objects,
-    output_paths, path_in, so_name,
+    depfile_path, file_name, file_path, link_names, link_paths, objects, output_paths, path_in,
+    so_name,
 };
 pub use linked_target::Linked;
-pub use linking::{are_libraries, build_target_at, is_library_at, links_libraries, target_at};
+pub use linking::{
+    are_libraries, build_target_at, file_at, is_library_at, links_libraries, target_at,
+};
 pub use sources::{Input, compiled, generated, has_foreign_source, is_c, source_paths};
 pub use target::{BuildTarget, CustomTarget, Kind, Lists, Source, Target};
 pub use walk::linked_libraries;

@@ -1,6 +1,7 @@
 //! The libraries that a target names.
 ghost use Rattle.std.specs.Prelude.{◌≡◌, slice_get, option_map, ◌&&◌};
 ghost use Rattle.std.specs.List.{list_all};
+ghost use Rattle.targets.specs.Files.{file_path};
 ghost use Rattle.targets.specs.Libraries.{build_of, build_at, is_library_at, links_libraries};
 ghost use Rattle.targets.specs.LinkedViews.{linked_views};
 ghost use Rattle.targets.specs.View.{target_view, build_view};
@@ -33,6 +34,29 @@ pub fn build_target_at(earlier: &[Linked], number: usize) -> Option<&BuildTarget
 {
     match target_at(earlier, number) {
         Some(target) => build_of(target),
+        None => None,
+    }
+}
+
+// The path of the file of a build target, which is kept.
+fn file_of(linked: &Linked) -> Option<&str>
+    ensures { option_map (λ f. f.now) result ≡ option_map file_path (build_of (target_view linked.now.target)) }
+{
+    match &linked.target {
+        Target::Build(_) => match linked.paths.as_slice() {
+            [file, ..] => Some(file.as_str()),
+            [] => None,
+        },
+        Target::Custom(_) => None,
+    }
+}
+
+/// The path of the file of the build target with a number, or none where that is a custom target or no target at all.
+pub fn file_at(earlier: &[Linked], number: usize) -> Option<&str>
+    ensures { option_map (λ f. f.now) result ≡ option_map file_path (build_at (linked_views earlier.now) number) }
+{
+    match earlier.get(number) {
+        Some(linked) => file_of(linked),
         None => None,
     }
 }

@@ -4,7 +4,7 @@ use Rattle.ninja.specs.Writing.{edge_text}
 use Rattle.build_file.proofs.Stopping.{writes_ends_at}
 use Rattle.build_file.proofs.writing.write_edges.Goals as goal
 
-pub returns-in_err-write_edge : goal.returns-in_err-write_edge
-returns-in_err-write_edge g c =
-    writes_ends_at (λ e. puts (edge_text (edge_view e))) c.args.edges.now c.loop-edge.edge-index c.edge-item.result _ c.in_err-write_edge.field-0.0
-    c.loop-edge.invariant c.loop-edge-test.true c.edge-item.is c.from_residual.ensures.1 c.in_err-write_edge.ensures
+pub returns-in_err-write_made : goal.returns-in_err-write_made
+returns-in_err-write_made g c =
+    writes_ends_at (λ e. puts (edge_text (edge_view e))) c.args.edges.now c.loop-edge.edge-index c.edge-item.result _ c.in_err-write_made.field-0.0
+    c.loop-edge.invariant c.loop-edge-test.true c.edge-item.is c.from_residual.ensures.1 c.in_err-write_made.ensures

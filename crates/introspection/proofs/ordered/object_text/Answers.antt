@@ -1,4 +1,4 @@
-use Rattle.std.proofs.Common.{◌≡◌, ◌∙◌, ◌++◌, [], ap, append-nil, map, map-id, sym, codes}
+use Rattle.std.proofs.Common.{◌∙◌, [], ap, append-nil, map, map-id, sym}
 use Rattle.std.proofs.lemmas.Iterator.Adapters.{YieldsList-from_vec}
 use Rattle.std.proofs.lemmas.Iterator.Consumers.{YieldsList-end}
 use Rattle.introspection.specs.MembersView.{member_in}

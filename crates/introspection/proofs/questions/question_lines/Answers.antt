@@ -1,4 +1,4 @@
-use Rattle.std.proofs.Common.{◌≡◌, ◌∙◌, ◌++◌, ap, ap₂, codes, map, refl, sym}
+use Rattle.std.proofs.Common.{◌∙◌, ◌++◌, ap, ap₂, codes, map, refl, sym}
 use Rattle.std.proofs.lemmas.Result.{IfOk-weaker}
 use Rattle.machine_file.specs.Questions.{answer_to}
 use Rattle.machine_file.specs.QuestionsView.{asides_in, topic_in}

@@ -1,9 +1,9 @@
-use Rattle.std.proofs.Common.{◌≡◌, ◌∙◌, ◌++◌, ◌∷◌, [], ap, ap₂, arith, map, sym}
+use Rattle.std.proofs.Common.{◌∙◌, ◌++◌, ◌∷◌, [], ap, ap₂, map, sym}
 use Rattle.std.proofs.lemmas.List.{map-append}
 use Rattle.machine_file.specs.View.{entries_of}
 use Rattle.introspection.specs.MembersView.{member_in}
 use Rattle.introspection.specs.Questions.{entry_member}
-use Rattle.introspection.proofs.Asking.{is_there, map_got}
+use Rattle.introspection.proofs.Asking.{map_got}
 use Rattle.introspection.proofs.questions.section_text.Goals as goal
 
 pub loop-i-preserved : goal.loop-i-preserved

@@ -1,5 +1,5 @@
 use Rattle.std.proofs.Common.{◌++◌, codes, ◌∙◌}
-use Rattle.edge.specs.View.{edge_view}
+use Rattle.edge.specs.Own.{lent_view}
 use Rattle.ninja.specs.Escapes.{value_text}
 use Rattle.ninja.specs.Parts.{end_text, bindings_text}
 use Rattle.ninja.specs.Words.{words_text}
@@ -8,7 +8,7 @@ use Rattle.ninja.proofs.edges.push_bindings.Goals as goal
 
 pub returns : goal.returns
 returns c =
-    let e = edge_view c.args.edge.now in
+    let e = lent_view c.args.edge.now in
     let command = value_text (words_text e.words e.redirect) in
     let description = value_text e.description in
     let end = end_text e.depfile in
@@ -18,7 +18,7 @@ returns c =
     let third = c.extend_from_slice-2.new.self.items in
     let fourth = c.push_value.new.text.items in
     let fifth = c.extend_from_slice-3.new.self.items in
-    let put = rw c.deref.ensures at c.in_ok-push_value.ensures in
+    let put = c.in_ok-push_value.ensures in
     appended c.push_end.result c.push_end.new.text.items start fifth end (bindings_text e) c.push_end.ensures
     (then_more fourth fifth (codes "\n") end c.in_ok-extend_from_slice-3.ensures.items
     ∙ then_more third fourth description (codes "\n" ++ end) put

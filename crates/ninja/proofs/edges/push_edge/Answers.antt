@@ -1,10 +1,10 @@
-use Rattle.edge.specs.View.{edge_view}
+use Rattle.edge.specs.Own.{lent_view}
 use Rattle.ninja.proofs.EdgeBlocks.{edge_text_read}
 use Rattle.ninja.proofs.WholeFile.{runs_words}
 use Rattle.ninja.proofs.edges.push_edge.Goals as goal
 
 pub returns-clause-read : goal.returns-clause-read
-returns-clause-read c h m rest = edge_text_read m (edge_view c.args.edge.now) rest h
+returns-clause-read c h m rest = edge_text_read m (lent_view c.args.edge.now) rest h
 
 pub returns-clause-runs : goal.returns-clause-runs
-returns-clause-runs c h m rules = runs_words m (edge_view c.args.edge.now) rules h
+returns-clause-runs c h m rules = runs_words m (lent_view c.args.edge.now) rules h

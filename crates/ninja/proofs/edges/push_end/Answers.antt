@@ -1,4 +1,4 @@
-use Rattle.std.proofs.Common.{◌++◌, codes, string_bytes, ◌∙◌}
+use Rattle.std.proofs.Common.{◌++◌, codes, ◌∙◌}
 use Rattle.ninja.specs.Escapes.{value_text}
 use Rattle.ninja.proofs.Appending.{then_more, extended}
 use Rattle.ninja.proofs.edges.push_end.Goals as goal
@@ -8,8 +8,8 @@ returns-in_ok-push_value-in-Some c =
     let start = c.args.text.now.items in
     let first = c.extend_from_slice-in-Some.new.self.items in
     let second = c.push_value.new.text.items in
-    let path = value_text (string_bytes c.in-Some.path) in
-    let put = rw c.deref.ensures at c.in_ok-push_value-in-Some.ensures in
+    let path = value_text c.in-Some.path.now in
+    let put = c.in_ok-push_value-in-Some.ensures in
     rw c.in-Some.is
     (extended c.extend_from_slice-in-Some-2.result c.extend_from_slice-in-Some-2.new.self.items start second (codes "\n\n") (codes " DEPFILE = " ++ (path ++ codes "\n\n"))
     c.extend_from_slice-in-Some-2.ensures.items

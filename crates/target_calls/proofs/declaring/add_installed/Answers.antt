@@ -1,8 +1,6 @@
-use Rattle.std.proofs.Common.{ap, refl, ◌∙◌}
-use Rattle.arguments.specs.Arguments.{arguments_data}
-use Rattle.targets.specs.View.{target_view}
+use Rattle.std.proofs.Common.{ap, refl}
 use Rattle.world.proofs.Answering.{carries_as, carries_give, carries_none, carries_read, carries_stop, carries_then}
-use Rattle.target_calls.specs.Installs.{FoldersData, install_of, noted}
+use Rattle.target_calls.specs.Installs.{noted}
 use Rattle.target_calls.specs.Targets.{add_installed}
 use Rattle.target_calls.proofs.declaring.add_installed.Goals as goal
 
@@ -16,15 +14,13 @@ returns-in_err-number g c = carries_read (carries_stop c.in_err-number.ensures c
 pub returns-in_err-note : goal.returns-in_err-note
 unfolding add_installed
 returns-in_err-note g c =
-    let install = c.in_ok-install.ensures
-    ∙ ap (λ (f : FoldersData). install_of f (arguments_data c.args.arguments.now) (target_view c.args.target)) c.folders_in-folders.ensures in
+    let install = c.in_ok-install.ensures in
     carries_read (carries_then {x = c.in_ok-number.number} c.in_ok-number.ensures
     (carries_stop (carries_as (ap noted install) c.in_err-note.ensures) c.from_residual-in_err-note.ensures.1))
 
 pub returns : goal.returns
 unfolding add_installed
 returns g c =
-    let install = c.in_ok-install.ensures
-    ∙ ap (λ (f : FoldersData). install_of f (arguments_data c.args.arguments.now) (target_view c.args.target)) c.folders_in-folders.ensures in
+    let install = c.in_ok-install.ensures in
     carries_read (carries_then {x = c.in_ok-number.number} c.in_ok-number.ensures
     (carries_then (carries_as (ap noted install) c.in_ok-note.ensures) (carries_give refl)))

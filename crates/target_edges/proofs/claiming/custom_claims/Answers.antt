@@ -1,4 +1,4 @@
-use Rattle.std.proofs.Common.{ap, sym, ◌∙◌, append-nil}
+use Rattle.std.proofs.Common.{ap, sym, ◌++◌, ◌∙◌, append-nil}
 use Rattle.edge.specs.Texts.{texts}
 use Rattle.targets.specs.Files.{output_paths}
 use Rattle.targets.specs.View.{surroundings_view, custom_view}
@@ -12,8 +12,10 @@ returns-clause-writable c =
     let depth = (surroundings_view c.args.context.now.surroundings.now).facts.depth in
     c.custom_is_held-writable.ensures
     ∙ ap (λ os. custom_held t (texts os)) c.deref.ensures.value
-    ∙ ap (custom_held t) c.in_ok-paths.ensures
+    ∙ ap (custom_held t) c.in_ok-asked.ensures
     ∙ sym (custom_are_held depth t)
 
 pub returns-clause-paths : goal.returns-clause-paths
-returns-clause-paths c = let t = custom_view c.args.target.now in c.in_ok-paths.ensures ∙ sym (append-nil (output_paths t))
+returns-clause-paths c =
+    let t = custom_view c.args.target.now in
+    ap (λ os. texts os ++ texts c.in_ok-asked.asked.items) c.new.ensures.items ∙ c.in_ok-asked.ensures ∙ sym (append-nil (output_paths t))

@@ -1,4 +1,4 @@
-use Rattle.std.proofs.Common.{List, ◌≡◌, true, false, [], map, Err, OnOk, refl, sym, ap, ◌∙◌, subst}
+use Rattle.std.proofs.Common.{List, ◌≡◌, ◌++◌, true, false, [], map, Err, OnOk, refl, sym, ap, ◌∙◌, subst}
 use Rattle.std.specs.List.{list_all}
 use Rattle.std.proofs.lemmas.Result.{IfOk-weaker}
 use Rattle.edge.specs.Texts.{texts}
@@ -95,8 +95,9 @@ place-requires c =
     let made : target_edges w.surroundings (linked_of w.targets) c.deref-2.result.now t ≡ es =
     ap (λ x. target_edges w.surroundings (linked_of w.targets) x t) c.deref-2.ensures.value in
     let held : are_writable es ≡ true = ap are_writable (sym made) ∙ sym c.in_ok-claims.ensures.writable ∙ c.if-not-writable.false in
-    let paths : texts c.deref-3.result.now ≡ outputs_of es = ap texts c.deref-3.ensures.value ∙ c.in_ok-claims.ensures.paths ∙ ap outputs_of made in
-    next_ready w t ns es libs refl (texts c.deref-3.result.now) paths held fit there
+    let asked = texts c.in_ok-claims.claims.asked.items in
+    let paths : texts c.deref-3.result.now ++ asked ≡ outputs_of es = ap (λ os. texts os ++ asked) c.deref-3.ensures.value ∙ c.in_ok-claims.ensures.paths ∙ ap outputs_of made in
+    next_ready w t ns es libs refl (texts c.deref-3.result.now ++ asked) paths held fit there
 
 pub returns-clause-answer : goal.returns-clause-answer
 returns-clause-answer c =
@@ -113,12 +114,13 @@ returns-clause-answer c =
     let made : target_edges w.surroundings (linked_of w.targets) c.deref-2.result.now t ≡ es =
     ap (λ x. target_edges w.surroundings (linked_of w.targets) x t) c.deref-2.ensures.value in
     let held : are_writable es ≡ true = ap are_writable (sym made) ∙ sym c.in_ok-claims.ensures.writable ∙ c.if-not-writable.false in
-    let paths : texts c.deref-3.result.now ≡ outputs_of es = ap texts c.deref-3.ensures.value ∙ c.in_ok-claims.ensures.paths ∙ ap outputs_of made in
-    let is : place_answer w (texts c.deref-3.result.now) c.is_within-within.result ≡ target_answer w t =
+    let asked = texts c.in_ok-claims.claims.asked.items in
+    let paths : texts c.deref-3.result.now ++ asked ≡ outputs_of es = ap (λ os. texts os ++ asked) c.deref-3.ensures.value ∙ c.in_ok-claims.ensures.paths ∙ ap outputs_of made in
+    let is : place_answer w (texts c.deref-3.result.now ++ asked) c.is_within-within.result ≡ target_answer w t =
     ap (λ p. place_answer w p c.is_within-within.result) (paths ∙ ap outputs_of (edges_are w t ns es libs refl))
     ∙ ap (λ b. place_answer w (outputs_of (edges_with w t)) b) c.is_within-within.ensures
     ∙ sym (answer_placed w t fit there (ap are_writable (sym (edges_are w t ns es libs refl)) ∙ held)) in
-    IfOk-weaker c.place.result (λ r. answer_data r ≡ place_answer w (texts c.deref-3.result.now) c.is_within-within.result) (λ r. answer_data r ≡ target_answer w t) (λ r e. e ∙ is) c.place.ensures.answer
+    IfOk-weaker c.place.result (λ r. answer_data r ≡ place_answer w (texts c.deref-3.result.now ++ asked) c.is_within-within.result) (λ r. answer_data r ≡ target_answer w t) (λ r e. e ∙ is) c.place.ensures.answer
 
 pub returns-clause-ok : goal.returns-clause-ok
 returns-clause-ok c =
@@ -135,8 +137,9 @@ returns-clause-ok c =
     let made : target_edges w.surroundings (linked_of w.targets) c.deref-2.result.now t ≡ es =
     ap (λ x. target_edges w.surroundings (linked_of w.targets) x t) c.deref-2.ensures.value in
     let held : are_writable es ≡ true = ap are_writable (sym made) ∙ sym c.in_ok-claims.ensures.writable ∙ c.if-not-writable.false in
-    let paths : texts c.deref-3.result.now ≡ outputs_of es = ap texts c.deref-3.ensures.value ∙ c.in_ok-claims.ensures.paths ∙ ap outputs_of made in
-    let is : place_answer w (texts c.deref-3.result.now) c.is_within-within.result ≡ target_answer w t =
+    let asked = texts c.in_ok-claims.claims.asked.items in
+    let paths : texts c.deref-3.result.now ++ asked ≡ outputs_of es = ap (λ os. texts os ++ asked) c.deref-3.ensures.value ∙ c.in_ok-claims.ensures.paths ∙ ap outputs_of made in
+    let is : place_answer w (texts c.deref-3.result.now ++ asked) c.is_within-within.result ≡ target_answer w t =
     ap (λ p. place_answer w p c.is_within-within.result) (paths ∙ ap outputs_of (edges_are w t ns es libs refl))
     ∙ ap (λ b. place_answer w (outputs_of (edges_with w t)) b) c.is_within-within.ensures
     ∙ sym (answer_placed w t fit there (ap are_writable (sym (edges_are w t ns es libs refl)) ∙ held)) in

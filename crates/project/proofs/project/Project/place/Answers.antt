@@ -1,4 +1,5 @@
 use Rattle.std.proofs.Common.{◌≡◌, List, [], ◌∷◌, ◌++◌, length, Some, None, Ok, Err, sym, ap, ◌∙◌, subst, rules, arith}
+use Rattle.std.specs.Prelude.{◌&&◌, is_some, not, if◌then◌else◌}
 use Rattle.std.proofs.lemmas.Grind.{common_steps}
 use Rattle.std.proofs.lemmas.List.{length-map}
 use Rattle.std.proofs.lemmas.Result.{IfOk-weaker}
@@ -16,7 +17,7 @@ use Rattle.project.specs.Adding.{place_answer, with_target}
 use Rattle.project.specs.Refused.{answer_data, refused}
 use Rattle.project.specs.declared.refusal.Refusal.TheVariants.{Limit, Duplicate}
 use Rattle.project.proofs.Placing.{whole_next, whole_same, free_is, place_ok, place_long, place_twice, placed_kept, placed_back, placed_twice, after_ok, after_err, on_ok, told_none, told_path, world_with}
-use Rattle.project.proofs.Reading.{targets_are, views-push}
+use Rattle.project.proofs.Reading.{asked_last, targets_are, views-push}
 use Rattle.project.proofs.project.Project.place.Goals as goal
 
 pub invariant_of-self-then-within : goal.invariant_of-self-then-within
@@ -28,12 +29,14 @@ invariant_of-self-then-within c =
     let kept = texts c.self.inside.taken.keys in
     let now = texts c.claim.new.paths.keys in
     let l = linked (linked_of (targets_in ls)) (target_view c.args.one.target) in
-    let ps = texts c.args.paths.now in
+    let ps = texts c.args.objects.now ++ texts c.args.one.paths.items in
+    let given : texts c.args.objects.now ++ texts c.deref.result.now ≡ ps = ap (λ o. texts c.args.objects.now ++ o)
+    (ap texts c.deref.ensures.value ∙ asked_last c.self.inside.linked.items c.push.new.self.items c.args.one c.index.result.now c.len-number.result c.in_ok-push.ensures.items (search rules) c.index.ensures) in
     let next = subst (λ (x : WorldData). IsNext x.surroundings x.targets x.outputs x.present (linked (linked_of x.targets) (target_view c.args.one.target)) ps) (sym c.self.view_is) c.requires in
     let pushed : linked_views c.push.new.self.items ≡ ls ++ l ∷ [] = ap linked_views c.in_ok-push.ensures.items ∙ views-push c.self.inside.linked.items c.args.one c.self.invariant.libraries in
     subst (λ (x : List LinkedData). IsWhole s x outputs notes.present now) (sym pushed)
-    (whole_next s ls outputs notes.present kept now l ps c.self.invariant next (sym (told_none _ c.in-Ok-None.ensures.tested c.in-Ok-None.field-0-is))
-    (placed_kept kept ps now c.in-Ok-None.field-0 c.args.within c.in-Ok-None.ensures.added c.in-Ok-None.field-0-is c.if-within.true))
+    (whole_next s ls outputs notes.present kept now l ps c.self.invariant next (sym (told_none _ (c.in-Ok-None.ensures.tested ∙ ap (first_taken kept) given) c.in-Ok-None.field-0-is))
+    (placed_kept kept ps now c.in-Ok-None.field-0 c.args.within (c.in-Ok-None.ensures.added ∙ ap (λ qs. if not (is_some c.in-Ok-None.field-0) && c.args.within then kept ++ qs else kept) given) c.in-Ok-None.field-0-is c.if-within.true))
 
 pub invariant_of-self-else-within : goal.invariant_of-self-else-within
 invariant_of-self-else-within c =
@@ -44,11 +47,13 @@ invariant_of-self-else-within c =
     let kept = texts c.self.inside.taken.keys in
     let now = texts c.claim.new.paths.keys in
     let l = linked (linked_of (targets_in ls)) (target_view c.args.one.target) in
-    let ps = texts c.args.paths.now in
+    let ps = texts c.args.objects.now ++ texts c.args.one.paths.items in
+    let given : texts c.args.objects.now ++ texts c.deref.result.now ≡ ps = ap (λ o. texts c.args.objects.now ++ o)
+    (ap texts c.deref.ensures.value ∙ asked_last c.self.inside.linked.items c.push.new.self.items c.args.one c.index.result.now c.len-number.result c.in_ok-push.ensures.items (search rules) c.index.ensures) in
     let back : linked_views c.truncate.new.self.items ≡ ls =
     let is : c.truncate.new.self.items ≡ c.self.inside.linked.items = grind (arith, common_steps) in ap linked_views is in
     whole_same s ls (linked_views c.truncate.new.self.items) outputs notes.present kept now c.self.invariant back
-    (placed_back kept ps now c.in-Ok-None.field-0 c.args.within c.in-Ok-None.ensures.added c.in-Ok-None.field-0-is c.if-within.false)
+    (placed_back kept ps now c.in-Ok-None.field-0 c.args.within (c.in-Ok-None.ensures.added ∙ ap (λ qs. if not (is_some c.in-Ok-None.field-0) && c.args.within then kept ++ qs else kept) given) c.in-Ok-None.field-0-is c.if-within.false)
 
 pub invariant_of-self-in-Ok-Some : goal.invariant_of-self-in-Ok-Some
 invariant_of-self-in-Ok-Some c =
@@ -59,11 +64,13 @@ invariant_of-self-in-Ok-Some c =
     let kept = texts c.self.inside.taken.keys in
     let now = texts c.claim.new.paths.keys in
     let l = linked (linked_of (targets_in ls)) (target_view c.args.one.target) in
-    let ps = texts c.args.paths.now in
+    let ps = texts c.args.objects.now ++ texts c.args.one.paths.items in
+    let given : texts c.args.objects.now ++ texts c.deref.result.now ≡ ps = ap (λ o. texts c.args.objects.now ++ o)
+    (ap texts c.deref.ensures.value ∙ asked_last c.self.inside.linked.items c.push.new.self.items c.args.one c.index.result.now c.len-number.result c.in_ok-push.ensures.items (search rules) c.index.ensures) in
     let back : linked_views c.truncate-in-Ok-Some.new.self.items ≡ ls =
     let is : c.truncate-in-Ok-Some.new.self.items ≡ c.self.inside.linked.items = grind (arith, common_steps) in ap linked_views is in
     whole_same s ls (linked_views c.truncate-in-Ok-Some.new.self.items) outputs notes.present kept now c.self.invariant back
-    (placed_twice kept ps now c.in-Ok-Some.field-0 c.args.within c.in-Ok-Some.ensures.added c.in-Ok-Some.field-0-is)
+    (placed_twice kept ps now c.in-Ok-Some.field-0 c.args.within (c.in-Ok-Some.ensures.added ∙ ap (λ qs. if not (is_some c.in-Ok-Some.field-0) && c.args.within then kept ++ qs else kept) given) c.in-Ok-Some.field-0-is)
 
 pub invariant_of-self-in-Err : goal.invariant_of-self-in-Err
 invariant_of-self-in-Err c =
@@ -85,10 +92,12 @@ returns-then-within-clause-answer c =
     let notes = notes_view c.self.inside.notes in
     let kept = texts c.self.inside.taken.keys in
     let l = linked (linked_of (targets_in ls)) (target_view c.args.one.target) in
-    let ps = texts c.args.paths.now in
+    let ps = texts c.args.objects.now ++ texts c.args.one.paths.items in
+    let given : texts c.args.objects.now ++ texts c.deref.result.now ≡ ps = ap (λ o. texts c.args.objects.now ++ o)
+    (ap texts c.deref.ensures.value ∙ asked_last c.self.inside.linked.items c.push.new.self.items c.args.one c.index.result.now c.len-number.result c.in_ok-push.ensures.items (search rules) c.index.ensures) in
     let w = c.args.self.now in
     let free : first_taken (taken_in w) ps ≡ None =
-    ap (λ (x : WorldData). first_taken (taken_in x) ps) (sym c.self.view_is) ∙ free_is s ls outputs notes.present kept ps None c.self.invariant (told_none _ c.in-Ok-None.ensures.tested c.in-Ok-None.field-0-is) in
+    ap (λ (x : WorldData). first_taken (taken_in x) ps) (sym c.self.view_is) ∙ free_is s ls outputs notes.present kept ps None c.self.invariant (told_none _ (c.in-Ok-None.ensures.tested ∙ ap (first_taken kept) given) c.in-Ok-None.field-0-is) in
     let count : c.len-number.result ≡ length w.targets =
     let n : c.len-number.result ≡ length c.self.inside.linked.items = search rules in
     n ∙ sym (length-map c.self.inside.linked.items (λ (k : Linked). target_view k.target)) ∙ ap length (sym (targets_are c.self.inside.linked.items)) ∙ ap (λ (x : WorldData). length x.targets) c.self.view_is in
@@ -102,10 +111,12 @@ returns-then-within-clause-ok c =
     let notes = notes_view c.self.inside.notes in
     let kept = texts c.self.inside.taken.keys in
     let l = linked (linked_of (targets_in ls)) (target_view c.args.one.target) in
-    let ps = texts c.args.paths.now in
+    let ps = texts c.args.objects.now ++ texts c.args.one.paths.items in
+    let given : texts c.args.objects.now ++ texts c.deref.result.now ≡ ps = ap (λ o. texts c.args.objects.now ++ o)
+    (ap texts c.deref.ensures.value ∙ asked_last c.self.inside.linked.items c.push.new.self.items c.args.one c.index.result.now c.len-number.result c.in_ok-push.ensures.items (search rules) c.index.ensures) in
     let w = c.args.self.now in
     let free : first_taken (taken_in w) ps ≡ None =
-    ap (λ (x : WorldData). first_taken (taken_in x) ps) (sym c.self.view_is) ∙ free_is s ls outputs notes.present kept ps None c.self.invariant (told_none _ c.in-Ok-None.ensures.tested c.in-Ok-None.field-0-is) in
+    ap (λ (x : WorldData). first_taken (taken_in x) ps) (sym c.self.view_is) ∙ free_is s ls outputs notes.present kept ps None c.self.invariant (told_none _ (c.in-Ok-None.ensures.tested ∙ ap (first_taken kept) given) c.in-Ok-None.field-0-is) in
     let pushed : linked_views c.push.new.self.items ≡ ls ++ l ∷ [] = ap linked_views c.in_ok-push.ensures.items ∙ views-push c.self.inside.linked.items c.args.one c.self.invariant.libraries in
     ap (λ x. world_of s x outputs notes) pushed ∙ world_with s ls outputs notes l w c.self.view_is
     ∙ sym (after_ok (place_answer w ps c.args.within) (length w.targets) (with_target w l.target) w (place_ok w ps c.args.within free c.if-within.true))
@@ -118,10 +129,12 @@ returns-else-within-clause-answer c =
     let notes = notes_view c.self.inside.notes in
     let kept = texts c.self.inside.taken.keys in
     let l = linked (linked_of (targets_in ls)) (target_view c.args.one.target) in
-    let ps = texts c.args.paths.now in
+    let ps = texts c.args.objects.now ++ texts c.args.one.paths.items in
+    let given : texts c.args.objects.now ++ texts c.deref.result.now ≡ ps = ap (λ o. texts c.args.objects.now ++ o)
+    (ap texts c.deref.ensures.value ∙ asked_last c.self.inside.linked.items c.push.new.self.items c.args.one c.index.result.now c.len-number.result c.in_ok-push.ensures.items (search rules) c.index.ensures) in
     let w = c.args.self.now in
     let free : first_taken (taken_in w) ps ≡ None =
-    ap (λ (x : WorldData). first_taken (taken_in x) ps) (sym c.self.view_is) ∙ free_is s ls outputs notes.present kept ps None c.self.invariant (told_none _ c.in-Ok-None.ensures.tested c.in-Ok-None.field-0-is) in
+    ap (λ (x : WorldData). first_taken (taken_in x) ps) (sym c.self.view_is) ∙ free_is s ls outputs notes.present kept ps None c.self.invariant (told_none _ (c.in-Ok-None.ensures.tested ∙ ap (first_taken kept) given) c.in-Ok-None.field-0-is) in
     IfOk-weaker c.refuse.result (λ r. answer_data r ≡ Err (refused Limit [])) (λ r. answer_data r ≡ place_answer w ps c.args.within)
     (λ r e. e ∙ sym (place_long w ps c.args.within free c.if-within.false)) c.refuse.ensures
 
@@ -133,10 +146,12 @@ returns-else-within-clause-ok c =
     let notes = notes_view c.self.inside.notes in
     let kept = texts c.self.inside.taken.keys in
     let l = linked (linked_of (targets_in ls)) (target_view c.args.one.target) in
-    let ps = texts c.args.paths.now in
+    let ps = texts c.args.objects.now ++ texts c.args.one.paths.items in
+    let given : texts c.args.objects.now ++ texts c.deref.result.now ≡ ps = ap (λ o. texts c.args.objects.now ++ o)
+    (ap texts c.deref.ensures.value ∙ asked_last c.self.inside.linked.items c.push.new.self.items c.args.one c.index.result.now c.len-number.result c.in_ok-push.ensures.items (search rules) c.index.ensures) in
     let w = c.args.self.now in
     let free : first_taken (taken_in w) ps ≡ None =
-    ap (λ (x : WorldData). first_taken (taken_in x) ps) (sym c.self.view_is) ∙ free_is s ls outputs notes.present kept ps None c.self.invariant (told_none _ c.in-Ok-None.ensures.tested c.in-Ok-None.field-0-is) in
+    ap (λ (x : WorldData). first_taken (taken_in x) ps) (sym c.self.view_is) ∙ free_is s ls outputs notes.present kept ps None c.self.invariant (told_none _ (c.in-Ok-None.ensures.tested ∙ ap (first_taken kept) given) c.in-Ok-None.field-0-is) in
     let back : linked_views c.truncate.new.self.items ≡ ls =
     let is : c.truncate.new.self.items ≡ c.self.inside.linked.items = grind (arith, common_steps) in ap linked_views is in
     on_ok c.refuse.result (ap (λ x. world_of s x outputs notes) back ∙ c.self.view_is
@@ -150,12 +165,14 @@ returns-in-Ok-Some-clause-answer c =
     let notes = notes_view c.self.inside.notes in
     let kept = texts c.self.inside.taken.keys in
     let l = linked (linked_of (targets_in ls)) (target_view c.args.one.target) in
-    let ps = texts c.args.paths.now in
+    let ps = texts c.args.objects.now ++ texts c.args.one.paths.items in
+    let given : texts c.args.objects.now ++ texts c.deref.result.now ≡ ps = ap (λ o. texts c.args.objects.now ++ o)
+    (ap texts c.deref.ensures.value ∙ asked_last c.self.inside.linked.items c.push.new.self.items c.args.one c.index.result.now c.len-number.result c.in_ok-push.ensures.items (search rules) c.index.ensures) in
     let w = c.args.self.now in
     let free : first_taken (taken_in w) ps ≡ Some c.in-Ok-Some.path.now =
-    ap (λ (x : WorldData). first_taken (taken_in x) ps) (sym c.self.view_is) ∙ free_is s ls outputs notes.present kept ps (Some c.in-Ok-Some.path.now) c.self.invariant (told_path _ c.in-Ok-Some.ensures.tested c.in-Ok-Some.field-0-is) in
-    IfOk-weaker c.refuse-in-Ok-Some.result (λ r. answer_data r ≡ Err (refused Duplicate c.in-Ok-Some.path.now)) (λ r. answer_data r ≡ place_answer w ps c.args.within)
-    (λ r e. e ∙ sym (place_twice w ps c.args.within c.in-Ok-Some.path.now free)) c.refuse-in-Ok-Some.ensures
+    ap (λ (x : WorldData). first_taken (taken_in x) ps) (sym c.self.view_is) ∙ free_is s ls outputs notes.present kept ps (Some c.in-Ok-Some.path.now) c.self.invariant (told_path _ (c.in-Ok-Some.ensures.tested ∙ ap (first_taken kept) given) c.in-Ok-Some.field-0-is) in
+    IfOk-weaker c.refuse-answer.result (λ r. answer_data r ≡ Err (refused Duplicate c.in-Ok-Some.path.now)) (λ r. answer_data r ≡ place_answer w ps c.args.within)
+    (λ r e. e ∙ sym (place_twice w ps c.args.within c.in-Ok-Some.path.now free)) c.refuse-answer.ensures
 
 pub returns-in-Ok-Some-clause-ok : goal.returns-in-Ok-Some-clause-ok
 returns-in-Ok-Some-clause-ok c =
@@ -165,11 +182,13 @@ returns-in-Ok-Some-clause-ok c =
     let notes = notes_view c.self.inside.notes in
     let kept = texts c.self.inside.taken.keys in
     let l = linked (linked_of (targets_in ls)) (target_view c.args.one.target) in
-    let ps = texts c.args.paths.now in
+    let ps = texts c.args.objects.now ++ texts c.args.one.paths.items in
+    let given : texts c.args.objects.now ++ texts c.deref.result.now ≡ ps = ap (λ o. texts c.args.objects.now ++ o)
+    (ap texts c.deref.ensures.value ∙ asked_last c.self.inside.linked.items c.push.new.self.items c.args.one c.index.result.now c.len-number.result c.in_ok-push.ensures.items (search rules) c.index.ensures) in
     let w = c.args.self.now in
     let free : first_taken (taken_in w) ps ≡ Some c.in-Ok-Some.path.now =
-    ap (λ (x : WorldData). first_taken (taken_in x) ps) (sym c.self.view_is) ∙ free_is s ls outputs notes.present kept ps (Some c.in-Ok-Some.path.now) c.self.invariant (told_path _ c.in-Ok-Some.ensures.tested c.in-Ok-Some.field-0-is) in
+    ap (λ (x : WorldData). first_taken (taken_in x) ps) (sym c.self.view_is) ∙ free_is s ls outputs notes.present kept ps (Some c.in-Ok-Some.path.now) c.self.invariant (told_path _ (c.in-Ok-Some.ensures.tested ∙ ap (first_taken kept) given) c.in-Ok-Some.field-0-is) in
     let back : linked_views c.truncate-in-Ok-Some.new.self.items ≡ ls =
     let is : c.truncate-in-Ok-Some.new.self.items ≡ c.self.inside.linked.items = grind (arith, common_steps) in ap linked_views is in
-    on_ok c.refuse-in-Ok-Some.result (ap (λ x. world_of s x outputs notes) back ∙ c.self.view_is
+    on_ok c.refuse-answer.result (ap (λ x. world_of s x outputs notes) back ∙ c.self.view_is
     ∙ sym (after_err (place_answer w ps c.args.within) (refused Duplicate c.in-Ok-Some.path.now) (with_target w l.target) w (place_twice w ps c.args.within c.in-Ok-Some.path.now free)))
