@@ -31,6 +31,18 @@ pub type SipMap<K, V> = IndexMap<K, V, SipHasher>;
 /// A set in the order of insertion, hashed by SipHash.
 pub type SipSet<K> = IndexSet<K, SipHasher>;
 
+/// A table of a function's own, which one call lets go. A table has many parts, and a check goes through each of them wherever the
+/// table is let go, which is at each `?` while it is there, unless a call does so.
+pub struct Held<T: Drop> {
+    pub table: T,
+}
+
+impl<T: Drop> Drop for Held<T> {
+    fn drop(self) {
+        let Held { table: _ } = self;
+    }
+}
+
 /// An empty map. It takes no memory until the first key is put in.
 pub fn new_map<K: Eq + Hash, V>(alloc: Global) -> SipMap<K, V>
     ensures entries { result.entries ≡ [] }

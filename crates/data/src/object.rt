@@ -7,7 +7,6 @@ use std::alloc::{AllocError, Global};
 use std::marker::Model;
 
 /// An object of the page "Reference manual".
-#[derive(Drop)]
 pub enum Object {
     /// The value of a feature option.
     Feature(Feature),
@@ -34,6 +33,35 @@ pub enum Object {
     Disabler,
 }
 
+impl Drop for Object {
+    fn drop(self) {
+        match self {
+            Object::Feature(_) => {}
+            Object::Dependency(_) => {}
+            Object::Program(_) => {}
+            Object::BuildTarget(_) => {}
+            Object::CustomTarget {
+                number: _,
+                outputs: _,
+            } => {}
+            Object::CustomOutput {
+                target: _,
+                output: _,
+            } => {}
+            Object::File {
+                path: _,
+                is_built: _,
+            } => {}
+            Object::IncludeDirectories(_) => {}
+            Object::Machine => {}
+            Object::Meson => {}
+            Object::Compiler => {}
+            Object::ConfigurationData(_) => {}
+            Object::Disabler => {}
+        }
+    }
+}
+
 /// The value of a feature option.
 #[derive(Clone, Copy, PartialEq, Eq, Debug)]
 pub enum Feature {
@@ -43,7 +71,6 @@ pub enum Feature {
 }
 
 /// What `dependency` and `declare_dependency` give.
-#[derive(Drop)]
 pub struct Dependency {
     pub is_found: bool,
     pub name: Text,
@@ -56,8 +83,22 @@ pub struct Dependency {
     pub sources: Sources,
 }
 
+impl Drop for Dependency {
+    fn drop(self) {
+        let Dependency {
+            is_found: _,
+            name: _,
+            version: _,
+            include_directories: _,
+            compile_args: _,
+            link_args: _,
+            link_with: _,
+            sources: _,
+        } = self;
+    }
+}
+
 /// What `find_program` gives.
-#[derive(Drop)]
 pub enum Program {
     NotFound,
     /// The words of the machine file.
@@ -66,12 +107,40 @@ pub enum Program {
     File(Text),
 }
 
+impl Drop for Program {
+    fn drop(self) {
+        match self {
+            Program::NotFound => {}
+            Program::Words(_) => {}
+            Program::File(_) => {}
+        }
+    }
+}
+
 /// A source that a dependency brings.
-#[derive(Drop)]
 pub enum Source {
     File { path: Text, is_built: bool },
     CustomTarget { number: usize, outputs: usize },
     CustomOutput { target: usize, output: usize },
+}
+
+impl Drop for Source {
+    fn drop(self) {
+        match self {
+            Source::File {
+                path: _,
+                is_built: _,
+            } => {}
+            Source::CustomTarget {
+                number: _,
+                outputs: _,
+            } => {}
+            Source::CustomOutput {
+                target: _,
+                output: _,
+            } => {}
+        }
+    }
 }
 
 impl Clone for Source {
@@ -98,9 +167,14 @@ impl Clone for Source {
 }
 
 /// A list of numbers of targets.
-#[derive(Drop)]
 pub struct Numbers {
     items: Vec<usize>,
+}
+
+impl Drop for Numbers {
+    fn drop(self) {
+        let Numbers { items: _ } = self;
+    }
 }
 
 impl Model for Numbers {
@@ -143,9 +217,14 @@ impl Numbers {
 }
 
 /// A list of sources.
-#[derive(Drop)]
 pub struct Sources {
     items: Vec<Source>,
+}
+
+impl Drop for Sources {
+    fn drop(self) {
+        let Sources { items: _ } = self;
+    }
 }
 
 impl Model for Sources {

@@ -4,15 +4,19 @@
 ghost use Rattle.std.specs.Prelude.{◌≡◌, is_some};
 
 /// A definition file.
-#[derive(Drop)]
 pub struct File<'a> {
     pub statements: Vec<Statement<'a>>,
+}
+
+impl Drop for File<'_> {
+    fn drop(self) {
+        let File { statements: _ } = self;
+    }
 }
 
 /// A statement, of the manual's page "Syntax". Its line is that of its first token. It is no greater than an expression with a line, since
 /// a file of many short lines has as many statements.
 #[cycle(statement)]
-#[derive(Drop)]
 pub enum Statement<'a> {
     /// `name = value`
     Assign {
@@ -59,7 +63,6 @@ pub enum Statement<'a> {
 
 /// A part of an `if`: a condition, and the statements that are run where it holds. A `foreach` has its list in the condition's place.
 #[cycle(statement)]
-#[derive(Drop)]
 pub struct Branch<'a> {
     pub condition: Expression<'a>,
     /// The line of the condition's first token.
@@ -69,7 +72,6 @@ pub struct Branch<'a> {
 
 /// An expression.
 #[cycle(tree)]
-#[derive(Drop)]
 pub enum Expression<'a> {
     /// A name.
     Name {
@@ -185,7 +187,6 @@ pub enum Operator {
 
 /// An operator and the value behind it.
 #[cycle(tree)]
-#[derive(Drop)]
 pub struct Operand<'a> {
     pub operator: Operator,
     pub value: Expression<'a>,
@@ -201,7 +202,6 @@ pub enum Prefix {
 
 /// `key : value`
 #[cycle(tree)]
-#[derive(Drop)]
 pub struct Entry<'a> {
     pub key: Expression<'a>,
     pub value: Expression<'a>,
@@ -209,7 +209,6 @@ pub struct Entry<'a> {
 
 /// An argument, with its name where it is given by one. Those with a name stand behind the others.
 #[cycle(tree)]
-#[derive(Drop)]
 pub struct Argument<'a> {
     pub name: Option<&'a str>,
     pub value: Expression<'a>,
@@ -217,7 +216,6 @@ pub struct Argument<'a> {
 
 /// What is asked of a value.
 #[cycle(tree)]
-#[derive(Drop)]
 pub enum Link<'a> {
     /// `.name(argument)`
     Method {
@@ -228,4 +226,133 @@ pub enum Link<'a> {
     Index {
         index: Expression<'a>,
     },
+}
+
+// ---- letting go
+//
+// Written out, so that a caller lets go of a node by one call, and not variant by variant.
+
+impl Drop for Statement<'_> {
+    #[cycle(statement)]
+    fn drop(self) {
+        match self {
+            Statement::Assign {
+                name: _,
+                line: _,
+                value: _,
+            } => {}
+            Statement::Append {
+                name: _,
+                line: _,
+                value: _,
+            } => {}
+            Statement::Expression { value: _, line: _ } => {}
+            Statement::Break { line: _ } => {}
+            Statement::Continue { line: _ } => {}
+            Statement::If {
+                line: _,
+                branches: _,
+                otherwise: _,
+            } => {}
+            Statement::Foreach {
+                line: _,
+                first: _,
+                second: _,
+                round: _,
+            } => {}
+        }
+    }
+}
+
+impl Drop for Branch<'_> {
+    #[cycle(statement)]
+    fn drop(self) {
+        let Branch {
+            condition: _,
+            line: _,
+            body: _,
+        } = self;
+    }
+}
+
+impl Drop for Expression<'_> {
+    #[cycle(tree)]
+    fn drop(self) {
+        match self {
+            Expression::Name { name: _, line: _ } => {}
+            Expression::Literal {
+                literal: _,
+                text: _,
+                line: _,
+            } => {}
+            Expression::List { items: _, line: _ } => {}
+            Expression::Dictionary {
+                entries: _,
+                line: _,
+            } => {}
+            Expression::Call {
+                name: _,
+                arguments: _,
+                line: _,
+            } => {}
+            Expression::Postfix {
+                first: _,
+                links: _,
+                line: _,
+            } => {}
+            Expression::Prefix {
+                prefix: _,
+                value: _,
+                line: _,
+            } => {}
+            Expression::Chain {
+                first: _,
+                others: _,
+                line: _,
+            } => {}
+            Expression::Ternary {
+                test: _,
+                yes: _,
+                no: _,
+                line: _,
+            } => {}
+        }
+    }
+}
+
+impl Drop for Operand<'_> {
+    #[cycle(tree)]
+    fn drop(self) {
+        let Operand {
+            operator: _,
+            value: _,
+        } = self;
+    }
+}
+
+impl Drop for Entry<'_> {
+    #[cycle(tree)]
+    fn drop(self) {
+        let Entry { key: _, value: _ } = self;
+    }
+}
+
+impl Drop for Argument<'_> {
+    #[cycle(tree)]
+    fn drop(self) {
+        let Argument { name: _, value: _ } = self;
+    }
+}
+
+impl Drop for Link<'_> {
+    #[cycle(tree)]
+    fn drop(self) {
+        match self {
+            Link::Method {
+                name: _,
+                arguments: _,
+            } => {}
+            Link::Index { index: _ } => {}
+        }
+    }
 }

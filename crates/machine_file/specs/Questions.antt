@@ -1,5 +1,5 @@
 -- What a run asks a machine file, and what that answers.
-use Rattle.std.specs.Prelude.{ℕ, List, [], ◌∷◌, ◌++◌, Bool, Option, Some, None, codes, if◌then◌else◌}
+use Rattle.std.specs.Prelude.{ℕ, List, [], ◌∷◌, ◌++◌, Bool, Option, None, codes, if◌then◌else◌}
 use Rattle.basics.specs.Among.{is_among}
 use Rattle.machine_file.specs.Files.{Entry, Section}
 use Rattle.machine_file.specs.Lookups.{check_key, entries_at, value_at}

@@ -20,15 +20,25 @@ pub struct Entry {
 }
 
 /// The keys of a section, in the order of their lines.
-#[derive(Drop)]
 pub struct Section {
     pub(crate) entries: SipMap<String, Entry>,
 }
 
+impl Drop for Section {
+    fn drop(self) {
+        let Section { entries: _ } = self;
+    }
+}
+
 /// What a machine file says, by section and key.
-#[derive(Drop)]
 pub struct Machine {
     pub(crate) sections: SipMap<String, Section>,
+}
+
+impl Drop for Machine {
+    fn drop(self) {
+        let Machine { sections: _ } = self;
+    }
 }
 
 impl Section {

@@ -8,7 +8,6 @@ ghost use Rattle.machine_file.specs.QuestionsView.{question_in, topic_in};
 use std::alloc::{AllocError, Global};
 
 /// What is asked for.
-#[derive(Drop)]
 pub enum Topic {
     /// The value at a key of a section, as `[checks]` has `has_function fsync`.
     Key(String, String),
@@ -16,6 +15,16 @@ pub enum Topic {
     Whole(String),
     /// What the sections of options give: the names of the options that are built in, and of those that the project declares.
     Options(Vec<String>, Vec<String>),
+}
+
+impl Drop for Topic {
+    fn drop(self) {
+        match self {
+            Topic::Key(_, _) => {}
+            Topic::Whole(_) => {}
+            Topic::Options(_, _) => {}
+        }
+    }
 }
 
 /// What a call said beside a question, which changes no answer: the name of a keyword, and its texts.
@@ -26,10 +35,18 @@ pub struct Aside {
 }
 
 /// A question, and what the call that asks it said beside it.
-#[derive(Drop)]
 pub struct Question {
     pub topic: Topic,
     pub asides: Vec<Aside>,
+}
+
+impl Drop for Question {
+    fn drop(self) {
+        let Question {
+            topic: _,
+            asides: _,
+        } = self;
+    }
 }
 
 impl Topic {

@@ -2,13 +2,13 @@
 
 ghost use Rattle.std.specs.Prelude.{◌≡◌, [], ◌∷◌, ◌++◌, false, is_some, string_bytes, IfOk, OnOk};
 ghost use Rattle.indexmap.specs.IndexMap.{get_by_text};
-ghost use Rattle.machine_file.specs.Files.{has_key, has_name, takes, with_pair, lacks_version, default_entries, sections_said};
+ghost use Rattle.machine_file.specs.Files.{has_key, has_name, takes, with_pair, lacks_version, default_entries, closed, sections_said};
 ghost use Rattle.machine_file.specs.Files.{with_section, in_section, after, machine_of};
 ghost use Rattle.machine_file.specs.Lines.{file_lines};
 ghost use Rattle.machine_file.specs.Sections.{kind_of};
 ghost use Rattle.machine_file.specs.MisfitView.{misfit_in};
 ghost use Rattle.machine_file.specs.Misfits.{refused};
-ghost use Rattle.machine_file.specs.View.{value_in, added_in, entries_in, more_in, sections_in, said_in, read_in};
+ghost use Rattle.machine_file.specs.View.{value_in, added_in, entries_in, more_in, open_in, sections_in, said_in, read_in};
 
 use crate::fault::MachineFault;
 use crate::line::{Form, cut_pair, form_of};
@@ -83,23 +83,23 @@ fn lacks_version(kind: SectionKind, entries: &SipMap<String, Entry>) -> bool
     kind == SectionKind::Dependency && !has_key(entries, "version")
 }
 
-// The entries of a section that ends, which began on this line: a dependency without a version has an unknown one.
-fn with_default(
+// Puts the version of a section that ends and began on this line, where it is a dependency without one: an unknown version.
+fn put_default(
     alloc: Global,
     kind: SectionKind,
     line: usize,
-    mut entries: SipMap<String, Entry>,
-) -> Result<SipMap<String, Entry>, AllocError>
-    ensures { IfOk result (λ m. entries_in m.entries
-        ≡ entries_in entries.entries ++ default_entries kind line (entries_in entries.entries)) }
+    entries: &mut SipMap<String, Entry>,
+) -> Result<(), AllocError>
+    ensures { OnOk result (entries_in entries.new.entries
+        ≡ entries_in entries.old.entries ++ default_entries kind line (entries_in entries.old.entries)) }
 {
-    if !lacks_version(kind, &entries) {
-        return Ok(entries);
+    if !lacks_version(kind, entries) {
+        return Ok(());
     }
     let key = String::from_str(alloc, "version")?;
     let value = MachineValue::Text(String::from_str(alloc, "unknown")?);
-    put(&mut entries, key, Entry { value, line })?;
-    Ok(entries)
+    put(entries, key, Entry { value, line })?;
+    Ok(())
 }
 
 // Whether there is a section with this name.
@@ -109,22 +109,30 @@ fn has_name(sections: &SipMap<String, Section>, name: &str) -> bool
     sections.contains_key(name)
 }
 
+// Puts a section that ends behind the others.
+fn put_closed(
+    alloc: Global,
+    ended: &mut SipMap<String, Section>,
+    mut section: OpenSection,
+) -> Result<(), AllocError>
+    requires { is_some (get_by_text ended.old (string_bytes section.name)) ≡ false }
+    ensures { OnOk result (sections_in ended.new.entries ≡ sections_in ended.old.entries ++ closed (open_in section) ∷ []) }
+{
+    put_default(alloc, section.kind, section.line, &mut section.entries)?;
+    let (name, section) = section.into_ended();
+    put(ended, name, section)?;
+    Ok(())
+}
+
 // All sections, the open one too, which ends.
 fn all_sections(alloc: Global, reading: Reading) -> Result<SipMap<String, Section>, AllocError>
     ensures { IfOk result (λ sections. sections_in sections.entries ≡ sections_said (said_in reading)) }
 {
-    let Reading { mut ended, current } = reading;
-    let Some(current) = current else {
+    let (mut ended, current) = reading.into_sections();
+    let Some(section) = current else {
         return Ok(ended);
     };
-    let OpenSection {
-        name,
-        kind,
-        line,
-        entries,
-    } = current;
-    let entries = with_default(alloc, kind, line, entries)?;
-    put(&mut ended, name, Section { entries })?;
+    put_closed(alloc, &mut ended, section)?;
     Ok(ended)
 }
 
@@ -163,39 +171,40 @@ fn with_section(
     }))
 }
 
+// Puts the entry that a line gives behind those of the open section, or says why the line may not stand there.
+fn add_line(
+    alloc: Global,
+    section: &mut OpenSection,
+    line: usize,
+    text: &str,
+) -> Result<Result<(), String>, AllocError>
+    ensures added { IfOk result (λ added. added_in (open_in section.new).entries added
+        ≡ with_pair (string_bytes section.old.name) section.old.kind (open_in section.old).entries line text.now) }
+    ensures same { section.new ≡ record section.old { entries = section.new.entries } }
+{
+    let heading = Heading {
+        name: &section.name,
+        kind: section.kind,
+    };
+    add_pair(alloc, heading, &mut section.entries, line, text)
+}
+
 // A key and its value on this line, if a section is open that takes them.
 fn in_section(
     alloc: Global,
-    reading: Reading,
+    mut reading: Reading,
     line: usize,
     text: &str,
 ) -> Result<Result<Reading, String>, AllocError>
     ensures { IfOk result (λ more. more_in more ≡ in_section (said_in reading) line text.now (said_in reading).open_section) }
 {
-    let Reading { ended, current } = reading;
-    let Some(current) = current else {
+    let Some(section) = &mut reading.current else {
         return refused(alloc, Misfit::Outside);
     };
-    let OpenSection {
-        name,
-        kind,
-        line: begun,
-        mut entries,
-    } = current;
-    let heading = Heading { name: &name, kind };
-    if let Err(detail) = add_pair(alloc, heading, &mut entries, line, text)? {
-        return Ok(Err(detail));
+    match add_line(alloc, section, line, text)? {
+        Ok(()) => Ok(Ok(reading)),
+        Err(detail) => Ok(Err(detail)),
     }
-    let current = OpenSection {
-        name,
-        kind,
-        line: begun,
-        entries,
-    };
-    Ok(Ok(Reading {
-        ended,
-        current: Some(current),
-    }))
 }
 
 // What is said after one more line, or why the line may not stand there.

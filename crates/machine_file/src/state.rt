@@ -9,12 +9,37 @@ use crate::section::SectionKind;
 use basics::tables::SipMap;
 
 /// A section that further lines may add to, and the line that it begins on.
-#[derive(Drop)]
 pub struct OpenSection {
     pub name: String,
     pub kind: SectionKind,
     pub line: usize,
     pub entries: SipMap<String, Entry>,
+}
+
+impl Drop for OpenSection {
+    fn drop(self) {
+        let OpenSection {
+            name: _,
+            kind: _,
+            line: _,
+            entries: _,
+        } = self;
+    }
+}
+
+impl OpenSection {
+    /// Its name, and its entries at its end.
+    pub fn into_ended(self) -> (String, Section)
+        ensures { result ≡ (self.name, record { entries = self.entries }) }
+    {
+        let OpenSection {
+            name,
+            kind: _,
+            line: _,
+            entries,
+        } = self;
+        (name, Section { entries })
+    }
 }
 
 /// A section by its name, and its kind.
@@ -25,9 +50,27 @@ pub struct Heading<'a> {
 }
 
 /// The sections that have ended, and the one that the next line belongs to.
-#[derive(Drop)]
 pub struct Reading {
     pub ended: SipMap<String, Section>,
     pub current: Option<OpenSection>,
     ghost fresh: { ForSome current (λ o. is_some (get_by_text ended (string_bytes o.name)) ≡ false) },
+}
+
+impl Drop for Reading {
+    fn drop(self) {
+        let Reading {
+            ended: _,
+            current: _,
+        } = self;
+    }
+}
+
+impl Reading {
+    /// The sections that have ended, and the open one.
+    pub fn into_sections(self) -> (SipMap<String, Section>, Option<OpenSection>)
+        ensures { result ≡ (self.ended, self.current) }
+    {
+        let Reading { ended, current } = self;
+        (ended, current)
+    }
 }

@@ -18,7 +18,7 @@ use crate::keyword::{Keyword, Keywords, is_left_out};
 use crate::misfit::{Misfit, Refused};
 use crate::names::is_name;
 use crate::unfit::unfit;
-use basics::tables::{SipSet, new_set};
+use basics::tables::{Held, SipSet, new_set};
 use grammar::tree::Argument;
 use option_values::is_built_in;
 use std::alloc::{AllocError, Global};
@@ -54,9 +54,11 @@ fn comes_again(
 fn gives_twice(alloc: Global, arguments: &[Argument<'_>]) -> Result<bool, AllocError>
     ensures { IfOk result (λ twice. twice ≡ gives_twice [] (argument_trees arguments.now)) }
 {
-    let mut keys = new_set(alloc);
+    let mut keys = Held {
+        table: new_set(alloc),
+    };
     for argument in arguments {
-        if comes_again(alloc, &mut keys, argument)? {
+        if comes_again(alloc, &mut keys.table, argument)? {
             return Ok(true);
         }
     }
@@ -76,9 +78,11 @@ fn key_said<'a>(argument: &Argument<'a>) -> &'a str
 fn first_twice<'a>(alloc: Global, arguments: &[Argument<'a>]) -> Result<&'a str, AllocError>
     ensures { IfOk result (λ key. key.now ≡ first_twice [] (map argument_of arguments.now)) }
 {
-    let mut keys = new_set(alloc);
+    let mut keys = Held {
+        table: new_set(alloc),
+    };
     for argument in arguments {
-        if comes_again(alloc, &mut keys, argument)? {
+        if comes_again(alloc, &mut keys.table, argument)? {
             return Ok(key_said(argument));
         }
     }

@@ -9,11 +9,16 @@ use std::alloc::{AllocError, Global};
 
 /// The texts that an option takes, in their order; one may stand there twice. A look-up takes the same time however many they
 /// are.
-#[derive(Drop)]
 pub struct Choices {
     texts: Vec<String>,
     known: SipSet<String>,
     ghost same: { (text : List ℕ) → is_among (strings_in known.keys) text ≡ is_among (strings_in texts.items) text },
+}
+
+impl Drop for Choices {
+    fn drop(self) {
+        let Choices { texts: _, known: _ } = self;
+    }
 }
 
 // Each of the texts, once.

@@ -6,7 +6,6 @@ ghost use Rattle.option_values.specs.Types.{name_of_type, type_named};
 use crate::choices::Choices;
 
 /// What an option takes.
-#[derive(Drop)]
 pub enum OptionKind {
     /// Any text.
     Text,
@@ -23,8 +22,21 @@ pub enum OptionKind {
     Feature,
 }
 
+impl Drop for OptionKind {
+    fn drop(self) {
+        match self {
+            OptionKind::Text => {}
+            OptionKind::Boolean => {}
+            OptionKind::Combo(_) => {}
+            OptionKind::Integer { min: _, max: _ } => {}
+            OptionKind::Array(_) => {}
+            OptionKind::Words => {}
+            OptionKind::Feature => {}
+        }
+    }
+}
+
 /// A value that an option has. Options of each type have values of a form of their own, so the value tells the type.
-#[derive(Drop)]
 pub enum OptionValue {
     Text(String),
     Boolean(bool),
@@ -33,6 +45,19 @@ pub enum OptionValue {
     Integer(i64),
     Array(Vec<String>),
     Feature(FeatureState),
+}
+
+impl Drop for OptionValue {
+    fn drop(self) {
+        match self {
+            OptionValue::Text(_) => {}
+            OptionValue::Boolean(_) => {}
+            OptionValue::Combo(_) => {}
+            OptionValue::Integer(_) => {}
+            OptionValue::Array(_) => {}
+            OptionValue::Feature(_) => {}
+        }
+    }
 }
 
 /// What a feature option says of its feature.

@@ -16,9 +16,14 @@ pub struct Setting {
 
 /// The options of a project and their values: those that every project has, in the order of the Meson manual's page
 /// "Built-in options" as far as they are built in here, and then the declared ones in the order of their declarations.
-#[derive(Drop)]
 pub struct Options {
     pub(crate) settings: SipMap<String, Setting>,
+}
+
+impl Drop for Options {
+    fn drop(self) {
+        let Options { settings: _ } = self;
+    }
 }
 
 impl Options {

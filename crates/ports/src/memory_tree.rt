@@ -14,12 +14,22 @@ use basics::tables::{SipMap, SipSet, map_with_capacity, set_with_capacity};
 use std::alloc::{AllocError, Global};
 
 /// A tree of files in memory.
-#[derive(Drop)]
 pub struct MemTree {
     files: SipMap<String, Vec<u8>>,
     known: Option<SipSet<String>>,
     plan: Plan<TreeCall>,
     failures: u64,
+}
+
+impl Drop for MemTree {
+    fn drop(self) {
+        let MemTree {
+            files: _,
+            known: _,
+            plan: _,
+            failures: _,
+        } = self;
+    }
 }
 
 // The bytes of the file with this path.
@@ -88,9 +98,17 @@ impl MemTree {
         ensures known { (path : List ℕ) → mem_tree_knows result path ≡ mem_tree_knows self path }
     {
         let (kind, number) = fail.unwrap_or((TreeCall::Any, 0));
+        let MemTree {
+            files,
+            known,
+            plan: _,
+            failures,
+        } = self;
         MemTree {
+            files,
+            known,
             plan: Plan::new(piece, kind, number),
-            ..self
+            failures,
         }
     }
 
@@ -102,9 +120,17 @@ impl MemTree {
             → mem_tree_knows tree path ≡ list_any (λ p. bytes_eq path (string_bytes p)) paths.items) }
     {
         let known = known_paths(alloc, paths)?;
+        let MemTree {
+            files,
+            known: _,
+            plan,
+            failures,
+        } = self;
         Ok(MemTree {
+            files,
             known: Some(known),
-            ..self
+            plan,
+            failures,
         })
     }
 

@@ -40,12 +40,22 @@ pub enum OptionType {
 }
 
 /// The value of an option.
-#[derive(Drop)]
 pub enum OptionValue {
     Text(String),
     Boolean(bool),
     Integer(i64),
     Texts(Vec<String>),
+}
+
+impl Drop for OptionValue {
+    fn drop(self) {
+        match self {
+            OptionValue::Text(_) => {}
+            OptionValue::Boolean(_) => {}
+            OptionValue::Integer(_) => {}
+            OptionValue::Texts(_) => {}
+        }
+    }
 }
 
 /// An option as it is listed.

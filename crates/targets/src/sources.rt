@@ -8,17 +8,22 @@ ghost use Rattle.targets.specs.View.{source_view, lists_view, build_view};
 ghost use Rattle.targets.specs.Inputs.{input_view};
 
 use crate::target::{BuildTarget, Lists, Source};
-use basics::tables::new_set;
+use basics::tables::{Held, new_set};
 use edge::{first_kept, push_copies, source_path};
 use std::alloc::{AllocError, Global};
 
 /// A source that is compiled.
-#[derive(Drop)]
 pub struct Input {
     /// As it is seen from the build folder.
     pub path: String,
     /// As it is seen from its own root, the source root or the build folder.
     pub name: String,
+}
+
+impl Drop for Input {
+    fn drop(self) {
+        let Input { path: _, name: _ } = self;
+    }
 }
 
 /// Whether the path is that of a C source.
@@ -96,10 +101,12 @@ fn first_inputs(alloc: Global, inputs: Vec<Input>) -> Result<Vec<Input>, AllocEr
     if inputs.len() < 2 {
         return Ok(inputs);
     }
-    let mut seen = new_set(alloc);
+    let mut seen = Held {
+        table: new_set(alloc),
+    };
     let mut kept = Vec::new(alloc);
     for input in inputs {
-        if seen.insert(input.path.clone()?)? {
+        if seen.table.insert(input.path.clone()?)? {
             kept.push(input)?;
         }
     }

@@ -41,7 +41,6 @@ impl Kind {
 }
 
 /// A source of a target.
-#[derive(Drop)]
 pub enum Source {
     /// A file of the tree, by its path there.
     Tree(String),
@@ -49,6 +48,16 @@ pub enum Source {
     Built(String),
     /// Outputs of one earlier target, by their paths in the build folder: all of them, or one.
     Made(Rc<Vec<String>>),
+}
+
+impl Drop for Source {
+    fn drop(self) {
+        match self {
+            Source::Tree(_) => {}
+            Source::Built(_) => {}
+            Source::Made(_) => {}
+        }
+    }
 }
 
 /// What a build target lists of its own, or what one call of `declare_dependency` or `dependency` brings to the targets that name it.
@@ -149,8 +158,16 @@ impl Drop for CustomTarget {
     }
 }
 
-#[derive(Drop)]
 pub enum Target {
     Build(BuildTarget),
     Custom(CustomTarget),
+}
+
+impl Drop for Target {
+    fn drop(self) {
+        match self {
+            Target::Build(_) => {}
+            Target::Custom(_) => {}
+        }
+    }
 }

@@ -1,4 +1,5 @@
-use Rattle.std.proofs.Common.{◌≡◌, ◌<◌, List, length, get_or, subst}
+use Rattle.std.proofs.Common.{◌≡◌, ◌<◌, List, length, get_or, subst, arith}
+use Rattle.std.proofs.lemmas.Grind.{common_steps}
 use Rattle.ports.proofs.Sending.{writes_next}
 use Rattle.ports.specs.Outputs.{puts}
 use Rattle.targets.specs.declared.sources.Input.{Input}
@@ -32,3 +33,6 @@ loop-input-preserved g c =
     let within : i < length p.inputs.items = subst (λ (xs : List Input). i < length xs) c.deref-input-items.ensures.value c.loop-input-test.true in
     let at : one ≡ get_or p.inputs.items i one = subst (λ (xs : List Input). one ≡ get_or xs i one) c.deref-input-items.ensures.value c.input-item.is in
     writes_next (λ i. puts (edge_text (edge_for p i))) p.inputs.items i one c.loop-input.invariant within at c.in_ok-write_compile.ensures
+
+pub returns : goal.returns
+returns g c = grind (arith, common_steps)

@@ -1,3 +1,5 @@
+use Rattle.std.proofs.Common.{arith}
+use Rattle.std.proofs.lemmas.Grind.{common_steps}
 use Rattle.ports.specs.Outputs.{puts}
 use Rattle.edge.specs.View.{edge_view}
 use Rattle.ninja.specs.Writing.{edge_text}
@@ -8,3 +10,6 @@ pub returns-in_err-write_made : goal.returns-in_err-write_made
 returns-in_err-write_made g c =
     writes_ends_at (λ e. puts (edge_text (edge_view e))) c.args.edges.now c.loop-edge.edge-index c.edge-item.result _ c.in_err-write_made.field-0.0
     c.loop-edge.invariant c.loop-edge-test.true c.edge-item.is c.from_residual.ensures.1 c.in_err-write_made.ensures
+
+pub returns : goal.returns
+returns g c = grind (arith, common_steps)

@@ -41,3 +41,21 @@ pub returns-then-count-eq0-clause-given : goal.returns-then-count-eq0-clause-giv
 returns-then-count-eq0-clause-given g c =
     given_end g.T.Tree.gives c.args.path.now (length c.args.buffer.now) c.args.tree.now c.loop-at.buffer c.read_at.new.buf c.loop-at.at _ c.in_ok-count.count c.loop-at.tree c.read_at.new.self
     c.loop-at.auto.buffer c.loop-at-test.true c.if-count-eq0.true c.loop-at.invariant.given c.in_ok-count.ensures.gives
+
+pub returns-after-loop-at-clause-within : goal.returns-after-loop-at-clause-within
+returns-after-loop-at-clause-within g c = grind (arith, common_steps)
+
+pub returns-after-loop-at-clause-bytes : goal.returns-after-loop-at-clause-bytes
+returns-after-loop-at-clause-bytes g c = grind (arith, common_steps)
+
+pub returns-after-loop-at-clause-asks : goal.returns-after-loop-at-clause-asks
+returns-after-loop-at-clause-asks g c = grind (arith, common_steps)
+
+pub returns-then-count-eq0-clause-within : goal.returns-then-count-eq0-clause-within
+returns-then-count-eq0-clause-within g c = grind (arith, common_steps)
+
+pub returns-then-count-eq0-clause-bytes : goal.returns-then-count-eq0-clause-bytes
+returns-then-count-eq0-clause-bytes g c = grind (arith, common_steps)
+
+pub returns-then-count-eq0-clause-asks : goal.returns-then-count-eq0-clause-asks
+returns-then-count-eq0-clause-asks g c = grind (arith, common_steps)

@@ -1,6 +1,7 @@
-use Rattle.std.proofs.Common.{◌∙◌, [], ap, append-nil, map, map-id, sym}
+use Rattle.std.proofs.Common.{◌≡◌, ◌∙◌, ◌++◌, [], ap, append-nil, map, map-id, sym, codes, arith}
 use Rattle.std.proofs.lemmas.Iterator.Adapters.{YieldsList-from_vec}
 use Rattle.std.proofs.lemmas.Iterator.Consumers.{YieldsList-end}
+use Rattle.std.proofs.lemmas.Grind.{common_steps}
 use Rattle.introspection.specs.MembersView.{member_in}
 use Rattle.introspection.specs.Questions.{object_text}
 use Rattle.introspection.proofs.ordered.object_text.Goals as goal
@@ -13,3 +14,9 @@ returns c =
     c.in_ok-push_str.ensures.bytes ∙ c.loop-key.invariant []
     ∙ ap object_text (append-nil (map member_in c.loop-key.yielded))
     ∙ ap (λ ms. object_text (map member_in ms)) (sym (map-id c.loop-key.yielded) ∙ end.0)
+
+pub loop-key-init : goal.loop-key-init
+loop-key-init c = grind (arith, common_steps)
+
+pub loop-key-preserved : goal.loop-key-preserved
+loop-key-preserved c = grind (arith, common_steps)

@@ -1,5 +1,6 @@
 use Rattle.std.proofs.Common.{◌∙◌, ◌++◌, ◌∷◌, [], ap, ap₂, map, sym}
 use Rattle.std.proofs.lemmas.List.{map-append}
+use Rattle.std.proofs.lemmas.Grind.{common_steps, elements}
 use Rattle.machine_file.specs.View.{entries_of}
 use Rattle.introspection.specs.MembersView.{member_in}
 use Rattle.introspection.specs.Questions.{entry_member}
@@ -12,3 +13,12 @@ loop-i-preserved c =
     ∙ map-append member_in c.loop-i.members.items _
     ∙ ap₂ (λ ms (t : _). ms ++ (c.in-Some.key.now, t) ∷ []) c.loop-i.invariant c.in_ok-value_text.ensures
     ∙ sym (map_got entry_member (entries_of c.args.section.now) c.loop-i.i _ c.in-Some.ensures)
+
+pub loop-i-init : goal.loop-i-init
+loop-i-init c = grind (arith, common_steps)
+
+pub returns-in_default : goal.returns-in_default
+returns-in_default c = grind (arith, elements)
+
+pub returns : goal.returns
+returns c = grind (arith, common_steps)

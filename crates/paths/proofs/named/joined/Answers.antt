@@ -1,4 +1,5 @@
-use Rattle.std.proofs.Common.{ap, ◌∙◌, string_bytes}
+use Rattle.std.proofs.Common.{ap, ◌∙◌, string_bytes, arith}
+use Rattle.std.proofs.lemmas.Grind.{common_steps}
 use Rattle.paths.proofs.PathTexts.{join_first, join_more}
 use Rattle.paths.proofs.named.joined.Goals as goal
 use Rattle.paths.proofs.named.joined.Goals.{then-i-gt0+in_ok-push_str, else-i-gt0}
@@ -10,3 +11,9 @@ loop-i-preserved c =
       | then-i-gt0+in_ok-push_str w ↦ join_more parts c.loop-i.i _ _ _ _ c.loop-i-test.true w.if-i-gt0.true c.loop-i.invariant (ap string_bytes w.path-is ∙ w.in_ok-push_str.ensures.bytes) c.in_ok-push_str-2.ensures.bytes
       | else-i-gt0 w ↦ join_first parts c.loop-i.i _ _ _ _ c.loop-i-test.true w.if-i-gt0.false c.loop-i.invariant (ap string_bytes w.path-is) c.in_ok-push_str-2.ensures.bytes
     ]
+
+pub loop-i-init : goal.loop-i-init
+loop-i-init c = grind (arith, common_steps)
+
+pub returns : goal.returns
+returns c = grind (arith, common_steps)

@@ -1,4 +1,5 @@
-use Rattle.std.proofs.Common.{◌≡◌, ◌∷◌, ◌++◌, [], sym, ap, subst, ◌∙◌, refl, rules, option_map, string_bytes}
+use Rattle.std.proofs.Common.{◌≡◌, ◌∷◌, ◌++◌, [], sym, ap, subst, ◌∙◌, refl, rules, option_map, string_bytes, arith}
+use Rattle.std.proofs.lemmas.Grind.{common_steps}
 use Rattle.template.specs.ConfigData.{content_of, entries_of}
 use Rattle.template.specs.Config.{merged}
 use Rattle.template.specs.Undo.{AreSet, IsSet, changes_of}
@@ -37,3 +38,6 @@ loop-name-preserved c =
 
 pub returns-clause-ascending : goal.returns-clause-ascending
 returns-clause-ascending c = names_ascend c.args.others.now.entries c.into_iter-name-iterator.ensures.into_iter_gives.5
+
+pub returns-clause-changes : goal.returns-clause-changes
+returns-clause-changes c = grind (arith, common_steps)

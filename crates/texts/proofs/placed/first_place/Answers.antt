@@ -1,5 +1,6 @@
 use Rattle.std.proofs.Common.{◌≡◌, ◌+◌, ◌<◌, ◌++◌, ◌∷◌, ℕ, List, length, drop, sym, ◌∙◌, ap, subst, arith}
 use Rattle.std.specs.Str.{IsUtf8}
+use Rattle.std.proofs.lemmas.Grind.{common_steps}
 use Rattle.texts.specs.Segments.{place, place_length, segments, text_segments}
 use Rattle.texts.proofs.SegmentLemmas.{no_places, first_segments, boundary_in_place}
 use Rattle.texts.proofs.placed.first_place.Goals as goal
@@ -43,3 +44,9 @@ returns-clause-first c =
     ∙ (λ k. text_segments (sym c.split_at.ensures.front k) ++
     (place (ap (λ r. Rattle.std.specs.Prelude.slice_range r 1 (count + 1)) (sym back) k) ∷ segments kind (ap (drop (count + 2)) (sym back) k)))
     ∙ (λ k. text_segments c.split_at.result.0.now ++ (place (sym c.range.ensures.value k) ∷ segments kind (sym c.range_from.ensures.value k)))
+
+pub returns-then-count-eq0-clause-shorter : goal.returns-then-count-eq0-clause-shorter
+returns-then-count-eq0-clause-shorter c = grind (arith, common_steps)
+
+pub returns-clause-shorter : goal.returns-clause-shorter
+returns-clause-shorter c = grind (arith, common_steps)

@@ -1,5 +1,6 @@
-use Rattle.std.proofs.Common.{map, ◌∙◌, ap}
+use Rattle.std.proofs.Common.{map, ◌∙◌, ap, arith}
 use Rattle.std.specs.List.{flat_map}
+use Rattle.std.proofs.lemmas.Grind.{common_steps}
 use Rattle.texts.specs.Segments.{segments, segment_data, spelled}
 use Rattle.texts.proofs.SegmentLemmas.{all_found, segments_spell}
 use Rattle.texts.proofs.placed.segments.Goals as goal
@@ -12,3 +13,9 @@ returns-clause-segments c =
 
 pub returns-clause-spelled : goal.returns-clause-spelled
 returns-clause-spelled c = ap (flat_map spelled) (returns-clause-segments c) ∙ segments_spell c.args.places c.args.text.now
+
+pub loop-before-init : goal.loop-before-init
+loop-before-init c = grind (arith, common_steps)
+
+pub loop-before-preserved : goal.loop-before-preserved
+loop-before-preserved c = grind (arith, common_steps)
