@@ -1,6 +1,6 @@
 //! Texts within the limit, and lists of texts.
 
-ghost use Rattle.std.specs.Prelude.{◌≡◌, ◌++◌, ◌∷◌, [], ◌≤◌, length, OnOk, IfOk, string_bytes};
+ghost use Rattle.std.specs.Prelude.{◌≡◌, ◌++◌, ◌∷◌, [], ◌≤◌, length, OnOk, OnErr, IfOk, string_bytes};
 ghost use Rattle.data.specs.Limits.{within_bytes, Appends};
 ghost use Rattle.basics.specs.Limits.{text_bytes};
 
@@ -98,11 +98,12 @@ impl Text {
         Text::short("")
     }
 
-    /// Puts a piece behind the text, or answers `Refusal::Limit` where it becomes longer than 16,777,216 bytes.
+    /// Puts a piece behind the text, or answers `Refusal::Limit` where it becomes longer than 16,777,216 bytes; then the text is as it was.
     ///
     /// Where nobody else holds the text it grows in place, and the work is that of the piece.
     pub fn push(&mut self, alloc: Global, piece: &str) -> Result<Result<(), Refusal>, AllocError>
-        ensures { IfOk result (λ r. Appends self.old piece.now self.new r) }
+        ensures pushed { IfOk result (λ r. Appends self.old piece.now self.new r) }
+        ensures same { IfOk result (λ r. OnErr r (self.new ≡ self.old)) }
     {
         let count = self.as_str().len() + piece.len();
         if count > TEXT_BYTES {

@@ -6,7 +6,7 @@ use Rattle.texts.proofs.joining.join.Goals as goal
 
 pub loop-piece-init : goal.loop-piece-init
 loop-piece-init c =
-    let appended = rw c.in_default-2.is at c.in_ok-refusal.ensures in (
+    let appended = rw c.in_default-2.is at c.in_ok-refusal.ensures.pushed in (
       ap (λ ps. joined c.args.separator.now (map (λ p. p.now) ps)) c.in-Some.ensures.cases.0
           ∙ ap (λ made. made ++ pieces_from c.args.separator.now c.in-Some.others.now 0)
           (sym (appended.0 ∙ ap (λ made. made ++ c.in-Some.first.now.now) c.empty-made.ensures)),

@@ -16,7 +16,7 @@ loop-after-init c = (
 
 pub returns-in-Err : goal.returns-in-Err
 returns-in-Err c =
-    let refused = rw c.in-Err.is at c.in_ok-refusal.ensures in
+    let refused = rw c.in-Err.is at c.in_ok-refusal.ensures.pushed in
     ap (λ e. Err e) refused.0
     ∙ too_long _ c.loop-after.made c.first_part.result.0.now []
     (c.loop-after.invariant.1 ∙ ap (λ ps. c.loop-after.made ++ joined c.args.new.now ps) (c.first_part.ensures.first
@@ -26,7 +26,7 @@ returns-in-Err c =
 
 pub returns-in_default : goal.returns-in_default
 returns-in_default c =
-    let appended = rw c.in_default-2.is at c.in_ok-refusal.ensures in
+    let appended = rw c.in_default-2.is at c.in_ok-refusal.ensures.pushed in
     short_enough _ c.push.new.self
     (grown _ c.loop-after.made c.first_part.result.0.now [] c.push.new.self
     (c.loop-after.invariant.1 ∙ ap (λ ps. c.loop-after.made ++ joined c.args.new.now ps) (c.first_part.ensures.first
