@@ -5,4 +5,5 @@ use Rattle.arguments.proofs.reader.twice_in_many.Given as goal
 
 -- the names so far stand once
 abbrev pub invariant-loop-one : goal.invariant-loop-one
-invariant-loop-one l = again (map string_bytes l.names.table.keys) (map named_data (drop l.one-index l.named)) ≡ twice (map named_data l.named)
+invariant-loop-one l =
+    again (map string_bytes l.names.table.keys) (map named_data (drop l.one-index l.named)) ≡ twice (map named_data l.named)

@@ -7,4 +7,5 @@ use Rattle.option_file.proofs.call.first_twice.Given as goal
 -- the arguments that are left decide
 abbrev pub invariant-loop-argument : goal.invariant-loop-argument
 invariant-loop-argument l =
-    first_twice [] (map argument_of l.arguments) ≡ first_twice (strings_in l.keys.table.keys) (map argument_of (drop l.argument-index l.arguments))
+    first_twice [] (map argument_of l.arguments)
+    ≡ first_twice (strings_in l.keys.table.keys) (map argument_of (drop l.argument-index l.arguments))

@@ -11,11 +11,11 @@ returns-then-branch c = twice_found c.args.arguments.now (strings_in c.loop-argu
     c.loop-argument.invariant c.loop-argument-test.true c.argument-item.is c.in_ok-comes_again.ensures.tested c.if-branch.true
 
 pub loop-argument-preserved : goal.loop-argument-preserved
-loop-argument-preserved c = twice_more c.args.arguments.now (strings_in c.loop-argument.keys.table.keys) (strings_in c.comes_again.new.keys.keys)
-    c.loop-argument.argument-index c.argument-item.result c.in_ok-comes_again.field-0
+loop-argument-preserved c = twice_more c.args.arguments.now (strings_in c.loop-argument.keys.table.keys)
+    (strings_in c.comes_again.new.keys.keys) c.loop-argument.argument-index c.argument-item.result c.in_ok-comes_again.field-0
     c.loop-argument.invariant c.loop-argument-test.true c.argument-item.is c.in_ok-comes_again.ensures.tested c.if-branch.false
     (c.in_ok-comes_again.ensures.added c.if-branch.false)
 
 pub returns : goal.returns
-returns c = twice_none c.args.arguments.now (strings_in c.loop-argument.keys.table.keys) c.loop-argument.argument-index c.loop-argument.invariant
-    c.loop-argument-test.false
+returns c = twice_none c.args.arguments.now (strings_in c.loop-argument.keys.table.keys) c.loop-argument.argument-index
+    c.loop-argument.invariant c.loop-argument-test.false

@@ -7,4 +7,5 @@ use Rattle.option_file.proofs.call.gives_twice.Given as goal
 -- the keys so far stand once
 abbrev pub invariant-loop-argument : goal.invariant-loop-argument
 invariant-loop-argument l =
-    gives_twice [] (argument_trees l.arguments) ≡ gives_twice (strings_in l.keys.table.keys) (argument_trees (drop l.argument-index l.arguments))
+    gives_twice [] (argument_trees l.arguments)
+    ≡ gives_twice (strings_in l.keys.table.keys) (argument_trees (drop l.argument-index l.arguments))
