@@ -48,7 +48,7 @@ use Rattle.world.proofs.Costs.{Takes, more as more_in, free as free_in, none as 
 use Rattle.expressions.specs.declared.meaning.Meaning.{Meaning}
 use Rattle.expressions.specs.declared.meaning.Meaning.TheVariants.{Combines, Connects}
 use Rattle.interp.specs.Cost.{value_cost, values_cost, entries_cost, arguments_cost, links_cost, link_cost, chain_cost, statement_cost, branches_cost, statements_cost, parsed_cost, file_cost, tree_cost}
-use Rattle.expressions.specs.Forms.{known, variable, variable_by, is_plain, printed_plain, part_text, filled, number, literal_value, meaning_of, unless_decided, combined, unchosen, chosen, needed, known_function, refused_name, function_at, may_come_first, allowed, function_inside, known_method, may_be_asked_first, value_method, fitted, answered_with, paired_by}
+use Rattle.expressions.specs.Forms.{known, variable, variable_by, printed_plain, part_text, filled, number, literal_value, meaning_of, unless_decided, combined, unchosen, chosen, needed, known_function, refused_name, function_at, may_come_first, allowed, function_inside, known_method, may_be_asked_first, value_method, fitted, answered_with, paired_by}
 use Rattle.expressions.specs.Details.{key_twice, method_detail}
 use Rattle.interp.specs.Expressions.{called_by, called, entered_inside, inside_by, known_object_method, method_at_by, method_at, object_method_called, method_by, method_called_by, method_of, value_of, values_of, entries_of, arguments_of, links_of, link_of, chain_of}
 use Rattle.interp.specs.declared.flow.Flow.{Flow}
@@ -130,7 +130,7 @@ module _ (files : Files) where
 
   part_text-cost : (line : ℕ) (s : Segment) → Takes file_cost files 0 (part_text line s)
   part_text-cost line (between t) = free _
-  part_text-cost line (place name) = first (variable-cost line name) (λ d. printed_plain-cost line (is_plain d) d)
+  part_text-cost line (place name) = first (variable-cost line name) (λ d. printed_plain-cost line _ d)
 
   filled-cost : (line : ℕ) (made : List ℕ) (ss : List Segment) → Takes file_cost files 0 (filled line made ss)
   filled-cost line made [] = answered-cost line _
