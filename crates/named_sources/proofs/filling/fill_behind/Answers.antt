@@ -1,4 +1,5 @@
 use Rattle.std.proofs.Common.{ℕ, ◌+◌, ◌<◌, List, [], ◌++◌, length, drop, get_or, Bor, string_bytes, sym, ap, ◌∙◌, arith}
+use Rattle.std.proofs.lemmas.Grind.{common_steps}
 use Rattle.named_sources.specs.Holes.{meaning, behind_text, filled_behind}
 use Rattle.named_sources.specs.HolesView.{place_view, meaning_view}
 use Rattle.named_sources.proofs.Steps.{stays_step, means_step}
@@ -73,3 +74,15 @@ loop-i-preserved c =
           ∙ ap (λ l. behind_text made (filled_behind m l)) (sym (two_at xs i d more))
           ∙ c.loop-i.invariant.filled;
     }
+
+pub loop-i-init : goal.loop-i-init
+loop-i-init c = grind (arith, common_steps)
+
+pub returns-then-i-parts : goal.returns-then-i-parts
+returns-then-i-parts c = grind (arith, common_steps)
+
+pub returns-in-Refused : goal.returns-in-Refused
+returns-in-Refused c = grind (arith, common_steps)
+
+pub returns : goal.returns
+returns c = grind (arith, common_steps)

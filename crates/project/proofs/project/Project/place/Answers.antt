@@ -192,3 +192,21 @@ returns-in-Ok-Some-clause-ok c =
     let is : c.truncate-in-Ok-Some.new.self.items ≡ c.self.inside.linked.items = grind (arith, common_steps) in ap linked_views is in
     on_ok c.refuse-answer.result (ap (λ x. world_of s x outputs notes) back ∙ c.self.view_is
     ∙ sym (after_err (place_answer w ps c.args.within) (refused Duplicate c.in-Ok-Some.path.now) (with_target w l.target) w (place_twice w ps c.args.within c.in-Ok-Some.path.now free)))
+
+pub returns-then-within-clause-err : goal.returns-then-within-clause-err
+returns-then-within-clause-err c = grind (arith, common_steps)
+
+pub returns-else-within-clause-err : goal.returns-else-within-clause-err
+returns-else-within-clause-err c = grind (arith, common_steps)
+
+pub returns-in-Ok-Some-clause-err : goal.returns-in-Ok-Some-clause-err
+returns-in-Ok-Some-clause-err c = grind (arith, common_steps)
+
+pub returns-in-Err-clause-answer : goal.returns-in-Err-clause-answer
+returns-in-Err-clause-answer c = grind (arith, common_steps)
+
+pub returns-in-Err-clause-ok : goal.returns-in-Err-clause-ok
+returns-in-Err-clause-ok c = grind (arith, common_steps)
+
+pub returns-in-Err-clause-err : goal.returns-in-Err-clause-err
+returns-in-Err-clause-err c = grind (arith, common_steps)
