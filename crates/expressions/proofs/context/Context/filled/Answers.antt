@@ -69,14 +69,14 @@ loop-part-preserved g c =
       | in-Place+in_ok-value-in-Place+in_ok-put_value-in-Place+else-not-branch w ↦
           let d = data_of w.in_ok-value-in-Place.value in
           let puts = subst (λ b. Puts d so_far.text w.put_value.new.made b) w.if-not-branch.false (w.in_ok-put_value-in-Place.ensures so_far.text so_far.short) in record {
-        text = so_far.text ++ shown d;
-        short = w.made-is ∙ puts.2;
-        led = λ files h.
-            let found = w.in_ok-value-in-Place.ensures.gives files h in
-            leads_on {C = List ℕ} {view = λ t. t} {x = shown d}
-            (leads_inside (leads_as (at_first c.args.line so_far.text _ _ _ _ next_part (ap part_data w.in-Place.is ∙ ap place (sym w.deref-in-Place.ensures))) (so_far.led files h)) found)
-            (given_as (plain_first c.args.line d puts.0 puts.1) (given_give found.holds refl));
-      }
+            text = so_far.text ++ shown d;
+            short = w.made-is ∙ puts.2;
+            led = λ files h.
+                let found = w.in_ok-value-in-Place.ensures.gives files h in
+                leads_on {C = List ℕ} {view = λ t. t} {x = shown d}
+                (leads_inside (leads_as (at_first c.args.line so_far.text _ _ _ _ next_part (ap part_data w.in-Place.is ∙ ap place (sym w.deref-in-Place.ensures))) (so_far.led files h)) found)
+                (given_as (plain_first c.args.line d puts.0 puts.1) (given_give found.holds refl));
+          }
     ]
 
 pub returns-clause-gives : goal.returns-clause-gives
