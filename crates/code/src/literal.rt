@@ -25,7 +25,7 @@ pub enum Meaning {
     Text(Box<Text>),
     /// The parts of an f-string, before its places are filled.
     Format(Box<FormatString>),
-    /// The literal as it stands in the source: a number that 64 bits don't hold, or a string that is no f-string and whose text is too long.
+    /// The literal as it stands in the source: a number that 64 bits don't hold, or a string, but no f-string, whose text is too long.
     Source(Box<String>),
 }
 

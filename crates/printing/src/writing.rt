@@ -35,7 +35,8 @@ pub fn printed(alloc: Global, value: &Value) -> Result<Result<Text, Refusal>, Al
 /// What a boolean, an integer or a text is printed as; none for others. The digits of an integer come to stand in the buffer.
 pub fn plain_text<'v>(value: &'v Value, digits: &'v mut Buffer) -> Option<&'v str>
     ensures { MatchOption result (is_plain (data_of value.entry.now) ≡ false)
-        (λ t. (is_plain (data_of value.entry.now) ≡ true) × (printed (data_of value.entry.now) ≡ Ok t.now) × (shown (data_of value.entry.now) ≡ t.now)) }
+        (λ t. (is_plain (data_of value.entry.now) ≡ true) × (printed (data_of value.entry.now) ≡ Ok t.now)
+        × (shown (data_of value.entry.now) ≡ t.now)) }
 {
     match value {
         Value::Boolean(true) => Some("true"),
