@@ -4,7 +4,7 @@ use Rattle.grammar.specs.ExpressionTree.{ArgumentTrees}
 use Rattle.arguments.specs.Arguments.{ArgumentsData, no_arguments}
 use Rattle.arguments.specs.Disablers.{gives_disabler}
 use Rattle.arguments.specs.Misfits.{checked}
-use Rattle.calls.specs.Rows.{row_of}
+use Rattle.interp.specs.Rows.{row_of}
 use Rattle.language_calls.specs.declared.function.Function.{Function}
 use Rattle.language_calls.specs.declared.function.Function.TheVariants as functions
 use Rattle.world.specs.Plan.{Plan, ◌>>=◌, give}

@@ -11,7 +11,7 @@ use Rattle.operators.specs.Operations.{disabler}
 use Rattle.methods.specs.Methods.{has_name}
 use Rattle.arguments.specs.Arguments.{ArgumentsData, no_arguments, with_argument}
 use Rattle.arguments.specs.Disablers.{gives_disabler}
-use Rattle.calls.specs.Functions.{call}
+use Rattle.interp.specs.Functions.{call}
 use Rattle.language_calls.specs.Turning.{is_turned_off}
 use Rattle.language_calls.specs.declared.function.Function.{Function}
 use Rattle.objects.specs.Left.{is_left_out as is_left_out_method}

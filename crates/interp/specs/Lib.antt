@@ -10,8 +10,11 @@ pub mod Evaluation
 pub mod Expressions
 pub mod Folders
 pub mod Frames
+pub mod Functions
 pub mod Inside
 pub mod Laws
 pub mod Operations
 pub mod Parts
+pub mod ProjectFunctions
+pub mod Rows
 pub mod Statements

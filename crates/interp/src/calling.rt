@@ -7,11 +7,12 @@ ghost use Rattle.expressions.specs.Contexts.{Answers, Fails, HasRoom, Same};
 ghost use Rattle.interp.specs.Expressions.{called, called_by, method_at, method_called, object_method_at, object_method_called};
 
 use crate::evaluator::Evaluator;
+use crate::functions::call;
 use arguments::{Arguments, gives_disabler};
 use basics::faults::Refusal;
-use calls::{Function, call, is_turned_off};
 use data::{Object, Value};
 use expressions::{Context, disabler_method};
+use language_calls::{Function, is_turned_off};
 use objects::{has_object_method, is_left_out_method, object_method};
 use ports::{Outputs, Tree};
 use std::sync::ledger::Ledger;

@@ -2,7 +2,7 @@
 use Rattle.std.specs.Prelude.{[], ◌∷◌}
 use Rattle.arguments.specs.declared.row.Kind.TheVariants.{Any, Boolean, Integer, Text}
 use Rattle.arguments.specs.Row.{RowData}
-use Rattle.calls.specs.ProjectFunctions.{project_function_row}
+use Rattle.interp.specs.ProjectFunctions.{project_function_row}
 use Rattle.project_calls.specs.Rows.{project_row}
 use Rattle.language_calls.specs.Rows.{any_values, some_texts, subdir_row, values}
 use Rattle.language_calls.specs.declared.function.Function.{Function}

@@ -1,8 +1,8 @@
 use Rattle.std.proofs.Common.{ap, sym}
 use Rattle.arguments.specs.Arguments.{arguments_data}
-use Rattle.calls.specs.ProjectFunctions.{project_function}
+use Rattle.interp.specs.ProjectFunctions.{project_function}
 use Rattle.world.proofs.Answering.{carries_as}
-use Rattle.calls.proofs.project_functions.project_function.Goals as goal
+use Rattle.interp.proofs.project_functions.project_function.Goals as goal
 
 pub returns-in-AddProjectArguments : goal.returns-in-AddProjectArguments
 returns-in-AddProjectArguments g c = carries_as (ap (λ f. project_function f (arguments_data c.args.arguments.now)) (sym c.in-AddProjectArguments.is)) c.add_project_arguments.ensures

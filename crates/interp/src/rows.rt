@@ -1,7 +1,7 @@
 //! The rows of the functions: what each takes.
 ghost use Rattle.std.specs.Prelude.{◌≡◌};
 ghost use Rattle.arguments.specs.RowView.{row_data};
-ghost use Rattle.calls.specs.Rows.{row_of};
+ghost use Rattle.interp.specs.Rows.{row_of};
 
 use crate::project_functions::project_function_row;
 use arguments::{Kind, Row};

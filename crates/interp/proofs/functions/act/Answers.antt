@@ -1,8 +1,8 @@
 use Rattle.std.proofs.Common.{ap, refl, sym}
 use Rattle.arguments.specs.Arguments.{arguments_data}
-use Rattle.calls.specs.Functions.{does}
+use Rattle.interp.specs.Functions.{does}
 use Rattle.world.proofs.Answering.{carries_as, carries_give}
-use Rattle.calls.proofs.calling.act.Goals as goal
+use Rattle.interp.proofs.functions.act.Goals as goal
 
 pub returns-in-Assert : goal.returns-in-Assert
 returns-in-Assert g c = carries_as (ap (λ f. does f (arguments_data c.args.arguments.now)) (sym c.in-Assert.is)) c.assert.ensures

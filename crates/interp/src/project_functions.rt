@@ -5,7 +5,7 @@ ghost use Rattle.arguments.specs.Arguments.{arguments_data};
 ghost use Rattle.arguments.specs.RowView.{row_data};
 ghost use Rattle.world.specs.Answering.{Carries, HasRoom};
 ghost use Rattle.world.specs.Caller.{state_of};
-ghost use Rattle.calls.specs.ProjectFunctions.{project_function, project_function_row};
+ghost use Rattle.interp.specs.ProjectFunctions.{project_function, project_function_row};
 
 use arguments::{Arguments, Row};
 use configuration_calls::{

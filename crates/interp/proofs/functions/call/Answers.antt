@@ -1,6 +1,6 @@
-use Rattle.calls.specs.Functions.{call}
+use Rattle.interp.specs.Functions.{call}
 use Rattle.world.proofs.Answering.{carries_then, carries_stop}
-use Rattle.calls.proofs.calling.call.Goals as goal
+use Rattle.interp.proofs.functions.call.Goals as goal
 
 pub returns-in_err-fit : goal.returns-in_err-fit
 unfolding call

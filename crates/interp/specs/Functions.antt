@@ -12,10 +12,10 @@ use Rattle.world.specs.Fit.{fit}
 use Rattle.language_calls.specs.Disablers.{give_disabler, tell_disabler}
 use Rattle.language_calls.specs.JoinPaths.{join_paths}
 use Rattle.language_calls.specs.Messages.{message, warning, error, assert}
-use Rattle.calls.specs.ProjectFunctions.{project_function}
+use Rattle.interp.specs.ProjectFunctions.{project_function}
 use Rattle.project_calls.specs.Project.{project}
 use Rattle.language_calls.specs.Range.{range}
-use Rattle.calls.specs.Rows.{row_of}
+use Rattle.interp.specs.Rows.{row_of}
 use Rattle.language_calls.specs.Variables.{set_variable, get_variable, is_variable, unset_variable}
 use Rattle.language_calls.specs.declared.function.Function.{Function}
 use Rattle.language_calls.specs.declared.function.Function.TheVariants as functions

@@ -6,7 +6,7 @@ ghost use Rattle.arguments.specs.RowView.{row_data};
 ghost use Rattle.world.specs.Answering.{Carries, HasRoom};
 ghost use Rattle.world.specs.Caller.{state_of};
 ghost use Rattle.world.specs.Fit.{fit};
-ghost use Rattle.calls.specs.Functions.{call, does, has_other_format, has_unwanted_disabler, row_for, without_disabler};
+ghost use Rattle.interp.specs.Functions.{call, does, has_other_format, has_unwanted_disabler, row_for, without_disabler};
 ghost use Rattle.language_calls.specs.Turning.{makes_file};
 
 use crate::project_functions::project_function;

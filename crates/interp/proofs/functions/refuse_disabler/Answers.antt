@@ -3,8 +3,8 @@ use Rattle.std.specs.Prelude.{not}
 use Rattle.basics.specs.declared.faults.refusal.Refusal.TheVariants as refusals
 use Rattle.world.specs.Deed.{need}
 use Rattle.world.proofs.Answering.{carries_as}
-use Rattle.calls.specs.Functions.{without_disabler}
-use Rattle.calls.proofs.calling.refuse_disabler.Goals as goal
+use Rattle.interp.specs.Functions.{without_disabler}
+use Rattle.interp.proofs.functions.refuse_disabler.Goals as goal
 
 pub returns : goal.returns
 unfolding without_disabler
