@@ -16,7 +16,7 @@ use crate::operator::{Binary, Unary};
 use crate::relations::{
     equality, inequality, is_greater, is_greater_or_equal, is_less, is_less_or_equal,
 };
-use crate::text_sums::{concatenate, path_below};
+use crate::text_sums::{concatenate, path_text};
 use data::{Refusal, Value};
 use std::alloc::{AllocError, Global};
 
@@ -142,10 +142,10 @@ fn quotient(
     ensures { IfOk result (λ r. Answers (binary_outcome Divide (data_of left.now) (data_of right.now)) r) }
 {
     match (left, right) {
-        (Value::Text(s), Value::Text(t)) => {
-            let path = path_below(alloc, s.as_str(), t.as_str())?;
-            Value::of_string(alloc, path)
-        }
+        (Value::Text(s), Value::Text(t)) => match path_text(alloc, s.as_str(), t.as_str())? {
+            Ok(path) => Ok(Ok(Value::Text(path))),
+            Err(refusal) => Ok(Err(refusal)),
+        },
         _ => Ok(Err(Refusal::Type)),
     }
 }

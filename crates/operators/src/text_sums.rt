@@ -2,12 +2,13 @@
 
 ghost use Rattle.std.specs.Prelude.{◌≡◌, ◌++◌, IfOk, string_bytes};
 ghost use Rattle.data.specs.Data.{text as text_data};
-ghost use Rattle.data.specs.Limits.{within};
+ghost use Rattle.data.specs.Limits.{within, within_bytes};
 ghost use Rattle.data.specs.Tables.{Answers};
 ghost use Rattle.operators.specs.Texts.{begins_with_slash, ends_with_slash, path_below};
 
 use data::{Refusal, Text, Value};
 use std::alloc::{AllocError, Global};
+use texts::join;
 
 /// One text and then another. It grows in place where nobody else holds it.
 pub fn concatenate(
@@ -21,6 +22,22 @@ pub fn concatenate(
         Ok(()) => Ok(Ok(Value::Text(first))),
         Err(refusal) => Ok(Err(refusal)),
     }
+}
+
+/// The text of a path and one below it, as [`path_below`] joins them, or `Refusal::Limit` where that is too long. A short one needs no
+/// memory of its own.
+pub fn path_text(
+    alloc: Global,
+    folder: &str,
+    path: &str,
+) -> Result<Result<Text, Refusal>, AllocError>
+    ensures { IfOk result (λ r. r ≡ within_bytes (path_below folder.now path.now)) }
+{
+    if folder.is_empty() || begins_with_slash(path) {
+        return Text::of_str(alloc, path);
+    }
+    let slash = if ends_with_slash(folder) { "" } else { "/" };
+    join(alloc, slash, &[folder, path])
 }
 
 /// A path and one below it: the second alone where the first is empty or the second is absolute.
