@@ -43,6 +43,16 @@ pub fn no_arguments(alloc: Global) -> Arguments
     }
 }
 
+impl Arguments {
+    /// Lets go of all arguments; the memory of their lists stays.
+    pub fn clear(&mut self)
+        ensures { arguments_data self.new ≡ no_arguments }
+    {
+        self.positional.clear();
+        self.named.clear();
+    }
+}
+
 /// One argument more.
 pub fn add_argument(
     alloc: Global,

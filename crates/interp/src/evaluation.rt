@@ -16,6 +16,7 @@ ghost use Rattle.interp.specs.Evaluation.{IsSaid, MachineSaid, defined, evaluate
 use crate::beginning::line_before_project;
 use crate::evaluator::Evaluator;
 use crate::flow::Flow;
+use arguments::no_arguments;
 use basics::faults::Refusal;
 use code::Code;
 use expressions::Context;
@@ -84,7 +85,10 @@ pub fn definitions<T: Tree, O: Outputs, L: Ledger>(
         → RootGives files store.old (O.seen out.old) steps.old result store.new (O.seen out.new) steps.new }
 {
     let context = Context::new(alloc, store, tree, out, steps);
-    let mut evaluator = Evaluator { context };
+    let mut evaluator = Evaluator {
+        context,
+        room: no_arguments(alloc),
+    };
     evaluator.definitions()
 }
 

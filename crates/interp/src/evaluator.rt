@@ -1,4 +1,5 @@
 //! What evaluates definition files.
+use arguments::Arguments;
 use expressions::Context;
 use ports::{Outputs, Tree};
 use std::sync::ledger::Ledger;
@@ -7,4 +8,6 @@ use std::sync::ledger::Ledger;
 #[derive(Drop)]
 pub struct Evaluator<'a, T, O, L: Ledger> {
     pub context: Context<'a, T, O, L>,
+    /// The lists of the arguments of a method that has answered, empty: the next method takes them and asks for no memory.
+    pub room: Arguments,
 }

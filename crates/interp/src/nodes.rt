@@ -17,6 +17,7 @@ use data::Value;
 use expressions::{Meaning, meaning_of};
 use operators::{Left, right_side};
 use ports::{Outputs, Tree};
+use std::mem;
 use std::sync::ledger::Ledger;
 
 impl<'a, T: Tree, O: Outputs, L: Ledger> Evaluator<'a, T, O, L> {
@@ -180,7 +181,8 @@ impl<'a, T: Tree, O: Outputs, L: Ledger> Evaluator<'a, T, O, L> {
         ensures gives { Evaluates T.seen O.seen arguments_data (λ into ts. arguments_of into no_arguments (argument_trees
             (map (argument_at ts) arguments.now))) code.now self.old.context result self.new.context }
     {
-        let mut evaluated = no_arguments(self.context.alloc);
+        let mut evaluated = mem::replace(&mut self.room, no_arguments(self.context.alloc));
+        evaluated.clear();
         for argument in arguments {
             let value = self.eval(code, argument.value)?;
             add_argument(self.context.alloc, &mut evaluated, &argument.name, value)?;
@@ -233,8 +235,11 @@ impl<'a, T: Tree, O: Outputs, L: Ledger> Evaluator<'a, T, O, L> {
         match link {
             LinkNode::Method { name, arguments } => {
                 self.method_at(line, &whole, name)?;
-                let arguments = self.arguments(code, arguments)?;
-                Ok(self.method_called(line, &whole, name, &arguments)?)
+                let mut arguments = self.arguments(code, arguments)?;
+                let given = self.method_called(line, &whole, name, &arguments)?;
+                arguments.clear();
+                self.room = arguments;
+                Ok(given)
             }
             LinkNode::Index { index } => {
                 let at = self.eval(code, *index)?;

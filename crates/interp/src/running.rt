@@ -18,6 +18,7 @@ use crate::walking::Walk;
 use basics::faults::Refusal;
 use code::Code;
 use ports::{Outputs, Tree};
+use std::mem::forget;
 use std::rc::Rc;
 use std::sync::ledger::Ledger;
 use world::Stop;
@@ -46,6 +47,8 @@ impl<'a, T: Tree, O: Outputs, L: Ledger> Evaluator<'a, T, O, L> {
             (do_all (folder (bounds few 63)) few (file_by self.old.context.store.now.names code)) self.old.context result self.new.context }
     {
         let shared = Rc::new(self.context.alloc, code)?;
+        // The code of the root file is needed to the end, and the process ends soon behind it: its parts are not let go one by one.
+        forget(shared.clone()?);
         let mut stack = Vec::new(self.context.alloc);
         stack.push(Frame::Block(BlockRest {
             code: shared,
