@@ -85,9 +85,10 @@ pub fn definitions<T: Tree, O: Outputs, L: Ledger>(
         → RootGives files store.old (O.seen out.old) steps.old result store.new (O.seen out.new) steps.new }
 {
     let context = Context::new(alloc, store, tree, out, steps);
+    let mut room = no_arguments(alloc);
     let mut evaluator = Evaluator {
         context,
-        room: no_arguments(alloc),
+        room: &mut room,
     };
     evaluator.definitions()
 }

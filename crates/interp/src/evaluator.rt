@@ -9,5 +9,5 @@ use std::sync::ledger::Ledger;
 pub struct Evaluator<'a, T, O, L: Ledger> {
     pub context: Context<'a, T, O, L>,
     /// The lists of the arguments of a method that has answered, empty: the next method takes them and asks for no memory.
-    pub room: Arguments,
+    pub room: &'a mut Arguments,
 }

@@ -181,7 +181,7 @@ impl<'a, T: Tree, O: Outputs, L: Ledger> Evaluator<'a, T, O, L> {
         ensures gives { Evaluates T.seen O.seen arguments_data (λ into ts. arguments_of into no_arguments (argument_trees
             (map (argument_at ts) arguments.now))) code.now self.old.context result self.new.context }
     {
-        let mut evaluated = mem::replace(&mut self.room, no_arguments(self.context.alloc));
+        let mut evaluated = mem::replace(self.room, no_arguments(self.context.alloc));
         evaluated.clear();
         for argument in arguments {
             let value = self.eval(code, argument.value)?;
@@ -238,7 +238,7 @@ impl<'a, T: Tree, O: Outputs, L: Ledger> Evaluator<'a, T, O, L> {
                 let mut arguments = self.arguments(code, arguments)?;
                 let given = self.method_called(line, &whole, name, &arguments)?;
                 arguments.clear();
-                self.room = arguments;
+                *self.room = arguments;
                 Ok(given)
             }
             LinkNode::Index { index } => {

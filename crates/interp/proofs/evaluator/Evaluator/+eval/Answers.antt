@@ -32,7 +32,7 @@ pub eval-returns-clause-gives : goal.eval-returns-clause-gives
 eval-returns-clause-gives g t c = λ files left ts hold reads. comes_rule c.form-answer.result c.ended_inside.new.answer c.ended_inside.ensures.ends (c.form-answer.ensures.gives files left ts hold reads)
 
 pub arguments-loop-argument-init : goal.arguments-loop-argument-init
-arguments-loop-argument-init g t c = record { same = (refl, (refl, (refl, refl))); tree = refl; out = refl; done = λ files left ts hold reads. rw c.no_arguments-evaluated.ensures (leads_start hold) }
+arguments-loop-argument-init g t c = record { same = (refl, (refl, (refl, refl))); tree = refl; out = refl; done = λ files left ts hold reads. rw c.clear.ensures (leads_start hold) }
 
 pub arguments-returns-in_err-value-clause-gives : goal.arguments-returns-in_err-value-clause-gives
 arguments-returns-in_err-value-clause-gives g t c = λ files left ts hold reads. comes_end (leads_as (ap (λ ys. arguments_of (folder left) (arguments_data c.loop-argument.evaluated) (arguments ys)) (next_is (argument_at ts) c.args.arguments.now c.loop-argument.argument-index c.argument-item.result c.loop-argument-test.true c.argument-item.is)) (c.loop-argument.invariant.done files left ts hold reads)) (comes_halt (c.in_err-value.ensures.gives files left ts (c.loop-argument.invariant.done files left ts hold reads).holds (reads_on reads (c.loop-argument.invariant.done files left ts hold reads).continues.written.names)) c.from_residual.ensures.1)
@@ -415,15 +415,15 @@ link-returns-in_err-arguments-in-Method-clause-gives g t c = λ files left ts ho
     (comes_as (ap (λ (xs : List ArgumentNode). method_of c.args.line (data_of c.args.whole) c.deref.result.now (arguments_of (folder left) no_arguments (arguments (map (argument_at ts) xs)))) c.deref-in-Method.ensures.value)
     (comes_then (c.in_ok-method_at-in-Method.ensures.gives files hold) (comes_halt (c.in_err-arguments-in-Method.ensures.gives files left ts hold reads) c.from_residual-in_err-arguments-in-Method.ensures.1))))
 
-pub link-returns-in_err-method_called-in-Method-clause-gives : goal.link-returns-in_err-method_called-in-Method-clause-gives
-link-returns-in_err-method_called-in-Method-clause-gives g t c = λ files left ts hold reads.
+pub link-returns-in_err-given-in-Method-clause-gives : goal.link-returns-in_err-given-in-Method-clause-gives
+link-returns-in_err-given-in-Method-clause-gives g t c = λ files left ts hold reads.
     let asked = (c.in_ok-arguments-in-Method.ensures.gives files left ts hold reads).comes in
     comes_as (ap (λ (x : LinkNode). link_of (folder left) c.args.line (data_of c.args.whole) (link_at ts x)) (sym c.in-Method.is))
     (comes_as (ap (λ (name : List ℕ). method_of c.args.line (data_of c.args.whole) name (arguments_of (folder left) no_arguments (arguments (map (argument_at ts) c.in-Method.arguments.items)))) c.deref.ensures)
     (comes_as (ap (λ (xs : List ArgumentNode). method_of c.args.line (data_of c.args.whole) c.deref.result.now (arguments_of (folder left) no_arguments (arguments (map (argument_at ts) xs)))) c.deref-in-Method.ensures.value)
     (comes_then (c.in_ok-method_at-in-Method.ensures.gives files hold) (comes_then asked
     (comes_as (ap (λ (name : List ℕ). method_called c.args.line (data_of c.args.whole) name (arguments_data c.in_ok-arguments-in-Method.arguments)) (c.deref-in-Method-2.ensures ∙ sym c.deref.ensures))
-    (comes_last (c.in_err-method_called-in-Method.ensures.gives files asked.holds) c.from_residual-in_err-method_called-in-Method.ensures.1))))))
+    (comes_last (c.in_err-given-in-Method.ensures.gives files asked.holds) c.from_residual-in_err-given-in-Method.ensures.1))))))
 
 pub link-returns-in-Method-clause-gives : goal.link-returns-in-Method-clause-gives
 link-returns-in-Method-clause-gives g t c = λ files left ts hold reads.
@@ -433,7 +433,7 @@ link-returns-in-Method-clause-gives g t c = λ files left ts hold reads.
     (given_as (ap (λ (xs : List ArgumentNode). method_of c.args.line (data_of c.args.whole) c.deref.result.now (arguments_of (folder left) no_arguments (arguments (map (argument_at ts) xs)))) c.deref-in-Method.ensures.value)
     (given_then (c.in_ok-method_at-in-Method.ensures.gives files hold) (given_then asked
     (given_as (ap (λ (name : List ℕ). method_called c.args.line (data_of c.args.whole) name (arguments_data c.in_ok-arguments-in-Method.arguments)) (c.deref-in-Method-2.ensures ∙ sym c.deref.ensures))
-    (c.in_ok-method_called-in-Method.ensures.gives files asked.holds)))))))
+    (c.in_ok-given-in-Method.ensures.gives files asked.holds)))))))
 
 pub link-returns-in_err-at-in-Index-clause-gives : goal.link-returns-in_err-at-in-Index-clause-gives
 link-returns-in_err-at-in-Index-clause-gives g t c = λ files left ts hold reads.

@@ -12,6 +12,9 @@ use Rattle.interp.proofs.evaluator.Evaluator.run.Goals as goal
 pub returns-in_err-shared-clause-gives : goal.returns-in_err-shared-clause-gives
 returns-in_err-shared-clause-gives g c = λ few files hold. given_none hold c.from_residual.ensures.1
 
+pub returns-in_err-clone-clause-gives : goal.returns-in_err-clone-clause-gives
+returns-in_err-clone-clause-gives g c = λ few files hold. given_none hold c.from_residual-in_err-clone.ensures.1
+
 pub returns-in_err-push-clause-gives : goal.returns-in_err-push-clause-gives
 returns-in_err-push-clause-gives g c = λ few files hold. given_none hold c.from_residual-in_err-push.ensures.1
 
