@@ -21,7 +21,7 @@ blank_is_ascii b h = grind (arith, nat_tests)
 line_end_is_ascii : (b : ℕ) → is_line_end b ≡ true → b < 128
 line_end_is_ascii b h = grind (arith, nat_tests)
 
-boundary_before : (passes : ℕ → Bool) → ((b : ℕ) → passes b ≡ true → b < 128) → (text : List ℕ) → IsCharBoundary text
+pub boundary_before : (passes : ℕ → Bool) → ((b : ℕ) → passes b ≡ true → b < 128) → (text : List ℕ) → IsCharBoundary text
     (position_or_len passes text)
 boundary_before passes ascii text = (
   prefix_len-le-length (λ b. not (passes b)) text,

@@ -3,6 +3,7 @@ pub mod CharsLemmas
 pub mod NumberLemmas
 pub mod StripLemmas
 pub mod PiecesLemmas
+mod ByteLemmas
 pub mod CutLemmas
 pub mod JoinedLemmas
 pub mod SegmentLemmas

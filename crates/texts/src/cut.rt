@@ -1,6 +1,6 @@
 //! The first piece of a text.
 
-ghost use Rattle.std.specs.Prelude.{◌≡◌, ◌<◌, ◌∷◌, [], length, MatchOption, IfSome, IsTrue, slice_index};
+ghost use Rattle.std.specs.Prelude.{◌≡◌, ◌<◌, ◌∷◌, [], length, MatchOption, IfSome, IsTrue, nat_eq, slice_index};
 ghost use Rattle.std.specs.List.{prefix_len, position_or_len};
 ghost use Rattle.texts.specs.Strip.{is_blank};
 ghost use Rattle.texts.specs.Pieces.{parts, words, lines, is_line_end};
@@ -36,10 +36,42 @@ pub fn first_part<'a>(text: &'a str, separator: &str) -> (&'a str, Option<&'a st
     ensures first { parts separator.now text.now ≡ result.0.now ∷ left (parts separator.now) result.1 }
     ensures shorter { IfSome result.1 (λ r. length r.now < length text.now) }
 {
+    // most separators are a byte, and a search for a text takes longer to begin
+    if let [byte] = separator.as_bytes() {
+        if byte.is_ascii() {
+            return part_before(text, *byte);
+        }
+    }
     match text.split_once(separator) {
         Some((part, rest)) => (part, Some(rest)),
         None => (text, None),
     }
+}
+
+// The same of a separator that is one ASCII character.
+fn part_before(text: &str, byte: u8) -> (&str, Option<&str>)
+    requires { byte < 128 }
+    ensures first { parts (byte ∷ []) text.now ≡ result.0.now ∷ left (parts (byte ∷ [])) result.1 }
+    ensures shorter { IfSome result.1 (λ r. length r.now < length text.now) }
+{
+    let (part, rest) = text.split_at(length_before(text.as_bytes(), byte));
+    if rest.is_empty() {
+        return (part, None);
+    }
+    let (_, behind) = rest.split_at(1);
+    (part, Some(behind))
+}
+
+// How many bytes stand before the first of this value.
+fn length_before(bytes: &[u8], byte: u8) -> usize
+    ensures { result ≡ position_or_len (λ b. nat_eq b byte) bytes.now }
+{
+    for (i, b) in bytes.iter().enumerate() {
+        if *b == byte {
+            return i;
+        }
+    }
+    bytes.len()
 }
 
 fn first_word(text: &str) -> Option<(&str, Option<&str>)>
