@@ -1,10 +1,10 @@
 -- The list of some texts.
-use Rattle.std.specs.Prelude.{ℕ, List, [], ◌∷◌, Result, Ok, Err}
+use Rattle.std.specs.Prelude.{◌≡◌, ℕ, List, [], ◌∷◌, ◌++◌, Result, Ok, Err}
 use Rattle.std.specs.declared.alloc.Global.{Global}
 use Rattle.std.specs.declared.vec.Vec.{Vec}
 use Rattle.data.specs.Data.{Data, text, list, Items, no_items, item, items_append}
 use Rattle.data.specs.Limits.{within}
-use Rattle.data.specs.View.{items_of}
+use Rattle.data.specs.View.{data_of, items_of}
 use Rattle.data.specs.declared.refusal.Refusal.{Refusal}
 use Rattle.data.specs.declared.value.Value.{Value}
 
@@ -16,6 +16,11 @@ items_in (Err refusal) = Err refusal
 abbrev pub and_then : {A B : Type 0} → Result A Refusal → (A → Result B Refusal) → Result B Refusal
 and_then (Ok a) next = next a
 and_then (Err refusal) next = Err refusal
+
+-- a text has become the last of the values, or it is past the limit of a text
+abbrev pub PutsText : List Value → List ℕ → List Value → Result (Unit {0}) Refusal → Type 0
+PutsText before t after (Ok done) = (v : Value) × (after ≡ before ++ (v ∷ [])) × (within (text t) ≡ Ok (data_of v))
+PutsText before t after (Err refusal) = within (text t) ≡ Err refusal
 
 -- items, and behind them texts, each within the limit of a text
 abbrev pub texts_behind : Items → List (List ℕ) → Result Items Refusal

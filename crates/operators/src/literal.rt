@@ -6,7 +6,7 @@ ghost use Rattle.data.specs.Limits.{within};
 ghost use Rattle.data.specs.Weight.{entries_weight};
 ghost use Rattle.data.specs.View.{data_of, items_of};
 ghost use Rattle.data.specs.Tables.{Answers};
-ghost use Rattle.operators.specs.TextLists.{items_in, text_list, texts_behind};
+ghost use Rattle.operators.specs.TextLists.{PutsText, items_in, text_list, texts_behind};
 ghost use Rattle.operators.specs.Literal.{with_entry, with_entries, literal_answer, pairs_of, Makes};
 
 use data::{DictionaryBuilder, List, Refusal, Text, Value};
@@ -31,15 +31,31 @@ pub fn list(alloc: Global, items: Vec<Value>) -> Result<Result<Value, Refusal>, 
     }
 }
 
+// Puts a text behind the values. It is put together where it is to lie, as a short text that is moved waits for its bytes.
+fn push_text(
+    alloc: Global,
+    values: &mut Vec<Value>,
+    text: &str,
+) -> Result<Result<(), Refusal>, AllocError>
+    ensures { IfOk result (λ r. PutsText values.old.items text.now values.new.items r) }
+{
+    let at = values.len();
+    values.push(Value::Text(Text::empty()))?;
+    let put = match &mut values[at] {
+        Value::Text(made) => made.push(alloc, text)?,
+        _ => unreachable!(),
+    };
+    Ok(put)
+}
+
 // These texts as values, or `Refusal::Limit` where one is too long.
 fn text_values(alloc: Global, texts: &[&str]) -> Result<Result<Vec<Value>, Refusal>, AllocError>
     ensures { IfOk result (λ r. items_in r ≡ texts_behind no_items (map (λ t. t.now) texts.now)) }
 {
     let mut values = Vec::with_capacity(alloc, texts.len())?;
     for text in texts {
-        match Value::of_str(alloc, text)? {
-            Ok(value) => values.push(value)?,
-            Err(refusal) => return Ok(Err(refusal)),
+        if let Err(refusal) = push_text(alloc, &mut values, text)? {
+            return Ok(Err(refusal));
         }
     }
     Ok(Ok(values))

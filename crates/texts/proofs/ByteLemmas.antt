@@ -30,7 +30,7 @@ lacks_byte byte text k other rest stands =
     let count : length text - k ≡ length (byte ∷ rest) = sym (length-drop k text) ∙ ap length stands in
     let same : k + 0 ≡ k = omega arith in
     let is : get_or text k 0 ≡ byte =
-        ap (λ i. get_or text i 0) (sym same) ∙ sym (get_or-drop k text 0 0) ∙ ap (λ xs. get_or xs 0 0) stands in
+    ap (λ i. get_or text i 0) (sym same) ∙ sym (get_or-drop k text 0 0) ∙ ap (λ xs. get_or xs 0 0) stands in
     let differs : nat_eq (get_or text k 0) byte ≡ false = other (omega arith) in
     grind (arith, nat_tests)
 
