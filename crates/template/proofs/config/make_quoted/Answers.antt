@@ -1,6 +1,7 @@
 use Rattle.std.proofs.Common.{arith}
 use Rattle.std.proofs.lemmas.Grind.{common_steps}
 use Rattle.template.proofs.Settings.{quoting_other}
+use Rattle.template.specs.Config.{quoted, escaped}
 use Rattle.template.proofs.config.make_quoted.Goals as goal
 
 pub loop-c-preserved : goal.loop-c-preserved
@@ -8,3 +9,11 @@ loop-c-preserved c = quoting_other _ _ _ _ _ c.in-Some.c c.loop-c.invariant c.in
 
 pub loop-c-init : goal.loop-c-init
 loop-c-init c = grind (arith, common_steps)
+
+pub loop-c-preserved-in-Continue-branch-2 : goal.loop-c-preserved-in-Continue-branch-2
+unfolding quoted escaped
+loop-c-preserved-in-Continue-branch-2 c = grind (arith, common_steps)
+
+pub returns : goal.returns
+unfolding quoted escaped
+returns c = grind (arith, common_steps)

@@ -1,4 +1,4 @@
-use Rattle.std.proofs.Common.{◌≡◌, true, List, [], ◌∷◌, ◌++◌, Some, Ok, string_bytes, refl, sym, ap, ◌∙◌, subst, arith}
+use Rattle.std.proofs.Common.{◌≡◌, true, List, [], ◌∷◌, ◌++◌, Some, Ok, string_bytes, refl, sym, ap, ◌∙◌, subst, arith, rules}
 use Rattle.std.proofs.lemmas.Grind.{common_steps}
 use Rattle.std.proofs.lemmas.List.{map-append}
 use Rattle.edge.specs.Texts.{Path, texts}
@@ -67,3 +67,45 @@ returns-in-Ok-Some-clause-ok c =
     let is : c.truncate.new.self.items ≡ c.self.inside.outputs.items = grind (arith, common_steps) in
     on_ok c.refuse.result (ap (λ x. world_of s ls (texts x) notes) is ∙ c.self.view_is
     ∙ sym (ap (λ o. after_answer (unless_taken o (Ok tt)) (with_output w p) w) twice))
+
+pub returns-in_err-clone-clause-answer : goal.returns-in_err-clone-clause-answer
+returns-in_err-clone-clause-answer c = search rules
+
+pub returns-in_err-clone-clause-ok : goal.returns-in_err-clone-clause-ok
+returns-in_err-clone-clause-ok c = search rules
+
+pub returns-in_err-clone-clause-err : goal.returns-in_err-clone-clause-err
+returns-in_err-clone-clause-err c = search rules
+
+pub invariant_of-self : goal.invariant_of-self
+invariant_of-self c = search rules
+
+pub returns-in_err-push-clause-answer : goal.returns-in_err-push-clause-answer
+returns-in_err-push-clause-answer c = search rules
+
+pub returns-in_err-push-clause-ok : goal.returns-in_err-push-clause-ok
+returns-in_err-push-clause-ok c = search rules
+
+pub returns-in_err-push-clause-err : goal.returns-in_err-push-clause-err
+returns-in_err-push-clause-err c = search rules
+
+pub returns-in-Ok-None-clause-answer : goal.returns-in-Ok-None-clause-answer
+returns-in-Ok-None-clause-answer c = search rules
+
+pub returns-in-Ok-None-clause-err : goal.returns-in-Ok-None-clause-err
+returns-in-Ok-None-clause-err c = search rules
+
+pub returns-in-Ok-Some-clause-answer : goal.returns-in-Ok-Some-clause-answer
+returns-in-Ok-Some-clause-answer c = search rules
+
+pub returns-clause-answer : goal.returns-clause-answer
+returns-clause-answer c = search rules
+
+pub returns-clause-ok : goal.returns-clause-ok
+returns-clause-ok c = search rules
+
+pub returns-in-Ok-Some-clause-err : goal.returns-in-Ok-Some-clause-err
+returns-in-Ok-Some-clause-err c = grind (arith, common_steps)
+
+pub returns-clause-err : goal.returns-clause-err
+returns-clause-err c = grind (arith, common_steps)

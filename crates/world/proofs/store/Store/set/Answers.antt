@@ -1,4 +1,5 @@
-use Rattle.std.proofs.Common.{Some, ap, sym, subst, ◌∙◌}
+use Rattle.std.proofs.Common.{Some, ap, sym, subst, ◌∙◌, arith}
+use Rattle.std.proofs.lemmas.Grind.{common_steps}
 use Rattle.code.specs.Draft.{IsFront}
 use Rattle.code.proofs.NameLists.{begins_with_name}
 use Rattle.data.specs.View.{data_of}
@@ -26,3 +27,6 @@ returns-clause-world c =
     (variables_set s.names c.put.new.self s.slots.items c.reach.new.slots.items c.args.name.now c.in_ok-number.number (Some c.args.value)
     c.in_ok-number.ensures.names c.in_ok-number.ensures.number c.in_ok-reach.ensures.same c.in_ok-reach.ensures.room)
     ∙ ap (λ k. changing (with_variable c.args.name.now (Some (data_of c.args.value))) (world_of k)) c.self.view_is
+
+pub invariant_of-self-in_err-reach : goal.invariant_of-self-in_err-reach
+invariant_of-self-in_err-reach c = grind (arith, common_steps)
