@@ -30,7 +30,7 @@ use Rattle.grammar.proofs.Tails.{fails_at, length_lexemes, rest_is}
 
 -- ---- tokens that stand for something
 
-some_same : {B : Type 0} (x y : B) → ◌≡◌ {A = Option B} (Some x) (Some y) → x ≡ y
+pub some_same : {B : Type 0} (x y : B) → ◌≡◌ {A = Option B} (Some x) (Some y) → x ≡ y
 some_same x y e = cc
 
 some_none : {B : Type 0} (x : B) → ◌≡◌ {A = Option B} (Some x) None → ⊥

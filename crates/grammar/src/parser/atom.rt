@@ -1,16 +1,17 @@
 //! Reads atoms: names, literals, and what stands in brackets.
 
-ghost use Rattle.std.specs.Prelude.{Some, ◌≡◌, ◌-◌, ◌<◌, ◌≤◌, length, OnOk};
-ghost use Rattle.lexer.specs.Lexeme.{lexemes};
+ghost use Rattle.std.specs.Prelude.{Bool, IfSome, Ok, Some, ℕ, ◌≡◌, ◌-◌, ◌<◌, ◌≤◌, length, OnOk, option_map};
+ghost use Rattle.std.specs.Option.{IfNone, OnSome};
+ghost use Rattle.lexer.specs.Lexeme.{lexeme_of, lexemes};
 ghost use Rattle.grammar.specs.ExpressionTree.{expression_of};
 ghost use Rattle.grammar.specs.Expressions.{literal_of};
-ghost use Rattle.grammar.specs.Reading.{Gives, more_at};
-ghost use Rattle.grammar.specs.ReadingExpressions.{base_at, dictionary_at, entered_at, inner_at, list_at, literal_at, name_at};
+ghost use Rattle.grammar.specs.Reading.{Gives, head_is, more_at};
+ghost use Rattle.grammar.specs.ReadingExpressions.{base_at, dictionary_at, ends_expression, entered_at, inner_at, list_at, literal_at, name_at, single_of, ternary_at, unary_at};
 
 use super::{Parser, fitted, put};
 use crate::stop::ReadError;
 use crate::tree::{Entry, Expression, Literal};
-use lexer::token::Kind;
+use lexer::token::{Kind, Token};
 use std::alloc::Global;
 
 // The literal that a token is.
@@ -29,7 +30,59 @@ fn literal_of(kind: Kind) -> Option<Literal>
     }
 }
 
+// What a token is by itself, if it is a name or a literal.
+fn single<'a>(token: &Token<'a>) -> Option<Expression<'a>>
+    ensures { option_map expression_of result ≡ single_of (lexeme_of token.now) }
+{
+    if token.is(Kind::Name) {
+        return Some(Expression::Name {
+            name: token.text,
+            line: token.line,
+        });
+    }
+    let literal = literal_of(token.kind)?;
+    Some(Expression::Literal {
+        literal,
+        text: token.text,
+        line: token.line,
+    })
+}
+
+// Whether a token comes that goes on with no expression.
+fn ends_expression(tokens: &[Token<'_>]) -> bool
+    ensures { result ≡ head_is ends_expression (lexemes tokens.now) }
+{
+    let [token, ..] = tokens else {
+        return false;
+    };
+    match token.kind {
+        Kind::Comma | Kind::Colon | Kind::Newline => true,
+        Kind::CloseParenthesis | Kind::CloseBracket | Kind::CloseBrace => true,
+        _ => false,
+    }
+}
+
 impl<'a> Parser<'_, 'a> {
+    // Takes the expression that the first token is, where it ends behind that token. Most expressions are such, and so aren't handed
+    // through all that may stand in an expression.
+    #[tactic(auto, using(crate::proofs::Alone::token_alone))]
+    pub(super) fn alone(&mut self) -> Option<Expression<'a>>
+        ensures read { IfSome result (λ e. (levels : ℕ) (ternaries : Bool)
+            → ternary_at (unary_at levels) ternaries (lexemes self.old.rest.now) ≡ Ok (expression_of e, lexemes self.new.rest.now)) }
+        ensures shorter { OnSome result (length self.new.rest.now < length self.old.rest.now) }
+        ensures same { IfNone result (self.new.rest.now ≡ self.old.rest.now) }
+    {
+        let [token, rest @ ..] = self.rest else {
+            return None;
+        };
+        if !ends_expression(rest) {
+            return None;
+        }
+        let value = single(token)?;
+        self.rest = rest;
+        Some(value)
+    }
+
     #[tactic(auto, unfolding(crate::specs::ReadingExpressions::name_at))]
     fn name(&mut self) -> Result<Expression<'a>, ReadError>
         ensures read { Gives expression_of result (lexemes self.new.rest.now) (name_at (lexemes self.old.rest.now)) }

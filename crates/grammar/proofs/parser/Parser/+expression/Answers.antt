@@ -265,14 +265,14 @@ pub ternary-returns-in_err-test-clause-read : goal.ternary-returns-in_err-test-c
 unfolding disjunction_at
 ternary-returns-in_err-test-clause-read t c =
     let p = err_from_is_err_and c.from_residual.result c.from_residual.ensures.1 in
-    rw (p.1, p.2) (ternary_test_fails (unary_at c.args.levels) c.args.ternaries (lexemes c.args.self.now.rest.now) c.in_err-test.field-0.0 c.in_err-test.ensures.read)
+    rw (p.1, p.2) (ternary_test_fails (unary_at c.args.levels) c.args.ternaries (lexemes c.args.self.now.rest.now) c.in_err-test.field-0.0 (rw c.in_default.ensures.same at c.in_err-test.ensures.read))
 
 pub ternary-returns-in_err-take-clause-read : goal.ternary-returns-in_err-take-clause-read
 unfolding disjunction_at
 ternary-returns-in_err-take-clause-read t c =
     let p = err_from_is_err_and c.from_residual-in_err-take.result c.from_residual-in_err-take.ensures.1 in
     rw (p.1, p.2) (ternary_question_fails (unary_at c.args.levels) c.args.ternaries (lexemes c.args.self.now.rest.now) (expression_of c.in_ok-test.test) (lexemes c.chain.new.self.rest.now)
-    c.in_ok-test.ensures.read (sym c.asks.ensures ∙ c.if-not-asks.false)
+    (rw c.in_default.ensures.same at c.in_ok-test.ensures.read) (sym c.asks.ensures ∙ c.if-not-asks.false)
     c.in_err-take.field-0.0 c.in_err-take.ensures.read)
 
 pub ternary-returns-in_err-yes-clause-read : goal.ternary-returns-in_err-yes-clause-read
@@ -280,7 +280,7 @@ unfolding disjunction_at
 ternary-returns-in_err-yes-clause-read t c =
     let p = err_from_is_err_and c.from_residual-in_err-yes.result c.from_residual-in_err-yes.ensures.1 in
     rw (p.1, p.2) (ternary_one_fails (unary_at c.args.levels) c.args.ternaries (lexemes c.args.self.now.rest.now) (expression_of c.in_ok-test.test) (lexemes c.chain.new.self.rest.now)
-    c.in_ok-test.ensures.read (sym c.asks.ensures ∙ c.if-not-asks.false)
+    (rw c.in_default.ensures.same at c.in_ok-test.ensures.read) (sym c.asks.ensures ∙ c.if-not-asks.false)
     _ (lexemes c.take.new.self.rest.now) c.in_ok-take.ensures.read
     c.in_err-yes.field-0.0 c.in_err-yes.ensures.read)
 
@@ -289,7 +289,7 @@ unfolding disjunction_at
 ternary-returns-in_err-yes-2-clause-read t c =
     let p = err_from_is_err_and c.from_residual-in_err-yes-2.result c.from_residual-in_err-yes-2.ensures.1 in
     rw (p.1, p.2) (ternary_colon_fails (unary_at c.args.levels) c.args.ternaries (lexemes c.args.self.now.rest.now) (expression_of c.in_ok-test.test) (lexemes c.chain.new.self.rest.now)
-    c.in_ok-test.ensures.read (sym c.asks.ensures ∙ c.if-not-asks.false)
+    (rw c.in_default.ensures.same at c.in_ok-test.ensures.read) (sym c.asks.ensures ∙ c.if-not-asks.false)
     _ (lexemes c.take.new.self.rest.now) c.in_ok-take.ensures.read
     (expression_of c.in_ok-yes.yes) (lexemes c.chain-2.new.self.rest.now) c.in_ok-yes.ensures.read
     c.in_err-yes-2.field-0.0 c.in_err-yes-2.ensures.read)
@@ -299,7 +299,7 @@ unfolding disjunction_at
 ternary-returns-in_err-no-clause-read t c =
     let p = err_from_is_err_and c.from_residual-in_err-no.result c.from_residual-in_err-no.ensures.1 in
     rw (p.1, p.2) (ternary_other_fails (unary_at c.args.levels) c.args.ternaries (lexemes c.args.self.now.rest.now) (expression_of c.in_ok-test.test) (lexemes c.chain.new.self.rest.now)
-    c.in_ok-test.ensures.read (sym c.asks.ensures ∙ c.if-not-asks.false)
+    (rw c.in_default.ensures.same at c.in_ok-test.ensures.read) (sym c.asks.ensures ∙ c.if-not-asks.false)
     _ (lexemes c.take.new.self.rest.now) c.in_ok-take.ensures.read
     (expression_of c.in_ok-yes.yes) (lexemes c.chain-2.new.self.rest.now) c.in_ok-yes.ensures.read
     _ (lexemes c.closed.new.self.rest.now) c.in_ok-yes-2.ensures.read
@@ -309,13 +309,13 @@ pub ternary-returns-clause-read : goal.ternary-returns-clause-read
 unfolding disjunction_at
 ternary-returns-clause-read t c = returned _ _ _ _
     (ternary_asks (unary_at c.args.levels) c.args.ternaries (lexemes c.args.self.now.rest.now) (expression_of c.in_ok-test.test) (lexemes c.chain.new.self.rest.now)
-    c.in_ok-test.ensures.read (sym c.asks.ensures ∙ c.if-not-asks.false)
+    (rw c.in_default.ensures.same at c.in_ok-test.ensures.read) (sym c.asks.ensures ∙ c.if-not-asks.false)
     _ (lexemes c.take.new.self.rest.now) c.in_ok-take.ensures.read
     (expression_of c.in_ok-yes.yes) (lexemes c.chain-2.new.self.rest.now) c.in_ok-yes.ensures.read
     _ (lexemes c.closed.new.self.rest.now) c.in_ok-yes-2.ensures.read
     (expression_of c.in_ok-no.no) (lexemes c.chain-3.new.self.rest.now) c.in_ok-no.ensures.read)
     (ternary_seen c.in_ok-test-2.test c.in_ok-yes-3.yes c.in_ok-no-2.no c.first_line-line.result _ _ _ _ (ap expression_of (sym c.in_ok-test-2.ensures))
-    (ap expression_of (sym (c.in_ok-yes-3.ensures ∙ c.in_ok-yes-2.ensures.same))) (ap expression_of (sym c.in_ok-no-2.ensures)) (sym c.first_line-line.ensures))
+    (ap expression_of (sym (c.in_ok-yes-3.ensures ∙ c.in_ok-yes-2.ensures.same))) (ap expression_of (sym c.in_ok-no-2.ensures)) (sym (rw c.in_default.ensures.same at c.first_line-line.ensures)))
 
 pub link-returns-then-begins-clause-read : goal.link-returns-then-begins-clause-read
 link-returns-then-begins-clause-read t c = returned _ _ _ _
@@ -354,10 +354,10 @@ unary-returns-in-Some-clause-read t c = returned _ _ _ _
 -- ---- what is left is less
 
 pub ternary-returns-clause-shorter : goal.ternary-returns-clause-shorter
-ternary-returns-clause-shorter t c = lt_trans c.in_ok-no.ensures.shorter (lt_trans c.in_ok-yes-2.ensures.shorter (lt_trans c.in_ok-yes.ensures.shorter (lt_trans c.in_ok-take.ensures.shorter c.in_ok-test.ensures.shorter)))
+ternary-returns-clause-shorter t c = lt_trans c.in_ok-no.ensures.shorter (lt_trans c.in_ok-yes-2.ensures.shorter (lt_trans c.in_ok-yes.ensures.shorter (lt_trans c.in_ok-take.ensures.shorter (rw c.in_default.ensures.same at c.in_ok-test.ensures.shorter))))
 
 pub ternary-returns-then-not-asks-clause-shorter : goal.ternary-returns-then-not-asks-clause-shorter
-ternary-returns-then-not-asks-clause-shorter t c = c.in_ok-test.ensures.shorter
+ternary-returns-then-not-asks-clause-shorter t c = rw c.in_default.ensures.same at c.in_ok-test.ensures.shorter
 
 pub comparison-returns-clause-shorter : goal.comparison-returns-clause-shorter
 comparison-returns-clause-shorter t c = lt_trans c.in_ok-value.ensures.shorter (lt_trans c.in_ok-operator.ensures.shorter c.in_ok-first.ensures.shorter)
@@ -424,7 +424,7 @@ pub ternary-returns-then-not-asks-clause-read : goal.ternary-returns-then-not-as
 unfolding disjunction_at
 ternary-returns-then-not-asks-clause-read t c =
     ternary_alone (unary_at c.args.levels) c.args.ternaries (lexemes c.args.self.now.rest.now) (expression_of c.in_ok-test.test) (lexemes c.chain.new.self.rest.now)
-    c.in_ok-test.ensures.read (sym c.asks.ensures ∙ c.if-not-asks.true)
+    (rw c.in_default.ensures.same at c.in_ok-test.ensures.read) (sym c.asks.ensures ∙ c.if-not-asks.true)
 
 pub comparison-returns-then-not-compares-clause-read : goal.comparison-returns-then-not-compares-clause-read
 unfolding sum_at
