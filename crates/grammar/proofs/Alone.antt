@@ -1,22 +1,25 @@
 -- An expression of one token, with a token behind it that goes on with none.
-use Rattle.std.proofs.Common.{◌&&◌, ◌≡◌, ℕ, ◌-◌, ◌≤◌, Bool, Option, Some, None, true, false, List, [], ◌∷◌, length, get_or, take, drop, Ok, refl, sym, ap, ◌∙◌, arith}
+use Rattle.std.proofs.Common.{◌&&◌, ◌≡◌, ℕ, ◌+◌, ◌-◌, ◌<◌, ◌≤◌, Bool, Option, Some, None, true, false, List, [], ◌∷◌, length, get_or, take, drop, Ok, Err, refl, sym, ap, ◌∙◌, arith, inl, inr}
 use Rattle.std.specs.Option.{option_map}
 use Rattle.lexer.specs.declared.token.Kind.{Kind}
 use Rattle.lexer.specs.declared.token.Kind.TheVariants as Kinds
 use Rattle.lexer.specs.declared.token.Token.{Token}
 use Rattle.lexer.specs.Kinds.{is}
 use Rattle.lexer.specs.Lexeme.{Lexeme, lexeme_of, lexemes}
+use Rattle.grammar.specs.declared.stop.Stop.TheVariants.{Unexpected}
 use Rattle.grammar.specs.declared.tree.Expression.{Expression}
 use Rattle.grammar.specs.declared.tree.Operator.{Operator}
-use Rattle.grammar.specs.Expressions.{additive, conjunctive, disjunctive, multiplicative}
-use Rattle.grammar.specs.ExpressionTree.{ExpressionTree, NameTree, expression_of}
+use Rattle.grammar.specs.Expressions.{additive, conjunctive, disjunctive, literal_of, multiplicative}
+use Rattle.grammar.specs.ExpressionTree.{ExpressionTree, LiteralTree, NameTree, expression_of}
 use Rattle.grammar.specs.Parts.{stands_for, token_as_at}
 use Rattle.grammar.specs.Reading.{Reader, begins, head_is, or_at, token_at}
-use Rattle.grammar.specs.ReadingExpressions.{asks, atom_at, base_at, chain_at, compares, conjunction_at, disjunction_at, ends_expression, inner_at, links_on, literal_at, name_at, prefix_of, product_at, single_of, sum_at, ternary_at, unary_at}
+use Rattle.grammar.specs.ReadingExpressions.{asks, atom_at, base_at, chain_at, compares, conjunction_at, disjunction_at, ends_expression, inner_at, links_on, literal_at, name_at, prefix_of, product_at, single_at, single_of, sum_at, ternary_at, unary_at}
 use Rattle.grammar.proofs.AtomTails.{comparison_alone}
-use Rattle.grammar.proofs.ExpressionTails.{chain_alone, postfix_alone, some_same, ternary_alone}
+use Rattle.grammar.proofs.ExpressionTails.{chain_alone, postfix_alone, some_none, some_same, ternary_alone}
+use Rattle.grammar.proofs.Laws.{cases_bool}
 use Rattle.grammar.proofs.Starts.{begins-head}
-use Rattle.grammar.proofs.Tails.{rest_is}
+use Rattle.grammar.proofs.Steps.{cases_option}
+use Rattle.grammar.proofs.Tails.{fails_at, length_lexemes, rest_is}
 
 -- ---- what goes on with no expression
 
@@ -106,7 +109,51 @@ module _ (n : ℕ) (b : Bool) (t : Lexeme) (rest : List Lexeme) (e : ExpressionT
   single_alone : ternary_at (unary_at n) b (t ∷ rest) ≡ Ok (e, rest)
   single_alone = ternary_alone (unary_at n) b (t ∷ rest) e rest disjunction_alone asked_by_none
 
+-- ---- a name or a literal, with anything behind it
+
+single_read : (t : Lexeme) (ts : List Lexeme) (e : ExpressionTree) → single_of t ≡ Some e → single_at (t ∷ ts) ≡ Ok (e, ts)
+unfolding single_at or_at name_at literal_at token_at token_as_at
+single_read t ts e s = elim (cases_bool (is t.kind Kinds.Name)) [
+  | inl y ↦
+      let same : NameTree t.text t.line ≡ e = some_same (NameTree t.text t.line) e (sym (rw y refl) ∙ s) in
+      rw y (ap (λ (x : ExpressionTree). Ok (x, ts)) same)
+  | inr m ↦ elim (cases_option (literal_of t.kind)) [
+    | inl none ↦ absurd (some_none e (sym s ∙ rw (m, none) refl))
+    | inr w ↦
+        let same : LiteralTree w.0 t.text t.line ≡ e = some_same (LiteralTree w.0 t.text t.line) e (sym (rw (m, w.1) refl) ∙ s) in
+        rw (m, w.1) (ap (λ (x : ExpressionTree). Ok (x, ts)) same)
+  ]
+]
+
+single_refused : (t : Lexeme) (ts : List Lexeme) → single_of t ≡ None → single_at (t ∷ ts) ≡ Err (Unexpected (length ts + 1))
+unfolding single_at or_at literal_at token_as_at
+single_refused t ts s = elim (cases_bool (is t.kind Kinds.Name)) [
+  | inl y ↦ absurd (some_none (NameTree t.text t.line) (sym (rw y refl) ∙ s))
+  | inr m ↦ elim (cases_option (literal_of t.kind)) [
+    | inl none ↦ rw (m, none) refl
+    | inr w ↦ absurd (some_none (LiteralTree w.0 t.text t.line) (sym (rw (m, w.1) refl) ∙ s))
+  ]
+]
+
 -- ---- of the tokens of the code
+
+pub single_end : (ts : List Token) → length ts < 1 → single_at (lexemes ts) ≡ Err (Unexpected (length ts))
+unfolding single_at or_at literal_at token_as_at
+single_end [] lt = refl
+single_end (t ∷ ts) lt = absurd (omega arith)
+
+pub single_missing : (ts : List Token) (d : Token) (o : Option Expression) → 1 ≤ length ts
+    → option_map expression_of o ≡ single_of (lexeme_of (get_or ts 0 d)) → o ≡ None → single_at (lexemes ts) ≡ Err (Unexpected (length ts))
+single_missing [] d o le s is_none = absurd (omega arith)
+single_missing (t ∷ ts) d o le s is_none = single_refused (lexeme_of t) (lexemes ts) (sym s ∙ ap (option_map expression_of) is_none)
+    ∙ ap (λ (n : ℕ). Err (Unexpected n)) (let q : length (lexemes ts) + 1 ≡ length (t ∷ ts) = omega (arith, length_lexemes ts) in q)
+
+pub single_found : (ts : List Token) (d : Token) (o : Option Expression) (x : Expression) → 1 ≤ length ts
+    → option_map expression_of o ≡ single_of (lexeme_of (get_or ts 0 d)) → o ≡ Some x
+    → single_at (lexemes ts) ≡ Ok (expression_of x, lexemes (take (length ts - 1) (drop 1 ts)))
+single_found [] d o x le s is_x = absurd (omega arith)
+single_found (t ∷ ts) d o x le s is_x = rw (ap lexemes (sym (rest_is t ts)))
+    (single_read (lexeme_of t) (lexemes ts) (expression_of x) (sym s ∙ ap (option_map expression_of) is_x))
 
 pub token_alone : (n : ℕ) (b : Bool) (ts : List Token) (d : Token) (o : Option Expression) (x : Expression) → 1 ≤ length ts
     → option_map expression_of o ≡ single_of (lexeme_of (get_or ts 0 d)) → o ≡ Some x
@@ -117,3 +164,7 @@ token_alone n b (t ∷ ts) d o x le s is_x ending =
     let same : lexemes (take (length (t ∷ ts) - 1) ts) ≡ lexemes ts = ap lexemes (sym (rest_is t ts)) in
     let single : single_of (lexeme_of t) ≡ Some (expression_of x) = sym s ∙ ap (option_map expression_of) is_x in
     rw same (single_alone n b (lexeme_of t) (lexemes ts) (expression_of x) single (ap (head_is ends_expression) (sym same) ∙ ending))
+
+-- ---- the lemmas of one function
+
+pub ruleset single_cases = (single_end, single_missing, single_found, fails_at)

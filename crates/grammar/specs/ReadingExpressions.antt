@@ -154,6 +154,9 @@ single_of t =
     if is t.kind Kinds.Name then Some (NameTree t.text t.line)
     else option_map (λ l. LiteralTree l t.text t.line) (literal_of t.kind)
 
+unfoldable pub single_at : Reader ExpressionTree
+single_at ts = or_at (begins Kinds.Name) name_at literal_at ts
+
 -- kinds that go on with no expression: an element, an argument, an entry or a statement ends before them
 abbrev pub ends_expression : Kind → Bool
 ends_expression Kinds.Comma = true

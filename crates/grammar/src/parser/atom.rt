@@ -6,7 +6,7 @@ ghost use Rattle.lexer.specs.Lexeme.{lexeme_of, lexemes};
 ghost use Rattle.grammar.specs.ExpressionTree.{expression_of};
 ghost use Rattle.grammar.specs.Expressions.{literal_of};
 ghost use Rattle.grammar.specs.Reading.{Gives, head_is, more_at};
-ghost use Rattle.grammar.specs.ReadingExpressions.{base_at, dictionary_at, ends_expression, entered_at, inner_at, list_at, literal_at, name_at, single_of, ternary_at, unary_at};
+ghost use Rattle.grammar.specs.ReadingExpressions.{base_at, dictionary_at, ends_expression, entered_at, inner_at, list_at, single_at, single_of, ternary_at, unary_at};
 
 use super::{Parser, fitted, put};
 use crate::stop::ReadError;
@@ -31,7 +31,7 @@ fn literal_of(kind: Kind) -> Option<Literal>
 }
 
 // What a token is by itself, if it is a name or a literal.
-fn single<'a>(token: &Token<'a>) -> Option<Expression<'a>>
+fn single_of<'a>(token: &Token<'a>) -> Option<Expression<'a>>
     ensures { option_map expression_of result ≡ single_of (lexeme_of token.now) }
 {
     if token.is(Kind::Name) {
@@ -78,40 +78,25 @@ impl<'a> Parser<'_, 'a> {
         if !ends_expression(rest) {
             return None;
         }
-        let value = single(token)?;
+        let value = single_of(token)?;
         self.rest = rest;
         Some(value)
     }
 
-    #[tactic(auto, unfolding(crate::specs::ReadingExpressions::name_at))]
-    fn name(&mut self) -> Result<Expression<'a>, ReadError>
-        ensures read { Gives expression_of result (lexemes self.new.rest.now) (name_at (lexemes self.old.rest.now)) }
-        ensures shorter { OnOk result (length self.new.rest.now < length self.old.rest.now) }
-    {
-        let token = self.take(Kind::Name)?;
-        Ok(Expression::Name {
-            name: token.text,
-            line: token.line,
-        })
-    }
-
-    #[tactic(auto, using(crate::proofs::ExpressionTails::literal_cases))]
-    fn literal(&mut self) -> Result<Expression<'a>, ReadError>
-        ensures read { Gives expression_of result (lexemes self.new.rest.now) (literal_at (lexemes self.old.rest.now)) }
+    // A name or a literal.
+    #[tactic(auto, using(crate::proofs::Alone::single_cases))]
+    fn single(&mut self) -> Result<Expression<'a>, ReadError>
+        ensures read { Gives expression_of result (lexemes self.new.rest.now) (single_at (lexemes self.old.rest.now)) }
         ensures shorter { OnOk result (length self.new.rest.now < length self.old.rest.now) }
     {
         let [token, rest @ ..] = self.rest else {
             return Err(self.unexpected());
         };
-        let Some(literal) = literal_of(token.kind) else {
+        let Some(value) = single_of(token) else {
             return Err(self.unexpected());
         };
         self.rest = rest;
-        Ok(Expression::Literal {
-            literal,
-            text: token.text,
-            line: token.line,
-        })
+        Ok(value)
     }
 
     // Whether a further element of a list comes, with the comma before it taken.
@@ -189,7 +174,7 @@ impl<'a> Parser<'_, 'a> {
 
     // A call of a function, or an atom.
     #[cycle(expression)]
-    #[tactic(auto, using(crate::proofs::ExpressionTails::base_call, crate::proofs::ExpressionTails::atom_name, crate::proofs::ExpressionTails::atom_group, crate::proofs::ExpressionTails::atom_list, crate::proofs::ExpressionTails::atom_dictionary, crate::proofs::ExpressionTails::atom_literal), unfolding(crate::specs::ReadingExpressions::call_at, crate::specs::ReadingExpressions::entered_at, crate::specs::ReadingExpressions::group_at))]
+    #[tactic(auto, using(crate::proofs::ExpressionTails::base_call, crate::proofs::ExpressionTails::atom_group, crate::proofs::ExpressionTails::atom_list, crate::proofs::ExpressionTails::atom_dictionary, crate::proofs::ExpressionTails::atom_single), unfolding(crate::specs::ReadingExpressions::call_at, crate::specs::ReadingExpressions::entered_at, crate::specs::ReadingExpressions::group_at))]
     pub(super) fn base(
         &mut self,
         alloc: Global,
@@ -208,8 +193,6 @@ impl<'a> Parser<'_, 'a> {
                 arguments,
                 line: name.line,
             })
-        } else if self.begins(Kind::Name) {
-            self.name()
         } else if self.begins(Kind::OpenParenthesis) {
             let (_, levels) = self.enter(Kind::OpenParenthesis, levels)?;
             let inner = self.ternary(alloc, levels, ternaries)?;
@@ -219,7 +202,7 @@ impl<'a> Parser<'_, 'a> {
         } else if self.begins(Kind::OpenBrace) {
             self.dictionary(alloc, levels, ternaries)
         } else {
-            self.literal()
+            self.single()
         }
     }
 }
