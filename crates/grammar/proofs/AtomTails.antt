@@ -5,7 +5,7 @@ use Rattle.lexer.specs.Lexeme.{Lexeme}
 use Rattle.grammar.specs.declared.stop.ReadError.{ReadError}
 use Rattle.grammar.specs.declared.stop.ReadError.TheVariants as errors
 use Rattle.grammar.specs.declared.tree.Operator.{Operator}
-use Rattle.grammar.specs.ExpressionTree.{ArgumentTree, ChainTree, ExpressionTree, operands}
+use Rattle.grammar.specs.ExpressionTree.{ChainTree, ExpressionTree, operands}
 use Rattle.grammar.specs.Parts.{first_line}
 use Rattle.grammar.specs.Reading.{Reader, Fails, begins, head_is, optional_at, or_at, token_at, two_begin}
 use Rattle.grammar.specs.ReadingExpressions.{base_at, call_at, compared_at, compares, comparison_at, comparison_operator_at, enter_at, entered_at, group_at, index_at, inner_at, items_at, link_at, method_at, sum_at, ternary_at, unary_at}
@@ -28,29 +28,28 @@ module _ (n : ℕ) (b : Bool) (ts : List Lexeme) where
 
   -- ---- what stands in parentheses
 
-  module _ (c : two_begin Kinds.Name Kinds.OpenParenthesis ts ≡ false) (e : begins Kinds.Name ts ≡ false)
-      (f : begins Kinds.OpenParenthesis ts ≡ true) where
+  module _ (c : two_begin Kinds.Name Kinds.OpenParenthesis ts ≡ false) (f : begins Kinds.OpenParenthesis ts ≡ true) where
     pub group_opening_fails : (d : ReadError) → Fails d (enter_at Kinds.OpenParenthesis n ts) → Fails d (base_at (inner_at n) b ts)
     unfolding entered_at
     group_opening_fails errors.Memory h = tt
-    group_opening_fails (errors.Stop s) h = atom_group n b ts c e f ∙ rw h refl
+    group_opening_fails (errors.Stop s) h = atom_group n b ts c f ∙ rw h refl
 
     module _ (o : Lexeme) (m : ℕ) (inside : List Lexeme) (h : enter_at Kinds.OpenParenthesis n ts ≡ Ok ((o, m), inside)) where
       pub group_inner_fails : (d : ReadError) → Fails d (ternary_at (unary_at m) b inside) → Fails d (base_at (inner_at n) b ts)
       unfolding entered_at group_at
       group_inner_fails errors.Memory g = tt
-      group_inner_fails (errors.Stop s) g = atom_group n b ts c e f ∙ rw (h, g) refl
+      group_inner_fails (errors.Stop s) g = atom_group n b ts c f ∙ rw (h, g) refl
 
       module _ (a : ExpressionTree) (mid : List Lexeme) (g : ternary_at (unary_at m) b inside ≡ Ok (a, mid)) where
         pub group_close_fails : (d : ReadError) → Fails d (token_at Kinds.CloseParenthesis mid) → Fails d (base_at (inner_at n) b ts)
         unfolding entered_at group_at
         group_close_fails errors.Memory l = tt
-        group_close_fails (errors.Stop s) l = atom_group n b ts c e f ∙ rw (h, g, l) refl
+        group_close_fails (errors.Stop s) l = atom_group n b ts c f ∙ rw (h, g, l) refl
 
         pub group_reads : (t : Lexeme) (rest : List Lexeme) → token_at Kinds.CloseParenthesis mid ≡ Ok (t, rest)
             → base_at (inner_at n) b ts ≡ Ok (a, rest)
         unfolding entered_at group_at
-        group_reads t rest l = atom_group n b ts c e f ∙ rw (h, g, l) refl
+        group_reads t rest l = atom_group n b ts c f ∙ rw (h, g, l) refl
 
   -- ---- methods
 

@@ -1,5 +1,5 @@
 -- What reading blocks answers, step by step.
-use Rattle.std.proofs.Common.{◌≡◌, ◌∙◌, ℕ, Bool, true, false, List, [], ◌∷◌, map, Ok, Vec, refl, sym}
+use Rattle.std.proofs.Common.{◌≡◌, ◌∙◌, ℕ, true, List, map, Ok, Vec, refl}
 use Rattle.std.specs.Global.{Global}
 use Rattle.lexer.specs.declared.token.Kind.TheVariants as Kinds
 use Rattle.lexer.specs.Lexeme.{Lexeme}
@@ -12,8 +12,8 @@ use Rattle.grammar.specs.declared.tree.Statement.TheFolds.{fold-roll-Branch}
 use Rattle.grammar.specs.ExpressionTree.{ExpressionTree, expression_of}
 use Rattle.grammar.specs.Parts.{first_line}
 use Rattle.grammar.specs.Reading.{Reader, Fails, begins, token_at}
-use Rattle.grammar.specs.ReadingStatements.{body_at, branch_at, conditional_at, last_part_at, otherwise_at, parts_at}
-use Rattle.grammar.specs.Tree.{BranchTree, IfTree, StatementTree, branch_of, branch_step, branches, statement_of, statement_step, statements}
+use Rattle.grammar.specs.ReadingStatements.{body_at, branch_at, last_part_at, otherwise_at}
+use Rattle.grammar.specs.Tree.{BranchTree, StatementTree, branch_of, branch_step, statement_of, statement_step, statements}
 use Rattle.grammar.proofs.StatementTails.{otherwise_part}
 
 -- ---- a condition and what stands behind it

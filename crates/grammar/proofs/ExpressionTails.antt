@@ -7,33 +7,34 @@ use Rattle.grammar.specs.declared.stop.Stop.{Stop}
 use Rattle.grammar.specs.declared.stop.Stop.TheVariants.{Unexpected, TooDeep}
 use Rattle.grammar.specs.declared.stop.ReadError.{ReadError}
 use Rattle.grammar.specs.declared.stop.ReadError.TheVariants as errors
+use Rattle.lexer.specs.Kinds.{is}
 use Rattle.lexer.specs.Lexeme.{Lexeme, lexeme_of, lexemes}
-use Rattle.grammar.specs.ExpressionTree.{ArgumentTree, ChainTree, DictionaryTree, EntryTree, ListTree, entries, expressions, ExpressionTree, FunctionTree, IndexTree, LinkTree, LiteralTree, MethodTree, OperandTree, PostfixTree, PrefixTree, TernaryTree, arguments, links, operands}
+use Rattle.grammar.specs.ExpressionTree.{ArgumentTree, ChainTree, DictionaryTree, EntryTree, ListTree, entries, expressions, ExpressionTree, FunctionTree, IndexTree, LinkTree, MethodTree, OperandTree, PostfixTree, PrefixTree, TernaryTree, arguments, links, operands}
 use Rattle.grammar.specs.declared.tree.Prefix.{Prefix}
 use Rattle.grammar.specs.declared.tree.Prefix.TheVariants as prefixes
 use Rattle.grammar.proofs.Laws.{cases_bool, cases_result}
 use Rattle.grammar.proofs.Gathered.{head_long, many_none}
 use Rattle.grammar.proofs.Loops.{many_some}
+use Rattle.grammar.proofs.Numbers.{is-true}
 use Rattle.grammar.proofs.Starts.{begins-head}
 use Rattle.grammar.specs.Reading.{Reader, ◌>>=◌, Fails, begins, deep_at, head_is, listed_at, optional_at, or_at, token_at, two_begin}
 use Rattle.grammar.specs.declared.parser.expression.Rank.{Rank}
 use Rattle.grammar.specs.declared.parser.expression.Rank.TheVariants as ranks
 use Rattle.std.specs.Option.{is_some}
-use Rattle.grammar.specs.declared.tree.Literal.{Literal}
 use Rattle.grammar.specs.declared.tree.Operator.{Operator}
-use Rattle.grammar.specs.Expressions.{comparative, is_named, literal_of, ternary_tree}
+use Rattle.grammar.specs.Expressions.{comparative, is_named, ternary_tree}
 use Rattle.grammar.specs.Form.{same_state}
 use Rattle.grammar.specs.Parts.{after_as, first_line, opened_at, stands_for, taken, token_as_at}
-use Rattle.grammar.specs.ReadingExpressions.{argument_at, atom_at, base_at, branches_at, call_at, chain_at, ternary_at, comparison_operator_at, dictionary_at, disjunction_at, enter_at, entered_at, entry_at, group_at, index_at, inner_at, items_at, link_at, list_at, label_at, links_at, links_on, literal_at, method_at, name_at, name_colon_at, named_at, not_in_at, operand_at, operands_at, plain_comparison_at, positional_at, postfix_at, prefix_of, prefixed_at, unary_at, unary_in_at, word_of}
+use Rattle.grammar.specs.ReadingExpressions.{argument_at, atom_at, base_at, branches_at, call_at, chain_at, ternary_at, comparison_operator_at, dictionary_at, disjunction_at, enter_at, entered_at, entry_at, group_at, index_at, inner_at, items_at, link_at, list_at, label_at, links_at, links_on, method_at, name_colon_at, named_at, not_in_at, operand_at, operands_at, plain_comparison_at, positional_at, postfix_at, prefix_of, prefixed_at, single_at, unary_at, unary_in_at, word_of}
 use Rattle.grammar.proofs.Steps.{cases_option}
 use Rattle.grammar.proofs.Tails.{fails_at, length_lexemes, rest_is}
 
 -- ---- tokens that stand for something
 
-some_same : {B : Type 0} (x y : B) → ◌≡◌ {A = Option B} (Some x) (Some y) → x ≡ y
+pub some_same : {B : Type 0} (x y : B) → ◌≡◌ {A = Option B} (Some x) (Some y) → x ≡ y
 some_same x y e = cc
 
-some_none : {B : Type 0} (x : B) → ◌≡◌ {A = Option B} (Some x) None → ⊥
+pub some_none : {B : Type 0} (x : B) → ◌≡◌ {A = Option B} (Some x) None → ⊥
 some_none x e = cc
 
 module _ {B : Type 0} (f : Kind → Option B) where
@@ -87,19 +88,6 @@ module _ {B : Type 0} (f : Kind → Option B) where
     | inl n ↦ (ap (λ (p : Option B × List Lexeme). p.1) (e ∙ ap (λ (o : Option B). after_as o t ts) n), ap is_some n)
     | inr w ↦ absurd (some_none w.0 (sym (ap (λ (p : Option B × List Lexeme). p.0) (e ∙ ap (λ (o : Option B). after_as o t ts) w.1))))
   ]
-
-pub literal_end : (ts : List Token) → length ts < 1 → literal_at (lexemes ts) ≡ Err (Unexpected (length ts))
-unfolding literal_at
-literal_end ts lt = rw (as_end literal_of ts lt) refl
-
-pub literal_missing : (ts : List Token) (d : Token) → 1 ≤ length ts → literal_of (get_or ts 0 d).kind ≡ None → literal_at (lexemes ts) ≡ Err (Unexpected (length ts))
-unfolding literal_at
-literal_missing ts d le e = rw (as_missing literal_of ts d le e) refl
-
-pub literal_found : (ts : List Token) (d : Token) (x : Literal) → 1 ≤ length ts → literal_of (get_or ts 0 d).kind ≡ Some x
-    → literal_at (lexemes ts) ≡ Ok (LiteralTree x (get_or ts 0 d).text.now (get_or ts 0 d).line, lexemes (take (length ts - 1) (drop 1 ts)))
-unfolding literal_at
-literal_found ts d x le e = rw (as_found literal_of ts d x le e) refl
 
 pub taken_other : {B : Type 0} (f : Kind → Option B) (o : Option B) (ts rest : List Lexeme) → (o, rest) ≡ taken f ts → o ≡ None → (rest ≡ ts) × (head_is (stands_for f) ts ≡ false)
 taken_other f o ts rest e n = taken_none f ts rest (ap (λ (p : Option _). (p, rest)) (sym n) ∙ e)
@@ -238,6 +226,11 @@ enter_missing k (suc n) ts le b = absurd (omega arith)
 
 -- ---- atoms
 
+-- a token of one kind is none of another
+begins_other : (k l : Kind) → is k l ≡ false → (ts : List Lexeme) → begins k ts ≡ true → begins l ts ≡ false
+begins_other k l other [] e = refl
+begins_other k l other (t ∷ ts) e = subst (λ (m : Kind). is m l ≡ false) (sym (is-true t.kind k e)) other
+
 module _ (n : ℕ) (b : Bool) (ts : List Lexeme) where
   pub base_call : two_begin Kinds.Name Kinds.OpenParenthesis ts ≡ true → base_at (inner_at n) b ts ≡ call_at (entered_at Kinds.OpenParenthesis n (λ e. items_at e b)) ts
   unfolding base_at or_at
@@ -254,25 +247,21 @@ module _ (n : ℕ) (b : Bool) (ts : List Lexeme) where
     unfolding base_at or_at
     base_atom = rw no_call
 
-    pub atom_name : begins Kinds.Name ts ≡ true → base_at (inner_at n) b ts ≡ name_at ts
+    pub atom_group : begins Kinds.OpenParenthesis ts ≡ true → base_at (inner_at n) b ts ≡ entered_at Kinds.OpenParenthesis n (λ e. group_at e b) ts
     unfolding atom_at or_at
-    atom_name e = base_atom ∙ rw e refl
+    atom_group f = base_atom ∙ rw (begins_other Kinds.OpenParenthesis Kinds.Name refl ts f, f) (opened_entered Kinds.OpenParenthesis (λ e. group_at e b) n ts)
 
-    pub atom_group : begins Kinds.Name ts ≡ false → begins Kinds.OpenParenthesis ts ≡ true → base_at (inner_at n) b ts ≡ entered_at Kinds.OpenParenthesis n (λ e. group_at e b) ts
+    pub atom_list : begins Kinds.OpenParenthesis ts ≡ false → begins Kinds.OpenBracket ts ≡ true → base_at (inner_at n) b ts ≡ entered_at Kinds.OpenBracket n (λ e. list_at e b) ts
     unfolding atom_at or_at
-    atom_group e f = base_atom ∙ rw (e, f) (opened_entered Kinds.OpenParenthesis (λ e. group_at e b) n ts)
+    atom_list f g = base_atom ∙ rw (begins_other Kinds.OpenBracket Kinds.Name refl ts g, f, g) (opened_entered Kinds.OpenBracket (λ e. list_at e b) n ts)
 
-    pub atom_list : begins Kinds.Name ts ≡ false → begins Kinds.OpenParenthesis ts ≡ false → begins Kinds.OpenBracket ts ≡ true → base_at (inner_at n) b ts ≡ entered_at Kinds.OpenBracket n (λ e. list_at e b) ts
+    pub atom_dictionary : begins Kinds.OpenParenthesis ts ≡ false → begins Kinds.OpenBracket ts ≡ false → begins Kinds.OpenBrace ts ≡ true → base_at (inner_at n) b ts ≡ entered_at Kinds.OpenBrace n (λ e. dictionary_at e b) ts
     unfolding atom_at or_at
-    atom_list e f g = base_atom ∙ rw (e, f, g) (opened_entered Kinds.OpenBracket (λ e. list_at e b) n ts)
+    atom_dictionary f g h = base_atom ∙ rw (begins_other Kinds.OpenBrace Kinds.Name refl ts h, f, g, h) (opened_entered Kinds.OpenBrace (λ e. dictionary_at e b) n ts)
 
-    pub atom_dictionary : begins Kinds.Name ts ≡ false → begins Kinds.OpenParenthesis ts ≡ false → begins Kinds.OpenBracket ts ≡ false → begins Kinds.OpenBrace ts ≡ true → base_at (inner_at n) b ts ≡ entered_at Kinds.OpenBrace n (λ e. dictionary_at e b) ts
-    unfolding atom_at or_at
-    atom_dictionary e f g h = base_atom ∙ rw (e, f, g, h) (opened_entered Kinds.OpenBrace (λ e. dictionary_at e b) n ts)
-
-    pub atom_literal : begins Kinds.Name ts ≡ false → begins Kinds.OpenParenthesis ts ≡ false → begins Kinds.OpenBracket ts ≡ false → begins Kinds.OpenBrace ts ≡ false → base_at (inner_at n) b ts ≡ literal_at ts
-    unfolding atom_at or_at
-    atom_literal e f g h = base_atom ∙ rw (e, f, g, h) refl
+    pub atom_single : begins Kinds.OpenParenthesis ts ≡ false → begins Kinds.OpenBracket ts ≡ false → begins Kinds.OpenBrace ts ≡ false → base_at (inner_at n) b ts ≡ single_at ts
+    unfolding atom_at or_at single_at
+    atom_single f g h = base_atom ∙ elim (cases_bool (begins Kinds.Name ts)) [ inl y ↦ rw y refl | inr m ↦ rw (m, f, g, h) refl ]
 
   pub link_method : begins Kinds.Dot ts ≡ true → link_at (inner_at n) b ts ≡ method_at (entered_at Kinds.OpenParenthesis n (λ e. items_at e b)) ts
   unfolding link_at or_at
@@ -516,8 +505,6 @@ weight ranks.And = 21
 weight ranks.Or = 25
 
 -- ---- the lemmas of one function each
-
-pub ruleset literal_cases = (literal_end, literal_missing, literal_found, fails_at)
 
 pub ruleset label_cases = (label_some, label_none, label_fails)
 

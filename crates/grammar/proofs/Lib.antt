@@ -1,4 +1,5 @@
 pub mod Alike
+pub mod Alone
 pub mod Atoms
 pub mod AtomTails
 pub mod Binding

@@ -1,6 +1,6 @@
 -- Reading expressions, as functions.
 use Rattle.std.specs.Prelude.{ℕ, zero, suc, Bool, true, false, cond, if◌then◌else◌, List, length, Ok, Option, Some, None}
-use Rattle.std.specs.Option.{option_to_list}
+use Rattle.std.specs.Option.{option_map, option_to_list}
 use Rattle.lexer.specs.Lexeme.{Lexeme}
 use Rattle.lexer.specs.Kinds.{is}
 use Rattle.lexer.specs.declared.token.Kind.{Kind}
@@ -145,6 +145,27 @@ atom_at u b ts =
     (or_at (begins Kinds.OpenBracket) (opened_at Kinds.OpenBracket u (λ e. list_at e b))
     (or_at (begins Kinds.OpenBrace) (opened_at Kinds.OpenBrace u (λ e. dictionary_at e b))
     literal_at))) ts
+
+-- ---- one token
+
+-- what a token is by itself: a name or a literal
+abbrev pub single_of : Lexeme → Option ExpressionTree
+single_of t =
+    if is t.kind Kinds.Name then Some (NameTree t.text t.line)
+    else option_map (λ l. LiteralTree l t.text t.line) (literal_of t.kind)
+
+unfoldable pub single_at : Reader ExpressionTree
+single_at ts = or_at (begins Kinds.Name) name_at literal_at ts
+
+-- kinds that go on with no expression: an element, an argument, an entry or a statement ends before them
+abbrev pub ends_expression : Kind → Bool
+ends_expression Kinds.Comma = true
+ends_expression Kinds.CloseParenthesis = true
+ends_expression Kinds.CloseBracket = true
+ends_expression Kinds.CloseBrace = true
+ends_expression Kinds.Colon = true
+ends_expression Kinds.Newline = true
+ends_expression _ = false
 
 -- ---- arguments
 

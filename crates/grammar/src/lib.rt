@@ -19,6 +19,10 @@
 //! `specs/Expressions.antt`. The proofs say by a number how tightly a token binds what stands before it (`proofs/Binding.antt`), and so
 //! what may stand behind each line.
 //!
+//! **An expression of one token is read at once.** Most expressions are a name or a literal with `,` `)` `]` `}` `:` or the end of a line
+//! behind it. `ternary` takes such a one before it goes down the lines of the grammar (`alone`), each of which would hand it on as it is
+//! (`proofs/Alone.antt`).
+//!
 //! **An `else` without statements is like none.** The tree of an `if` has the statements behind `else` as a list. It is empty where there
 //! is no `else`, and where nothing stands behind it; no rule of evaluation tells the two apart.
 //!

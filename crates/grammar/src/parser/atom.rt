@@ -1,16 +1,17 @@
 //! Reads atoms: names, literals, and what stands in brackets.
 
-ghost use Rattle.std.specs.Prelude.{Some, ◌≡◌, ◌-◌, ◌<◌, ◌≤◌, length, OnOk};
-ghost use Rattle.lexer.specs.Lexeme.{lexemes};
+ghost use Rattle.std.specs.Prelude.{Bool, IfSome, Ok, Some, ℕ, ◌≡◌, ◌-◌, ◌<◌, ◌≤◌, length, OnOk, option_map};
+ghost use Rattle.std.specs.Option.{IfNone, OnSome};
+ghost use Rattle.lexer.specs.Lexeme.{lexeme_of, lexemes};
 ghost use Rattle.grammar.specs.ExpressionTree.{expression_of};
 ghost use Rattle.grammar.specs.Expressions.{literal_of};
-ghost use Rattle.grammar.specs.Reading.{Gives, more_at};
-ghost use Rattle.grammar.specs.ReadingExpressions.{base_at, dictionary_at, entered_at, inner_at, list_at, literal_at, name_at};
+ghost use Rattle.grammar.specs.Reading.{Gives, head_is, more_at};
+ghost use Rattle.grammar.specs.ReadingExpressions.{base_at, dictionary_at, ends_expression, entered_at, inner_at, list_at, single_at, single_of, ternary_at, unary_at};
 
 use super::{Parser, fitted, put};
 use crate::stop::ReadError;
 use crate::tree::{Entry, Expression, Literal};
-use lexer::token::Kind;
+use lexer::token::{Kind, Token};
 use std::alloc::Global;
 
 // The literal that a token is.
@@ -29,36 +30,73 @@ fn literal_of(kind: Kind) -> Option<Literal>
     }
 }
 
-impl<'a> Parser<'_, 'a> {
-    #[tactic(auto, unfolding(crate::specs::ReadingExpressions::name_at))]
-    fn name(&mut self) -> Result<Expression<'a>, ReadError>
-        ensures read { Gives expression_of result (lexemes self.new.rest.now) (name_at (lexemes self.old.rest.now)) }
-        ensures shorter { OnOk result (length self.new.rest.now < length self.old.rest.now) }
-    {
-        let token = self.take(Kind::Name)?;
-        Ok(Expression::Name {
+// What a token is by itself, if it is a name or a literal.
+fn single_of<'a>(token: &Token<'a>) -> Option<Expression<'a>>
+    ensures { option_map expression_of result ≡ single_of (lexeme_of token.now) }
+{
+    if token.is(Kind::Name) {
+        return Some(Expression::Name {
             name: token.text,
             line: token.line,
-        })
+        });
+    }
+    let literal = literal_of(token.kind)?;
+    Some(Expression::Literal {
+        literal,
+        text: token.text,
+        line: token.line,
+    })
+}
+
+// Whether a token comes that goes on with no expression.
+fn ends_expression(tokens: &[Token<'_>]) -> bool
+    ensures { result ≡ head_is ends_expression (lexemes tokens.now) }
+{
+    let [token, ..] = tokens else {
+        return false;
+    };
+    match token.kind {
+        Kind::Comma | Kind::Colon | Kind::Newline => true,
+        Kind::CloseParenthesis | Kind::CloseBracket | Kind::CloseBrace => true,
+        _ => false,
+    }
+}
+
+impl<'a> Parser<'_, 'a> {
+    // Takes the expression that the first token is, where it ends behind that token. Most expressions are such, and so aren't handed
+    // through all that may stand in an expression.
+    #[tactic(auto, using(crate::proofs::Alone::token_alone))]
+    pub(super) fn alone(&mut self) -> Option<Expression<'a>>
+        ensures read { IfSome result (λ e. (levels : ℕ) (ternaries : Bool)
+            → ternary_at (unary_at levels) ternaries (lexemes self.old.rest.now) ≡ Ok (expression_of e, lexemes self.new.rest.now)) }
+        ensures shorter { OnSome result (length self.new.rest.now < length self.old.rest.now) }
+        ensures same { IfNone result (self.new.rest.now ≡ self.old.rest.now) }
+    {
+        let [token, rest @ ..] = self.rest else {
+            return None;
+        };
+        if !ends_expression(rest) {
+            return None;
+        }
+        let value = single_of(token)?;
+        self.rest = rest;
+        Some(value)
     }
 
-    #[tactic(auto, using(crate::proofs::ExpressionTails::literal_cases))]
-    fn literal(&mut self) -> Result<Expression<'a>, ReadError>
-        ensures read { Gives expression_of result (lexemes self.new.rest.now) (literal_at (lexemes self.old.rest.now)) }
+    // A name or a literal.
+    #[tactic(auto, using(crate::proofs::Alone::single_cases))]
+    fn single(&mut self) -> Result<Expression<'a>, ReadError>
+        ensures read { Gives expression_of result (lexemes self.new.rest.now) (single_at (lexemes self.old.rest.now)) }
         ensures shorter { OnOk result (length self.new.rest.now < length self.old.rest.now) }
     {
         let [token, rest @ ..] = self.rest else {
             return Err(self.unexpected());
         };
-        let Some(literal) = literal_of(token.kind) else {
+        let Some(value) = single_of(token) else {
             return Err(self.unexpected());
         };
         self.rest = rest;
-        Ok(Expression::Literal {
-            literal,
-            text: token.text,
-            line: token.line,
-        })
+        Ok(value)
     }
 
     // Whether a further element of a list comes, with the comma before it taken.
@@ -136,7 +174,7 @@ impl<'a> Parser<'_, 'a> {
 
     // A call of a function, or an atom.
     #[cycle(expression)]
-    #[tactic(auto, using(crate::proofs::ExpressionTails::base_call, crate::proofs::ExpressionTails::atom_name, crate::proofs::ExpressionTails::atom_group, crate::proofs::ExpressionTails::atom_list, crate::proofs::ExpressionTails::atom_dictionary, crate::proofs::ExpressionTails::atom_literal), unfolding(crate::specs::ReadingExpressions::call_at, crate::specs::ReadingExpressions::entered_at, crate::specs::ReadingExpressions::group_at))]
+    #[tactic(auto, using(crate::proofs::ExpressionTails::base_call, crate::proofs::ExpressionTails::atom_group, crate::proofs::ExpressionTails::atom_list, crate::proofs::ExpressionTails::atom_dictionary, crate::proofs::ExpressionTails::atom_single), unfolding(crate::specs::ReadingExpressions::call_at, crate::specs::ReadingExpressions::entered_at, crate::specs::ReadingExpressions::group_at))]
     pub(super) fn base(
         &mut self,
         alloc: Global,
@@ -155,8 +193,6 @@ impl<'a> Parser<'_, 'a> {
                 arguments,
                 line: name.line,
             })
-        } else if self.begins(Kind::Name) {
-            self.name()
         } else if self.begins(Kind::OpenParenthesis) {
             let (_, levels) = self.enter(Kind::OpenParenthesis, levels)?;
             let inner = self.ternary(alloc, levels, ternaries)?;
@@ -166,7 +202,7 @@ impl<'a> Parser<'_, 'a> {
         } else if self.begins(Kind::OpenBrace) {
             self.dictionary(alloc, levels, ternaries)
         } else {
-            self.literal()
+            self.single()
         }
     }
 }

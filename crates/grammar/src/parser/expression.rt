@@ -295,6 +295,9 @@ impl<'a> Parser<'_, 'a> {
             (ternary_at (unary_at levels) ternaries (lexemes self.old.rest.now)) }
         ensures shorter { OnOk result (length self.new.rest.now < length self.old.rest.now) }
     {
+        if let Some(alone) = self.alone() {
+            return Ok(alone);
+        }
         let line = self.first_line();
         let test = self.chain(alloc, levels, ternaries, Rank::Or)?;
         if !self.asks(ternaries) {

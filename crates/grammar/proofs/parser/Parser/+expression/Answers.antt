@@ -12,7 +12,7 @@ use Rattle.std.proofs.lemmas.List.{map_push}
 use Rattle.grammar.specs.Parts.{first_line, stands_for}
 use Rattle.grammar.specs.ReadingExpressions.{disjunction_at, argument_at, ternary_at, entry_at, inner_at, link_at, links_at, links_on, operand_at, operands_at, operator_of, part_at, sum_at, unary_at}
 use Rattle.grammar.proofs.AtomTails.{call_arguments_fail, call_name_fails, comparison_alone, comparison_operator_fails, comparison_reads, comparison_value_fails, dot_fails, group_close_fails, group_inner_fails, group_opening_fails, group_reads, index_close_fails, index_inner_fails, index_opening_fails, method_arguments_fail, method_name_fails}
-use Rattle.grammar.proofs.ExpressionTails.{atom_dictionary, atom_list, atom_literal, atom_name, chain_alone, ternary_alone, list_stops, list_unclosed, list_reads, dictionary_stops, dictionary_unclosed, dictionary_reads, arguments_stops, arguments_unclosed, arguments_reads, call_reads, chain_more, chain_others_fail, entry_colon_fails, entry_key_fails, entry_reads, entry_value_fails, index_reads, method_reads, postfix_alone, postfix_base_fails, postfix_links_fail, postfix_more, prefixed_reads, prefixed_value_fails, prefixed_word_fails, ternary_asks, ternary_colon_fails, ternary_one_fails, ternary_other_fails, ternary_question_fails, ternary_test_fails, argument_label_fails, argument_reads, argument_value_fails, operand_fails, operand_reads, taken_head, taken_other}
+use Rattle.grammar.proofs.ExpressionTails.{atom_dictionary, atom_list, atom_single, chain_alone, ternary_alone, list_stops, list_unclosed, list_reads, dictionary_stops, dictionary_unclosed, dictionary_reads, arguments_stops, arguments_unclosed, arguments_reads, call_reads, chain_more, chain_others_fail, entry_colon_fails, entry_key_fails, entry_reads, entry_value_fails, index_reads, method_reads, postfix_alone, postfix_base_fails, postfix_links_fail, postfix_more, prefixed_reads, prefixed_value_fails, prefixed_word_fails, ternary_asks, ternary_colon_fails, ternary_one_fails, ternary_other_fails, ternary_question_fails, ternary_test_fails, argument_label_fails, argument_reads, argument_value_fails, operand_fails, operand_reads, taken_head, taken_other}
 use Rattle.grammar.proofs.Loops.{pending_done, pending_fails, pending_first, pending_more, still_ends, still_fails, still_first, still_more}
 use Rattle.grammar.proofs.Tails.{length_lexemes}
 use Rattle.grammar.proofs.Views.{dictionary_seen, entries_pushed, list_seen, arguments_pushed, call_seen, chain_seen, index_seen, method_seen, operands_pushed, postfix_seen, prefix_seen, some_kept, ternary_seen}
@@ -265,14 +265,14 @@ pub ternary-returns-in_err-test-clause-read : goal.ternary-returns-in_err-test-c
 unfolding disjunction_at
 ternary-returns-in_err-test-clause-read t c =
     let p = err_from_is_err_and c.from_residual.result c.from_residual.ensures.1 in
-    rw (p.1, p.2) (ternary_test_fails (unary_at c.args.levels) c.args.ternaries (lexemes c.args.self.now.rest.now) c.in_err-test.field-0.0 c.in_err-test.ensures.read)
+    rw (p.1, p.2) (ternary_test_fails (unary_at c.args.levels) c.args.ternaries (lexemes c.args.self.now.rest.now) c.in_err-test.field-0.0 (rw c.in_default.ensures.same at c.in_err-test.ensures.read))
 
 pub ternary-returns-in_err-take-clause-read : goal.ternary-returns-in_err-take-clause-read
 unfolding disjunction_at
 ternary-returns-in_err-take-clause-read t c =
     let p = err_from_is_err_and c.from_residual-in_err-take.result c.from_residual-in_err-take.ensures.1 in
     rw (p.1, p.2) (ternary_question_fails (unary_at c.args.levels) c.args.ternaries (lexemes c.args.self.now.rest.now) (expression_of c.in_ok-test.test) (lexemes c.chain.new.self.rest.now)
-    c.in_ok-test.ensures.read (sym c.asks.ensures ∙ c.if-not-asks.false)
+    (rw c.in_default.ensures.same at c.in_ok-test.ensures.read) (sym c.asks.ensures ∙ c.if-not-asks.false)
     c.in_err-take.field-0.0 c.in_err-take.ensures.read)
 
 pub ternary-returns-in_err-yes-clause-read : goal.ternary-returns-in_err-yes-clause-read
@@ -280,7 +280,7 @@ unfolding disjunction_at
 ternary-returns-in_err-yes-clause-read t c =
     let p = err_from_is_err_and c.from_residual-in_err-yes.result c.from_residual-in_err-yes.ensures.1 in
     rw (p.1, p.2) (ternary_one_fails (unary_at c.args.levels) c.args.ternaries (lexemes c.args.self.now.rest.now) (expression_of c.in_ok-test.test) (lexemes c.chain.new.self.rest.now)
-    c.in_ok-test.ensures.read (sym c.asks.ensures ∙ c.if-not-asks.false)
+    (rw c.in_default.ensures.same at c.in_ok-test.ensures.read) (sym c.asks.ensures ∙ c.if-not-asks.false)
     _ (lexemes c.take.new.self.rest.now) c.in_ok-take.ensures.read
     c.in_err-yes.field-0.0 c.in_err-yes.ensures.read)
 
@@ -289,7 +289,7 @@ unfolding disjunction_at
 ternary-returns-in_err-yes-2-clause-read t c =
     let p = err_from_is_err_and c.from_residual-in_err-yes-2.result c.from_residual-in_err-yes-2.ensures.1 in
     rw (p.1, p.2) (ternary_colon_fails (unary_at c.args.levels) c.args.ternaries (lexemes c.args.self.now.rest.now) (expression_of c.in_ok-test.test) (lexemes c.chain.new.self.rest.now)
-    c.in_ok-test.ensures.read (sym c.asks.ensures ∙ c.if-not-asks.false)
+    (rw c.in_default.ensures.same at c.in_ok-test.ensures.read) (sym c.asks.ensures ∙ c.if-not-asks.false)
     _ (lexemes c.take.new.self.rest.now) c.in_ok-take.ensures.read
     (expression_of c.in_ok-yes.yes) (lexemes c.chain-2.new.self.rest.now) c.in_ok-yes.ensures.read
     c.in_err-yes-2.field-0.0 c.in_err-yes-2.ensures.read)
@@ -299,7 +299,7 @@ unfolding disjunction_at
 ternary-returns-in_err-no-clause-read t c =
     let p = err_from_is_err_and c.from_residual-in_err-no.result c.from_residual-in_err-no.ensures.1 in
     rw (p.1, p.2) (ternary_other_fails (unary_at c.args.levels) c.args.ternaries (lexemes c.args.self.now.rest.now) (expression_of c.in_ok-test.test) (lexemes c.chain.new.self.rest.now)
-    c.in_ok-test.ensures.read (sym c.asks.ensures ∙ c.if-not-asks.false)
+    (rw c.in_default.ensures.same at c.in_ok-test.ensures.read) (sym c.asks.ensures ∙ c.if-not-asks.false)
     _ (lexemes c.take.new.self.rest.now) c.in_ok-take.ensures.read
     (expression_of c.in_ok-yes.yes) (lexemes c.chain-2.new.self.rest.now) c.in_ok-yes.ensures.read
     _ (lexemes c.closed.new.self.rest.now) c.in_ok-yes-2.ensures.read
@@ -309,13 +309,13 @@ pub ternary-returns-clause-read : goal.ternary-returns-clause-read
 unfolding disjunction_at
 ternary-returns-clause-read t c = returned _ _ _ _
     (ternary_asks (unary_at c.args.levels) c.args.ternaries (lexemes c.args.self.now.rest.now) (expression_of c.in_ok-test.test) (lexemes c.chain.new.self.rest.now)
-    c.in_ok-test.ensures.read (sym c.asks.ensures ∙ c.if-not-asks.false)
+    (rw c.in_default.ensures.same at c.in_ok-test.ensures.read) (sym c.asks.ensures ∙ c.if-not-asks.false)
     _ (lexemes c.take.new.self.rest.now) c.in_ok-take.ensures.read
     (expression_of c.in_ok-yes.yes) (lexemes c.chain-2.new.self.rest.now) c.in_ok-yes.ensures.read
     _ (lexemes c.closed.new.self.rest.now) c.in_ok-yes-2.ensures.read
     (expression_of c.in_ok-no.no) (lexemes c.chain-3.new.self.rest.now) c.in_ok-no.ensures.read)
     (ternary_seen c.in_ok-test-2.test c.in_ok-yes-3.yes c.in_ok-no-2.no c.first_line-line.result _ _ _ _ (ap expression_of (sym c.in_ok-test-2.ensures))
-    (ap expression_of (sym (c.in_ok-yes-3.ensures ∙ c.in_ok-yes-2.ensures.same))) (ap expression_of (sym c.in_ok-no-2.ensures)) (sym c.first_line-line.ensures))
+    (ap expression_of (sym (c.in_ok-yes-3.ensures ∙ c.in_ok-yes-2.ensures.same))) (ap expression_of (sym c.in_ok-no-2.ensures)) (sym (rw c.in_default.ensures.same at c.first_line-line.ensures)))
 
 pub link-returns-then-begins-clause-read : goal.link-returns-then-begins-clause-read
 link-returns-then-begins-clause-read t c = returned _ _ _ _
@@ -354,10 +354,10 @@ unary-returns-in-Some-clause-read t c = returned _ _ _ _
 -- ---- what is left is less
 
 pub ternary-returns-clause-shorter : goal.ternary-returns-clause-shorter
-ternary-returns-clause-shorter t c = lt_trans c.in_ok-no.ensures.shorter (lt_trans c.in_ok-yes-2.ensures.shorter (lt_trans c.in_ok-yes.ensures.shorter (lt_trans c.in_ok-take.ensures.shorter c.in_ok-test.ensures.shorter)))
+ternary-returns-clause-shorter t c = lt_trans c.in_ok-no.ensures.shorter (lt_trans c.in_ok-yes-2.ensures.shorter (lt_trans c.in_ok-yes.ensures.shorter (lt_trans c.in_ok-take.ensures.shorter (rw c.in_default.ensures.same at c.in_ok-test.ensures.shorter))))
 
 pub ternary-returns-then-not-asks-clause-shorter : goal.ternary-returns-then-not-asks-clause-shorter
-ternary-returns-then-not-asks-clause-shorter t c = c.in_ok-test.ensures.shorter
+ternary-returns-then-not-asks-clause-shorter t c = rw c.in_default.ensures.same at c.in_ok-test.ensures.shorter
 
 pub comparison-returns-clause-shorter : goal.comparison-returns-clause-shorter
 comparison-returns-clause-shorter t c = lt_trans c.in_ok-value.ensures.shorter (lt_trans c.in_ok-operator.ensures.shorter c.in_ok-first.ensures.shorter)
@@ -424,7 +424,7 @@ pub ternary-returns-then-not-asks-clause-read : goal.ternary-returns-then-not-as
 unfolding disjunction_at
 ternary-returns-then-not-asks-clause-read t c =
     ternary_alone (unary_at c.args.levels) c.args.ternaries (lexemes c.args.self.now.rest.now) (expression_of c.in_ok-test.test) (lexemes c.chain.new.self.rest.now)
-    c.in_ok-test.ensures.read (sym c.asks.ensures ∙ c.if-not-asks.true)
+    (rw c.in_default.ensures.same at c.in_ok-test.ensures.read) (sym c.asks.ensures ∙ c.if-not-asks.true)
 
 pub comparison-returns-then-not-compares-clause-read : goal.comparison-returns-then-not-compares-clause-read
 unfolding sum_at
@@ -466,34 +466,31 @@ base-returns-in_err-arguments-clause-read t c =
 pub base-returns-in_err-levels-clause-read : goal.base-returns-in_err-levels-clause-read
 base-returns-in_err-levels-clause-read t c =
     let p = err_from_is_err_and c.from_residual-in_err-levels.result c.from_residual-in_err-levels.ensures.1 in
-    rw (p.1, p.2) (group_opening_fails c.args.levels c.args.ternaries (lexemes c.args.self.now.rest.now) (sym c.two_begin.ensures ∙ c.if-two_begin.false) (sym c.begins.ensures ∙ c.if-begins.false) (sym c.begins-else-begins.ensures ∙ c.if-begins-2.true) c.in_err-levels.field-0.0 c.in_err-levels.ensures.read)
+    rw (p.1, p.2) (group_opening_fails c.args.levels c.args.ternaries (lexemes c.args.self.now.rest.now) (sym c.two_begin.ensures ∙ c.if-two_begin.false) (sym c.begins.ensures ∙ c.if-begins.true) c.in_err-levels.field-0.0 c.in_err-levels.ensures.read)
 
 pub base-returns-in_err-inner-clause-read : goal.base-returns-in_err-inner-clause-read
 base-returns-in_err-inner-clause-read t c =
     let p = err_from_is_err_and c.from_residual-in_err-inner.result c.from_residual-in_err-inner.ensures.1 in
-    rw (p.1, p.2) (group_inner_fails c.args.levels c.args.ternaries (lexemes c.args.self.now.rest.now) (sym c.two_begin.ensures ∙ c.if-two_begin.false) (sym c.begins.ensures ∙ c.if-begins.false) (sym c.begins-else-begins.ensures ∙ c.if-begins-2.true) (lexeme_of c.in_ok-levels.field-0-0) c.in_ok-levels.levels (lexemes c.enter.new.self.rest.now) c.in_ok-levels.ensures.read c.in_err-inner.field-0.0 c.in_err-inner.ensures.read)
+    rw (p.1, p.2) (group_inner_fails c.args.levels c.args.ternaries (lexemes c.args.self.now.rest.now) (sym c.two_begin.ensures ∙ c.if-two_begin.false) (sym c.begins.ensures ∙ c.if-begins.true) (lexeme_of c.in_ok-levels.field-0-0) c.in_ok-levels.levels (lexemes c.enter.new.self.rest.now) c.in_ok-levels.ensures.read c.in_err-inner.field-0.0 c.in_err-inner.ensures.read)
 
 pub base-returns-in_err-closed-clause-read : goal.base-returns-in_err-closed-clause-read
 base-returns-in_err-closed-clause-read t c =
     let p = err_from_is_err_and c.from_residual-in_err-closed.result c.from_residual-in_err-closed.ensures.1 in
-    rw (p.1, p.2) (group_close_fails c.args.levels c.args.ternaries (lexemes c.args.self.now.rest.now) (sym c.two_begin.ensures ∙ c.if-two_begin.false) (sym c.begins.ensures ∙ c.if-begins.false) (sym c.begins-else-begins.ensures ∙ c.if-begins-2.true) (lexeme_of c.in_ok-levels.field-0-0) c.in_ok-levels.levels (lexemes c.enter.new.self.rest.now) c.in_ok-levels.ensures.read (expression_of c.in_ok-inner.inner) (lexemes c.ternary.new.self.rest.now) c.in_ok-inner.ensures.read c.in_err-closed.field-0.0 c.in_err-closed.ensures.read)
+    rw (p.1, p.2) (group_close_fails c.args.levels c.args.ternaries (lexemes c.args.self.now.rest.now) (sym c.two_begin.ensures ∙ c.if-two_begin.false) (sym c.begins.ensures ∙ c.if-begins.true) (lexeme_of c.in_ok-levels.field-0-0) c.in_ok-levels.levels (lexemes c.enter.new.self.rest.now) c.in_ok-levels.ensures.read (expression_of c.in_ok-inner.inner) (lexemes c.ternary.new.self.rest.now) c.in_ok-inner.ensures.read c.in_err-closed.field-0.0 c.in_err-closed.ensures.read)
 
 pub base-returns-in_ok-closed-clause-read : goal.base-returns-in_ok-closed-clause-read
 base-returns-in_ok-closed-clause-read t c = returned _ _ _ _
-    (group_reads c.args.levels c.args.ternaries (lexemes c.args.self.now.rest.now) (sym c.two_begin.ensures ∙ c.if-two_begin.false) (sym c.begins.ensures ∙ c.if-begins.false) (sym c.begins-else-begins.ensures ∙ c.if-begins-2.true) (lexeme_of c.in_ok-levels.field-0-0) c.in_ok-levels.levels (lexemes c.enter.new.self.rest.now) c.in_ok-levels.ensures.read (expression_of c.in_ok-inner.inner) (lexemes c.ternary.new.self.rest.now) c.in_ok-inner.ensures.read _ (lexemes c.closed.new.self.rest.now) c.in_ok-closed.ensures.read)
+    (group_reads c.args.levels c.args.ternaries (lexemes c.args.self.now.rest.now) (sym c.two_begin.ensures ∙ c.if-two_begin.false) (sym c.begins.ensures ∙ c.if-begins.true) (lexeme_of c.in_ok-levels.field-0-0) c.in_ok-levels.levels (lexemes c.enter.new.self.rest.now) c.in_ok-levels.ensures.read (expression_of c.in_ok-inner.inner) (lexemes c.ternary.new.self.rest.now) c.in_ok-inner.ensures.read _ (lexemes c.closed.new.self.rest.now) c.in_ok-closed.ensures.read)
     (ap expression_of (sym c.in_ok-closed.ensures.same))
 
-pub base-returns-then-begins-clause-read : goal.base-returns-then-begins-clause-read
-base-returns-then-begins-clause-read t c = rw (atom_name c.args.levels c.args.ternaries (lexemes c.args.self.now.rest.now) (sym c.two_begin.ensures ∙ c.if-two_begin.false) (sym c.begins.ensures ∙ c.if-begins.true)) c.name.ensures.read
+pub base-returns-then-begins-2-clause-read : goal.base-returns-then-begins-2-clause-read
+base-returns-then-begins-2-clause-read t c = rw (atom_list c.args.levels c.args.ternaries (lexemes c.args.self.now.rest.now) (sym c.two_begin.ensures ∙ c.if-two_begin.false) (sym c.begins.ensures ∙ c.if-begins.false) (sym c.begins-else-begins.ensures ∙ c.if-begins-2.true)) c.list.ensures.read
 
 pub base-returns-then-begins-3-clause-read : goal.base-returns-then-begins-3-clause-read
-base-returns-then-begins-3-clause-read t c = rw (atom_list c.args.levels c.args.ternaries (lexemes c.args.self.now.rest.now) (sym c.two_begin.ensures ∙ c.if-two_begin.false) (sym c.begins.ensures ∙ c.if-begins.false) (sym c.begins-else-begins.ensures ∙ c.if-begins-2.false) (sym c.begins-else-begins-2.ensures ∙ c.if-begins-3.true)) c.list.ensures.read
+base-returns-then-begins-3-clause-read t c = rw (atom_dictionary c.args.levels c.args.ternaries (lexemes c.args.self.now.rest.now) (sym c.two_begin.ensures ∙ c.if-two_begin.false) (sym c.begins.ensures ∙ c.if-begins.false) (sym c.begins-else-begins.ensures ∙ c.if-begins-2.false) (sym c.begins-else-begins-2.ensures ∙ c.if-begins-3.true)) c.dictionary.ensures.read
 
-pub base-returns-then-begins-4-clause-read : goal.base-returns-then-begins-4-clause-read
-base-returns-then-begins-4-clause-read t c = rw (atom_dictionary c.args.levels c.args.ternaries (lexemes c.args.self.now.rest.now) (sym c.two_begin.ensures ∙ c.if-two_begin.false) (sym c.begins.ensures ∙ c.if-begins.false) (sym c.begins-else-begins.ensures ∙ c.if-begins-2.false) (sym c.begins-else-begins-2.ensures ∙ c.if-begins-3.false) (sym c.begins-else-begins-3.ensures ∙ c.if-begins-4.true)) c.dictionary.ensures.read
-
-pub base-returns-else-begins-4-clause-read : goal.base-returns-else-begins-4-clause-read
-base-returns-else-begins-4-clause-read t c = rw (atom_literal c.args.levels c.args.ternaries (lexemes c.args.self.now.rest.now) (sym c.two_begin.ensures ∙ c.if-two_begin.false) (sym c.begins.ensures ∙ c.if-begins.false) (sym c.begins-else-begins.ensures ∙ c.if-begins-2.false) (sym c.begins-else-begins-2.ensures ∙ c.if-begins-3.false) (sym c.begins-else-begins-3.ensures ∙ c.if-begins-4.false)) c.literal.ensures.read
+pub base-returns-else-begins-3-clause-read : goal.base-returns-else-begins-3-clause-read
+base-returns-else-begins-3-clause-read t c = rw (atom_single c.args.levels c.args.ternaries (lexemes c.args.self.now.rest.now) (sym c.two_begin.ensures ∙ c.if-two_begin.false) (sym c.begins.ensures ∙ c.if-begins.false) (sym c.begins-else-begins.ensures ∙ c.if-begins-2.false) (sym c.begins-else-begins-2.ensures ∙ c.if-begins-3.false)) c.single.ensures.read
 
 pub link-returns-in_err-take-clause-read : goal.link-returns-in_err-take-clause-read
 link-returns-in_err-take-clause-read t c =

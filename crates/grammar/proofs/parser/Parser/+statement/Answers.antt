@@ -1,5 +1,4 @@
-use Rattle.std.proofs.Common.{◌≡◌, map, ap, [], ◌∷◌, ◌++◌, sym, ◌∙◌, subst, arith, List, Some, None, Ok, refl, ℕ, ◌<◌, ◌≤◌}
-use Rattle.std.specs.Option.{option_map}
+use Rattle.std.proofs.Common.{◌≡◌, map, ap, [], ◌∷◌, ◌++◌, sym, ◌∙◌, subst, arith, List, Ok, refl, ℕ, ◌<◌, ◌≤◌}
 use Rattle.std.proofs.Math.Nat.{lt_trans}
 use Rattle.std.proofs.lemmas.Result.{err_from_is_err_and}
 use Rattle.std.proofs.lemmas.List.{map_push}
@@ -10,9 +9,7 @@ use Rattle.grammar.specs.ReadingStatements.{body_at, stmt_at}
 use Rattle.grammar.specs.Tree.{branch_of, statement_of}
 use Rattle.grammar.proofs.Tails.{length_lexemes}
 use Rattle.grammar.specs.ExpressionTree.{expression_of}
-use Rattle.grammar.specs.Parts.{first_line}
 use Rattle.grammar.specs.Tree.{BranchTree, StatementTree, statements}
-use Rattle.lexer.specs.Lexeme.{Lexeme}
 use Rattle.grammar.proofs.BlockTails.{branch_body_fails, branch_reads, branch_seen, condition_newline_fails, else_newline_fails, else_reads, else_word_fails}
 use Rattle.grammar.proofs.StatementTails.{body_end, line_fails, otherwise_none, parts_end, stmt_conditional, stmt_foreach, stmt_simple, StillBody, body_first, body_line_fails, body_more, body_newline_fails, elif_branch_fails, elif_word_fails, line_none, line_some, parts_first, parts_fails, parts_more, parts_stop}
 use Rattle.grammar.proofs.parser.Parser.+statement.Goals as goal

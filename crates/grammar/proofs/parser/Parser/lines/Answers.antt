@@ -1,4 +1,4 @@
-use Rattle.std.proofs.Common.{sym, ap, subst, List, Ok, ◌∙◌, map, [], arith}
+use Rattle.std.proofs.Common.{sym, ap, subst, List, Ok, ◌∙◌, map, arith}
 use Rattle.std.proofs.lemmas.Result.{err_from_is_err_and}
 use Rattle.lexer.specs.Lexeme.{lexeme_of, lexemes}
 use Rattle.grammar.specs.Tree.{StatementTree, statement_of}
