@@ -3,6 +3,7 @@ use Rattle.std.specs.Prelude.{ℕ, ◌+◌, Bool, true, ◌&&◌, nat_lt, List, 
 use Rattle.std.specs.List.{list_all}
 use Rattle.std.specs.Option.{option_map}
 use Rattle.grammar.specs.ExpressionTree.{ExpressionTree, EntryTree, ArgumentTree, OperandTree, LinkTree, NameTree, LiteralTree, ListTree, DictionaryTree, FunctionTree, PostfixTree, PrefixTree, ChainTree, TernaryTree, MethodTree, IndexTree, expressions, entries, arguments, links, operands}
+use Rattle.code.specs.Literals.{spelled}
 use Rattle.code.specs.declared.node.Node.{Node}
 use Rattle.code.specs.declared.node.Node.TheVariants as flat
 use Rattle.code.specs.declared.node.EntryNode.{EntryNode}
@@ -31,7 +32,7 @@ link_at ts (Index i) = IndexTree (tree_at ts i)
 -- the tree of a node, by the table of names and the trees of the nodes before it
 abbrev pub tree_of : List (List ℕ) → List ExpressionTree → Node → ExpressionTree
 tree_of names ts (flat.Name number line) = NameTree (slice_index_or names number []) line
-tree_of names ts (flat.Literal node line) = LiteralTree node.literal (string_bytes node.source.value) line
+tree_of names ts (flat.Literal node line) = LiteralTree node.literal (spelled node.source.value) line
 tree_of names ts (flat.List items line) = ListTree (expressions (map (tree_at ts) items.items)) line
 tree_of names ts (flat.Dictionary es line) = DictionaryTree (entries (map (entry_at ts) es.items)) line
 tree_of names ts (flat.Call call line) =
