@@ -2,7 +2,6 @@
 use Rattle.std.proofs.Common.{◌≡◌, ℕ, ◌+◌, ◌<◌, ◌≤◌, Bool, true, List, [], ◌∷◌, ◌++◌, length, map, take, get_or, append-nil, append_assoc, refl, sym, ap, subst, ◌∙◌, arith}
 use Rattle.std.specs.Prelude.{nat_lt, ◌&&◌, IsTrue}
 use Rattle.std.specs.List.{list_all}
-use Rattle.std.specs.Option.{option_map}
 use Rattle.std.specs.String.{string_bytes}
 use Rattle.std.proofs.lemmas.List.{map_push, take_all}
 use Rattle.std.proofs.lemmas.Grind.{common_steps}
@@ -58,7 +57,7 @@ keeps_entry = record {
 pub keeps_argument : Keeps argument_within argument_at
 keeps_argument = record {
   wider = λ m n x l h. lt_wider x.value m n l h;
-  same = λ ts more x h. ap (λ t. (option_map string_bytes x.name, t)) (tree_same ts more x.value h);
+  same = λ ts more x h. ap (λ t. (x.name, t)) (tree_same ts more x.value h);
 }
 
 pub keeps_operand : Keeps operand_within operand_at

@@ -9,6 +9,13 @@ use Rattle.lexer.specs.declared.token.Kind.TheVariants as kinds
 use Rattle.code.specs.FormatStrings.{written}
 use Rattle.code.specs.declared.literal.Meaning.{Meaning}
 use Rattle.code.specs.declared.literal.Meaning.TheVariants as meanings
+use Rattle.code.specs.declared.literal.Spelling.{Spelling}
+use Rattle.code.specs.declared.literal.Spelling.TheVariants as spellings
+
+-- the bytes of a literal as it stands in the source
+abbrev pub spelled : Spelling → List ℕ
+spelled (spellings.Short t) = t
+spelled (spellings.Long t) = string_bytes t
 
 -- the kind of token that a literal is
 abbrev pub kind_of : Literal → Kind

@@ -1,8 +1,8 @@
 -- The trees of expressions that a list of nodes stands for: each node names its parts by their numbers, and stands after them.
 use Rattle.std.specs.Prelude.{ℕ, ◌+◌, Bool, true, ◌&&◌, nat_lt, List, [], ◌∷◌, ◌++◌, map, fold, slice_index_or, string_bytes}
 use Rattle.std.specs.List.{list_all}
-use Rattle.std.specs.Option.{option_map}
 use Rattle.grammar.specs.ExpressionTree.{ExpressionTree, EntryTree, ArgumentTree, OperandTree, LinkTree, NameTree, LiteralTree, ListTree, DictionaryTree, FunctionTree, PostfixTree, PrefixTree, ChainTree, TernaryTree, MethodTree, IndexTree, expressions, entries, arguments, links, operands}
+use Rattle.code.specs.Literals.{spelled}
 use Rattle.code.specs.declared.node.Node.{Node}
 use Rattle.code.specs.declared.node.Node.TheVariants as flat
 use Rattle.code.specs.declared.node.EntryNode.{EntryNode}
@@ -19,7 +19,7 @@ abbrev pub entry_at : List ExpressionTree → EntryNode → EntryTree
 entry_at ts e = (tree_at ts e.key, tree_at ts e.value)
 
 abbrev pub argument_at : List ExpressionTree → ArgumentNode → ArgumentTree
-argument_at ts a = (option_map string_bytes a.name, tree_at ts a.value)
+argument_at ts a = (a.name, tree_at ts a.value)
 
 abbrev pub operand_at : List ExpressionTree → OperandNode → OperandTree
 operand_at ts o = (o.operator, tree_at ts o.value)
@@ -31,7 +31,7 @@ link_at ts (Index i) = IndexTree (tree_at ts i)
 -- the tree of a node, by the table of names and the trees of the nodes before it
 abbrev pub tree_of : List (List ℕ) → List ExpressionTree → Node → ExpressionTree
 tree_of names ts (flat.Name number line) = NameTree (slice_index_or names number []) line
-tree_of names ts (flat.Literal node line) = LiteralTree node.literal (string_bytes node.source.value) line
+tree_of names ts (flat.Literal node line) = LiteralTree node.literal (spelled node.source.value) line
 tree_of names ts (flat.List items line) = ListTree (expressions (map (tree_at ts) items.items)) line
 tree_of names ts (flat.Dictionary es line) = DictionaryTree (entries (map (entry_at ts) es.items)) line
 tree_of names ts (flat.Call call line) =

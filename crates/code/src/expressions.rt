@@ -1,21 +1,25 @@
 //! Expressions, made flat.
-ghost use Rattle.std.specs.Prelude.{◌≡◌, IfOk, IsTrue, map, length, option_map, string_bytes};
+ghost use Rattle.std.specs.Prelude.{◌≡◌, IfOk, IsTrue, map, length, option_map};
 ghost use Rattle.grammar.specs.ExpressionTree.{NameTree, LiteralTree, ListTree, DictionaryTree, FunctionTree, PostfixTree, PrefixTree, ChainTree, TernaryTree, expressions, entries as entry_trees, argument_trees, links as link_trees, operands as operand_trees, expression_of, entry_of, argument_of, operand_of, link_of};
 ghost use Rattle.code.specs.Nodes.{argument_at, link_at, argument_within, link_within};
 
 use crate::draft::{Draft, narrow};
 use crate::literal::LiteralNode;
 use crate::node::{ArgumentNode, CallNode, EntryNode, LinkNode, Node, OperandNode};
+use data::Text;
 use grammar::tree::{Argument, Entry, Expression, Link, Literal, Operand, Prefix};
 use std::alloc::{AllocError, Global};
 
-// The name of an argument, where it has one.
-fn own_name(alloc: Global, name: Option<&str>) -> Result<Option<String>, AllocError>
-    ensures { IfOk result (λ own. option_map string_bytes own ≡ option_map (λ n. n.now) name.entry) }
+// The name of an argument, where it has one. For one that is too long for a text, which no file has, memory is refused.
+fn own_name(alloc: Global, name: Option<&str>) -> Result<Option<Text>, AllocError>
+    ensures { IfOk result (λ own. own ≡ option_map (λ n. n.now) name.entry) }
 {
-    match name {
-        Some(name) => Ok(Some(String::from_str(alloc, name)?)),
-        None => Ok(None),
+    let Some(name) = name else {
+        return Ok(None);
+    };
+    match Text::of_str(alloc, name)? {
+        Ok(name) => Ok(Some(name)),
+        Err(_) => Err(AllocError),
     }
 }
 

@@ -36,6 +36,6 @@ mod statements;
 
 pub use code::Code;
 pub use format_string::{FormatString, Part};
-pub use literal::{LiteralNode, Meaning};
+pub use literal::{LiteralNode, Meaning, Spelling};
 pub use making::{flatten, names_may_grow};
 pub use names::Names;

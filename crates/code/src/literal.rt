@@ -1,9 +1,9 @@
 //! Literals, and what they stand for.
-ghost use Rattle.std.specs.Prelude.{◌≡◌, false, IfOk, IsTrue, string_bytes};
+ghost use Rattle.std.specs.Prelude.{◌≡◌, false, IfOk, IsTrue};
 ghost use Rattle.std.specs.Option.{ForSome};
 ghost use Rattle.lexer.specs.Numerals.{magnitude};
 ghost use Rattle.lexer.specs.Texts.{text_of};
-ghost use Rattle.code.specs.Literals.{is_format, is_number, is_plain, kind_of, means};
+ghost use Rattle.code.specs.Literals.{is_format, is_number, is_plain, kind_of, means, spelled};
 
 use crate::format_string::FormatString;
 use crate::names::Names;
@@ -29,14 +29,21 @@ pub enum Meaning {
     Source(Box<String>),
 }
 
+/// A literal as it stands in the source: a string has its quotes. A short one needs no memory.
+#[derive(Drop)]
+pub enum Spelling {
+    Short(Text),
+    Long(String),
+}
+
 /// A literal, by what it stands for, so that evaluation need not read its text again.
 #[derive(Drop)]
 pub struct LiteralNode {
     pub literal: Literal,
     pub meaning: Meaning,
-    /// As it stands in the source: a string has its quotes. Only proofs read it, and it takes no memory.
-    pub source: Snapshot<String>,
-    pub ghost stands: { IsTrue (means literal (string_bytes source.value) meaning) },
+    /// As it stands in the source. Only proofs read it, and it takes no memory.
+    pub source: Snapshot<Spelling>,
+    pub ghost stands: { IsTrue (means literal (spelled source.value) meaning) },
 }
 
 // The kind of token that a literal is.
@@ -83,32 +90,47 @@ fn decoded(alloc: Global, literal: Literal, text: &str) -> Result<Option<Box<Tex
     }
 }
 
-// A literal as it stands in the source.
-fn unread(alloc: Global, literal: Literal, text: String) -> Result<Meaning, AllocError>
-    requires { is_format literal ≡ false }
-    ensures { IfOk result (λ m. IsTrue (means literal (string_bytes text) m)) }
+// How many bytes a text holds that needs no memory.
+const SHORT_BYTES: usize = 22;
+
+// The spelling of a literal.
+fn spelling_of(alloc: Global, text: &str) -> Result<Spelling, AllocError>
+    ensures { IfOk result (λ s. spelled s ≡ text.now) }
 {
-    let text = Box::new(alloc, text)?;
-    Ok(Meaning::Source(text))
+    if text.len() <= SHORT_BYTES {
+        if let Ok(text) = Text::of_str(alloc, text)? {
+            return Ok(Spelling::Short(text));
+        }
+    }
+    Ok(Spelling::Long(String::from_str(alloc, text)?))
+}
+
+// A literal as it stands in the source.
+fn unread(alloc: Global, literal: Literal, text: &str) -> Result<Meaning, AllocError>
+    requires { is_format literal ≡ false }
+    ensures { IfOk result (λ m. IsTrue (means literal text.now m)) }
+{
+    let text = String::from_str(alloc, text)?;
+    Ok(Meaning::Source(Box::new(alloc, text)?))
 }
 
 // What a number stands for.
-fn number(alloc: Global, literal: Literal, text: String) -> Result<Meaning, AllocError>
+fn number(alloc: Global, literal: Literal, text: &str) -> Result<Meaning, AllocError>
     requires { IsTrue (is_number literal) }
-    ensures { IfOk result (λ m. IsTrue (means literal (string_bytes text) m)) }
+    ensures { IfOk result (λ m. IsTrue (means literal text.now m)) }
 {
-    match small_number(text.as_str()) {
+    match small_number(text) {
         Some(n) => Ok(Meaning::Integer(n)),
         None => unread(alloc, literal, text),
     }
 }
 
 // What a string stands for that is no f-string.
-fn plain(alloc: Global, literal: Literal, text: String) -> Result<Meaning, AllocError>
+fn plain(alloc: Global, literal: Literal, text: &str) -> Result<Meaning, AllocError>
     requires { IsTrue (is_plain literal) }
-    ensures { IfOk result (λ m. IsTrue (means literal (string_bytes text) m)) }
+    ensures { IfOk result (λ m. IsTrue (means literal text.now m)) }
 {
-    match decoded(alloc, literal, text.as_str())? {
+    match decoded(alloc, literal, text)? {
         Some(decoded) => Ok(Meaning::Text(decoded)),
         None => unread(alloc, literal, text),
     }
@@ -125,8 +147,8 @@ fn format(alloc: Global, names: &Names, literal: Literal, text: &str) -> Result<
 }
 
 // What a literal stands for.
-fn read(alloc: Global, names: &Names, literal: Literal, text: String) -> Result<Meaning, AllocError>
-    ensures { IfOk result (λ m. IsTrue (means literal (string_bytes text) m)) }
+fn read(alloc: Global, names: &Names, literal: Literal, text: &str) -> Result<Meaning, AllocError>
+    ensures { IfOk result (λ m. IsTrue (means literal text.now m)) }
 {
     match literal {
         Literal::True => Ok(Meaning::Boolean(true)),
@@ -134,8 +156,8 @@ fn read(alloc: Global, names: &Names, literal: Literal, text: String) -> Result<
         Literal::Number => number(alloc, literal, text),
         Literal::String => plain(alloc, literal, text),
         Literal::RawString => plain(alloc, literal, text),
-        Literal::FormatString => format(alloc, names, literal, text.as_str()),
-        Literal::RawFormatString => format(alloc, names, literal, text.as_str()),
+        Literal::FormatString => format(alloc, names, literal, text),
+        Literal::RawFormatString => format(alloc, names, literal, text),
     }
 }
 
@@ -148,10 +170,10 @@ impl LiteralNode {
         text: &str,
     ) -> Result<LiteralNode, AllocError>
         ensures literal { IfOk result (λ node. node.literal ≡ literal) }
-        ensures source { IfOk result (λ node. string_bytes node.source.value ≡ text.now) }
+        ensures source { IfOk result (λ node. spelled node.source.value ≡ text.now) }
     {
-        let text = String::from_str(alloc, text)?;
-        let source = Snapshot::of(&text);
+        let spelling = spelling_of(alloc, text)?;
+        let source = Snapshot::of(&spelling);
         let meaning = read(alloc, names, literal, text)?;
         Ok(LiteralNode {
             literal,

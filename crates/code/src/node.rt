@@ -1,5 +1,6 @@
 //! The nodes of expressions.
 use crate::literal::LiteralNode;
+use data::Text;
 use grammar::tree::{Operator, Prefix};
 
 /// An expression whose parts are named by their numbers in the list of nodes. Each node has the line of its first token.
@@ -81,7 +82,7 @@ pub struct EntryNode {
 /// An argument, with its name where it is given by one.
 #[derive(Drop)]
 pub struct ArgumentNode {
-    pub name: Option<String>,
+    pub name: Option<Text>,
     pub value: usize,
 }
 

@@ -1,6 +1,6 @@
 //! The values of literals.
-ghost use Rattle.std.specs.Prelude.{◌≡◌, false, ℕ, IfOk, Ok, string_bytes};
-ghost use Rattle.code.specs.Literals.{is_format};
+ghost use Rattle.std.specs.Prelude.{◌≡◌, false, ℕ, IfOk, Ok};
+ghost use Rattle.code.specs.Literals.{is_format, spelled};
 ghost use Rattle.data.specs.Data.{text};
 ghost use Rattle.data.specs.Limits.{within};
 ghost use Rattle.data.specs.Tables.{Answers as AnswersSo};
@@ -83,7 +83,7 @@ impl<'a, T: Tree, O: Outputs, L: Ledger> Context<'a, T, O, L> {
 
     // The value of a literal, put together from registers: what a call answers is taken apart.
     pub fn literal(&self, line: usize, node: &LiteralNode) -> Result<Value, Stop>
-        ensures gives { Answers T.seen O.seen data_of (literal_value line node.now.literal (string_bytes node.now.source.value))
+        ensures gives { Answers T.seen O.seen data_of (literal_value line node.now.literal (spelled node.now.source.value))
             self.now result self.now }
         ensures quiet { (n : ℕ) → failures_after n result ≡ n }
     {

@@ -2,7 +2,7 @@ use Rattle.std.proofs.Common.{◌≡◌, ℕ, [], Box, ap, map, refl, string_byt
 use Rattle.std.specs.Prelude.{IsTrue}
 use Rattle.std.specs.declared.alloc.Global.{Global}
 use Rattle.code.specs.FormatStrings.{part_data, written}
-use Rattle.code.specs.Literals.{means}
+use Rattle.code.specs.Literals.{means, spelled}
 use Rattle.code.specs.declared.format_string.FormatString.{FormatString}
 use Rattle.code.specs.declared.literal.LiteralNode.{LiteralNode}
 use Rattle.code.specs.declared.literal.Meaning.{Meaning}
@@ -18,20 +18,20 @@ use Rattle.expressions.proofs.Meanings.{of_boolean, of_integer, of_text, of_form
 use Rattle.expressions.proofs.context.Context.literal.Goals as goal
 
 -- the test that the node keeps, at its meaning
-stands : (n : LiteralNode) (m : Meaning) → n.meaning ≡ m → IsTrue (means n.literal (string_bytes n.source.value) m)
-stands n m is = subst (λ (x : Meaning). IsTrue (means n.literal (string_bytes n.source.value) x)) is n.stands
+stands : (n : LiteralNode) (m : Meaning) → n.meaning ≡ m → IsTrue (means n.literal (spelled n.source.value) m)
+stands n m is = subst (λ (x : Meaning). IsTrue (means n.literal (spelled n.source.value) x)) is n.stands
 
 pub returns-in-Boolean-clause-gives : goal.returns-in-Boolean-clause-gives
 returns-in-Boolean-clause-gives g c = λ files h.
     let n = c.args.node.now in
-    given_as (of_boolean c.args.line (string_bytes n.source.value) n.literal c.in-Boolean.value (stands n (meanings.Boolean c.in-Boolean.value) c.in-Boolean.is))
+    given_as (of_boolean c.args.line (spelled n.source.value) n.literal c.in-Boolean.value (stands n (meanings.Boolean c.in-Boolean.value) c.in-Boolean.is))
     (given_give h refl)
 
 pub returns-in-Integer-clause-gives : goal.returns-in-Integer-clause-gives
 returns-in-Integer-clause-gives g c = λ files h.
     let n = c.args.node.now in
     given_as (ap (answered c.args.line) (sym c.small_integer.ensures)
-    ∙ of_integer c.args.line (string_bytes n.source.value) n.literal c.in-Integer.n (stands n (meanings.Integer c.in-Integer.n) c.in-Integer.is))
+    ∙ of_integer c.args.line (spelled n.source.value) n.literal c.in-Integer.n (stands n (meanings.Integer c.in-Integer.n) c.in-Integer.is))
     (given_give h refl)
 
 pub returns-in_err-shared-in-Text-clause-gives : goal.returns-in_err-shared-in-Text-clause-gives
@@ -42,15 +42,15 @@ returns-in_ok-shared-in-Text-clause-gives g c = λ files h.
     let n = c.args.node.now in
     given_as (ap (answered c.args.line) (sym c.in_ok-shared-in-Text.ensures)
     ∙ ap (λ t. answered c.args.line (within (text t))) c.deref-text.ensures
-    ∙ of_text c.args.line (string_bytes n.source.value) n.literal c.in-Text.text.value (stands n (meanings.Text c.in-Text.text) c.in-Text.is))
+    ∙ of_text c.args.line (spelled n.source.value) n.literal c.in-Text.text.value (stands n (meanings.Text c.in-Text.text) c.in-Text.is))
     (given_give h refl)
 
 -- an f-string of these parts
-of_parts : (line : ℕ) (n : LiteralNode) (f : FormatString) (box : Box FormatString Global) → IsTrue (means n.literal (string_bytes n.source.value) (meanings.Format box))
-    → f ≡ box.value → filled line [] (map part_data f.parts.items) ≡ literal_value line n.literal (string_bytes n.source.value)
+of_parts : (line : ℕ) (n : LiteralNode) (f : FormatString) (box : Box FormatString Global) → IsTrue (means n.literal (spelled n.source.value) (meanings.Format box))
+    → f ≡ box.value → filled line [] (map part_data f.parts.items) ≡ literal_value line n.literal (spelled n.source.value)
 of_parts line n f box h is =
     ap (filled line []) (f.split ∙ ap (λ (x : FormatString). segments places.Names (written x.parts.items)) is)
-    ∙ of_format line (string_bytes n.source.value) n.literal (written box.value.parts.items) h
+    ∙ of_format line (spelled n.source.value) n.literal (written box.value.parts.items) h
 
 pub returns-in_err-filled-in-Format-clause-gives : goal.returns-in_err-filled-in-Format-clause-gives
 returns-in_err-filled-in-Format-clause-gives g c = λ files h.
@@ -68,17 +68,17 @@ pub returns-in_err-unread-in-Source-clause-gives : goal.returns-in_err-unread-in
 returns-in_err-unread-in-Source-clause-gives g c = λ files h.
     let n = c.args.node.now in
     given_as (ap (literal_value c.args.line n.literal) (c.as_str.ensures.value ∙ ap string_bytes c.deref-in-Source.ensures)
-    ∙ (of_source c.args.line (string_bytes n.source.value) n.literal (string_bytes c.in-Source.text.value) (stands n (meanings.Source c.in-Source.text) c.in-Source.is)).1)
+    ∙ (of_source c.args.line (spelled n.source.value) n.literal (string_bytes c.in-Source.text.value) (stands n (meanings.Source c.in-Source.text) c.in-Source.is)).1)
     (given_same (c.in_err-unread-in-Source.ensures.gives files h) c.from_residual-in_err-unread-in-Source.ensures.1)
 
 pub returns-in_ok-unread-in-Source-clause-gives : goal.returns-in_ok-unread-in-Source-clause-gives
 returns-in_ok-unread-in-Source-clause-gives g c = λ files h.
     let n = c.args.node.now in
     given_as (ap (literal_value c.args.line n.literal) (c.as_str.ensures.value ∙ ap string_bytes c.deref-in-Source.ensures)
-    ∙ (of_source c.args.line (string_bytes n.source.value) n.literal (string_bytes c.in-Source.text.value) (stands n (meanings.Source c.in-Source.text) c.in-Source.is)).1)
+    ∙ (of_source c.args.line (spelled n.source.value) n.literal (string_bytes c.in-Source.text.value) (stands n (meanings.Source c.in-Source.text) c.in-Source.is)).1)
     (c.in_ok-unread-in-Source.ensures.gives files h)
 
 pub unread-requires : goal.unread-requires
 unread-requires g c =
     let n = c.args.node.now in
-    (of_source c.args.line (string_bytes n.source.value) n.literal (string_bytes c.in-Source.text.value) (stands n (meanings.Source c.in-Source.text) c.in-Source.is)).0
+    (of_source c.args.line (spelled n.source.value) n.literal (string_bytes c.in-Source.text.value) (stands n (meanings.Source c.in-Source.text) c.in-Source.is)).0
