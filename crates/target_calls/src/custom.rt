@@ -1,5 +1,6 @@
 //! A custom target as the arguments of a call say it.
-ghost use Rattle.std.specs.Prelude.{◌≡◌, ◌++◌, IfOk, Some, codes, count_by, flat_map, map, option_map, string_bytes};
+ghost use Rattle.std.specs.Prelude.{◌≡◌, ◌++◌, ◌∷◌, [], IfOk, IfSome, Some, codes, count_by, flat_map, map, option_map};
+ghost use Rattle.std.specs.Prelude.{string_bytes, unwrap_or};
 ghost use Rattle.std.specs.Bool.{OnTrue};
 ghost use Rattle.arguments.specs.Arguments.{arguments_data, named_data};
 ghost use Rattle.arguments.specs.Given.{texts as texts_given};
@@ -136,7 +137,40 @@ pub(crate) fn written(alloc: Global, arguments: &Arguments) -> Result<Vec<&Value
     Ok(values)
 }
 
-// What the call names of sources.
+// How many keywords say sources.
+fn count_sources(named: &[Named]) -> usize
+    ensures { result ≡ count_by (λ n. is_source_keyword (string_bytes n.name)) named.now }
+{
+    let mut count: usize = 0;
+    for one in named {
+        if is_source_keyword(one.name.as_str()) {
+            count += 1;
+        }
+    }
+    count
+}
+
+// Whether `input` alone says sources, and once.
+fn says_input_alone(arguments: &Arguments) -> bool
+    ensures { OnTrue result (written (arguments_data arguments.now) ≡ leaves_named (codes "input") (arguments_data arguments.now)) }
+{
+    count_sources(&arguments.named) == 1 && arguments.keyword("input").is_some()
+}
+
+// The value that says all sources, where one alone does and is no list.
+fn only_written(arguments: &Arguments) -> Option<&Value>
+    ensures { IfSome result (λ v. written (arguments_data arguments.now) ≡ data_of v.now ∷ []) }
+{
+    if !says_input_alone(arguments) {
+        return None;
+    }
+    match arguments.keyword("input") {
+        Some(Value::List(_)) | None => None,
+        Some(value) => Some(value),
+    }
+}
+
+// What the call names of sources. Most often one value says it, of which no list is made.
 fn written_sources(
     here: &Here<'_>,
     arguments: &Arguments,
@@ -144,8 +178,13 @@ fn written_sources(
     ensures { IfOk result (λ ss. option_map named_views ss
         ≡ named_in (here_view here.now).source_root (here_view here.now).folder (written (arguments_data arguments.now))) }
 {
-    let values = written(here.alloc, arguments)?;
-    sources_of(here.alloc, here.source_root, here.folder, &values)
+    match only_written(arguments) {
+        Some(value) => sources_of(here.alloc, here.source_root, here.folder, &[value]),
+        None => {
+            let values = written(here.alloc, arguments)?;
+            sources_of(here.alloc, here.source_root, here.folder, &values)
+        }
+    }
 }
 
 /// The files of the tree among the sources.
@@ -175,26 +214,6 @@ pub(crate) fn sources_by(
         Some(named) => sources_in(here.alloc, here.earlier, named),
         None => Ok(None),
     }
-}
-
-// How many keywords say sources.
-fn count_sources(named: &[Named]) -> usize
-    ensures { result ≡ count_by (λ n. is_source_keyword (string_bytes n.name)) named.now }
-{
-    let mut count: usize = 0;
-    for one in named {
-        if is_source_keyword(one.name.as_str()) {
-            count += 1;
-        }
-    }
-    count
-}
-
-// Whether `input` alone says sources, and once.
-fn says_input_alone(arguments: &Arguments) -> bool
-    ensures { OnTrue result (written (arguments_data arguments.now) ≡ leaves_named (codes "input") (arguments_data arguments.now)) }
-{
-    count_sources(&arguments.named) == 1 && arguments.keyword("input").is_some()
 }
 
 // The sources that `input` names, of all that the call names: most often it is these, and they are not named again.
@@ -268,17 +287,23 @@ fn first_of(names: Vec<String>) -> Option<String>
     names.into_iter().next()
 }
 
-// The texts of a keyword.
-fn texts_given<'a>(
+// The names that a keyword gives. Most often it is one text, of which no list is made.
+fn names_given(
     alloc: Global,
-    arguments: &'a Arguments,
+    place: &Place<'_>,
+    arguments: &Arguments,
     name: &str,
-) -> Result<Vec<&'a str>, AllocError>
-    ensures { IfOk result (λ v. map (λ t. t.now) v.items ≡ texts_given name.now (arguments_data arguments.now)) }
+) -> Result<Option<Vec<String>>, AllocError>
+    ensures { IfOk result (λ ns. option_map (λ v. map string_bytes v.items) ns
+        ≡ names_in (place_view place.now) (texts_given name.now (arguments_data arguments.now))) }
 {
     match arguments.keyword(name) {
-        Some(value) => flat(alloc, value),
-        None => Ok(Vec::new(alloc)),
+        Some(Value::Text(text)) => names_in(alloc, place, &[text.as_str()]),
+        Some(value) => {
+            let texts = flat(alloc, value)?;
+            names_in(alloc, place, &texts)
+        }
+        None => names_in(alloc, place, &[]),
     }
 }
 
@@ -290,12 +315,10 @@ pub(crate) fn names_of(
 ) -> Result<Option<Names>, AllocError>
     ensures { IfOk result (λ n. option_map names_view n ≡ names_of (place_view place.now) (arguments_data arguments.now)) }
 {
-    let outputs = texts_given(alloc, arguments, "output")?;
-    let Some(outputs) = names_in(alloc, place, &outputs)? else {
+    let Some(outputs) = names_given(alloc, place, arguments, "output")? else {
         return Ok(None);
     };
-    let depfile = texts_given(alloc, arguments, "depfile")?;
-    let Some(depfile) = names_in(alloc, place, &depfile)? else {
+    let Some(depfile) = names_given(alloc, place, arguments, "depfile")? else {
         return Ok(None);
     };
     let depfile = first_of(depfile);
@@ -322,17 +345,29 @@ fn path_of(alloc: Global, folder: &str, name: &Option<String>) -> Result<Option<
     }
 }
 
-// The files of these names, by their paths.
-fn files_of(here: &Here<'_>, names: &Names) -> Result<Names, AllocError>
+// The files of these names by their paths, or none in the root, where the names are the paths.
+fn files_below(here: &Here<'_>, names: &Names) -> Result<Option<Names>, AllocError>
     ensures { let folder = here.now.folder.now in
-        IfOk result (λ files. names_view files ≡ record {
+        IfOk result (λ files. unwrap_or (option_map names_view files) (names_view names.now) ≡ record {
           outputs = map (path_of_file folder) (names_view names.now).outputs;
           depfile = option_map (path_of_file folder) (names_view names.now).depfile;
         }) }
 {
+    if here.folder.is_empty() {
+        return Ok(None);
+    }
     let outputs = paths_in(here.alloc, here.folder, &names.outputs)?;
     let depfile = path_of(here.alloc, here.folder, &names.depfile)?;
-    Ok(Names { outputs, depfile })
+    Ok(Some(Names { outputs, depfile }))
+}
+
+fn some_or<'n>(files: &'n Option<Names>, names: &'n Names) -> &'n Names
+    ensures { names_view result.now ≡ unwrap_or (option_map names_view files.now) (names_view names.now) }
+{
+    match files {
+        Some(files) => files,
+        None => names,
+    }
 }
 
 fn lent(path: &Option<String>) -> Option<&str>
@@ -411,7 +446,8 @@ fn custom_from(
     let Some(names) = names_of(here.alloc, &from_inputs, arguments)? else {
         return Ok(None);
     };
-    let files = files_of(here, &names)?;
+    let below = files_below(here, &names)?;
+    let files = some_or(&below, &names);
     let depfile = lent(&files.depfile);
     let place = place_with(&folder, here.depth, &paths, &files.outputs, depfile);
     let Some(command) = whole_command(here, arguments, &place)? else {

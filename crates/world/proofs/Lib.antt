@@ -17,4 +17,5 @@ pub mod Ruling
 pub mod Running
 pub mod Setting
 pub mod Tells
+mod Trails
 pub mod Values

@@ -21,5 +21,6 @@ pub mod SettingsView
 pub mod Start
 pub mod Store
 pub mod Trace
+pub mod Trail
 pub mod World
 pub mod AskedView

@@ -1,5 +1,5 @@
 //! What the code of a function works on: the world of a run and its devices.
-ghost use Rattle.std.specs.Prelude.{◌≡◌, IfOk};
+ghost use Rattle.std.specs.Prelude.{◌≡◌, IfOk, string_bytes};
 ghost use Rattle.world.specs.Answering.{Carries, HasRoom, IsAnswered, IsFitting, Refuses};
 ghost use Rattle.machine_file.specs.Questions.{Key, answer_to, plain};
 ghost use Rattle.machine_file.specs.QuestionsView.{question_in};
@@ -100,6 +100,22 @@ impl<'a, T: Tree, O: Outputs> Caller<'a, T, O> {
     {
         let found = self.is_there(path)?;
         self.need(found, Refusal::FileMissing, path)
+    }
+
+    /// The same of a path that is given away.
+    pub fn require_own_file(&mut self, path: String) -> Result<(), Stop>
+        requires { HasRoom (state_of T.seen O.seen self.old) }
+        ensures { Carries (λ u. u) (required (string_bytes path))
+            (state_of T.seen O.seen self.old) result (state_of T.seen O.seen self.new) }
+    {
+        let size = self.tree.size(&path)?;
+        let found = size.is_some();
+        if !found {
+            self.store.note_look(self.alloc, &path, found)?;
+            return self.refuse(Refusal::FileMissing, &path);
+        }
+        self.store.note_own_look(path, found)?;
+        Ok(())
     }
 
     /// Asks a question of the machine file; the answer is then read off `store.machine()`.

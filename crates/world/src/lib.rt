@@ -24,6 +24,7 @@ mod settings;
 mod steps;
 mod stop;
 mod store;
+mod trail;
 
 pub use asked::Asked;
 pub use caller::Caller;

@@ -24,6 +24,7 @@ mod declaring;
 
 use crate::asked::Asked;
 use crate::settings::Settings;
+use crate::trail::Trail;
 use code::{Code, Names, flatten};
 use data::Value;
 use grammar::tree::File;
@@ -60,7 +61,7 @@ pub struct Store {
     is_begun: bool,
     project: Project,
     entered: Names,
-    looked: Vec<String>,
+    looked: Trail,
     asked: Vec<Asked>,
 }
 
@@ -110,7 +111,7 @@ impl Model for Store {
       is_begun = s.is_begun;
       project = s.project;
       entered = s.entered;
-      looked = map string_bytes s.looked.items;
+      looked = s.looked;
       asked = all_asked_in s.asked.items;
     } };
 
@@ -208,7 +209,7 @@ impl Store {
             is_begun: false,
             project,
             entered: Names::new(alloc),
-            looked: Vec::new(alloc),
+            looked: Trail::new(alloc),
             asked: Vec::new(alloc),
         })
     }

@@ -78,14 +78,20 @@ impl Store {
         ensures world { OnOk result (world_of self.new ≡ looking (world_of self.old) path.now is_there) }
         ensures names { self.new.names ≡ self.old.names }
     {
-        let noted = String::from_str(alloc, path)?;
+        self.note_own_look(String::from_str(alloc, path)?, is_there)
+    }
+
+    /// The same of a path that is given away.
+    pub fn note_own_look(&mut self, path: String, is_there: bool) -> Result<(), AllocError>
+        ensures world { OnOk result (world_of self.new ≡ looking (world_of self.old) (string_bytes path) is_there) }
+        ensures names { self.new.names ≡ self.old.names }
+    {
+        self.looked.push(&path)?;
         if is_there {
-            self.project.add_present(noted)?;
+            self.project.add_present(path)
         } else {
-            self.project.add_absent(noted)?;
+            self.project.add_absent(path)
         }
-        self.looked.push(String::from_str(alloc, path)?)?;
-        Ok(())
     }
 
     // ---- what is declared

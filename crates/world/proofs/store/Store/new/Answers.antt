@@ -1,4 +1,4 @@
-use Rattle.std.proofs.Common.{map, string_bytes, refl, ap, ◌∙◌}
+use Rattle.std.proofs.Common.{refl, ap, ◌∙◌}
 use Rattle.machine_file.specs.View.{machine_in}
 use Rattle.project.specs.World.{new_world}
 use Rattle.world.specs.AskedView.{all_asked_in}
@@ -9,4 +9,4 @@ use Rattle.world.proofs.store.Store.new.Goals as goal
 pub returns-clause-world : goal.returns-clause-world
 returns-clause-world c =
     world_first _ (settings_view c.args.settings) (machine_in c.args.machine.value) c.in_ok-from_str.ensures.ok c.new-2.ensures.bytes refl refl c.new-3.ensures c.new-4.ensures.items refl refl c.new-5.ensures.items refl
-    (c.in_ok-project.ensures ∙ ap new_world c.in_ok-unnamed.ensures) c.new-6.ensures (ap (map string_bytes) c.new-7.ensures.items) (ap all_asked_in c.new-8.ensures.items)
+    (c.in_ok-project.ensures ∙ ap new_world c.in_ok-unnamed.ensures) c.new-6.ensures c.new-7.ensures (ap all_asked_in c.new-8.ensures.items)
