@@ -69,6 +69,15 @@ impl FileDraft {
         }
     }
 
+    // Puts the names of a loop into the table, so that the f-strings of its body find them there.
+    fn put_names(&mut self, first: &str, second: Option<&str>) -> Result<(), AllocError>
+        ensures extends { Extends self.old self.new }
+    {
+        self.name(first)?;
+        self.second_name(second)?;
+        Ok(())
+    }
+
     // `foreach first, second : list`, over a body that is there.
     fn foreach(
         &mut self,
@@ -124,6 +133,7 @@ impl FileDraft {
                 round,
             } => {
                 let round: &Branch<'_> = round;
+                self.put_names(first, *second)?;
                 let body = self.body(&round.body)?;
                 self.foreach(*line, first, *second, &round.condition, round.line, body)
             }

@@ -136,15 +136,21 @@ statement-returns-in-Continue-clause-is t c = statement_as c.push-in-Continue.re
 pub statement-returns-in-If-clause-extends : goal.statement-returns-in-If-clause-extends
 statement-returns-in-If-clause-extends t c = c.conditional.ensures.extends
 
+pub statement-returns-in_err-put_names-in-Foreach-clause-extends : goal.statement-returns-in_err-put_names-in-Foreach-clause-extends
+statement-returns-in_err-put_names-in-Foreach-clause-extends t c = c.put_names.ensures.extends
+
 pub statement-returns-in_err-body-in-Foreach-clause-extends : goal.statement-returns-in_err-body-in-Foreach-clause-extends
-statement-returns-in_err-body-in-Foreach-clause-extends t c = c.body.ensures.extends
+statement-returns-in_err-body-in-Foreach-clause-extends t c =
+    extends_trans c.args.self.now c.put_names.new.self c.body.new.self c.put_names.ensures.extends c.body.ensures.extends
 
 pub statement-foreach-requires : goal.statement-foreach-requires
 statement-foreach-requires t c = c.in_ok-body-in-Foreach.ensures.are.within
 
 pub statement-returns-in_ok-body-in-Foreach-clause-extends : goal.statement-returns-in_ok-body-in-Foreach-clause-extends
 statement-returns-in_ok-body-in-Foreach-clause-extends t c =
-    extends_trans c.args.self.now c.body.new.self c.foreach.new.self c.body.ensures.extends c.foreach.ensures.extends
+    extends_trans c.args.self.now c.body.new.self c.foreach.new.self
+    (extends_trans c.args.self.now c.put_names.new.self c.body.new.self c.put_names.ensures.extends c.body.ensures.extends)
+    c.foreach.ensures.extends
 
 pub statement-returns-in_ok-body-in-Foreach-clause-is : goal.statement-returns-in_ok-body-in-Foreach-clause-is
 statement-returns-in_ok-body-in-Foreach-clause-is t c = statement_as c.foreach.result c.foreach.new.self _ (statement_of c.args.statement.now) c.foreach.ensures.is
