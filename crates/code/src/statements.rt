@@ -71,7 +71,7 @@ impl FileDraft {
 
     // Puts the names of a loop into the table, so that the f-strings of its body find them there.
     fn put_names(&mut self, first: &str, second: Option<&str>) -> Result<(), AllocError>
-        ensures extends { Extends self.old self.new }
+        ensures { Extends self.old self.new }
     {
         self.name(first)?;
         self.second_name(second)?;

@@ -137,11 +137,11 @@ pub statement-returns-in-If-clause-extends : goal.statement-returns-in-If-clause
 statement-returns-in-If-clause-extends t c = c.conditional.ensures.extends
 
 pub statement-returns-in_err-put_names-in-Foreach-clause-extends : goal.statement-returns-in_err-put_names-in-Foreach-clause-extends
-statement-returns-in_err-put_names-in-Foreach-clause-extends t c = c.put_names.ensures.extends
+statement-returns-in_err-put_names-in-Foreach-clause-extends t c = c.put_names.ensures
 
 pub statement-returns-in_err-body-in-Foreach-clause-extends : goal.statement-returns-in_err-body-in-Foreach-clause-extends
 statement-returns-in_err-body-in-Foreach-clause-extends t c =
-    extends_trans c.args.self.now c.put_names.new.self c.body.new.self c.put_names.ensures.extends c.body.ensures.extends
+    extends_trans c.args.self.now c.put_names.new.self c.body.new.self c.put_names.ensures c.body.ensures.extends
 
 pub statement-foreach-requires : goal.statement-foreach-requires
 statement-foreach-requires t c = c.in_ok-body-in-Foreach.ensures.are.within
@@ -149,7 +149,7 @@ statement-foreach-requires t c = c.in_ok-body-in-Foreach.ensures.are.within
 pub statement-returns-in_ok-body-in-Foreach-clause-extends : goal.statement-returns-in_ok-body-in-Foreach-clause-extends
 statement-returns-in_ok-body-in-Foreach-clause-extends t c =
     extends_trans c.args.self.now c.body.new.self c.foreach.new.self
-    (extends_trans c.args.self.now c.put_names.new.self c.body.new.self c.put_names.ensures.extends c.body.ensures.extends)
+    (extends_trans c.args.self.now c.put_names.new.self c.body.new.self c.put_names.ensures c.body.ensures.extends)
     c.foreach.ensures.extends
 
 pub statement-returns-in_ok-body-in-Foreach-clause-is : goal.statement-returns-in_ok-body-in-Foreach-clause-is
