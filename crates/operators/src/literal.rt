@@ -80,29 +80,32 @@ pub fn dictionary(
 ) -> Result<Result<Value, LiteralRefusal>, AllocError>
     ensures { IfOk result (λ r. Makes (literal_answer (pairs_of entries.items)) r) }
 {
-    let builder = match with_entries(alloc, entries)? {
-        Ok(builder) => builder,
-        Err(refusal) => return Ok(Err(refusal)),
-    };
+    let mut builder = DictionaryBuilder::new(alloc);
+    if let Err(refusal) = put_entries(&mut builder, entries)? {
+        return Ok(Err(refusal));
+    }
     match builder.finish() {
         Ok(dictionary) => Ok(Ok(Value::of_dictionary(alloc, dictionary)?)),
         Err(refusal) => Ok(Err(LiteralRefusal::Refused(refusal))),
     }
 }
 
-fn with_entries(
-    alloc: Global,
+// Puts the entries of a literal, of which none is there yet, unless one is refused.
+fn put_entries(
+    builder: &mut DictionaryBuilder,
     entries: Vec<(Value, Value)>,
-) -> Result<Result<DictionaryBuilder, LiteralRefusal>, AllocError>
-    ensures { IfOk result (λ r. with_entries no_entries (pairs_of entries.items) ≡ r) }
+) -> Result<Result<(), LiteralRefusal>, AllocError>
+    requires { builder.old ≡ no_entries }
+    ensures { IfOk result (λ r. MatchResult r
+        (λ _. with_entries no_entries (pairs_of entries.items) ≡ Ok builder.new)
+        (λ e. with_entries no_entries (pairs_of entries.items) ≡ Err e)) }
 {
-    let mut builder = DictionaryBuilder::new(alloc);
     for (key, value) in entries {
-        if let Err(refusal) = put_entry(&mut builder, key, value)? {
+        if let Err(refusal) = put_entry(builder, key, value)? {
             return Ok(Err(refusal));
         }
     }
-    Ok(Ok(builder))
+    Ok(Ok(()))
 }
 
 // Puts one more entry, unless its key is refused.

@@ -2,7 +2,7 @@ use Rattle.std.proofs.Common.{◌≡◌, ◌*◌, ◌≤◌, ◌^◌, length, dr
 use Rattle.data.specs.Data.{no_entries}
 use Rattle.data.specs.Weight.{entries_weight}
 use Rattle.operators.specs.Literal.{with_entries, pairs_of}
-use Rattle.operators.proofs.literal.with_entries.Given as goal
+use Rattle.operators.proofs.literal.put_entries.Given as goal
 
 -- what is there so far and what is left make the whole
 abbrev pub invariant-loop-key : goal.invariant-loop-key
