@@ -1,14 +1,14 @@
 //! The evaluated arguments of a call.
-ghost use Rattle.std.specs.Prelude.{◌≡◌, OnOk, option_map, string_bytes};
+ghost use Rattle.std.specs.Prelude.{◌≡◌, OnOk};
 ghost use Rattle.data.specs.View.{data_of};
 ghost use Rattle.arguments.specs.Arguments.{arguments_data, no_arguments, with_argument};
 
-use data::Value;
+use data::{Text, Value};
 use std::alloc::{AllocError, Global};
 
 /// An argument that is given by a name.
 pub struct Named {
-    pub name: String,
+    pub name: Text,
     pub value: Value,
 }
 
@@ -55,17 +55,16 @@ impl Arguments {
 
 /// One argument more.
 pub fn add_argument(
-    alloc: Global,
     arguments: &mut Arguments,
-    name: &Option<String>,
+    name: &Option<Text>,
     value: Value,
 ) -> Result<(), AllocError>
     ensures { OnOk result (arguments_data arguments.new
-        ≡ with_argument (arguments_data arguments.old) (option_map string_bytes name.now) (data_of value)) }
+        ≡ with_argument (arguments_data arguments.old) name.now (data_of value)) }
 {
     match name {
         Some(name) => {
-            let name = String::from_str(alloc, name.as_str())?;
+            let name = name.clone()?;
             arguments.named.push(Named { name, value })?;
         }
         None => arguments.positional.push(value)?,

@@ -205,7 +205,7 @@ fn comes_again(alloc: Global, names: &mut SipSet<String>, name: &str) -> Result<
 const FEW: usize = 8;
 
 fn is_named(name: &str, named: &[Named]) -> bool
-    ensures { result ≡ list_any (λ n. bytes_eq name.now (string_bytes n.name)) named.now }
+    ensures { result ≡ list_any (λ n. bytes_eq name.now n.name) named.now }
 {
     named.iter().any(|one| name == one.name.as_str())
 }

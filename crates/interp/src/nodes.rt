@@ -185,7 +185,7 @@ impl<'a, T: Tree, O: Outputs, L: Ledger> Evaluator<'a, T, O, L> {
         evaluated.clear();
         for argument in arguments {
             let value = self.eval(code, argument.value)?;
-            add_argument(self.context.alloc, &mut evaluated, &argument.name, value)?;
+            add_argument(&mut evaluated, &argument.name, value)?;
         }
         Ok(evaluated)
     }

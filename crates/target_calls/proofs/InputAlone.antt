@@ -1,5 +1,5 @@
 -- Where one keyword alone says sources, and `input` is given, it says all of them.
-use Rattle.std.proofs.Common.{◌≡◌, ℕ, ◌+◌, Bool, true, false, List, [], ◌∷◌, ◌++◌, map, Option, Some, None, string_bytes, codes, refl, sym, ap, ◌∙◌, append-nil, arith}
+use Rattle.std.proofs.Common.{◌≡◌, ℕ, ◌+◌, Bool, true, false, List, [], ◌∷◌, ◌++◌, map, Option, Some, None, codes, refl, sym, ap, ◌∙◌, append-nil, arith}
 use Rattle.std.specs.Bool.{OnTrue}
 use Rattle.std.specs.Prelude.{◌||◌, bytes_eq, cond, flat_map, is_some, count_by, option_map, if◌then◌else◌}
 use Rattle.std.proofs.lemmas.List.Sums.{sum_by-cons}
@@ -12,7 +12,7 @@ use Rattle.data.specs.Flat.{opened}
 use Rattle.target_calls.specs.CustomTargets.{is_source_keyword, written_in}
 
 abbrev pub says : Named → Bool
-says n = is_source_keyword (string_bytes n.name)
+says n = is_source_keyword n.name
 
 abbrev pub value_of_input : List Named → Option Data
 value_of_input ns = value_named (codes "input") (map named_data ns)
@@ -41,7 +41,7 @@ none_named : (ns : List Named) → count_by says ns ≡ 0 → value_of_input ns 
 none_named [] h = refl
 none_named (n ∷ ns) h =
     let k = one_more (says n) (count_by says ns) (sym (count_cons n ns) ∙ h) in
-    let e = neither (bytes_eq (string_bytes n.name) (codes "input")) (bytes_eq (string_bytes n.name) (codes "depend_files")) k.0 in
+    let e = neither (bytes_eq n.name (codes "input")) (bytes_eq n.name (codes "depend_files")) k.0 in
     ap (λ b. if b then Some (named_data n).1 else value_of_input ns) e.0 ∙ none_named ns k.1
 
 first : (is other : Bool) (d : Data) (ns : List Named) → ((count_by says ns ≡ 1) → is_some (value_of_input ns) ≡ true → all_written ns ≡ leaves_in (value_of_input ns))
@@ -59,7 +59,7 @@ first false false d ns rest h some =
 pub input_alone : (ns : List Named) → count_by says ns ≡ 1 → is_some (value_of_input ns) ≡ true → all_written ns ≡ leaves_in (value_of_input ns)
 input_alone [] h some = absurd cc
 input_alone (n ∷ ns) h some =
-    first (bytes_eq (string_bytes n.name) (codes "input")) (bytes_eq (string_bytes n.name) (codes "depend_files")) (named_data n).1 ns (input_alone ns) (sym (count_cons n ns) ∙ h) some
+    first (bytes_eq n.name (codes "input")) (bytes_eq n.name (codes "depend_files")) (named_data n).1 ns (input_alone ns) (sym (count_cons n ns) ∙ h) some
 
 -- where a test holds
 pub on_true : {P : Type 0} (b : Bool) → (b ≡ true → P) → OnTrue b P

@@ -139,7 +139,7 @@ pub(crate) fn written(alloc: Global, arguments: &Arguments) -> Result<Vec<&Value
 
 // How many keywords say sources.
 fn count_sources(named: &[Named]) -> usize
-    ensures { result ≡ count_by (λ n. is_source_keyword (string_bytes n.name)) named.now }
+    ensures { result ≡ count_by (λ n. is_source_keyword n.name) named.now }
 {
     let mut count: usize = 0;
     for one in named {

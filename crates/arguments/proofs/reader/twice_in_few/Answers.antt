@@ -7,13 +7,13 @@ pub returns-then-is_named : goal.returns-then-is_named
 returns-then-is_named c =
     let ns = c.args.named.now in
     let name = c.as_str.result.now in
-    ap (λ t. Some (Twice t)) (c.as_str-then-is_named.ensures.value ∙ sym c.as_str.ensures.value)
-    ∙ comes_again ns c.loop-i.i c.index-named-i.result name (omega arith) c.index-named-i.is c.as_str.ensures.value (sym c.is_named.ensures ∙ c.if-is_named.true)
+    ap (λ t. Some (Twice t)) (c.as_str-then-is_named.ensures.text ∙ sym c.as_str.ensures.text)
+    ∙ comes_again ns c.loop-i.i c.index-named-i.result name (omega arith) c.index-named-i.is c.as_str.ensures.text (sym c.is_named.ensures ∙ c.if-is_named.true)
     ∙ c.loop-i.invariant
 
 pub loop-i-preserved : goal.loop-i-preserved
 loop-i-preserved c =
     let ns = c.args.named.now in
     let name = c.as_str.result.now in
-    goes_on ns c.loop-i.i c.index-named-i.result name (omega arith) c.index-named-i.is c.as_str.ensures.value (sym c.is_named.ensures ∙ c.if-is_named.false)
+    goes_on ns c.loop-i.i c.index-named-i.result name (omega arith) c.index-named-i.is c.as_str.ensures.text (sym c.is_named.ensures ∙ c.if-is_named.false)
     ∙ c.loop-i.invariant

@@ -9,7 +9,7 @@ pub loop-one-preserved : goal.loop-one-preserved
 loop-one-preserved c =
     let one = c.one-item.result in
     let i = c.loop-one.one-index in
-    let said : c.is_source_keyword.result ≡ says one = c.is_source_keyword.ensures ∙ ap is_source_keyword c.as_str.ensures.value in
+    let said : c.is_source_keyword.result ≡ says one = c.is_source_keyword.ensures ∙ ap is_source_keyword c.as_str.ensures.text in
     elim c.if-is_source_keyword.branch [
       | then-is_source_keyword w ↦ record {
         counted = w.count-is ∙ ap (λ n. n + 1) c.loop-one.invariant.counted
