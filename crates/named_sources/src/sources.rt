@@ -111,7 +111,7 @@ pub fn sources_of(
     ensures { IfOk result (λ ss. option_map named_views ss
         ≡ sources_of source_root.now folder.now (map (λ v. data_of v.now) values.now)) }
 {
-    let mut sources = Vec::new(alloc);
+    let mut sources = Vec::with_capacity(alloc, values.len())?;
     for value in values {
         match source_of(alloc, source_root, folder, value)? {
             Some(source) => sources.push(source)?,

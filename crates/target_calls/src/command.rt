@@ -250,7 +250,7 @@ pub fn command_of(
         ≡ command_of (here_view here.now) (place_view place.now) (map (λ v. data_of v.now) values.now)) }
 {
     let mut whole = Part {
-        words: Vec::new(here.alloc),
+        words: Vec::with_capacity(here.alloc, values.len())?,
         needs: Vec::new(here.alloc),
     };
     for value in values {

@@ -50,7 +50,7 @@ pub fn custom_target<T: Tree, O: Outputs>(
     let outputs = count_named(arguments, "output");
     let named = said_custom(caller, arguments)?;
     require_fit(caller, &named.target)?;
-    require_all(caller, &named.files)?;
+    require_all(caller, named.files)?;
     let number = add_custom(caller, arguments, named.target)?;
     let value = Value::of_object(caller.alloc, Object::CustomTarget { number, outputs })?;
     Ok(Some(value))

@@ -87,7 +87,7 @@ pub fn declare<T: Tree, O: Outputs>(
 {
     let named = said(caller, kind, arguments)?;
     require_fit(caller, &named.target)?;
-    require_all(caller, &named.files)?;
+    require_all(caller, named.files)?;
     let number = add_installed(caller, arguments, named.target)?;
     let value = Value::of_object(caller.alloc, Object::BuildTarget(number))?;
     Ok(Some(value))

@@ -58,14 +58,14 @@ fn named_folders<T: Tree, O: Outputs>(
 // Refuses the call unless each of the files is there.
 pub(crate) fn require_all<T: Tree, O: Outputs>(
     caller: &mut Caller<'_, T, O>,
-    paths: &[String],
+    paths: Vec<String>,
 ) -> Result<(), Stop>
     requires { HasRoom (state_of T.seen O.seen caller.old) }
-    ensures { Carries (λ u. u) (all_required (map string_bytes paths.now))
+    ensures { Carries (λ u. u) (all_required (map string_bytes paths.items))
         (state_of T.seen O.seen caller.old) result (state_of T.seen O.seen caller.new) }
 {
     for path in paths {
-        caller.require_file(path.as_str())?;
+        caller.require_own_file(path)?;
     }
     Ok(())
 }
@@ -81,8 +81,9 @@ pub fn files<T: Tree, O: Outputs>(
 {
     let texts = arguments.all_texts(caller.alloc)?;
     let paths = named_files(caller, &texts)?;
-    require_all(caller, &paths)?;
-    let list = caller.answered(files_at(caller.alloc, &paths)?)?;
+    let listed = files_at(caller.alloc, &paths)?;
+    require_all(caller, paths)?;
+    let list = caller.answered(listed)?;
     Ok(Some(list))
 }
 

@@ -1,4 +1,5 @@
-use Rattle.std.proofs.Common.{map, drop, string_bytes}
+use Rattle.std.proofs.Common.{map, string_bytes}
+use Rattle.std.specs.Vec.Iter.{into_iter_items}
 use Rattle.world.specs.Answering.{Leads}
 use Rattle.world.specs.Caller.{state_of}
 use Rattle.target_calls.specs.Files.{all_required}
@@ -7,5 +8,5 @@ use Rattle.target_calls.proofs.tree.require_all.Given as goal
 -- what was done, and what is left
 abbrev pub invariant-loop-path : goal.invariant-loop-path
 invariant-loop-path g l =
-    Leads (all_required (map string_bytes l.paths)) (state_of g.T.Tree.seen g.O.Outputs.seen l.fn.caller)
-    (all_required (map string_bytes (drop l.path-index l.paths))) (state_of g.T.Tree.seen g.O.Outputs.seen l.caller)
+    Leads (all_required (map string_bytes l.fn.paths.items)) (state_of g.T.Tree.seen g.O.Outputs.seen l.fn.caller)
+    (all_required (map string_bytes (into_iter_items l.path-iterator))) (state_of g.T.Tree.seen g.O.Outputs.seen l.caller)
