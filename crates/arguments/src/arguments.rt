@@ -54,6 +54,7 @@ impl Arguments {
 }
 
 /// One argument more.
+#[inline(always)]
 pub fn add_argument(
     arguments: &mut Arguments,
     name: &Option<Text>,
