@@ -1,5 +1,4 @@
-use Rattle.std.proofs.Common.{◌≡◌, ◌++◌, Bor, Option, Some, None, option_map, sym, ap, ◌∙◌, arith}
-use Rattle.std.proofs.lemmas.Grind.{common_steps}
+use Rattle.std.proofs.Common.{◌≡◌, ◌++◌, Bor, Option, Some, None, option_map, sym, ap, ◌∙◌}
 use Rattle.std.proofs.lemmas.Result.{IfOk-weaker}
 use Rattle.edge.specs.Texts.{Path, texts}
 use Rattle.project.specs.Laws.{first_taken}
@@ -25,9 +24,3 @@ returns-in-Ok-Some-clause-tested c =
     let these = texts c.args.these.now in
     let others = texts c.args.others.now in
     sym (taken_first old these others c.in-Ok-Some.path.now (sym (told_path _ c.in-Ok-Some.ensures.tested c.in-Ok-Some.field-0-is) ∙ ap (λ p. Some p.now) c.in-Ok-Some.path-is))
-
-pub returns-in-Ok-None-clause-added : goal.returns-in-Ok-None-clause-added
-returns-in-Ok-None-clause-added c = grind (arith, common_steps)
-
-pub returns-in-Ok-None-clause-begins : goal.returns-in-Ok-None-clause-begins
-returns-in-Ok-None-clause-begins c = grind (arith, common_steps)

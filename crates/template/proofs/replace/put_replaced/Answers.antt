@@ -1,6 +1,5 @@
-use Rattle.std.proofs.Common.{arith}
 use Rattle.ports.proofs.Sending.{writes_exit}
-use Rattle.ports.proofs.Going.{going_on, going_stop, going}
+use Rattle.ports.proofs.Going.{going_on, going_stop}
 use Rattle.template.proofs.Scan.{sign_text, sign_text_stop, name_on, name_stop, alone_going, plain_last, sign_at, sign_name, sign_named}
 use Rattle.template.specs.Line.{replaced}
 use Rattle.template.proofs.replace.put_replaced.Goals as goal
@@ -45,6 +44,3 @@ returns g c = plain_last {run = replaced c.args.config.now.entries c.args.path.n
 
 pub put_in_place-requires-clause-named : goal.put_in_place-requires-clause-named
 put_in_place-requires-clause-named g c = let s = c.in-Some.sign in sign_named c.args.line.now c.loop-sign.from s.text s.at s.name c.in-Some.ensures
-
-pub loop-sign-init : goal.loop-sign-init
-loop-sign-init g c = grind (arith, going)

@@ -1,5 +1,4 @@
 use Rattle.std.proofs.Common.{arith}
-use Rattle.std.proofs.lemmas.Grind.{common_steps}
 use Rattle.ports.specs.Tree.{bytes_at}
 use Rattle.template.proofs.Passing.{fill_bytes}
 use Rattle.template.specs.Given.{past}
@@ -16,6 +15,3 @@ pub returns-clause-given : goal.returns-clause-given
 returns-clause-given g c = λ lt.
     fill_given g.T.Tree.gives c.args.path.now c.args.size c.args.at c.args.tree.now c.read_at.new.self c.args.line.now c.read_at.new.buf c.args.filled _ _ c.read_at.result c.requires.filled
     c.read_at.auto.buf (omega (arith, c.wanted-want.ensures.room, c.if-want-eq0.false)) (omega (arith, c.wanted-want.ensures.left, c.requires.at)) c.read_at.ensures.within c.read_at.ensures.gives
-
-pub returns-clause-kept : goal.returns-clause-kept
-returns-clause-kept g c = grind (arith, common_steps)

@@ -1,6 +1,0 @@
-use Rattle.std.proofs.Common.{arith}
-use Rattle.std.proofs.lemmas.Grind.{common_steps}
-use Rattle.world.proofs.store.reach.Goals as goal
-
-pub loop-slots-preserved : goal.loop-slots-preserved
-loop-slots-preserved c = grind (arith, common_steps)
