@@ -6,7 +6,7 @@ ghost use Rattle.arguments.specs.RowView.{row_data};
 ghost use Rattle.world.specs.Answering.{Carries, HasRoom};
 ghost use Rattle.world.specs.Caller.{state_of};
 ghost use Rattle.world.specs.Fit.{fit};
-ghost use Rattle.interp.specs.Functions.{call, does, has_other_format, has_unwanted_disabler, row_for, without_disabler};
+ghost use Rattle.interp.specs.Functions.{call, does, has_unwanted_disabler, row_for, without_disabler};
 ghost use Rattle.language_calls.specs.Turning.{makes_file};
 
 use crate::project_functions::project_function;
@@ -23,18 +23,11 @@ use ports::{Outputs, Tree};
 use project_calls::project;
 use world::{Caller, Stop};
 
-// `configure_file` with another format than `'meson'`.
-fn has_other_format(function: Function, arguments: &Arguments) -> bool
-    ensures { result ≡ has_other_format function (arguments_data arguments.now) }
-{
-    makes_file(function) && !has_meson_format(arguments)
-}
-
-// What the function takes beside these arguments.
+// What the function takes beside these arguments: `configure_file` with another format than `'meson'` is told by a row of its own.
 fn row_for(function: Function, arguments: &Arguments) -> Row
     ensures { row_data result ≡ row_for function (arguments_data arguments.now) }
 {
-    if has_other_format(function, arguments) {
+    if makes_file(function) && !has_meson_format(arguments) {
         other_format_row()
     } else {
         row(function)
