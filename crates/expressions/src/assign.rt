@@ -227,6 +227,7 @@ impl<'a, T: Tree, O: Outputs, L: Ledger> Context<'a, T, O, L> {
     }
 
     // The variable of a number takes the sum of two values.
+    #[inline(always)]
     fn sum(&mut self, line: usize, number: usize, left: Value, right: Value) -> Result<(), Stop>
         ensures same { Same self.old self.new }
         ensures device { Fails T.seen O.seen self.old result self.new }

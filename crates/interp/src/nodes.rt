@@ -173,6 +173,7 @@ impl<'a, T: Tree, O: Outputs, L: Ledger> Evaluator<'a, T, O, L> {
 
     /// The values of these arguments, in order.
     #[cycle(eval)]
+    #[inline(always)]
     pub fn arguments(&mut self, code: &Code, arguments: &[ArgumentNode]) -> Result<Arguments, Halt>
         requires here { above above_argument arguments.now ≤ length code.now.nodes.items }
         requires room { HasRoom T.seen O.seen self.old.context }

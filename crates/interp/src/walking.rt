@@ -193,6 +193,7 @@ impl<'a, T: Tree, O: Outputs, L: Ledger> Evaluator<'a, T, O, L> {
     }
 
     // `name = value`
+    #[inline(always)]
     fn assign_value(
         &mut self,
         code: &Code,
@@ -215,6 +216,7 @@ impl<'a, T: Tree, O: Outputs, L: Ledger> Evaluator<'a, T, O, L> {
     }
 
     // `name += value`: the sum of what the variable has and the value.
+    #[inline(always)]
     fn append_value(
         &mut self,
         code: &Code,

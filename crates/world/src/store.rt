@@ -336,6 +336,7 @@ impl Store {
     }
 
     /// The variable of a number takes a value.
+    #[inline(always)]
     pub fn put(&mut self, number: usize, value: Value) -> Result<(), AllocError>
         ensures names { self.new.names ≡ self.old.names }
         ensures world { number < length self.old.names → OnOk result (world_of self.new

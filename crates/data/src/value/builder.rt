@@ -120,6 +120,7 @@ impl DictionaryBuilder {
     }
 
     /// Puts the entries of a dictionary, in their order.
+    #[inline(always)]
     pub fn put_all(&mut self, dictionary: &Dictionary) -> Result<(), AllocError>
         requires { entries_weight self.old < 2 ^ 125 }
         ensures merged { OnOk result (self.new ≡ merged self.old dictionary.now) }
@@ -135,6 +136,7 @@ impl DictionaryBuilder {
     }
 
     /// The dictionary, or `Refusal::Limit` where it is too large.
+    #[inline(always)]
     pub fn finish(self) -> Result<Dictionary, Refusal>
         ensures { result ≡ (if entries_fit self then Ok self else Err refusal.Limit) }
     {
