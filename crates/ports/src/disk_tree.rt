@@ -42,7 +42,7 @@ struct OpenFile<F: Drop> {
 
 // A path below a folder.
 pub(crate) fn joined(alloc: Global, folder: &str, path: &str) -> Result<String, AllocError> {
-    let mut whole = String::with_capacity(alloc, folder.len())?;
+    let mut whole = String::with_capacity(alloc, folder.len() + 1 + path.len())?;
     whole.push_str(folder)?;
     whole.push_str("/")?;
     whole.push_str(path)?;
