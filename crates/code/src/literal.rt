@@ -90,19 +90,14 @@ fn decoded(alloc: Global, literal: Literal, text: &str) -> Result<Option<Box<Tex
     }
 }
 
-// How many bytes a text holds that needs no memory.
-const SHORT_BYTES: usize = 22;
-
 // The spelling of a literal.
 fn spelling_of(alloc: Global, text: &str) -> Result<Spelling, AllocError>
     ensures { IfOk result (λ s. spelled s ≡ text.now) }
 {
-    if text.len() <= SHORT_BYTES {
-        if let Ok(text) = Text::of_str(alloc, text)? {
-            return Ok(Spelling::Short(text));
-        }
+    match Text::of_short(text) {
+        Some(text) => Ok(Spelling::Short(text)),
+        None => Ok(Spelling::Long(String::from_str(alloc, text)?)),
     }
-    Ok(Spelling::Long(String::from_str(alloc, text)?))
 }
 
 // A literal as it stands in the source.

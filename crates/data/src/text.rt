@@ -1,6 +1,6 @@
 //! Texts within the limit, and lists of texts.
 
-ghost use Rattle.std.specs.Prelude.{◌≡◌, ◌++◌, ◌∷◌, [], ◌≤◌, length, OnOk, OnErr, IfOk, string_bytes};
+ghost use Rattle.std.specs.Prelude.{◌≡◌, ◌++◌, ◌∷◌, [], ◌≤◌, length, OnOk, OnErr, IfOk, IfSome, string_bytes};
 ghost use Rattle.data.specs.Limits.{within_bytes, Appends};
 ghost use Rattle.basics.specs.Limits.{text_bytes};
 
@@ -67,6 +67,18 @@ impl Text {
             return Ok(Ok(Text::short(bytes)));
         }
         Text::new(alloc, String::from_str(alloc, bytes)?)
+    }
+
+    /// The text of a copy of some bytes, where they are so few that it needs no memory of its own.
+    #[inline(always)]
+    pub fn of_short(bytes: &str) -> Option<Text>
+        ensures { IfSome result (λ t. t ≡ bytes.now) }
+    {
+        if bytes.len() <= SHORT_BYTES {
+            Some(Text::short(bytes))
+        } else {
+            None
+        }
     }
 
     #[inline(always)]
