@@ -98,8 +98,8 @@ impl<'a, T: Tree, O: Outputs> Caller<'a, T, O> {
         requires { HasRoom (state_of T.seen O.seen self.old) }
         ensures { Carries (λ u. u) (required path.now) (state_of T.seen O.seen self.old) result (state_of T.seen O.seen self.new) }
     {
-        let found = self.is_there(path)?;
-        self.need(found, Refusal::FileMissing, path)
+        let path = String::from_str(self.alloc, path)?;
+        self.require_own_file(path)
     }
 
     /// The same of a path that is given away.

@@ -1,11 +1,15 @@
+use Rattle.std.proofs.Common.{subst}
+use Rattle.world.specs.Answering.{Carries}
+use Rattle.world.specs.Caller.{state_of}
 use Rattle.world.specs.Deed.{required}
-use Rattle.world.proofs.Answering.{carries_then, carries_stop}
+use Rattle.world.proofs.Answering.{carries_none}
 use Rattle.world.proofs.caller.Caller.require_file.Goals as goal
 
-pub returns-in_err-found : goal.returns-in_err-found
-unfolding required
-returns-in_err-found g c = carries_stop c.in_err-found.ensures c.from_residual.ensures.1
+pub returns-in_err-path : goal.returns-in_err-path
+returns-in_err-path g c = carries_none c.from_residual.ensures.1
 
 pub returns : goal.returns
-unfolding required
-returns g c = carries_then c.in_ok-found.ensures c.need.ensures
+returns g c =
+    subst (λ p. Carries (λ u. u) (required p) (state_of g.T.Tree.seen g.O.Outputs.seen c.args.self.now)
+    c.require_own_file.result (state_of g.T.Tree.seen g.O.Outputs.seen c.require_own_file.new.self))
+    c.in_ok-path.ensures.ok c.require_own_file.ensures
