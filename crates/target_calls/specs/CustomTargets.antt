@@ -1,5 +1,5 @@
 -- A custom target as the arguments of a call say it.
-use Rattle.std.specs.Prelude.{ℕ, nat_lt, max, Bool, false, not, ◌&&◌, ◌||◌, ◌==◌, List, [], ◌++◌, length, map, flat_map, codes}
+use Rattle.std.specs.Prelude.{◌≡◌, ℕ, nat_lt, max, Bool, false, not, ◌&&◌, ◌||◌, ◌==◌, List, [], ◌++◌, length, map, flat_map, codes}
 use Rattle.std.specs.Prelude.{bytes_eq, Option, Some, None, is_some, option_map, if◌then◌else◌}
 use Rattle.arguments.specs.Arguments.{ArgumentsData}
 use Rattle.arguments.specs.Given.{flag, text_at, text_given, texts}
@@ -59,6 +59,10 @@ written_in n = if is_source_keyword n.0 then opened n.1 else []
 -- what the call says of sources, in the order in which its keywords are written
 abbrev pub written : ArgumentsData → List Data
 written a = flat_map written_in a.named
+
+-- `input` says all of it
+abbrev pub IsAllInput : ArgumentsData → Type 0
+IsAllInput a = written a ≡ leaves_named (codes "input") a
 
 -- the files of the tree among them; none where a source is no path of the tree
 abbrev pub written_files : HereData → ArgumentsData → Option (List Path)

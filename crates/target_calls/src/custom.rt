@@ -4,7 +4,6 @@ ghost use Rattle.std.specs.Prelude.{string_bytes, unwrap_or};
 ghost use Rattle.std.specs.Bool.{OnTrue};
 ghost use Rattle.arguments.specs.Arguments.{arguments_data, named_data};
 ghost use Rattle.arguments.specs.Given.{texts as texts_given};
-ghost use Rattle.arguments.specs.Leaves.{leaves_named};
 ghost use Rattle.data.specs.View.{data_of};
 ghost use Rattle.edge.specs.Texts.{texts};
 ghost use Rattle.edge.specs.Paths.{source_root};
@@ -16,7 +15,7 @@ ghost use Rattle.named_sources.specs.Sources.{sources_of as named_in};
 ghost use Rattle.named_sources.specs.SourcesView.{named_views};
 ghost use Rattle.target_calls.specs.BuildTargetsView.{named_target_view};
 ghost use Rattle.target_calls.specs.CommandsView.{part_view};
-ghost use Rattle.target_calls.specs.CustomTargets.{call_fits, captures_one, count_named, custom_from, custom_target};
+ghost use Rattle.target_calls.specs.CustomTargets.{IsAllInput, call_fits, captures_one, count_named, custom_from, custom_target};
 ghost use Rattle.target_calls.specs.CustomTargets.{declared_custom, declared_files, has_place, is_made, is_source_keyword, longest};
 ghost use Rattle.target_calls.specs.CustomTargets.{names_in, names_of, sources_by, whole_command};
 ghost use Rattle.target_calls.specs.CustomTargets.{written, written_files, written_in};
@@ -152,16 +151,17 @@ fn count_sources(named: &[Named]) -> usize
 
 // Whether `input` alone says sources, and once.
 fn says_input_alone(arguments: &Arguments) -> bool
-    ensures { OnTrue result (written (arguments_data arguments.now) ≡ leaves_named (codes "input") (arguments_data arguments.now)) }
+    ensures { OnTrue result (IsAllInput (arguments_data arguments.now)) }
 {
     count_sources(&arguments.named) == 1 && arguments.keyword("input").is_some()
 }
 
 // The value that says all sources, where one alone does and is no list.
-fn only_written(arguments: &Arguments) -> Option<&Value>
+fn only_written(arguments: &Arguments, input_alone: bool) -> Option<&Value>
+    requires { OnTrue input_alone (IsAllInput (arguments_data arguments.now)) }
     ensures { IfSome result (λ v. written (arguments_data arguments.now) ≡ data_of v.now ∷ []) }
 {
-    if !says_input_alone(arguments) {
+    if !input_alone {
         return None;
     }
     match arguments.keyword("input") {
@@ -174,11 +174,13 @@ fn only_written(arguments: &Arguments) -> Option<&Value>
 fn written_sources(
     here: &Here<'_>,
     arguments: &Arguments,
+    input_alone: bool,
 ) -> Result<Option<Vec<NamedSource>>, AllocError>
+    requires { OnTrue input_alone (IsAllInput (arguments_data arguments.now)) }
     ensures { IfOk result (λ ss. option_map named_views ss
         ≡ named_in (here_view here.now).source_root (here_view here.now).folder (written (arguments_data arguments.now))) }
 {
-    match only_written(arguments) {
+    match only_written(arguments, input_alone) {
         Some(value) => sources_of(here.alloc, here.source_root, here.folder, &[value]),
         None => {
             let values = written(here.alloc, arguments)?;
@@ -194,7 +196,7 @@ pub(crate) fn written_files(
 ) -> Result<Option<Vec<String>>, AllocError>
     ensures { IfOk result (λ fs. option_map (λ v. texts v.items) fs ≡ written_files (here_view here.now) (arguments_data arguments.now)) }
 {
-    match written_sources(here, arguments)? {
+    match written_sources(here, arguments, says_input_alone(arguments))? {
         Some(named) => Ok(Some(files_among(here.alloc, &named)?)),
         None => Ok(None),
     }
@@ -221,13 +223,15 @@ fn inputs_among(
     here: &Here<'_>,
     arguments: &Arguments,
     named: Vec<NamedSource>,
+    input_alone: bool,
 ) -> Result<Option<Vec<Source>>, AllocError>
-    requires { named_in (here_view here.now).source_root (here_view here.now).folder (written (arguments_data arguments.now))
+    requires input { OnTrue input_alone (IsAllInput (arguments_data arguments.now)) }
+    requires named { named_in (here_view here.now).source_root (here_view here.now).folder (written (arguments_data arguments.now))
         ≡ Some (named_views named) }
     ensures { IfOk result (λ ss. option_map (λ v. map source_view v.items) ss
         ≡ sources_by (here_view here.now) (arguments_data arguments.now) (codes "input")) }
 {
-    if says_input_alone(arguments) {
+    if input_alone {
         sources_in(here.alloc, here.earlier, named)
     } else {
         sources_by(here, arguments, "input")
@@ -361,15 +365,6 @@ fn files_below(here: &Here<'_>, names: &Names) -> Result<Option<Names>, AllocErr
     Ok(Some(Names { outputs, depfile }))
 }
 
-fn some_or<'n>(files: &'n Option<Names>, names: &'n Names) -> &'n Names
-    ensures { names_view result.now ≡ unwrap_or (option_map names_view files.now) (names_view names.now) }
-{
-    match files {
-        Some(files) => files,
-        None => names,
-    }
-}
-
 fn lent(path: &Option<String>) -> Option<&str>
     ensures { option_map (λ p. p.now) result ≡ option_map string_bytes path.now }
 {
@@ -447,7 +442,7 @@ fn custom_from(
         return Ok(None);
     };
     let below = files_below(here, &names)?;
-    let files = some_or(&below, &names);
+    let files = below.as_ref().unwrap_or(&names);
     let depfile = lent(&files.depfile);
     let place = place_with(&folder, here.depth, &paths, &files.outputs, depfile);
     let Some(command) = whole_command(here, arguments, &place)? else {
@@ -489,11 +484,12 @@ pub fn declared_custom(
     if !call_fits(arguments) {
         return Ok(None);
     }
-    let Some(named) = written_sources(here, arguments)? else {
+    let input_alone = says_input_alone(arguments);
+    let Some(named) = written_sources(here, arguments, input_alone)? else {
         return Ok(None);
     };
     let files = files_among(here.alloc, &named)?;
-    let Some(inputs) = inputs_among(here, arguments, named)? else {
+    let Some(inputs) = inputs_among(here, arguments, named, input_alone)? else {
         return Ok(None);
     };
     declared_files(here, arguments, inputs, files)
