@@ -105,14 +105,6 @@ pub some_any : {X : Type 0} (p : X → Bool) (xs : List X) → list_any p xs ≡
 some_any p [] e = absurd cc
 some_any p (x ∷ xs) e = some_any_at (p x) (list_any p xs) (position_or_len p xs) (length xs) e (some_any p xs)
 
-pub not_false : (a b : Bool) → a ≡ not b → a ≡ true → b ≡ false
-not_false a true e h = absurd cc
-not_false a false e h = refl
-
-pub not_true : (a b : Bool) → a ≡ not b → a ≡ false → b ≡ true
-not_true a true e h = refl
-not_true a false e h = absurd cc
-
 pub copied : (r : Option (Bor Value)) (vs : List Value) (i : ℕ) → is_some r ≡ nat_lt i (length vs) → IfSome r (λ x. x.now ≡ get_or vs i x.now) → option_map (λ x. data_of x.now) r ≡ option_map data_of (slice_get vs i)
 copied None vs i e h = ap (option_map data_of) (sym (slice_get_past vs i (ltb-false i (length vs) (sym e))))
 copied (Some x) vs i e h = ap (λ y. Some (data_of y)) h ∙ ap (option_map data_of) (sym (slice_get-get_or vs i x.now (ltb-true i (length vs) (sym e))))

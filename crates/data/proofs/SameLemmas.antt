@@ -2,7 +2,7 @@
 use Rattle.std.proofs.Common.{◌≡◌, ℕ, ℤ, Bool, true, false, List, [], ◌∷◌, bytes_eq, refl, sym, ap, ◌∙◌, eq-eqb}
 use Rattle.std.specs.Prelude.{◌&&◌, ◌==◌, ◌↔◌, IsTrue}
 use Rattle.std.specs.Ordering.{int_eq}
-use Rattle.std.proofs.lemmas.Bool.{eqb-true}
+use Rattle.std.proofs.lemmas.Bool.{eqb-true, and_from, and_parts}
 use Rattle.std.proofs.lemmas.Bool.Decides.{Decides-int_eq}
 use Rattle.std.specs.Cmp.Lexicographic.{bytes_decides}
 use Rattle.data.specs.declared.object.Object.{Object}
@@ -16,14 +16,6 @@ use Rattle.data.specs.declared.object.Source.TheVariants as TheSource
 use Rattle.data.specs.declared.object.Dependency.{Dependency}
 use Rattle.data.specs.Data.{Data, boolean, integer, text, list, dictionary, object, Items, no_items, item, Entries, no_entries, entry}
 use Rattle.data.specs.Same.{same_boolean, same_texts, same_feature, same_program, same_source, same_sources, same_dependency, same_object, same, same_items, same_entries}
-
-first_of : (a b : Bool) → (a && b) ≡ true → a ≡ true
-first_of true b h = refl
-first_of false b h = absurd cc
-
-second_of : (a b : Bool) → (a && b) ≡ true → b ≡ true
-second_of true b h = h
-second_of false b h = absurd cc
 
 same_boolean-is : (a b : Bool) → same_boolean a b ≡ true → a ≡ b
 same_boolean-is true true h = refl
@@ -46,10 +38,6 @@ int_eq-is y z h = (Decides-int_eq y z).0 h
 int_eq-self : (z : ℤ) → int_eq z z ≡ true
 int_eq-self z = (Decides-int_eq z z).1 refl
 
-both : (a b : Bool) → a ≡ true → b ≡ true → (a && b) ≡ true
-both true b e f = f
-both false b e f = absurd cc
-
 same_boolean-self : (a : Bool) → same_boolean a a ≡ true
 same_boolean-self true = refl
 same_boolean-self false = refl
@@ -59,13 +47,14 @@ same_texts-is [] [] h = refl
 same_texts-is [] (y ∷ ys) h = absurd cc
 same_texts-is (x ∷ xs) [] h = absurd cc
 same_texts-is (x ∷ xs) (y ∷ ys) h =
-    let e = bytes_eq-is x y (first_of (bytes_eq x y) (same_texts xs ys) h) in
-    let f = same_texts-is xs ys (second_of (bytes_eq x y) (same_texts xs ys) h) in
+    let k = and_parts (bytes_eq x y) (same_texts xs ys) h in
+    let e = bytes_eq-is x y k.0 in
+    let f = same_texts-is xs ys k.1 in
     cc
 
 same_texts-self : (xs : List (List ℕ)) → same_texts xs xs ≡ true
 same_texts-self [] = refl
-same_texts-self (x ∷ xs) = both (bytes_eq x x) (same_texts xs xs) (bytes_eq-self x) (same_texts-self xs)
+same_texts-self (x ∷ xs) = and_from (bytes_eq x x) (same_texts xs xs) (bytes_eq-self x) (same_texts-self xs)
 
 same_feature-is : (f g : Feature) → same_feature f g ≡ true → f ≡ g
 same_feature-is TheFeature.Enabled TheFeature.Enabled h = refl
@@ -90,10 +79,11 @@ same_program-self (TheProgram.Words w) = same_texts-self w
 same_program-self (TheProgram.File p) = bytes_eq-self p
 
 same_numbers-is : (m i n j : ℕ) → ((m == n) && (i == j)) ≡ true → (m ≡ n) × (i ≡ j)
-same_numbers-is m i n j h = (eqb-true m n (first_of (m == n) (i == j) h), eqb-true i j (second_of (m == n) (i == j) h))
+same_numbers-is m i n j h = (eqb-true m n (and_parts (m == n) (i == j) h).0, eqb-true i j (and_parts (m == n) (i == j) h).1)
 
 same_file-is : (p q : List ℕ) (b c : Bool) → (bytes_eq p q && same_boolean b c) ≡ true → (p ≡ q) × (b ≡ c)
-same_file-is p q b c h = (bytes_eq-is p q (first_of (bytes_eq p q) (same_boolean b c) h), same_boolean-is b c (second_of (bytes_eq p q) (same_boolean b c) h))
+same_file-is p q b c h =
+    let k = and_parts (bytes_eq p q) (same_boolean b c) h in (bytes_eq-is p q k.0, same_boolean-is b c k.1)
 
 same_source-is : (x y : Source) → same_source x y ≡ true → x ≡ y
 same_source-is (TheSource.File p b) (TheSource.File q c) h = let e = same_file-is p q b c h in cc
@@ -102,22 +92,23 @@ same_source-is (TheSource.CustomOutput m i) (TheSource.CustomOutput n j) h = let
 same_source-is _ _ h = absurd cc
 
 same_source-self : (x : Source) → same_source x x ≡ true
-same_source-self (TheSource.File p b) = both (bytes_eq p p) (same_boolean b b) (bytes_eq-self p) (same_boolean-self b)
-same_source-self (TheSource.CustomTarget m i) = both (m == m) (i == i) (eq-self m) (eq-self i)
-same_source-self (TheSource.CustomOutput m i) = both (m == m) (i == i) (eq-self m) (eq-self i)
+same_source-self (TheSource.File p b) = and_from (bytes_eq p p) (same_boolean b b) (bytes_eq-self p) (same_boolean-self b)
+same_source-self (TheSource.CustomTarget m i) = and_from (m == m) (i == i) (eq-self m) (eq-self i)
+same_source-self (TheSource.CustomOutput m i) = and_from (m == m) (i == i) (eq-self m) (eq-self i)
 
 same_sources-is : (xs ys : List Source) → same_sources xs ys ≡ true → xs ≡ ys
 same_sources-is [] [] h = refl
 same_sources-is [] (y ∷ ys) h = absurd cc
 same_sources-is (x ∷ xs) [] h = absurd cc
 same_sources-is (x ∷ xs) (y ∷ ys) h =
-    let e = same_source-is x y (first_of (same_source x y) (same_sources xs ys) h) in
-    let f = same_sources-is xs ys (second_of (same_source x y) (same_sources xs ys) h) in
+    let k = and_parts (same_source x y) (same_sources xs ys) h in
+    let e = same_source-is x y k.0 in
+    let f = same_sources-is xs ys k.1 in
     cc
 
 same_sources-self : (xs : List Source) → same_sources xs xs ≡ true
 same_sources-self [] = refl
-same_sources-self (x ∷ xs) = both (same_source x x) (same_sources xs xs) (same_source-self x) (same_sources-self xs)
+same_sources-self (x ∷ xs) = and_from (same_source x x) (same_sources xs xs) (same_source-self x) (same_sources-self xs)
 
 abbrev made_dependency : Bool → List ℕ → List ℕ → List (List ℕ) → List (List ℕ) → List (List ℕ) → List ℕ → List Source → Dependency
 made_dependency a b c d e f g h = record { is_found = a; name = b; version = c; include_directories = d; compile_args = e; link_args = f; link_with = g; sources = h }
@@ -135,28 +126,32 @@ same_dependency_from m n a b c d e f g h =
 
 same_dependency-is : (d e : Dependency) → same_dependency d e ≡ true → d ≡ e
 same_dependency-is d e h =
-    let e0 = same_boolean-is d.is_found e.is_found (first_of (same_boolean d.is_found e.is_found) _ h) in
-    let h0 = second_of (same_boolean d.is_found e.is_found) _ h in
-    let e1 = bytes_eq-is d.name e.name (first_of (bytes_eq d.name e.name) _ h0) in
-    let h1 = second_of (bytes_eq d.name e.name) _ h0 in
-    let e2 = bytes_eq-is d.version e.version (first_of (bytes_eq d.version e.version) _ h1) in
-    let h2 = second_of (bytes_eq d.version e.version) _ h1 in
-    let e3 = same_texts-is d.include_directories e.include_directories (first_of (same_texts d.include_directories e.include_directories) _ h2) in
-    let h3 = second_of (same_texts d.include_directories e.include_directories) _ h2 in
-    let e4 = same_texts-is d.compile_args e.compile_args (first_of (same_texts d.compile_args e.compile_args) _ h3) in
-    let h4 = second_of (same_texts d.compile_args e.compile_args) _ h3 in
-    let e5 = same_texts-is d.link_args e.link_args (first_of (same_texts d.link_args e.link_args) _ h4) in
-    let h5 = second_of (same_texts d.link_args e.link_args) _ h4 in
-    let e6 = bytes_eq-is d.link_with e.link_with (first_of (bytes_eq d.link_with e.link_with) _ h5) in
-    let h6 = second_of (bytes_eq d.link_with e.link_with) _ h5 in
-    let e7 = same_sources-is d.sources e.sources h6 in
+    let k0 = and_parts (same_boolean d.is_found e.is_found) _ h in
+    let k1 = and_parts (bytes_eq d.name e.name) _ k0.1 in
+    let k2 = and_parts (bytes_eq d.version e.version) _ k1.1 in
+    let k3 = and_parts (same_texts d.include_directories e.include_directories) _ k2.1 in
+    let k4 = and_parts (same_texts d.compile_args e.compile_args) _ k3.1 in
+    let k5 = and_parts (same_texts d.link_args e.link_args) _ k4.1 in
+    let k6 = and_parts (bytes_eq d.link_with e.link_with) _ k5.1 in
+    let e0 = same_boolean-is d.is_found e.is_found k0.0 in
+    let e1 = bytes_eq-is d.name e.name k1.0 in
+    let e2 = bytes_eq-is d.version e.version k2.0 in
+    let e3 = same_texts-is d.include_directories e.include_directories k3.0 in
+    let e4 = same_texts-is d.compile_args e.compile_args k4.0 in
+    let e5 = same_texts-is d.link_args e.link_args k5.0 in
+    let e6 = bytes_eq-is d.link_with e.link_with k6.0 in
+    let e7 = same_sources-is d.sources e.sources k6.1 in
     same_dependency_from d e e0 e1 e2 e3 e4 e5 e6 e7
 
 same_dependency-self : (d : Dependency) → same_dependency d d ≡ true
 same_dependency-self d =
-    both (same_boolean d.is_found d.is_found) _ (same_boolean-self d.is_found) (both (bytes_eq d.name d.name) _ (bytes_eq-self d.name) (both (bytes_eq d.version d.version) _ (bytes_eq-self d.version)
-    (both (same_texts d.include_directories d.include_directories) _ (same_texts-self d.include_directories) (both (same_texts d.compile_args d.compile_args) _ (same_texts-self d.compile_args)
-    (both (same_texts d.link_args d.link_args) _ (same_texts-self d.link_args) (both (bytes_eq d.link_with d.link_with) _ (bytes_eq-self d.link_with) (same_sources-self d.sources)))))))
+    and_from (same_boolean d.is_found d.is_found) _ (same_boolean-self d.is_found)
+    (and_from (bytes_eq d.name d.name) _ (bytes_eq-self d.name)
+    (and_from (bytes_eq d.version d.version) _ (bytes_eq-self d.version)
+    (and_from (same_texts d.include_directories d.include_directories) _ (same_texts-self d.include_directories)
+    (and_from (same_texts d.compile_args d.compile_args) _ (same_texts-self d.compile_args)
+    (and_from (same_texts d.link_args d.link_args) _ (same_texts-self d.link_args)
+    (and_from (bytes_eq d.link_with d.link_with) _ (bytes_eq-self d.link_with) (same_sources-self d.sources)))))))
 
 pub same_object-is : (o p : Object) → same_object o p ≡ true → o ≡ p
 same_object-is (TheObject.Feature f) (TheObject.Feature g) h = ap TheObject.Feature (same_feature-is f g h)
@@ -179,9 +174,9 @@ same_object-self (TheObject.Feature f) = same_feature-self f
 same_object-self (TheObject.Dependency d) = same_dependency-self d
 same_object-self (TheObject.Program p) = same_program-self p
 same_object-self (TheObject.BuildTarget m) = eq-self m
-same_object-self (TheObject.CustomTarget m i) = both (m == m) (i == i) (eq-self m) (eq-self i)
-same_object-self (TheObject.CustomOutput m i) = both (m == m) (i == i) (eq-self m) (eq-self i)
-same_object-self (TheObject.File p b) = both (bytes_eq p p) (same_boolean b b) (bytes_eq-self p) (same_boolean-self b)
+same_object-self (TheObject.CustomTarget m i) = and_from (m == m) (i == i) (eq-self m) (eq-self i)
+same_object-self (TheObject.CustomOutput m i) = and_from (m == m) (i == i) (eq-self m) (eq-self i)
+same_object-self (TheObject.File p b) = and_from (bytes_eq p p) (same_boolean b b) (bytes_eq-self p) (same_boolean-self b)
 same_object-self (TheObject.IncludeDirectories v) = same_texts-self v
 same_object-self TheObject.Machine = refl
 same_object-self TheObject.Meson = refl
@@ -202,18 +197,18 @@ mutual
   pub same_items-is : (xs ys : Items) → same_items xs ys ≡ true → xs ≡ ys
   same_items-is no_items no_items h = refl
   same_items-is (item x xs) (item y ys) h =
-      let e = same-is x y (first_of (same x y) (same_items xs ys) h) in
-      let f = same_items-is xs ys (second_of (same x y) (same_items xs ys) h) in
+      let e = same-is x y (and_parts (same x y) (same_items xs ys) h).0 in
+      let f = same_items-is xs ys (and_parts (same x y) (same_items xs ys) h).1 in
       cc
   same_items-is _ _ h = absurd cc
 
   pub same_entries-is : (es fs : Entries) → same_entries es fs ≡ true → es ≡ fs
   same_entries-is no_entries no_entries h = refl
   same_entries-is (entry k d es) (entry l e fs) h =
-      let rest = second_of (bytes_eq k l) (same d e && same_entries es fs) h in
-      let a = bytes_eq-is k l (first_of (bytes_eq k l) (same d e && same_entries es fs) h) in
-      let b = same-is d e (first_of (same d e) (same_entries es fs) rest) in
-      let c = same_entries-is es fs (second_of (same d e) (same_entries es fs) rest) in
+      let rest = (and_parts (bytes_eq k l) (same d e && same_entries es fs) h).1 in
+      let a = bytes_eq-is k l (and_parts (bytes_eq k l) (same d e && same_entries es fs) h).0 in
+      let b = same-is d e (and_parts (same d e) (same_entries es fs) rest).0 in
+      let c = same_entries-is es fs (and_parts (same d e) (same_entries es fs) rest).1 in
       cc
   same_entries-is _ _ h = absurd cc
 
@@ -228,11 +223,13 @@ mutual
 
   pub same_items-self : (xs : Items) → same_items xs xs ≡ true
   same_items-self no_items = refl
-  same_items-self (item x xs) = both (same x x) (same_items xs xs) (same-self x) (same_items-self xs)
+  same_items-self (item x xs) = and_from (same x x) (same_items xs xs) (same-self x) (same_items-self xs)
 
   pub same_entries-self : (es : Entries) → same_entries es es ≡ true
   same_entries-self no_entries = refl
-  same_entries-self (entry k d es) = both (bytes_eq k k) (same d d && same_entries es es) (bytes_eq-self k) (both (same d d) (same_entries es es) (same-self d) (same_entries-self es))
+  same_entries-self (entry k d es) =
+      and_from (bytes_eq k k) (same d d && same_entries es es) (bytes_eq-self k)
+      (and_from (same d d) (same_entries es es) (same-self d) (same_entries-self es))
 
 test_is : (a b : Bool) → (a ≡ true → b ≡ true) → (b ≡ true → a ≡ true) → a ≡ b
 test_is true b f g = sym (f refl)

@@ -1,6 +1,7 @@
 -- Two forms that begin with the same token, told apart by the one behind it.
-use Rattle.std.proofs.Common.{◌≡◌, ◌≤◌, Bool, true, false, List, [], ◌∷◌, ◌++◌, length, Result, Ok, refl, sym, ap, subst, ◌∙◌, ◌⊎◌, inl, inr, arith, length-append}
-use Rattle.std.specs.Prelude.{◌&&◌}
+use Rattle.std.proofs.Common.{◌≡◌, ◌≤◌, true, false, List, [], ◌∷◌, ◌++◌, length, Result, Ok, refl, sym, ap, subst, ◌∙◌, ◌⊎◌, inl, inr}
+use Rattle.std.proofs.Common.{arith, length-append}
+use Rattle.std.proofs.lemmas.Bool.{and_from, and_parts}
 use Rattle.lexer.specs.Lexeme.{Lexeme}
 use Rattle.lexer.specs.Kinds.{is}
 use Rattle.lexer.specs.declared.token.Kind.{Kind}
@@ -13,13 +14,6 @@ use Rattle.grammar.proofs.Line.{Line, line-then, line-token}
 use Rattle.grammar.proofs.Numbers.{eq-is, is-true}
 use Rattle.grammar.proofs.Raises.{raises-or}
 use Rattle.grammar.proofs.Starts.{Starts, begins-head, takes-or}
-
-both_true : (a b : Bool) → a ≡ true → b ≡ true → (a && b) ≡ true
-both_true a b e f = rw (e, f) refl
-
-pair_true : (a b : Bool) → (a && b) ≡ true → (a ≡ true) × (b ≡ true)
-pair_true true b e = (refl, e)
-pair_true false b e = absurd cc
 
 -- an end of t ∷ us that is at least as long as us
 end_of_two : (t : Lexeme) (us more : List Lexeme) → IsEnd more (t ∷ us) → length us ≤ length more → (more ≡ t ∷ us) ⊎ (more ≡ us)
@@ -43,11 +37,11 @@ module _ {A : Type 0} (k l : Kind) (G G' : Lexeme → Form A) (Y Y' : Form A) (s
   X = token k >>= G
 
   two : (ts : List Lexeme) (t : Lexeme) (m : List Lexeme) → ts ≡ t ∷ m → t.kind ≡ k → begins l m ≡ true → two_begin k l ts ≡ true
-  two ts t m e h b = rw e (both_true (is t.kind k) (begins l m) (eq-is t.kind k h) b)
+  two ts t m e h b = rw e (and_from (is t.kind k) (begins l m) (eq-is t.kind k h) b)
 
   two_read : (t : Lexeme) (us : List Lexeme) → two_begin k l (t ∷ us) ≡ true → (a : A) × (r (t ∷ us) ≡ Ok (a, us))
   two_read t us e =
-      let b = pair_true (is t.kind k) (begins l us) e in
+      let b = and_parts (is t.kind k) (begins l us) e in
       let w = single t us (is-true t.kind k b.0) in
       (w.0, y.reads.complete w.0 (t ∷ us) us w.1 (second us b.1))
 
@@ -64,7 +58,7 @@ module _ {A : Type 0} (k l : Kind) (G G' : Lexeme → Form A) (Y Y' : Form A) (s
         let w = two_read t us e in
         let d = done rest st in
         let same = same_rest w.0 a us rest (sym w.1 ∙ y.reads.complete a (t ∷ us) rest h d.0) in
-        let b = subst (λ (v : List Lexeme). begins l v ≡ true) same (pair_true (is t.kind k) (begins l us) e).1 in
+        let b = subst (λ (v : List Lexeme). begins l v ≡ true) same (and_parts (is t.kind k) (begins l us) e).1 in
         let n = d.1 in absurd cc
     | inr e ↦ e
   ]
@@ -75,7 +69,7 @@ module _ {A : Type 0} (k l : Kind) (G G' : Lexeme → Form A) (Y Y' : Form A) (s
       let w = two_read t us e in
       elim (end_of_two t us more (y.ends.begun (t ∷ us) more h) (omega (arith, y.reads.reaches (t ∷ us) more h, ap left_of w.1))) [
         | inl same ↦ inl (inl (sym same))
-        | inr same ↦ inl (inr (t, ap (λ (v : List Lexeme). t ∷ v) (sym same), is-true t.kind k (pair_true (is t.kind k) (begins l us) e).0))
+        | inr same ↦ inl (inr (t, ap (λ (v : List Lexeme). t ∷ v) (sym same), is-true t.kind k (and_parts (is t.kind k) (begins l us) e).0))
       ]
 
   x_front : (ts more : List Lexeme) → two_begin k l ts ≡ false → X.front ts more → Y.front ts more

@@ -1,6 +1,6 @@
 -- An expression as a statement, beside statements that begin with a name and a sign.
 use Rattle.std.proofs.Common.{Option, None, zero, suc, ◌≡◌, ℕ, ◌≤◌, ◌<◌, Bool, true, false, List, [], ◌∷◌, ◌++◌, length, Result, Ok, refl, sym, ap, subst, ◌∙◌, ◌⊎◌, inl, inr, arith, length-append}
-use Rattle.std.specs.Prelude.{◌&&◌}
+use Rattle.std.proofs.lemmas.Bool.{and_parts}
 use Rattle.lexer.specs.Lexeme.{Lexeme}
 use Rattle.lexer.specs.Kinds.{is}
 use Rattle.lexer.specs.declared.token.Kind.{Kind}
@@ -17,10 +17,6 @@ use Rattle.grammar.proofs.Ends.{IsEnd}
 use Rattle.grammar.proofs.Laws.{cases_bool, left_of}
 use Rattle.grammar.proofs.Line.{Line}
 use Rattle.grammar.proofs.Numbers.{is-true}
-
-both_parts : (a b : Bool) → (a && b) ≡ true → (a ≡ true) × (b ≡ true)
-both_parts true b e = (refl, e)
-both_parts false b e = absurd cc
 
 -- an end of t ∷ us that is at least as long as us
 end_of_two : (t : Lexeme) (us more : List Lexeme) → IsEnd more (t ∷ us) → length us ≤ length more → (more ≡ t ∷ us) ⊎ (more ≡ us)
@@ -39,7 +35,7 @@ module _ {A : Type 0} {F F' : Form A} {r r' : Reader A} {i : ℕ} (tree : Lexeme
     → t.kind ≡ Kinds.Name → F.spells (tree t) (t ∷ us) us)
     (k : Kind) (ends : 7 < binding k) (f : Line F F' r r' AfterExpression i) where
   sign_comes : (t : Lexeme) (us : List Lexeme) → two_begin Kinds.Name k (t ∷ us) ≡ true → (t.kind ≡ Kinds.Name) × (begins k us ≡ true)
-  sign_comes t us two = let b = both_parts (is t.kind Kinds.Name) (begins k us) two in (is-true t.kind Kinds.Name b.0, b.1)
+  sign_comes t us two = let b = and_parts (is t.kind Kinds.Name) (begins k us) two in (is-true t.kind Kinds.Name b.0, b.1)
 
   -- before the sign the name is read, and nothing more
   name_read : (t : Lexeme) (us : List Lexeme) → two_begin Kinds.Name k (t ∷ us) ≡ true → r (t ∷ us) ≡ Ok (tree t, us)

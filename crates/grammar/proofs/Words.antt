@@ -1,6 +1,6 @@
 -- Which statement comes: what its first tokens are.
 use Rattle.std.proofs.Common.{◌≡◌, Bool, true, false, cond, List, [], ◌∷◌, refl, sym, ap, ◌∙◌, ◌⊎◌, inl, inr}
-use Rattle.std.specs.Prelude.{◌&&◌, ◌||◌}
+use Rattle.std.proofs.lemmas.Bool.{and_from, and_parts, and_right, or_from}
 use Rattle.lexer.specs.Lexeme.{Lexeme}
 use Rattle.lexer.specs.Kinds.{is}
 use Rattle.lexer.specs.declared.token.Kind.{Kind}
@@ -26,19 +26,16 @@ not_in q k apart l e = elim (cases_bool (is l k)) [
   | inr n ↦ n
 ]
 
-both_false : (a b : Bool) → a ≡ false → b ≡ false → (a || b) ≡ false
-both_false a b e f = rw (e, f) refl
-
 -- a class without the words of blocks
 pub no_block : (q : Kind → Bool) → q Kinds.Foreach ≡ false → q Kinds.If ≡ false → (l : Kind) → q l ≡ true → opens_block l ≡ false
-no_block q f i l e = both_false (is l Kinds.Foreach) (is l Kinds.If) (not_in q Kinds.Foreach f l e) (not_in q Kinds.If i l e)
+no_block q f i l e = or_from (is l Kinds.Foreach) (is l Kinds.If) (not_in q Kinds.Foreach f l e) (not_in q Kinds.If i l e)
 
 -- a class without the words at which a body ends
 pub no_end : (q : Kind → Bool) → q Kinds.EndForeach ≡ false → q Kinds.EndIf ≡ false → q Kinds.Elif ≡ false → q Kinds.Else ≡ false
     → (l : Kind) → q l ≡ true → ends_body l ≡ false
-no_end q f i e s l h = both_false (is l Kinds.EndForeach) _ (not_in q Kinds.EndForeach f l h)
-    (both_false (is l Kinds.EndIf) _ (not_in q Kinds.EndIf i l h)
-    (both_false (is l Kinds.Elif) (is l Kinds.Else) (not_in q Kinds.Elif e l h) (not_in q Kinds.Else s l h)))
+no_end q f i e s l h = or_from (is l Kinds.EndForeach) _ (not_in q Kinds.EndForeach f l h)
+    (or_from (is l Kinds.EndIf) _ (not_in q Kinds.EndIf i l h)
+    (or_from (is l Kinds.Elif) (is l Kinds.Else) (not_in q Kinds.Elif e l h) (not_in q Kinds.Else s l h)))
 
 pub block_head : (ts : List Lexeme) → begins_block ts ≡ head_is opens_block ts
 block_head [] = refl
@@ -67,26 +64,15 @@ ends_in ts e = rw e refl
 
 -- ---- a name and a sign
 
-both_true : (a b : Bool) → a ≡ true → b ≡ true → (a && b) ≡ true
-both_true a b e f = rw (e, f) refl
-
-second_true : (a b : Bool) → (a && b) ≡ true → b ≡ true
-second_true true b e = e
-second_true false b e = absurd cc
-
-second_false : (a b : Bool) → b ≡ false → (a && b) ≡ false
-second_false true b e = e
-second_false false b e = refl
-
 pub name_sign : (k : Kind) (ts : List Lexeme) (t : Lexeme) (m : List Lexeme) → ts ≡ t ∷ m → t.kind ≡ Kinds.Name → begins k m ≡ true
     → two_begin Kinds.Name k ts ≡ true
-name_sign k ts t m e n b = rw e (both_true (is t.kind Kinds.Name) (begins k m) (eq-is t.kind Kinds.Name n) b)
+name_sign k ts t m e n b = rw e (and_from (is t.kind Kinds.Name) (begins k m) (eq-is t.kind Kinds.Name n) b)
 
 then_sign : (k : Kind) (ts : List Lexeme) (t : Lexeme) (m : List Lexeme) → ts ≡ t ∷ m → two_begin Kinds.Name k ts ≡ true → begins k m ≡ true
-then_sign k ts t m e h = second_true (is t.kind Kinds.Name) (begins k m) (sym (ap (two_begin Kinds.Name k) e) ∙ h)
+then_sign k ts t m e h = (and_parts (is t.kind Kinds.Name) (begins k m) (sym (ap (two_begin Kinds.Name k) e) ∙ h)).1
 
 no_sign : (k : Kind) (ts : List Lexeme) (t : Lexeme) (m : List Lexeme) → ts ≡ t ∷ m → begins k m ≡ false → two_begin Kinds.Name k ts ≡ false
-no_sign k ts t m e h = ap (two_begin Kinds.Name k) e ∙ second_false (is t.kind Kinds.Name) (begins k m) h
+no_sign k ts t m e h = ap (two_begin Kinds.Name k) e ∙ and_right (is t.kind Kinds.Name) (begins k m) h
 
 -- A form that may begin with a name, but not with a name and this sign: where both come, none of it but the name is a
 -- front of the form.

@@ -2,7 +2,7 @@
 use Rattle.std.proofs.Common.{◌≡◌, ◌≢◌, ℕ, zero, suc, ◌+◌, ◌-◌, ◌≤◌, ◌<◌, Bool, true, false, List, [], ◌∷◌, length, drop, get_or, refl, sym, ap, subst, ◌∙◌, ◌⊎◌, inl, inr, arith, lit<, Some, length-drop, length-append}
 use Rattle.std.specs.Prelude.{◌==◌, ◌&&◌, not, nat_lt}
 use Rattle.std.specs.Str.{IsUtf8, IsCharBoundary}
-use Rattle.std.proofs.lemmas.Bool.{eqb-true}
+use Rattle.std.proofs.lemmas.Bool.{eqb-true, cases_Bool, or_from, not_from_false, or_parts, cond-false}
 use Rattle.std.proofs.lemmas.Bool.Decides.{nat_tests}
 use Rattle.std.proofs.lemmas.List.{get_or-drop, get_or_append_left, drop-drop}
 use Rattle.std.proofs.lemmas.Str.{IsCharBoundary-after_ascii, IsCharBoundary-before_ascii, IsCharBoundary-end, IsCharBoundary-start, IsUtf8-drop}
@@ -13,14 +13,13 @@ use Rattle.lexer.specs.Bytes.{newline, hash, backslash, is_blank, continues_word
 use Rattle.lexer.specs.Lexing.{continues_line, gap, in_gap, part_after, run, token_at}
 use Rattle.lexer.proofs.Gaps.{gap_yes, gap_no}
 use Rattle.lexer.proofs.Runs.{run_le, run_passes}
-use Rattle.lexer.proofs.Tests.{cases_bool, neither, not_false, or_false, if_false}
 use Rattle.lexer.proofs.Lexemes.{continues_ascii, token_sound, token_ascii}
 
 newline_ascii : (b : ℕ) → (b == newline) ≡ true → b < 128
 newline_ascii b e = subst (λ (x : ℕ). x < 128) (sym (eqb-true b newline e)) (lit< tt)
 
 back_ascii : (b : ℕ) (part : GapPart) → part_after part b ≡ Blank → ((b == newline) ≡ false → part_after part b ≡ part) → part ≢ Blank → b < 128
-back_ascii b part f other n = elim (cases_bool (b == newline)) [
+back_ascii b part f other n = elim (cases_Bool (b == newline)) [
   | inl y ↦ newline_ascii b y
   | inr m ↦ absurd (n (sym (other m) ∙ f))
 ]
@@ -30,25 +29,25 @@ blank_ascii depth b t = grind (arith, nat_tests)
 
 -- a byte of a gap that is followed by no comment and no continuation
 plain_ascii : (depth : ℕ) (part : GapPart) (b : ℕ) (bs : List ℕ) → in_gap depth part b bs ≡ true → part_after part b ≡ Blank → b < 128
-plain_ascii depth Blank b bs t f = elim (cases_bool (is_blank depth b)) [
+plain_ascii depth Blank b bs t f = elim (cases_Bool (is_blank depth b)) [
   | inl y ↦ blank_ascii depth b y
-  | inr n ↦ elim (cases_bool (b == hash)) [
+  | inr n ↦ elim (cases_Bool (b == hash)) [
     | inl y ↦ subst (λ (x : ℕ). x < 128) (sym (eqb-true b hash y)) (lit< tt)
-    | inr m ↦ elim (cases_bool (b == backslash)) [
+    | inr m ↦ elim (cases_Bool (b == backslash)) [
       | inl y ↦ subst (λ (x : ℕ). x < 128) (sym (eqb-true b backslash y)) (lit< tt)
-      | inr o ↦ absurd (let e = neither (is_blank depth b) _ n (neither (b == hash) _ m (ap (λ (x : Bool). x && continues_line false bs) o)) in cc)
+      | inr o ↦ absurd (let e = or_from (is_blank depth b) _ n (or_from (b == hash) _ m (ap (λ (x : Bool). x && continues_line false bs) o)) in cc)
     ]
   ]
 ]
-plain_ascii depth Comment b bs t f = back_ascii b Comment f (λ n. if_false (b == newline) _ _ n) (λ e. cc)
-plain_ascii depth Continuation b bs t f = back_ascii b Continuation f (λ n. if_false (b == newline) _ _ n) (λ e. cc)
+plain_ascii depth Comment b bs t f = back_ascii b Comment f (λ n. cond-false (b == newline) _ _ n) (λ e. cc)
+plain_ascii depth Continuation b bs t f = back_ascii b Continuation f (λ n. cond-false (b == newline) _ _ n) (λ e. cc)
 
 -- the byte behind a part of a gap that is not at its end
 stop_ascii : (depth : ℕ) (part : GapPart) (b : ℕ) (bs : List ℕ) → part ≢ Blank → in_gap depth part b bs ≡ false → b < 128
 stop_ascii depth Blank b bs n f = absurd (n refl)
-stop_ascii depth Comment b bs n f = elim (cases_bool (b == newline)) [
+stop_ascii depth Comment b bs n f = elim (cases_Bool (b == newline)) [
   | inl y ↦ newline_ascii b y
-  | inr m ↦ absurd (let e = or_false (not (b == newline)) (nat_lt 0 depth) f in let u = not_false (b == newline) m in cc)
+  | inr m ↦ absurd (let e = (or_parts (not (b == newline)) (nat_lt 0 depth) f).0 in let u = not_from_false (b == newline) m in cc)
 ]
 stop_ascii depth Continuation b bs n f = absurd cc
 
@@ -70,7 +69,7 @@ pub gap_cut : (bs : List ℕ) → IsUtf8 bs → (depth : ℕ) (part : GapPart) (
 gap_cut bs utf8 depth part i [] e le h = subst (IsCharBoundary bs) (omega (arith, ap length e, length-drop i bs)) (IsCharBoundary-end bs)
 gap_cut bs utf8 depth part i (b ∷ rest) e le h =
     let at = here_is bs i b rest e in
-    elim (cases_bool (in_gap depth part b rest)) [
+    elim (cases_Bool (in_gap depth part b rest)) [
       | inl t ↦ subst (IsCharBoundary bs) (let q : (i + 1) + gap depth (part_after part b) rest ≡ i + gap depth part (b ∷ rest) = omega (arith, gap_yes depth part b rest t) in q)
           (gap_cut bs utf8 depth (part_after part b) (i + 1) rest (next_drop bs i b rest e) (omega (arith, at.1))
           (λ f. IsCharBoundary-after_ascii bs i utf8 at.1 (subst (λ (x : ℕ). x < 128) (sym at.0) (plain_ascii depth part b rest t f))))

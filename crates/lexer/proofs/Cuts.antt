@@ -2,6 +2,7 @@
 use Rattle.std.proofs.Common.{eq-eqb, ◌≡◌, ◌≢◌, ℕ, ◌-◌, ◌≤◌, ◌<◌, true, false, List, [], ◌∷◌, ◌++◌, length, take, drop, get_or, refl, sym, ap, ◌∙◌, arith, Some, None, Result, Ok, Err}
 use Rattle.std.specs.Prelude.{◌==◌}
 use Rattle.std.specs.Char.{is_ascii_digit}
+use Rattle.std.proofs.lemmas.Bool.{ne_eqb, cond-true, cond-false}
 use Rattle.lexer.specs.declared.token.Kind.{Kind}
 use Rattle.lexer.specs.declared.token.Kind.TheVariants as Kinds
 use Rattle.lexer.specs.Bytes.{quote, is_letter, continues_word, opens_format}
@@ -11,7 +12,6 @@ use Rattle.lexer.specs.Lexing.{run, word_at, number_at, string_at, format_at, do
 use Rattle.lexer.specs.declared.fault.SyntaxFault.{SyntaxFault}
 use Rattle.lexer.specs.Lexeme.{Lexeme}
 use Rattle.lexer.specs.Tokens.{Place}
-use Rattle.lexer.proofs.Tests.{neq_false, if_true, if_false}
 use Rattle.lexer.proofs.Runs.{run_le, take_all}
 
 -- ---- symbols
@@ -41,11 +41,11 @@ word_fits bs n e = omega (arith, run_le continues_word bs)
 
 pub number_some : (bs : List ℕ) (n : ℕ) → run continues_word bs ≡ n → is_number (take n bs) ≡ true → number_at bs ≡ Some (Kinds.Number, n)
 unfolding number_at
-number_some bs n e f = rw e (if_true (is_number (take n bs)) _ _ f)
+number_some bs n e f = rw e (cond-true (is_number (take n bs)) _ _ f)
 
 pub number_none : (bs : List ℕ) (n : ℕ) → run continues_word bs ≡ n → is_number (take n bs) ≡ false → number_at bs ≡ None
 unfolding number_at
-number_none bs n e f = rw e (if_false (is_number (take n bs)) _ _ f)
+number_none bs n e f = rw e (cond-false (is_number (take n bs)) _ _ f)
 
 -- ---- tokens
 
@@ -57,7 +57,7 @@ token_nothing (a ∷ bs) e = absurd (omega arith)
 pub token_word : (s : List ℕ) → 0 < length s → is_letter (get_or s 0 0) ≡ true → opens_format s ≡ false → token_at s ≡ Some (word_at s)
 unfolding token_at
 token_word [] lt e f = absurd (omega arith)
-token_word (a ∷ bs) lt e f = if_true (is_letter a) _ _ e ∙ if_false (opens_format (a ∷ bs)) _ _ f
+token_word (a ∷ bs) lt e f = cond-true (is_letter a) _ _ e ∙ cond-false (opens_format (a ∷ bs)) _ _ f
 
 tail_is : (a : ℕ) (bs : List ℕ) → take (length (a ∷ bs) - 1) (drop 1 (a ∷ bs)) ≡ bs
 tail_is a bs = ap (λ (n : ℕ). take n bs) (let q : length (a ∷ bs) - 1 ≡ length bs = omega arith in q) ∙ take_all bs
@@ -65,22 +65,25 @@ tail_is a bs = ap (λ (n : ℕ). take n bs) (let q : length (a ∷ bs) - 1 ≡ l
 pub token_number : (s : List ℕ) → 0 < length s → is_letter (get_or s 0 0) ≡ false → is_ascii_digit (get_or s 0 0) ≡ true → token_at s ≡ number_at s
 unfolding token_at
 token_number [] lt e d = absurd (omega arith)
-token_number (a ∷ bs) lt e d = if_false (is_letter a) _ _ e ∙ if_true (is_ascii_digit a) _ _ d
+token_number (a ∷ bs) lt e d = cond-false (is_letter a) _ _ e ∙ cond-true (is_ascii_digit a) _ _ d
 
 pub token_symbol : (s : List ℕ) → 0 < length s → is_letter (get_or s 0 0) ≡ false → is_ascii_digit (get_or s 0 0) ≡ false → get_or s 0 0 ≢ quote → token_at s ≡ symbol_at (get_or s 0 0) (take (length s - 1) (drop 1 s))
 unfolding token_at
 token_symbol [] lt e d q = absurd (omega arith)
-token_symbol (a ∷ bs) lt e d q = if_false (is_letter a) _ _ e ∙ if_false (is_ascii_digit a) _ _ d ∙ if_false (a == quote) _ _ (neq_false a quote q) ∙ ap (symbol_at a) (sym (tail_is a bs))
+token_symbol (a ∷ bs) lt e d q =
+    cond-false (is_letter a) _ _ e ∙ cond-false (is_ascii_digit a) _ _ d ∙ cond-false (a == quote) _ _ (ne_eqb a quote q)
+    ∙ ap (symbol_at a) (sym (tail_is a bs))
 
 pub token_string : (s : List ℕ) → 0 < length s → is_letter (get_or s 0 0) ≡ false → is_ascii_digit (get_or s 0 0) ≡ false → get_or s 0 0 ≡ quote → token_at s ≡ string_at s
 unfolding token_at
 token_string [] lt e d q = absurd (omega arith)
-token_string (a ∷ bs) lt e d q = if_false (is_letter a) _ _ e ∙ if_false (is_ascii_digit a) _ _ d ∙ if_true (a == quote) _ _ (eq-eqb a quote q)
+token_string (a ∷ bs) lt e d q =
+    cond-false (is_letter a) _ _ e ∙ cond-false (is_ascii_digit a) _ _ d ∙ cond-true (a == quote) _ _ (eq-eqb a quote q)
 
 pub token_format : (s : List ℕ) → 0 < length s → is_letter (get_or s 0 0) ≡ true → opens_format s ≡ true → token_at s ≡ format_at s
 unfolding token_at
 token_format [] lt e f = absurd (omega arith)
-token_format (a ∷ bs) lt e f = if_true (is_letter a) _ _ e ∙ if_true (opens_format (a ∷ bs)) _ _ f
+token_format (a ∷ bs) lt e f = cond-true (is_letter a) _ _ e ∙ cond-true (opens_format (a ∷ bs)) _ _ f
 
 -- ---- the loop over a source
 

@@ -3,9 +3,9 @@ use Rattle.std.proofs.Common.{◌≡◌, ℕ, zero, suc, ◌+◌, ◌-◌, ◌�
 use Rattle.std.specs.Prelude.{◌==◌, ◌||◌}
 use Rattle.std.proofs.lemmas.List.{append-nil, map-append}
 use Rattle.std.proofs.lemmas.List.Sums.{count_by-le-length}
+use Rattle.std.proofs.lemmas.Bool.{cases_Bool}
 use Rattle.lexer.specs.declared.token.Kind.TheVariants as Kinds
 use Rattle.lexer.specs.declared.token.Token.{Token}
-use Rattle.lexer.proofs.Tests.{cases_bool}
 use Rattle.lexer.specs.declared.gap.GapPart.TheVariants.{Blank}
 use Rattle.lexer.specs.declared.token.Kind.{Kind}
 use Rattle.lexer.specs.declared.fault.SyntaxFault.{SyntaxFault}
@@ -103,9 +103,9 @@ pub newlines_le : (s : List ℕ) → newlines s ≤ length s
 newlines_le s = count_by-le-length (λ b. b == newline) s
 
 pub depth_after_le : (k : Kind) (depth : ℕ) → depth_after k depth ≤ depth + 1
-depth_after_le k depth = elim (cases_bool (is k Kinds.OpenParenthesis || is k Kinds.OpenBracket || is k Kinds.OpenBrace)) [
+depth_after_le k depth = elim (cases_Bool (is k Kinds.OpenParenthesis || is k Kinds.OpenBracket || is k Kinds.OpenBrace)) [
   | inl y ↦ let e : depth_after k depth ≡ depth + 1 = rw y refl in omega (arith, e)
-  | inr n ↦ elim (cases_bool (is k Kinds.CloseParenthesis || is k Kinds.CloseBracket || is k Kinds.CloseBrace)) [
+  | inr n ↦ elim (cases_Bool (is k Kinds.CloseParenthesis || is k Kinds.CloseBracket || is k Kinds.CloseBrace)) [
     | inl y ↦ let e : depth_after k depth ≡ depth - 1 = rw (n, y) refl in omega (arith, e)
     | inr m ↦ let e : depth_after k depth ≡ depth = rw (n, m) refl in omega (arith, e)
   ]

@@ -3,17 +3,16 @@ use Rattle.std.proofs.Common.{◌≡◌, ◌≢◌, ℕ, ◌-◌, ◌≤◌, ◌
 use Rattle.std.specs.Prelude.{◌==◌, ◌||◌}
 use Rattle.std.specs.Char.{is_ascii_digit, is_ascii_hexdigit}
 use Rattle.std.specs.List.{list_all}
-use Rattle.std.proofs.lemmas.Bool.{eqb-true, eq-eqb}
+use Rattle.std.proofs.lemmas.Bool.{eqb-true, eq-eqb, cases_Bool, or_right, ne_eqb, cond-true, cond-false}
 use Rattle.std.proofs.lemmas.Bool.Decides.{nat_tests}
 use Rattle.lexer.specs.Bytes.{digit_zero, is_letter, continues_word}
 use Rattle.lexer.specs.Numbers.{lower_x, upper_x, lower_o, upper_o, lower_b, upper_b, is_octal_digit, is_binary_digit, is_digit_of, is_behind_zero, is_number}
-use Rattle.lexer.proofs.Tests.{cases_bool, or_left, or_right_true, neq_false, if_true, if_false}
-use Rattle.lexer.proofs.Runs.{all_both, all_first, all_weaker, take_all}
+use Rattle.lexer.proofs.Runs.{all_both, all_first, all_weaker, take_all, first_holds}
 
 -- ---- digits
 
 pub digit_word : (b : ℕ) → is_ascii_digit b ≡ true → continues_word b ≡ true
-digit_word b h = or_right_true (is_letter b) (is_ascii_digit b) h
+digit_word b h = or_right (is_letter b) (is_ascii_digit b) h
 
 pub digit_letter : (b : ℕ) → is_ascii_digit b ≡ true → is_letter b ≡ false
 digit_letter b h = grind (arith, nat_tests)
@@ -29,9 +28,9 @@ binary_word b h = grind (arith, nat_tests)
 
 -- one of two bytes
 either : (P : ℕ → Type 0) (b x y : ℕ) → ((b == x) || (b == y)) ≡ true → P x → P y → P b
-either P b x y h p q = elim (cases_bool (b == y)) [
+either P b x y h p q = elim (cases_Bool (b == y)) [
   | inl e ↦ subst P (sym (eqb-true b y e)) q
-  | inr n ↦ subst P (sym (eqb-true b x (or_left (b == x) (b == y) h n))) p
+  | inr n ↦ subst P (sym (eqb-true b x (first_holds (b == x) (b == y) h n))) p
 ]
 
 record Based (letter d : ℕ) : Type 0 where
@@ -42,13 +41,14 @@ abbrev IsWord : ℕ → Type 0
 IsWord b = continues_word b ≡ true
 
 based : (letter d : ℕ) → is_digit_of letter d ≡ true → Based letter d
-based letter d h = elim (cases_bool ((letter == lower_x) || (letter == upper_x))) [
-  | inl x ↦ record { first = either IsWord letter lower_x upper_x x refl refl; digit = hex_word d (sym (if_true _ _ _ x) ∙ h) }
-  | inr not_x ↦ elim (cases_bool ((letter == lower_o) || (letter == upper_o))) [
-    | inl o ↦ record { first = either IsWord letter lower_o upper_o o refl refl; digit = octal_word d (sym (if_false _ _ _ not_x ∙ if_true _ _ _ o) ∙ h) }
-    | inr not_o ↦ elim (cases_bool ((letter == lower_b) || (letter == upper_b))) [
-      | inl b ↦ record { first = either IsWord letter lower_b upper_b b refl refl; digit = binary_word d (sym (if_false _ _ _ not_x ∙ if_false _ _ _ not_o ∙ if_true _ _ _ b) ∙ h) }
-      | inr not_b ↦ absurd (let e : is_digit_of letter d ≡ false = if_false _ _ _ not_x ∙ if_false _ _ _ not_o ∙ if_false _ _ _ not_b in cc)
+based letter d h = elim (cases_Bool ((letter == lower_x) || (letter == upper_x))) [
+  | inl x ↦ record { first = either IsWord letter lower_x upper_x x refl refl; digit = hex_word d (sym (cond-true _ _ _ x) ∙ h) }
+  | inr not_x ↦ elim (cases_Bool ((letter == lower_o) || (letter == upper_o))) [
+    | inl o ↦ record { first = either IsWord letter lower_o upper_o o refl refl; digit = octal_word d (sym (cond-false _ _ _ not_x ∙ cond-true _ _ _ o) ∙ h) }
+    | inr not_o ↦ elim (cases_Bool ((letter == lower_b) || (letter == upper_b))) [
+      | inl b ↦ record { first = either IsWord letter lower_b upper_b b refl refl; digit = binary_word d (sym (cond-false _ _ _ not_x ∙ cond-false _ _ _ not_o ∙ cond-true _ _ _ b) ∙ h) }
+      | inr not_b ↦
+          absurd (let e : is_digit_of letter d ≡ false = cond-false _ _ _ not_x ∙ cond-false _ _ _ not_o ∙ cond-false _ _ _ not_b in cc)
     ]
   ]
 ]
@@ -64,15 +64,15 @@ behind_words (letter ∷ d ∷ digits) h =
 
 pub number_words : (s : List ℕ) → is_number s ≡ true → list_all continues_word s ≡ true
 number_words [] h = absurd cc
-number_words (a ∷ others) h = elim (cases_bool (a == digit_zero)) [
-  | inl y ↦ all_both continues_word a others (subst IsWord (sym (eqb-true a digit_zero y)) refl) (behind_words others (sym (if_true _ _ _ y) ∙ h))
-  | inr n ↦ all_weaker is_ascii_digit continues_word digit_word (a ∷ others) (sym (if_false _ _ _ n) ∙ h)
+number_words (a ∷ others) h = elim (cases_Bool (a == digit_zero)) [
+  | inl y ↦ all_both continues_word a others (subst IsWord (sym (eqb-true a digit_zero y)) refl) (behind_words others (sym (cond-true _ _ _ y) ∙ h))
+  | inr n ↦ all_weaker is_ascii_digit continues_word digit_word (a ∷ others) (sym (cond-false _ _ _ n) ∙ h)
 ]
 
 pub number_digit : (a : ℕ) (others : List ℕ) → is_number (a ∷ others) ≡ true → is_ascii_digit a ≡ true
-number_digit a others h = elim (cases_bool (a == digit_zero)) [
+number_digit a others h = elim (cases_Bool (a == digit_zero)) [
   | inl y ↦ subst (λ (x : ℕ). is_ascii_digit x ≡ true) (sym (eqb-true a digit_zero y)) refl
-  | inr n ↦ (all_first is_ascii_digit a others (sym (if_false _ _ _ n) ∙ h)).0
+  | inr n ↦ (all_first is_ascii_digit a others (sym (cond-false _ _ _ n) ∙ h)).0
 ]
 
 -- ---- the test
@@ -83,18 +83,21 @@ number_none (a ∷ s) e = absurd (omega arith)
 
 pub number_decimal : (s : List ℕ) → 0 < length s → get_or s 0 0 ≢ digit_zero → is_number s ≡ list_all is_ascii_digit s
 number_decimal [] lt e = absurd (omega arith)
-number_decimal (a ∷ others) lt e = if_false (a == digit_zero) _ _ (neq_false a digit_zero e)
+number_decimal (a ∷ others) lt e = cond-false (a == digit_zero) _ _ (ne_eqb a digit_zero e)
 
 pub number_short : (s : List ℕ) → length s < 3 → 0 < length s → get_or s 0 0 ≡ digit_zero → is_number s ≡ (length s == 1)
 number_short [] lt some e = absurd (omega arith)
-number_short (a ∷ []) lt some e = if_true (a == digit_zero) _ _ (eq-eqb a digit_zero e)
-number_short (a ∷ b ∷ []) lt some e = if_true (a == digit_zero) _ _ (eq-eqb a digit_zero e)
+number_short (a ∷ []) lt some e = cond-true (a == digit_zero) _ _ (eq-eqb a digit_zero e)
+number_short (a ∷ b ∷ []) lt some e = cond-true (a == digit_zero) _ _ (eq-eqb a digit_zero e)
 number_short (a ∷ b ∷ c ∷ more) lt some e = absurd (omega arith)
 
 pub number_based : (s : List ℕ) → 3 ≤ length s → get_or s 0 0 ≡ digit_zero → is_number s ≡ list_all (is_digit_of (get_or s 1 0)) (take (length s - 2) (drop 2 s))
 number_based [] le e = absurd (omega arith)
 number_based (a ∷ []) le e = absurd (omega arith)
 number_based (a ∷ b ∷ []) le e = absurd (omega arith)
-number_based (a ∷ b ∷ c ∷ more) le e = if_true (a == digit_zero) _ _ (eq-eqb a digit_zero e) ∙ ap (list_all (is_digit_of b)) (sym (ap (λ (n : ℕ). take n (c ∷ more)) (let q : length (a ∷ b ∷ c ∷ more) - 2 ≡ length (c ∷ more) = omega arith in q) ∙ take_all (c ∷ more)))
+number_based (a ∷ b ∷ c ∷ more) le e =
+    let q : length (a ∷ b ∷ c ∷ more) - 2 ≡ length (c ∷ more) = omega arith in
+    cond-true (a == digit_zero) _ _ (eq-eqb a digit_zero e)
+    ∙ ap (list_all (is_digit_of b)) (sym (ap (λ (n : ℕ). take n (c ∷ more)) q ∙ take_all (c ∷ more)))
 
 pub ruleset number_cases = (number_none, number_short, number_based, number_decimal)

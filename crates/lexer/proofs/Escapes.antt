@@ -5,10 +5,10 @@ use Rattle.std.specs.Char.{digit_value, is_digit}
 use Rattle.std.proofs.Math.Nat.{pow-suc}
 use Rattle.std.proofs.lemmas.Bool.Decides.{nat_tests}
 use Rattle.std.proofs.lemmas.List.{at_drop_more, drop_all}
+use Rattle.std.proofs.lemmas.Bool.{cases_Bool, cond-true, cond-false}
 use Rattle.lexer.specs.Bytes.{quote}
 use Rattle.lexer.specs.Numbers.{is_octal_digit}
 use Rattle.lexer.specs.Escapes.{control, digit_count, hexadecimal, octal, sized, named, escape_at, names_none, is_bad_escape}
-use Rattle.lexer.proofs.Tests.{cases_bool, if_true, if_false}
 use Rattle.lexer.proofs.Runs.{take_all}
 
 -- ---- none reaches beyond a quote
@@ -41,21 +41,22 @@ bad_before b text rest = ap names_none (escape_before b text rest)
 pub hex_short : (n value : ℕ) (s : List ℕ) → length s < n → hexadecimal n value s ≡ None
 hex_short zero value s lt = absurd (omega arith)
 hex_short (suc n) value [] lt = refl
-hex_short (suc n) value (b ∷ s) lt = elim (cases_bool (is_digit b 16)) [
-  | inl y ↦ if_true (is_digit b 16) _ _ y ∙ hex_short n (16 * value + digit_value b) s (omega arith)
-  | inr x ↦ if_false (is_digit b 16) _ _ x
+hex_short (suc n) value (b ∷ s) lt = elim (cases_Bool (is_digit b 16)) [
+  | inl y ↦ cond-true (is_digit b 16) _ _ y ∙ hex_short n (16 * value + digit_value b) s (omega arith)
+  | inr x ↦ cond-false (is_digit b 16) _ _ x
 ]
 
 hex_first : (n value b : ℕ) (s : List ℕ) → 0 < n → digit_value b < 16 → hexadecimal n value (b ∷ s) ≡ hexadecimal (n - 1) (16 * value + digit_value b) s
 hex_first zero value b s lt d = absurd (omega arith)
-hex_first (suc n) value b s lt d = if_true (is_digit b 16) _ _ (digit_true b d) ∙ ap (λ (m : ℕ). hexadecimal m (16 * value + digit_value b) s) (let q : n ≡ suc n - 1 = omega arith in q)
+hex_first (suc n) value b s lt d =
+    cond-true (is_digit b 16) _ _ (digit_true b d) ∙ ap (λ (m : ℕ). hexadecimal m (16 * value + digit_value b) s) (let q : n ≡ suc n - 1 = omega arith in q)
   where
     digit_true : (b : ℕ) → digit_value b < 16 → is_digit b 16 ≡ true
     digit_true b d = grind (arith, nat_tests)
 
 hex_none : (n value b : ℕ) (s : List ℕ) → 0 < n → 16 ≤ digit_value b → hexadecimal n value (b ∷ s) ≡ None
 hex_none zero value b s lt d = absurd (omega arith)
-hex_none (suc n) value b s lt d = if_false (is_digit b 16) _ _ (digit_false b d)
+hex_none (suc n) value b s lt d = cond-false (is_digit b 16) _ _ (digit_false b d)
   where
     digit_false : (b : ℕ) → 16 ≤ digit_value b → is_digit b 16 ≡ false
     digit_false b d = grind (arith, nat_tests)
@@ -91,7 +92,8 @@ hex_fits value (suc (suc (suc (suc (suc (suc (suc (suc i)))))))) v lt = absurd (
 
 octal_first : (n value size b : ℕ) (s : List ℕ) → 0 < n → is_octal_digit b ≡ true → octal n value size (b ∷ s) ≡ octal (n - 1) (8 * value + digit_value b) (size + 1) s
 octal_first zero value size b s lt d = absurd (omega arith)
-octal_first (suc n) value size b s lt d = if_true (is_octal_digit b) _ _ d ∙ ap (λ (m : ℕ). octal m (8 * value + digit_value b) (size + 1) s) (let q : n ≡ suc n - 1 = omega arith in q)
+octal_first (suc n) value size b s lt d =
+    cond-true (is_octal_digit b) _ _ d ∙ ap (λ (m : ℕ). octal m (8 * value + digit_value b) (size + 1) s) (let q : n ≡ suc n - 1 = omega arith in q)
 
 octal_value : (b : ℕ) → is_octal_digit b ≡ true → (digit_value b ≡ b - 48) × (48 ≤ b) × (b ≤ 55)
 octal_value b h = (grind (arith, nat_tests), grind (arith, nat_tests), grind (arith, nat_tests))
@@ -108,7 +110,7 @@ octal_yes s value i more lt d =
 
 octal_stops : (n value size b : ℕ) (s : List ℕ) → is_octal_digit b ≡ false → octal n value size (b ∷ s) ≡ (value, size)
 octal_stops zero value size b s d = refl
-octal_stops (suc n) value size b s d = if_false (is_octal_digit b) _ _ d
+octal_stops (suc n) value size b s d = cond-false (is_octal_digit b) _ _ d
 
 pub octal_no : (s : List ℕ) (value i : ℕ) → i < length s → is_octal_digit (get_or s i 0) ≡ false → octal (3 - i) value i (drop i s) ≡ (value, i)
 octal_no s value i lt d = at_drop_more (octal (3 - i) value i) s i 0 lt ∙ octal_stops (3 - i) value i (get_or s i 0) (drop (i + 1) s) d
@@ -136,11 +138,11 @@ escape_nothing (b ∷ s) e = absurd (omega arith)
 pub escape_octal : (s : List ℕ) → 0 < length s → is_octal_digit (get_or s 0 0) ≡ true → escape_at s ≡ Some (octal 3 0 0 s)
 unfolding escape_at
 escape_octal [] lt d = absurd (omega arith)
-escape_octal (b ∷ s) lt d = if_true (is_octal_digit b) _ _ d
+escape_octal (b ∷ s) lt d = cond-true (is_octal_digit b) _ _ d
 
 escape_named : (b : ℕ) (s : List ℕ) (o : Option ℕ) → is_octal_digit b ≡ false → digit_count b ≡ o → escape_at (b ∷ s) ≡ named b o s
 unfolding escape_at
-escape_named b s o d e = if_false (is_octal_digit b) _ _ d ∙ ap (λ (x : Option ℕ). named b x s) e
+escape_named b s o d e = cond-false (is_octal_digit b) _ _ d ∙ ap (λ (x : Option ℕ). named b x s) e
 
 pub escape_digits : (s : List ℕ) (n code : ℕ) → 0 < length s → is_octal_digit (get_or s 0 0) ≡ false → digit_count (get_or s 0 0) ≡ Some n
     → hexadecimal n 0 (take (length s - 1) (drop 1 s)) ≡ Some code → escape_at s ≡ Some (code, n + 1)

@@ -5,10 +5,10 @@ use Rattle.std.specs.Char.{is_digit, digit_value}
 use Rattle.std.specs.List.{list_all}
 use Rattle.std.proofs.lemmas.Bool.Decides.{nat_tests}
 use Rattle.std.proofs.lemmas.List.{take-append-drop, length-take-le}
+use Rattle.std.proofs.lemmas.Bool.{cases_Bool, cond-true, cond-false}
 use Rattle.lexer.specs.Escapes.{control, digit_count, hexadecimal, octal, sized, named, escape_at, is_character, names_none, is_bad_escape, NamesCharacters, begins_octal, IsEscape, alone, sixteen, eight}
 use Rattle.lexer.specs.Numbers.{is_octal_digit}
 use Rattle.lexer.proofs.Runs.{all_both, all_first}
-use Rattle.lexer.proofs.Tests.{cases_bool, if_true, if_false}
 use Rattle.lexer.proofs.Texts.{hex_ends, sized_some}
 
 -- ---- digits
@@ -22,15 +22,15 @@ is_hex d = is_digit d 16
 hex_sound : (n value : ℕ) (s : List ℕ) (code : ℕ) → hexadecimal n value s ≡ Some code → (list_all is_hex (take n s) ≡ true) × (code ≡ more_digits 16 value (take n s))
 hex_sound zero value s code e = (refl, cc)
 hex_sound (suc n) value [] code e = absurd cc
-hex_sound (suc n) value (b ∷ s) code e = elim (cases_bool (is_digit b 16)) [
-  | inl y ↦ let ih = hex_sound n (16 * value + digit_value b) s code (sym (if_true (is_digit b 16) _ _ y) ∙ e) in (all_both is_hex b (take n s) y ih.0, ih.1)
-  | inr x ↦ absurd (let w : hexadecimal (suc n) value (b ∷ s) ≡ None = if_false (is_digit b 16) _ _ x in cc)
+hex_sound (suc n) value (b ∷ s) code e = elim (cases_Bool (is_digit b 16)) [
+  | inl y ↦ let ih = hex_sound n (16 * value + digit_value b) s code (sym (cond-true (is_digit b 16) _ _ y) ∙ e) in (all_both is_hex b (take n s) y ih.0, ih.1)
+  | inr x ↦ absurd (let w : hexadecimal (suc n) value (b ∷ s) ≡ None = cond-false (is_digit b 16) _ _ x in cc)
 ]
 
 hex_complete : (value : ℕ) (digits rest : List ℕ) → list_all is_hex digits ≡ true → hexadecimal (length digits) value (digits ++ rest) ≡ Some (more_digits 16 value digits)
 hex_complete value [] rest h = refl
 hex_complete value (b ∷ digits) rest h =
-    let w = all_first is_hex b digits h in if_true (is_digit b 16) _ _ w.0 ∙ hex_complete (16 * value + digit_value b) digits rest w.1
+    let w = all_first is_hex b digits h in cond-true (is_digit b 16) _ _ w.0 ∙ hex_complete (16 * value + digit_value b) digits rest w.1
 
 record Octal (n value size : ℕ) (s : List ℕ) : Type 0 where
   pub count : ℕ
@@ -46,18 +46,18 @@ pair a b e f = λ i. (e i, f i)
 octal_sound : (n value size : ℕ) (s : List ℕ) → Octal n value size s
 octal_sound zero value size s = record { count = 0; is = pair value size refl (omega arith); few = omega arith; within = omega arith; all = refl; ends = λ lt. absurd (omega arith) }
 octal_sound (suc n) value size [] = record { count = 0; is = pair value size refl (omega arith); few = omega arith; within = omega arith; all = refl; ends = λ lt. refl }
-octal_sound (suc n) value size (b ∷ s) = elim (cases_bool (is_octal_digit b)) [
+octal_sound (suc n) value size (b ∷ s) = elim (cases_Bool (is_octal_digit b)) [
   | inl y ↦
       let ih = octal_sound n (8 * value + digit_value b) (size + 1) s in
       record {
         count = suc ih.count;
-        is = if_true (is_octal_digit b) _ _ y ∙ ih.is ∙ pair _ (size + 1 + ih.count) refl (omega arith);
+        is = cond-true (is_octal_digit b) _ _ y ∙ ih.is ∙ pair _ (size + 1 + ih.count) refl (omega arith);
         few = omega (arith, ih.few);
         within = omega (arith, ih.within);
         all = all_both is_octal_digit b (take ih.count s) y ih.all;
         ends = λ lt. ih.ends (omega arith);
       }
-  | inr x ↦ record { count = 0; is = if_false (is_octal_digit b) _ _ x ∙ pair value size refl (omega arith); few = omega arith; within = omega arith; all = refl; ends = λ lt. x }
+  | inr x ↦ record { count = 0; is = cond-false (is_octal_digit b) _ _ x ∙ pair value size refl (omega arith); few = omega arith; within = omega arith; all = refl; ends = λ lt. x }
 ]
 
 octal_complete : (n value size : ℕ) (digits rest : List ℕ) → length digits ≤ n → list_all is_octal_digit digits ≡ true → (length digits < n → begins_octal rest ≡ false)
@@ -65,10 +65,12 @@ octal_complete : (n value size : ℕ) (digits rest : List ℕ) → length digits
 octal_complete zero value size [] rest le h e = pair value size refl (omega arith)
 octal_complete zero value size (b ∷ digits) rest le h e = absurd (omega arith)
 octal_complete (suc n) value size [] [] le h e = pair value size refl (omega arith)
-octal_complete (suc n) value size [] (b ∷ rest) le h e = if_false (is_octal_digit b) _ _ (e (omega arith)) ∙ pair value size refl (omega arith)
+octal_complete (suc n) value size [] (b ∷ rest) le h e =
+    cond-false (is_octal_digit b) _ _ (e (omega arith)) ∙ pair value size refl (omega arith)
 octal_complete (suc n) value size (b ∷ digits) rest le h e =
     let w = all_first is_octal_digit b digits h in
-    if_true (is_octal_digit b) _ _ w.0 ∙ octal_complete n (8 * value + digit_value b) (size + 1) digits rest (omega arith) w.1 (λ lt. e (omega arith))
+    cond-true (is_octal_digit b) _ _ w.0
+    ∙ octal_complete n (8 * value + digit_value b) (size + 1) digits rest (omega arith) w.1 (λ lt. e (omega arith))
     ∙ pair _ (size + 1 + length digits) refl (omega arith)
 
 -- ---- escapes
@@ -96,10 +98,10 @@ named_sound b (Some n) s code size d e =
 pub escape_sound : (s : List ℕ) (code size : ℕ) → escape_at s ≡ Some (code, size) → IsEscape code (take size s) (drop size s)
 unfolding escape_at
 escape_sound [] code size e = absurd cc
-escape_sound (b ∷ s) code size e = elim (cases_bool (is_octal_digit b)) [
+escape_sound (b ∷ s) code size e = elim (cases_Bool (is_octal_digit b)) [
   | inl y ↦
       let w = octal_sound 3 0 0 (b ∷ s) in
-      let f : ◌≡◌ {A = Option (ℕ × ℕ)} (Some (octal 3 0 0 (b ∷ s))) (Some (code, size)) = sym (if_true (is_octal_digit b) _ _ y) ∙ e in
+      let f : ◌≡◌ {A = Option (ℕ × ℕ)} (Some (octal 3 0 0 (b ∷ s))) (Some (code, size)) = sym (cond-true (is_octal_digit b) _ _ y) ∙ e in
       let p : octal 3 0 0 (b ∷ s) ≡ (code, size) = cc in
       let both = sym p ∙ w.is in
       let size_is : size ≡ w.count = ap (λ (r : ℕ × ℕ). r.1) both ∙ omega arith in
@@ -108,7 +110,7 @@ escape_sound (b ∷ s) code size e = elim (cases_bool (is_octal_digit b)) [
       let some : 0 < w.count = first b s w.count y w.ends in
       subst (λ (m : ℕ). IsEscape code (take m (b ∷ s)) (drop m (b ∷ s))) (sym size_is) (subst (λ (c : ℕ). IsEscape c (take w.count (b ∷ s)) (drop w.count (b ∷ s))) (sym code_is)
       (eight (take w.count (b ∷ s)) (drop w.count (b ∷ s)) (omega (arith, len, some)) (omega (arith, len, w.few)) w.all (λ lt. w.ends (omega (arith, len, lt)))))
-  | inr x ↦ named_sound b (digit_count b) s code size refl (sym (if_false (is_octal_digit b) _ _ x) ∙ e)
+  | inr x ↦ named_sound b (digit_count b) s code size refl (sym (cond-false (is_octal_digit b) _ _ x) ∙ e)
 ]
   where
     first : (b : ℕ) (s : List ℕ) (n : ℕ) → is_octal_digit b ≡ true → (n < 3 → begins_octal (drop n (b ∷ s)) ≡ false) → 0 < n
@@ -120,14 +122,16 @@ eight_complete : (digits rest : List ℕ) → 0 < length digits → length digit
 unfolding escape_at
 eight_complete [] rest some few h ends = absurd (omega arith)
 eight_complete (b ∷ digits) rest some few h ends =
-    if_true (is_octal_digit b) _ _ (all_first is_octal_digit b digits h).0 ∙ ap (λ (o : ℕ × ℕ). Some o) (octal_complete 3 0 0 (b ∷ digits) rest few h ends ∙ pair _ (0 + length (b ∷ digits)) refl (omega arith))
+    cond-true (is_octal_digit b) _ _ (all_first is_octal_digit b digits h).0
+    ∙ ap (λ (o : ℕ × ℕ). Some o) (octal_complete 3 0 0 (b ∷ digits) rest few h ends ∙ pair _ (0 + length (b ∷ digits)) refl (omega arith))
 
 pub escape_complete : (code : ℕ) (written rest : List ℕ) → IsEscape code written rest → escape_at (written ++ rest) ≡ Some (code, length written)
 unfolding escape_at
 escape_complete _ _ _ (alone b code rest e) =
-    let w = control_octal b code e in if_false (is_octal_digit b) _ _ w.0 ∙ ap (λ (o : Option ℕ). named b o rest) w.1 ∙ ap (sized 1) e
+    let w = control_octal b code e in cond-false (is_octal_digit b) _ _ w.0 ∙ ap (λ (o : Option ℕ). named b o rest) w.1 ∙ ap (sized 1) e
 escape_complete _ _ _ (sixteen b digits rest e h) =
-    if_false (is_octal_digit b) _ _ (count_octal b (length digits) e) ∙ ap (λ (o : Option ℕ). named b o (digits ++ rest)) e ∙ ap (sized (length digits + 1)) (hex_complete 0 digits rest h)
+    cond-false (is_octal_digit b) _ _ (count_octal b (length digits) e) ∙ ap (λ (o : Option ℕ). named b o (digits ++ rest)) e
+    ∙ ap (sized (length digits + 1)) (hex_complete 0 digits rest h)
     ∙ ap (λ (n : ℕ). Some (more_digits 16 0 digits, n)) (let q : length digits + 1 ≡ length (b ∷ digits) = omega arith in q)
 escape_complete _ _ _ (eight digits rest some few h ends) = eight_complete digits rest some few h ends
 

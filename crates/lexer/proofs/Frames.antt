@@ -2,12 +2,11 @@
 use Rattle.std.proofs.Common.{◌≡◌, ℕ, ◌+◌, ◌-◌, ◌≤◌, ◌<◌, Bool, true, false, List, length, get_or, sym, ap, subst, ◌∙◌, arith, lit<, nat_le, eq-eqb}
 use Rattle.std.specs.Prelude.{◌==◌, ◌&&◌, slice_range}
 use Rattle.std.specs.Str.{IsUtf8, IsCharBoundary}
-use Rattle.std.proofs.lemmas.Bool.{eqb-true}
+use Rattle.std.proofs.lemmas.Bool.{eqb-true, and_from, and_parts, cond-true, cond-false}
 use Rattle.std.proofs.lemmas.Bool.Decides.{nat_tests}
 use Rattle.std.proofs.lemmas.Str.{IsCharBoundary-after_ascii, IsCharBoundary-before_ascii}
 use Rattle.lexer.specs.Bytes.{quote}
 use Rattle.lexer.specs.Texts.{is_framed, between}
-use Rattle.lexer.proofs.Tests.{and_true, and_left, and_right, if_true, if_false}
 
 le_true : (a b : ℕ) → a ≤ b → nat_le a b ≡ true
 le_true a b h = grind (arith, nat_tests)
@@ -27,7 +26,9 @@ pub framed_enough : (front back : ℕ) (text : List ℕ) → front + back ≤ le
 framed_enough front back text le = ap (λ (t : Bool). t && ((get_or text (front - 1) 0 == quote) && (get_or text (length text - back) 0 == quote))) (le_true (front + back) (length text) le)
 
 pub framed_is : (front back : ℕ) (text : List ℕ) → front + back ≤ length text → get_or text (front - 1) 0 ≡ quote → get_or text (length text - back) 0 ≡ quote → is_framed front back text ≡ true
-framed_is front back text le before behind = framed_enough front back text le ∙ and_true _ _ (eq-eqb (get_or text (front - 1) 0) quote before) (eq-eqb (get_or text (length text - back) 0) quote behind)
+framed_is front back text le before behind =
+    framed_enough front back text le
+    ∙ and_from _ _ (eq-eqb (get_or text (front - 1) 0) quote before) (eq-eqb (get_or text (length text - back) 0) quote behind)
 
 -- ---- what it says
 
@@ -38,11 +39,11 @@ record Framed (front back : ℕ) (text : List ℕ) : Type 0 where
 
 framed : (front back : ℕ) (text : List ℕ) → is_framed front back text ≡ true → Framed front back text
 framed front back text h =
-    let quotes = and_right (nat_le (front + back) (length text)) _ h in
+    let quotes = (and_parts (nat_le (front + back) (length text)) _ h).1 in
     record {
-      within = true_le (front + back) (length text) (and_left (nat_le (front + back) (length text)) _ h);
-      before = eqb-true (get_or text (front - 1) 0) quote (and_left _ (get_or text (length text - back) 0 == quote) quotes);
-      behind = eqb-true (get_or text (length text - back) 0) quote (and_right (get_or text (front - 1) 0 == quote) _ quotes);
+      within = true_le (front + back) (length text) (and_parts (nat_le (front + back) (length text)) _ h).0;
+      before = eqb-true (get_or text (front - 1) 0) quote (and_parts _ (get_or text (length text - back) 0 == quote) quotes).0;
+      behind = eqb-true (get_or text (length text - back) 0) quote (and_parts (get_or text (front - 1) 0 == quote) _ quotes).1;
     }
 
 pub framed_within : (front back : ℕ) (text : List ℕ) → is_framed front back text ≡ true → front + back ≤ length text
@@ -61,10 +62,10 @@ framed_end front back text some more h =
 
 pub between_framed : (front back : ℕ) (text : List ℕ) → is_framed front back text ≡ true → between front back text ≡ slice_range text front (length text - back)
 unfolding between
-between_framed front back text h = if_true (is_framed front back text) _ _ h
+between_framed front back text h = cond-true (is_framed front back text) _ _ h
 
 pub between_all : (front back : ℕ) (text : List ℕ) → is_framed front back text ≡ false → between front back text ≡ text
 unfolding between
-between_all front back text h = if_false (is_framed front back text) _ _ h
+between_all front back text h = cond-false (is_framed front back text) _ _ h
 
 pub ruleset framed_cases = (framed_short, framed_enough)

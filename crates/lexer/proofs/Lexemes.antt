@@ -3,7 +3,7 @@ use Rattle.std.proofs.Common.{◌≡◌, ℕ, suc, ◌+◌, ◌-◌, ◌≤◌, 
 use Rattle.std.specs.Prelude.{◌==◌}
 use Rattle.std.specs.Char.{is_ascii_digit}
 use Rattle.std.specs.List.{list_all}
-use Rattle.std.proofs.lemmas.Bool.{eqb-true}
+use Rattle.std.proofs.lemmas.Bool.{eqb-true, cases_Bool, and_parts, cond-true, cond-false}
 use Rattle.std.proofs.lemmas.List.{length-take-le, take_at, take-append-drop}
 use Rattle.std.proofs.lemmas.Bool.Decides.{nat_tests}
 use Rattle.lexer.specs.declared.token.Kind.{Kind}
@@ -17,37 +17,36 @@ use Rattle.lexer.proofs.Digits.{digit_word, digit_letter, number_words, number_d
 use Rattle.lexer.proofs.Runs.{run_step, run_le, run_all, run_at_least, all_both, all_at, word_ends, word_exact}
 use Rattle.lexer.proofs.Strings.{string_sound, string_complete, string_split, quote_ascii}
 use Rattle.lexer.proofs.Symbols.{IsApart, single_apart, equals_apart}
-use Rattle.lexer.proofs.Tests.{cases_bool, and_left, and_right, if_true, if_false}
 
 -- ---- what is found, case by case
 
 found_word : (a : ℕ) (bs : List ℕ) → is_letter a ≡ true → opens_format (a ∷ bs) ≡ false → token_at (a ∷ bs) ≡ Some (word_at (a ∷ bs))
 unfolding token_at
-found_word a bs e f = if_true (is_letter a) _ _ e ∙ if_false (opens_format (a ∷ bs)) _ _ f
+found_word a bs e f = cond-true (is_letter a) _ _ e ∙ cond-false (opens_format (a ∷ bs)) _ _ f
 
 found_format : (a : ℕ) (bs : List ℕ) → is_letter a ≡ true → opens_format (a ∷ bs) ≡ true → token_at (a ∷ bs) ≡ formatted (string_at bs)
 unfolding token_at format_at
-found_format a bs e f = if_true (is_letter a) _ _ e ∙ if_true (opens_format (a ∷ bs)) _ _ f
+found_format a bs e f = cond-true (is_letter a) _ _ e ∙ cond-true (opens_format (a ∷ bs)) _ _ f
 
 found_number : (a : ℕ) (bs : List ℕ) → is_letter a ≡ false → is_ascii_digit a ≡ true → token_at (a ∷ bs) ≡ number_at (a ∷ bs)
 unfolding token_at
-found_number a bs e d = if_false (is_letter a) _ _ e ∙ if_true (is_ascii_digit a) _ _ d
+found_number a bs e d = cond-false (is_letter a) _ _ e ∙ cond-true (is_ascii_digit a) _ _ d
 
 found_string : (a : ℕ) (bs : List ℕ) → is_letter a ≡ false → is_ascii_digit a ≡ false → (a == quote) ≡ true → token_at (a ∷ bs) ≡ string_at (a ∷ bs)
 unfolding token_at
-found_string a bs e d q = if_false (is_letter a) _ _ e ∙ if_false (is_ascii_digit a) _ _ d ∙ if_true (a == quote) _ _ q
+found_string a bs e d q = cond-false (is_letter a) _ _ e ∙ cond-false (is_ascii_digit a) _ _ d ∙ cond-true (a == quote) _ _ q
 
 found_symbol : (a : ℕ) (bs : List ℕ) → is_letter a ≡ false → is_ascii_digit a ≡ false → (a == quote) ≡ false → token_at (a ∷ bs) ≡ symbol_at a bs
 unfolding token_at
-found_symbol a bs e d q = if_false (is_letter a) _ _ e ∙ if_false (is_ascii_digit a) _ _ d ∙ if_false (a == quote) _ _ q
+found_symbol a bs e d q = cond-false (is_letter a) _ _ e ∙ cond-false (is_ascii_digit a) _ _ d ∙ cond-false (a == quote) _ _ q
 
 number_found : (s : List ℕ) → is_number (take (run continues_word s) s) ≡ true → number_at s ≡ Some (Kinds.Number, run continues_word s)
 unfolding number_at
-number_found s e = if_true (is_number (take (run continues_word s) s)) _ _ e
+number_found s e = cond-true (is_number (take (run continues_word s) s)) _ _ e
 
 number_not : (s : List ℕ) → is_number (take (run continues_word s) s) ≡ false → number_at s ≡ None
 unfolding number_at
-number_not s e = if_false (is_number (take (run continues_word s) s)) _ _ e
+number_not s e = cond-false (is_number (take (run continues_word s) s)) _ _ e
 
 word_found : (s : List ℕ) → word_at s ≡ (word_kind (take (run continues_word s) s), run continues_word s)
 unfolding word_at
@@ -90,7 +89,8 @@ word_sound a bs k n l no_format e =
 
 opens_with : (a : ℕ) (bs : List ℕ) → opens_format (a ∷ bs) ≡ true → (more : List ℕ) × (a ≡ lower_f) × (bs ≡ quote ∷ more)
 opens_with a [] e = absurd cc
-opens_with a (b ∷ bs) e = (bs, eqb-true a lower_f (and_left (a == lower_f) (b == quote) e), ap (λ (x : ℕ). x ∷ bs) (eqb-true b quote (and_right (a == lower_f) (b == quote) e)))
+opens_with a (b ∷ bs) e =
+    (bs, eqb-true a lower_f (and_parts (a == lower_f) (b == quote) e).0, ap (λ (x : ℕ). x ∷ bs) (eqb-true b quote (and_parts (a == lower_f) (b == quote) e).1))
 
 formatted_some : (o : Option (Kind × ℕ)) (k : Kind) (n : ℕ) → formatted o ≡ Some (k, n) → (j : Kind) × (m : ℕ) × (o ≡ Some (j, m)) × (format_kind j ≡ k) × (n ≡ m + 1)
 formatted_some None k n e = absurd cc
@@ -130,7 +130,7 @@ number_sound : (a : ℕ) (bs : List ℕ) (k : Kind) (n : ℕ) → is_ascii_digit
 number_sound a bs k n d e =
     let s : List ℕ = a ∷ bs in
     let m : ℕ = run continues_word s in
-    elim (cases_bool (is_number (take m s))) [
+    elim (cases_Bool (is_number (take m s))) [
       | inl y ↦
           let p = pair_is Kinds.Number m k n (sym (number_found s y) ∙ e) in
           record {
@@ -177,7 +177,7 @@ symbol_last a = refl
 
 symbol_sound : (a : ℕ) (bs : List ℕ) (k : Kind) (n : ℕ) → symbol_at a bs ≡ Some (k, n) → IsFound (a ∷ bs) k n
 symbol_sound a [] k n e = found_single a [] k n (sym (symbol_last a) ∙ e)
-symbol_sound a (b ∷ bs) k n e = elim (cases_bool (b == equals)) [
+symbol_sound a (b ∷ bs) k n e = elim (cases_Bool (b == equals)) [
   | inl y ↦ found_double a b bs k n y (sym (symbol_double a b bs y) ∙ e)
   | inr no_equals ↦ found_single a (b ∷ bs) k n (sym (symbol_single a b bs no_equals) ∙ e)
 ]
@@ -188,14 +188,14 @@ found_nothing = refl
 
 pub token_sound : (s : List ℕ) (k : Kind) (n : ℕ) → token_at s ≡ Some (k, n) → IsFound s k n
 token_sound [] k n e = let x = found_nothing in absurd cc
-token_sound (a ∷ bs) k n e = elim (cases_bool (is_letter a)) [
-  | inl l ↦ elim (cases_bool (opens_format (a ∷ bs))) [
+token_sound (a ∷ bs) k n e = elim (cases_Bool (is_letter a)) [
+  | inl l ↦ elim (cases_Bool (opens_format (a ∷ bs))) [
     | inl f ↦ format_sound a bs k n f (sym (found_format a bs l f) ∙ e)
     | inr no_format ↦ word_sound a bs k n l no_format (sym (found_word a bs l no_format) ∙ e)
   ]
-  | inr other ↦ elim (cases_bool (is_ascii_digit a)) [
+  | inr other ↦ elim (cases_Bool (is_ascii_digit a)) [
     | inl d ↦ number_sound a bs k n d (sym (found_number a bs other d) ∙ e)
-    | inr no_digit ↦ elim (cases_bool (a == quote)) [
+    | inr no_digit ↦ elim (cases_Bool (a == quote)) [
       | inl q ↦ string_sounds a bs k n q (sym (found_string a bs other no_digit q) ∙ e)
       | inr apart ↦ symbol_sound a bs k n (sym (found_symbol a bs other no_digit apart) ∙ e)
     ]
@@ -212,7 +212,7 @@ pub record IsReached (s : List ℕ) (k : Kind) (text : List ℕ) : Type 0 where
   pub same : size ≡ length text → kind ≡ k
 
 word_reach : (a : ℕ) (others rest : List ℕ) → is_word (a ∷ others) ≡ true → opens_format (a ∷ (others ++ rest)) ≡ false → IsReached (a ∷ (others ++ rest)) (word_kind (a ∷ others)) (a ∷ others)
-word_reach a others rest w f = elim (cases_bool (is_letter a)) [
+word_reach a others rest w f = elim (cases_Bool (is_letter a)) [
   | inl l ↦
       let s : List ℕ = a ∷ (others ++ rest) in
       let m : ℕ = run continues_word s in
@@ -280,10 +280,10 @@ single_reach a rest k e = go rest refl
 
     go : (r : List ℕ) → rest ≡ r → IsReached (a ∷ r) k (a ∷ [])
     go [] eq = one [] (symbol_last a)
-    go (b ∷ bs) eq = elim (cases_bool (b == equals)) [ inl y ↦ double b bs y (with_equals_kind a) refl | inr n ↦ one (b ∷ bs) (symbol_single a b bs n) ]
+    go (b ∷ bs) eq = elim (cases_Bool (b == equals)) [ inl y ↦ double b bs y (with_equals_kind a) refl | inr n ↦ one (b ∷ bs) (symbol_single a b bs n) ]
 
 double_reach : (a b : ℕ) (rest : List ℕ) (k : Kind) → symbol_kind (a ∷ b ∷ []) ≡ Some k → IsReached (a ∷ b ∷ rest) k (a ∷ b ∷ [])
-double_reach a b rest k e = elim (cases_bool (b == equals)) [
+double_reach a b rest k e = elim (cases_Bool (b == equals)) [
   | inl y ↦
       let eq : with_equals_kind a ≡ Some k = sym (rw y refl) ∙ e in
       let apart = equals_apart a k eq in
@@ -319,7 +319,7 @@ single_ascii a k e = (single_apart a k e).3
 symbol_ascii : (k : Kind) (text : List ℕ) → symbol_kind text ≡ Some k → get_or text (length text - 1) 0 < 128
 symbol_ascii k [] e = absurd cc
 symbol_ascii k (a ∷ []) e = single_ascii a k e
-symbol_ascii k (a ∷ b ∷ []) e = elim (cases_bool (b == equals)) [
+symbol_ascii k (a ∷ b ∷ []) e = elim (cases_Bool (b == equals)) [
   | inl y ↦ subst (λ (x : ℕ). x < 128) (sym (eqb-true b equals y)) (lit< tt)
   | inr n ↦ absurd (let x : symbol_kind (a ∷ b ∷ []) ≡ None = rw n refl in cc)
 ]
@@ -327,7 +327,7 @@ symbol_ascii k (a ∷ b ∷ c ∷ more) e = absurd cc
 
 word_all : (text : List ℕ) → is_word text ≡ true → list_all continues_word text ≡ true
 word_all [] w = absurd cc
-word_all (a ∷ others) w = elim (cases_bool (is_letter a)) [
+word_all (a ∷ others) w = elim (cases_Bool (is_letter a)) [
   | inl l ↦ all_both continues_word a others (letter_continues a l) (sym (rw l refl) ∙ w)
   | inr n ↦ absurd (let e : is_word (a ∷ others) ≡ false = rw n refl in cc)
 ]

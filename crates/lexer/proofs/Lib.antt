@@ -15,5 +15,4 @@ pub mod Spans
 pub mod Stands
 pub mod Strings
 pub mod Symbols
-pub mod Tests
 pub mod Texts

@@ -3,6 +3,7 @@ use Rattle.std.proofs.Common.{◌≡◌, ℕ, ◌-◌, Bool, true, false, List, 
 use Rattle.std.specs.Prelude.{◌==◌, if◌then◌else◌, codes, IfOk}
 use Rattle.std.specs.Str.{bytes_eq}
 use Rattle.std.proofs.Math.Seq.{drop-append_seam, take-append_seam, get_or-append_seam}
+use Rattle.std.proofs.lemmas.Bool.{or_parts, cond-false}
 use Rattle.lexer.specs.declared.token.Kind.{Kind}
 use Rattle.lexer.specs.declared.token.Kind.TheVariants as Kinds
 use Rattle.lexer.specs.Bytes as byte
@@ -13,7 +14,6 @@ use Rattle.lexer.specs.Tokens as tokens
 use Rattle.lexer.specs.Tokens.{IsString, IsToken}
 use Rattle.lexer.proofs.Frames.{between_framed, framed_is}
 use Rattle.lexer.proofs.Stands.{stands_sound, stands_only}
-use Rattle.lexer.proofs.Tests.{or_false, or_false_right, if_false}
 
 -- ---- between quotes
 
@@ -50,10 +50,12 @@ within_raw_format inside = between_is (lower_f ∷ three_quotes) three_quotes in
 
 other_text : (k : Kind) (text : List ℕ) → is_string k ≡ false → text_of k text ≡ text
 other_text k text e =
-    let e1 = or_false_right (is k Kinds.String) _ e in
-    let e2 = or_false_right (is k Kinds.FormatString) _ e1 in
-    if_false (is k Kinds.String) _ _ (or_false (is k Kinds.String) _ e) ∙ if_false (is k Kinds.FormatString) _ _ (or_false (is k Kinds.FormatString) _ e1)
-    ∙ if_false (is k Kinds.RawString) _ _ (or_false (is k Kinds.RawString) _ e2) ∙ if_false (is k Kinds.RawFormatString) _ _ (or_false_right (is k Kinds.RawString) _ e2)
+    let e1 = (or_parts (is k Kinds.String) _ e).1 in
+    let e2 = (or_parts (is k Kinds.FormatString) _ e1).1 in
+    cond-false (is k Kinds.String) _ _ (or_parts (is k Kinds.String) _ e).0
+    ∙ cond-false (is k Kinds.FormatString) _ _ (or_parts (is k Kinds.FormatString) _ e1).0
+    ∙ cond-false (is k Kinds.RawString) _ _ (or_parts (is k Kinds.RawString) _ e2).0
+    ∙ cond-false (is k Kinds.RawFormatString) _ _ (or_parts (is k Kinds.RawString) _ e2).1
 
 -- a kind of no string, and a kind of no string or none
 record NoString (k : Kind) : Type 0 where

@@ -1,11 +1,17 @@
 -- How many bytes at the front pass a test.
 use Rattle.std.proofs.Common.{◌≡◌, ℕ, zero, suc, ◌+◌, ◌≤◌, ◌<◌, Bool, true, false, List, [], ◌∷◌, ◌++◌, length, take, drop, get_or, refl, sym, ap, subst, ◌∙◌, inl, inr, arith, rules}
 use Rattle.std.specs.List.{list_all}
+use Rattle.std.specs.Prelude.{◌||◌}
 use Rattle.std.proofs.lemmas.Grind.{common_steps}
 use Rattle.std.proofs.lemmas.List.{at_drop_more, drop_all}
+use Rattle.std.proofs.lemmas.Bool.{cases_Bool, and_from, and_parts, not-true, not_from_false}
 use Rattle.lexer.specs.Bytes.{continues_word, ends_word}
 use Rattle.lexer.specs.Lexing.{run}
-use Rattle.lexer.proofs.Tests.{cases_bool, and_true, and_left, and_right, not_true, not_false}
+
+-- of two tests one passes, and the second does not
+pub first_holds : (a b : Bool) → (a || b) ≡ true → b ≡ false → a ≡ true
+first_holds true b e f = refl
+first_holds false b e f = absurd cc
 
 pub run_step : (p : ℕ → Bool) (b : ℕ) (bs : List ℕ) → p b ≡ true → run p (b ∷ bs) ≡ suc (run p bs)
 run_step p b bs e = rw e refl
@@ -15,13 +21,16 @@ run_stop p b bs e = rw e refl
 
 pub run_le : (p : ℕ → Bool) (s : List ℕ) → run p s ≤ length s
 run_le p [] = omega arith
-run_le p (b ∷ bs) = elim (cases_bool (p b)) [ inl y ↦ omega (arith, run_step p b bs y, run_le p bs) | inr n ↦ omega (arith, run_stop p b bs n) ]
+run_le p (b ∷ bs) = elim (cases_Bool (p b)) [
+  | inl y ↦ omega (arith, run_step p b bs y, run_le p bs)
+  | inr n ↦ omega (arith, run_stop p b bs n)
+]
 
 pub all_both : (p : ℕ → Bool) (b : ℕ) (bs : List ℕ) → p b ≡ true → list_all p bs ≡ true → list_all p (b ∷ bs) ≡ true
-all_both p b bs e f = and_true (p b) (list_all p bs) e f
+all_both p b bs e f = and_from (p b) (list_all p bs) e f
 
 pub all_first : (p : ℕ → Bool) (b : ℕ) (bs : List ℕ) → list_all p (b ∷ bs) ≡ true → (p b ≡ true) × (list_all p bs ≡ true)
-all_first p b bs h = (and_left (p b) (list_all p bs) h, and_right (p b) (list_all p bs) h)
+all_first p b bs h = and_parts (p b) (list_all p bs) h
 
 -- what passes one test passes a weaker one
 pub all_weaker : (p q : ℕ → Bool) → ((b : ℕ) → p b ≡ true → q b ≡ true) → (s : List ℕ) → list_all p s ≡ true → list_all q s ≡ true
@@ -35,7 +44,7 @@ all_at p (b ∷ text) (suc i) h lt = all_at p text i (all_first p b text h).1 (o
 
 pub run_all : (p : ℕ → Bool) (s : List ℕ) → list_all p (take (run p s) s) ≡ true
 run_all p [] = refl
-run_all p (b ∷ bs) = elim (cases_bool (p b)) [
+run_all p (b ∷ bs) = elim (cases_Bool (p b)) [
   | inl y ↦ subst (λ (n : ℕ). list_all p (take n (b ∷ bs)) ≡ true) (sym (run_step p b bs y)) (all_both p b (take (run p bs) bs) y (run_all p bs))
   | inr n ↦ subst (λ (n : ℕ). list_all p (take n (b ∷ bs)) ≡ true) (sym (run_stop p b bs n)) refl
 ]
@@ -43,8 +52,8 @@ run_all p (b ∷ bs) = elim (cases_bool (p b)) [
 -- each of them passes
 pub run_passes : (p : ℕ → Bool) (s : List ℕ) (i : ℕ) → i < run p s → p (get_or s i 0) ≡ true
 run_passes p [] i lt = absurd (omega arith)
-run_passes p (b ∷ bs) zero lt = elim (cases_bool (p b)) [ inl y ↦ y | inr n ↦ absurd (omega (arith, lt, run_stop p b bs n)) ]
-run_passes p (b ∷ bs) (suc i) lt = elim (cases_bool (p b)) [
+run_passes p (b ∷ bs) zero lt = elim (cases_Bool (p b)) [ inl y ↦ y | inr n ↦ absurd (omega (arith, lt, run_stop p b bs n)) ]
+run_passes p (b ∷ bs) (suc i) lt = elim (cases_Bool (p b)) [
   | inl y ↦ run_passes p bs i (omega (arith, lt, run_step p b bs y))
   | inr n ↦ absurd (omega (arith, lt, run_stop p b bs n))
 ]
@@ -65,14 +74,15 @@ take_all s = search (rules, common_steps)
 -- where a word ends
 pub word_ends : (s : List ℕ) → ends_word (drop (run continues_word s) s) ≡ true
 word_ends [] = refl
-word_ends (b ∷ bs) = elim (cases_bool (continues_word b)) [
+word_ends (b ∷ bs) = elim (cases_Bool (continues_word b)) [
   | inl y ↦ subst (λ (n : ℕ). ends_word (drop n (b ∷ bs)) ≡ true) (sym (run_step continues_word b bs y)) (word_ends bs)
-  | inr n ↦ subst (λ (n : ℕ). ends_word (drop n (b ∷ bs)) ≡ true) (sym (run_stop continues_word b bs n)) (not_false (continues_word b) n)
+  | inr n ↦
+      subst (λ (n : ℕ). ends_word (drop n (b ∷ bs)) ≡ true) (sym (run_stop continues_word b bs n)) (not_from_false (continues_word b) n)
 ]
 
 pub word_exact : (text rest : List ℕ) → list_all continues_word text ≡ true → ends_word rest ≡ true → run continues_word (text ++ rest) ≡ length text
 word_exact [] [] h e = refl
-word_exact [] (b ∷ rest) h e = run_stop continues_word b rest (not_true (continues_word b) e)
+word_exact [] (b ∷ rest) h e = run_stop continues_word b rest (not-true (continues_word b) e)
 word_exact (a ∷ text) rest h e = let w = all_first continues_word a text h in omega (arith, run_step continues_word a (text ++ rest) w.0, word_exact text rest w.1 e)
 
 -- ---- the loops

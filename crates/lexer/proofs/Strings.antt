@@ -1,7 +1,8 @@
 -- The string that is found at a place is the one that stands there.
 use Rattle.std.proofs.Common.{◌≡◌, ◌≢◌, ℕ, zero, suc, ◌+◌, ◌-◌, ◌≤◌, ◌<◌, Bool, true, false, List, [], ◌∷◌, ◌++◌, length, take, drop, get_or, refl, sym, ap, subst, ◌∙◌, inl, inr, arith, lit<, Option, Some, None, append_assoc, length-append, length-drop}
 use Rattle.std.specs.Prelude.{◌==◌, ◌||◌, ◌&&◌, EachIndex}
-use Rattle.std.proofs.lemmas.Bool.{eqb-true, eq-eqb}
+use Rattle.std.proofs.lemmas.Bool.{eqb-true, eq-eqb, cases_Bool, or_parts, or_from, not-true, not_from_false, and_parts, ne_eqb, cond-true}
+use Rattle.std.proofs.lemmas.Bool.{cond-false}
 use Rattle.std.proofs.lemmas.List.{at_drop_more, drop_all, take-append-drop, length-take-le}
 use Rattle.std.proofs.Math.Seq.{get_or-append_seam}
 use Rattle.lexer.specs.declared.token.Kind.{Kind}
@@ -14,7 +15,6 @@ use Rattle.lexer.specs.Tokens.{AreCharacters, no_more, plain, escaped, IsString,
 use Rattle.lexer.proofs.Escapes.{bad_before}
 use Rattle.lexer.proofs.Escaping.{good_names, names_good}
 use Rattle.lexer.proofs.Runs.{take_all}
-use Rattle.lexer.proofs.Tests.{cases_bool, or_false, or_false_right, neither, not_true, not_false, and_left, and_right, neq_false, if_true, if_false}
 
 further_some : (o : Option ℕ) (n : ℕ) → further o ≡ Some n → (m : ℕ) × (o ≡ Some m) × (n ≡ suc m)
 further_some None n e = absurd cc
@@ -23,16 +23,16 @@ further_some (Some m) n e = (m, refl, cc)
 -- ---- between quotes
 
 inside_here : (b : ℕ) (bs : List ℕ) → (b == quote) ≡ true → inside false (b ∷ bs) ≡ Some 0
-inside_here b bs e = if_true (b == quote) _ _ e
+inside_here b bs e = cond-true (b == quote) _ _ e
 
 inside_on : (b : ℕ) (bs : List ℕ) (t : Bool) → (b == quote) ≡ false → (b == backslash) ≡ t → inside false (b ∷ bs) ≡ further (inside t bs)
-inside_on b bs t e f = if_false (b == quote) _ _ e ∙ ap (λ (x : Bool). further (inside x bs)) f
+inside_on b bs t e f = cond-false (b == quote) _ _ e ∙ ap (λ (x : Bool). further (inside x bs)) f
 
 inside_behind : (b : ℕ) (bs : List ℕ) → is_bad_escape (b ∷ bs) ≡ false → inside true (b ∷ bs) ≡ further (inside false bs)
-inside_behind b bs e = if_false (is_bad_escape (b ∷ bs)) _ _ e
+inside_behind b bs e = cond-false (is_bad_escape (b ∷ bs)) _ _ e
 
 inside_wrong : (b : ℕ) (bs : List ℕ) → is_bad_escape (b ∷ bs) ≡ true → inside true (b ∷ bs) ≡ None
-inside_wrong b bs e = if_true (is_bad_escape (b ∷ bs)) _ _ e
+inside_wrong b bs e = cond-true (is_bad_escape (b ∷ bs)) _ _ e
 
 abbrev Closed : List ℕ → ℕ → Type 0
 Closed s n = (more : List ℕ) × (drop n s ≡ quote ∷ more)
@@ -45,12 +45,12 @@ abbrev Inside : Bool → List ℕ → Type 0
 Inside t s = (n : ℕ) → inside t s ≡ Some n → Between t s n
 
 step_false : (b : ℕ) (bs : List ℕ) → Inside false bs → Inside true bs → Inside false (b ∷ bs)
-step_false b bs go behind n e = elim (cases_bool (b == quote)) [
+step_false b bs go behind n e = elim (cases_Bool (b == quote)) [
   | inl q ↦
       let zero_is : ◌≡◌ {A = Option ℕ} (Some 0) (Some n) = sym (inside_here b bs q) ∙ e in
       let none : 0 ≡ n = cc in
       subst (Between false (b ∷ bs)) none (no_more, (bs, ap (λ (x : ℕ). x ∷ bs) (eqb-true b quote q)))
-  | inr no_quote ↦ elim (cases_bool (b == backslash)) [
+  | inr no_quote ↦ elim (cases_Bool (b == backslash)) [
     | inl y ↦
         let w = further_some (inside true bs) n (sym (inside_on b bs true no_quote y) ∙ e) in
         let ih = behind w.0 w.1 in
@@ -58,12 +58,12 @@ step_false b bs go behind n e = elim (cases_bool (b == quote)) [
     | inr no_backslash ↦
         let w = further_some (inside false bs) n (sym (inside_on b bs false no_quote no_backslash) ∙ e) in
         let ih = go w.0 w.1 in
-        subst (Between false (b ∷ bs)) (sym w.2) (plain b (take w.0 bs) (not_false _ (neither (b == quote) (b == backslash) no_quote no_backslash)) ih.0, ih.1)
+        subst (Between false (b ∷ bs)) (sym w.2) (plain b (take w.0 bs) (not_from_false _ (or_from (b == quote) (b == backslash) no_quote no_backslash)) ih.0, ih.1)
   ]
 ]
 
 step_true : (b : ℕ) (bs : List ℕ) → Inside false bs → Inside true (b ∷ bs)
-step_true b bs go n e = elim (cases_bool (is_bad_escape (b ∷ bs))) [
+step_true b bs go n e = elim (cases_Bool (is_bad_escape (b ∷ bs))) [
   | inl bad ↦ absurd (let x = inside_wrong b bs bad in cc)
   | inr good ↦
       let w = further_some (inside false bs) n (sym (inside_behind b bs good) ∙ e) in
@@ -86,8 +86,8 @@ inside_both (b ∷ bs) = let ih = inside_both bs in (step_false b bs ih.0 ih.1, 
 inside_complete : (text rest : List ℕ) → AreCharacters text → inside false (text ++ quote ∷ rest) ≡ Some (length text)
 inside_complete _ rest no_more = refl
 inside_complete _ rest (plain b text h g) =
-    let other : ((b == quote) || (b == backslash)) ≡ false = not_true _ h in
-    inside_on b (text ++ quote ∷ rest) false (or_false (b == quote) (b == backslash) other) (or_false_right (b == quote) (b == backslash) other) ∙ ap further (inside_complete text rest g)
+    let other : ((b == quote) || (b == backslash)) ≡ false = not-true _ h in
+    inside_on b (text ++ quote ∷ rest) false (or_parts (b == quote) (b == backslash) other).0 (or_parts (b == quote) (b == backslash) other).1 ∙ ap further (inside_complete text rest g)
 inside_complete _ rest (escaped b text h g) =
     inside_on backslash (b ∷ (text ++ quote ∷ rest)) true refl refl
     ∙ ap further (inside_behind b (text ++ quote ∷ rest) (bad_before b text rest ∙ names_good (b ∷ text) h) ∙ ap further (inside_complete text rest g))
@@ -104,10 +104,10 @@ raw_opens [] e = absurd cc
 raw_opens (a ∷ []) e = absurd cc
 raw_opens (a ∷ b ∷ []) e = absurd cc
 raw_opens (a ∷ b ∷ c ∷ more) e =
-    let front : ((a == quote) && (b == quote)) ≡ true = and_left _ (c == quote) e in
-    let first : a ≡ quote = eqb-true a quote (and_left (a == quote) (b == quote) front) in
-    let second : b ≡ quote = eqb-true b quote (and_right (a == quote) (b == quote) front) in
-    let third : c ≡ quote = eqb-true c quote (and_right ((a == quote) && (b == quote)) (c == quote) e) in
+    let front : ((a == quote) && (b == quote)) ≡ true = (and_parts _ (c == quote) e).0 in
+    let first : a ≡ quote = eqb-true a quote (and_parts (a == quote) (b == quote) front).0 in
+    let second : b ≡ quote = eqb-true b quote (and_parts (a == quote) (b == quote) front).1 in
+    let third : c ≡ quote = eqb-true c quote (and_parts ((a == quote) && (b == quote)) (c == quote) e).1 in
     (more, ap (λ (x : ℕ). x ∷ b ∷ c ∷ more) first ∙ ap (λ (x : ℕ). quote ∷ x ∷ c ∷ more) second ∙ ap (λ (x : ℕ). quote ∷ quote ∷ x ∷ more) third)
 
 abbrev NoneOpens : List ℕ → Type 0
@@ -119,13 +119,13 @@ none_more b text here each (suc i) lt = each i (omega arith)
 
 quotes_sound : (s : List ℕ) (n : ℕ) → before_quotes s ≡ Some n → NoneOpens (take n s) × ((more : List ℕ) × (drop n s ≡ three_quotes ++ more))
 quotes_sound [] n e = absurd cc
-quotes_sound (b ∷ bs) n e = elim (cases_bool (opens_raw (b ∷ bs))) [
+quotes_sound (b ∷ bs) n e = elim (cases_Bool (opens_raw (b ∷ bs))) [
   | inl y ↦
-      let zero_is : ◌≡◌ {A = Option ℕ} (Some 0) (Some n) = sym (if_true (opens_raw (b ∷ bs)) _ _ y) ∙ e in
+      let zero_is : ◌≡◌ {A = Option ℕ} (Some 0) (Some n) = sym (cond-true (opens_raw (b ∷ bs)) _ _ y) ∙ e in
       let none : 0 ≡ n = cc in
       subst (λ (m : ℕ). NoneOpens (take m (b ∷ bs)) × ((more : List ℕ) × (drop m (b ∷ bs) ≡ three_quotes ++ more))) none (λ i lt. absurd (omega arith), raw_opens (b ∷ bs) y)
   | inr x ↦
-      let w = further_some (before_quotes bs) n (sym (if_false (opens_raw (b ∷ bs)) _ _ x) ∙ e) in
+      let w = further_some (before_quotes bs) n (sym (cond-false (opens_raw (b ∷ bs)) _ _ x) ∙ e) in
       let ih = quotes_sound bs w.0 w.1 in
       let parts : bs ≡ take w.0 bs ++ (three_quotes ++ ih.1.0) = sym (take-append-drop w.0 bs) ∙ ap (λ (l : List ℕ). take w.0 bs ++ l) ih.1.1 in
       let here : opens_raw (b ∷ (take w.0 bs ++ three_quotes)) ≡ false = sym (raw_before b (take w.0 bs) ih.1.0) ∙ ap (λ (l : List ℕ). opens_raw (b ∷ l)) (sym parts) ∙ x in
@@ -135,7 +135,7 @@ quotes_sound (b ∷ bs) n e = elim (cases_bool (opens_raw (b ∷ bs))) [
 quotes_complete : (text rest : List ℕ) → NoneOpens text → before_quotes (text ++ (three_quotes ++ rest)) ≡ Some (length text)
 quotes_complete [] rest each = refl
 quotes_complete (b ∷ text) rest each =
-    if_false (opens_raw (b ∷ (text ++ (three_quotes ++ rest)))) _ _ (raw_before b text rest ∙ each 0 (omega arith))
+    cond-false (opens_raw (b ∷ (text ++ (three_quotes ++ rest)))) _ _ (raw_before b text rest ∙ each 0 (omega arith))
     ∙ ap further (quotes_complete text rest (λ i lt. each (suc i) (omega arith)))
 
 -- ---- strings
@@ -154,11 +154,11 @@ string_of_some j k round (Some m) n e =
 
 string_is_raw : (s : List ℕ) → opens_raw s ≡ true → string_at s ≡ string_of Kinds.RawString 6 (before_quotes (drop 3 s))
 unfolding string_at
-string_is_raw s e = if_true (opens_raw s) _ _ e
+string_is_raw s e = cond-true (opens_raw s) _ _ e
 
 string_is_quoted : (s : List ℕ) → opens_raw s ≡ false → string_at s ≡ string_of Kinds.String 2 (inside false (drop 1 s))
 unfolding string_at
-string_is_quoted s e = if_false (opens_raw s) _ _ e
+string_is_quoted s e = cond-false (opens_raw s) _ _ e
 
 raw_sound : (more : List ℕ) (k : Kind) (n : ℕ) → string_at (three_quotes ++ more) ≡ Some (k, n) → IsStringFound (three_quotes ++ more) k n
 raw_sound more k n e =
@@ -203,7 +203,7 @@ quoted_sound bs k n r e =
     took (suc m) (b ∷ s) more e = omega (arith, took m s more e)
 
 pub string_sound : (bs : List ℕ) (k : Kind) (n : ℕ) → string_at (quote ∷ bs) ≡ Some (k, n) → IsStringFound (quote ∷ bs) k n
-string_sound bs k n e = elim (cases_bool (opens_raw (quote ∷ bs))) [
+string_sound bs k n e = elim (cases_Bool (opens_raw (quote ∷ bs))) [
   | inl y ↦
       let w = raw_opens (quote ∷ bs) y in
       subst (λ (l : List ℕ). IsStringFound l k n) (sym w.1) (raw_sound w.0 k n (ap string_at (sym w.1) ∙ e))
@@ -278,7 +278,7 @@ inside_good s i lt e =
 pub inside_more : (s : List ℕ) (i : ℕ) → i < length s → get_or s i 0 ≢ quote → advanced i (inside false (drop i s)) ≡ advanced (i + 1) (inside (get_or s i 0 == backslash) (drop (i + 1) s))
 inside_more s i lt e =
     ap (λ (l : List ℕ). advanced i (inside false l)) (here s i lt)
-    ∙ ap (advanced i) (inside_on (get_or s i 0) (drop (i + 1) s) (get_or s i 0 == backslash) (neq_false (get_or s i 0) quote e) refl)
+    ∙ ap (advanced i) (inside_on (get_or s i 0) (drop (i + 1) s) (get_or s i 0 == backslash) (ne_eqb (get_or s i 0) quote e) refl)
     ∙ advanced_further i (inside (get_or s i 0 == backslash) (drop (i + 1) s))
 
 pub inside_quote : (s : List ℕ) (i : ℕ) → i < length s → get_or s i 0 ≡ quote → advanced i (inside false (drop i s)) ≡ Some i
@@ -296,12 +296,13 @@ inside_end t s i le = ap (λ (l : List ℕ). advanced i (inside t l)) (drop_all 
 pub quotes_yes : (s : List ℕ) (i : ℕ) → i < length s → opens_raw (take (length s - i) (drop i s)) ≡ true → advanced i (before_quotes (drop i s)) ≡ Some i
 quotes_yes s i lt e =
     ap (λ (l : List ℕ). advanced i (before_quotes l)) (here s i lt)
-    ∙ ap (advanced i) (if_true (opens_raw (get_or s i 0 ∷ drop (i + 1) s)) _ _ (ap opens_raw (sym (here s i lt) ∙ sym (rest_all s i)) ∙ e)) ∙ ap (λ (x : ℕ). Some x) (omega arith)
+    ∙ ap (advanced i) (cond-true (opens_raw (get_or s i 0 ∷ drop (i + 1) s)) _ _ (ap opens_raw (sym (here s i lt) ∙ sym (rest_all s i)) ∙ e)) ∙ ap (λ (x : ℕ). Some x) (omega arith)
 
 pub quotes_no : (s : List ℕ) (i : ℕ) → i < length s → opens_raw (take (length s - i) (drop i s)) ≡ false → advanced i (before_quotes (drop i s)) ≡ advanced (i + 1) (before_quotes (drop (i + 1) s))
 quotes_no s i lt e =
     ap (λ (l : List ℕ). advanced i (before_quotes l)) (here s i lt)
-    ∙ ap (advanced i) (if_false (opens_raw (get_or s i 0 ∷ drop (i + 1) s)) _ _ (ap opens_raw (sym (here s i lt) ∙ sym (rest_all s i)) ∙ e))
+    ∙ ap (advanced i)
+    (cond-false (opens_raw (get_or s i 0 ∷ drop (i + 1) s)) _ _ (ap opens_raw (sym (here s i lt) ∙ sym (rest_all s i)) ∙ e))
     ∙ advanced_further i (before_quotes (drop (i + 1) s))
 
 pub quotes_end : (s : List ℕ) (i : ℕ) → length s ≤ i → advanced i (before_quotes (drop i s)) ≡ None

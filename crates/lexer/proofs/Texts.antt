@@ -4,7 +4,7 @@ use Rattle.std.specs.Prelude.{◌==◌, not, encode_utf8}
 use Rattle.std.specs.Char.{is_digit, digit_value, InScalarRange, OutOfScalarRange}
 use Rattle.std.specs.List.{list_all}
 use Rattle.std.specs.Str.{IsUtf8, IsCharBoundary}
-use Rattle.std.proofs.lemmas.Bool.{eqb-true, eq-eqb}
+use Rattle.std.proofs.lemmas.Bool.{eqb-true, eq-eqb, cases_Bool, not-true, cond-true, cond-false}
 use Rattle.std.proofs.lemmas.Bool.Decides.{nat_tests}
 use Rattle.std.proofs.lemmas.List.{take-append-drop, append-nil, take_all, drop_all}
 use Rattle.std.proofs.lemmas.Str.{IsCharBoundary-after_ascii, IsCharBoundary-before_ascii, IsCharBoundary-end, IsCharBoundary-start}
@@ -14,7 +14,6 @@ use Rattle.lexer.specs.Lexing.{run}
 use Rattle.lexer.specs.Numbers.{is_octal_digit}
 use Rattle.lexer.specs.Texts.{character, escaped_by, is_no_backslash, unescaped_behind, unescaped}
 use Rattle.lexer.proofs.Runs.{run_step, run_stop, run_le, run_all, all_first}
-use Rattle.lexer.proofs.Tests.{cases_bool, not_true, if_true, if_false}
 
 -- ---- what a backslash stands for
 
@@ -30,11 +29,11 @@ character_false code h = grind (arith, nat_tests)
 
 pub escaped_named : (s : List ℕ) (code n : ℕ) → escape_at s ≡ Some (code, n) → InScalarRange code → escaped_by s ≡ (code, n)
 unfolding escaped_by
-escaped_named s code n e h = ap character e ∙ if_true (is_character code) _ _ (character_true code h)
+escaped_named s code n e h = ap character e ∙ cond-true (is_character code) _ _ (character_true code h)
 
 pub escaped_unnamed : (s : List ℕ) (code n : ℕ) → escape_at s ≡ Some (code, n) → OutOfScalarRange code → escaped_by s ≡ (backslash, 0)
 unfolding escaped_by
-escaped_unnamed s code n e h = ap character e ∙ if_false (is_character code) _ _ (character_false code h)
+escaped_unnamed s code n e h = ap character e ∙ cond-false (is_character code) _ _ (character_false code h)
 
 -- ---- where an escape ends
 
@@ -59,21 +58,21 @@ octal_ascii b h = grind (arith, nat_tests)
 pub hex_ends : (n value : ℕ) (s : List ℕ) (code : ℕ) → hexadecimal n value s ≡ Some code → Ends s n
 hex_ends zero value s code e = ends_none s
 hex_ends (suc n) value [] code e = absurd cc
-hex_ends (suc n) value (b ∷ s) code e = elim (cases_bool (is_digit b 16)) [
-  | inl y ↦ ends_more b s n (hex_ascii b y) (hex_ends n (16 * value + digit_value b) s code (sym (if_true (is_digit b 16) _ _ y) ∙ e))
-  | inr x ↦ absurd (let w : hexadecimal (suc n) value (b ∷ s) ≡ None = if_false (is_digit b 16) _ _ x in cc)
+hex_ends (suc n) value (b ∷ s) code e = elim (cases_Bool (is_digit b 16)) [
+  | inl y ↦ ends_more b s n (hex_ascii b y) (hex_ends n (16 * value + digit_value b) s code (sym (cond-true (is_digit b 16) _ _ y) ∙ e))
+  | inr x ↦ absurd (let w : hexadecimal (suc n) value (b ∷ s) ≡ None = cond-false (is_digit b 16) _ _ x in cc)
 ]
 
 octal_ends : (n value size : ℕ) (s : List ℕ) → (k : ℕ) × ((octal n value size s).1 ≡ size + k) × Ends s k
 octal_ends zero value size s = (0, omega arith, ends_none s)
 octal_ends (suc n) value size [] = (0, omega arith, ends_none [])
-octal_ends (suc n) value size (b ∷ s) = elim (cases_bool (is_octal_digit b)) [
+octal_ends (suc n) value size (b ∷ s) = elim (cases_Bool (is_octal_digit b)) [
   | inl y ↦
       let ih = octal_ends n (8 * value + digit_value b) (size + 1) s in
-      let e : octal (suc n) value size (b ∷ s) ≡ octal n (8 * value + digit_value b) (size + 1) s = if_true (is_octal_digit b) _ _ y in
+      let e : octal (suc n) value size (b ∷ s) ≡ octal n (8 * value + digit_value b) (size + 1) s = cond-true (is_octal_digit b) _ _ y in
       (suc ih.0, omega (arith, ap (λ (p : ℕ × ℕ). p.1) e, ih.1), ends_more b s ih.0 (octal_ascii b y) ih.2)
   | inr x ↦
-      let e : octal (suc n) value size (b ∷ s) ≡ (value, size) = if_false (is_octal_digit b) _ _ x in
+      let e : octal (suc n) value size (b ∷ s) ≡ (value, size) = cond-false (is_octal_digit b) _ _ x in
       (0, omega (arith, ap (λ (p : ℕ × ℕ). p.1) e), ends_none (b ∷ s))
 ]
 
@@ -98,20 +97,21 @@ named_ends b (Some n) s code size d e =
 escape_ends : (s : List ℕ) (code size : ℕ) → escape_at s ≡ Some (code, size) → Ends s size
 unfolding escape_at
 escape_ends [] code size e = absurd cc
-escape_ends (b ∷ s) code size e = elim (cases_bool (is_octal_digit b)) [
+escape_ends (b ∷ s) code size e = elim (cases_Bool (is_octal_digit b)) [
   | inl y ↦
       let w = octal_ends 3 0 0 (b ∷ s) in
-      let f : ◌≡◌ {A = Option (ℕ × ℕ)} (Some (octal 3 0 0 (b ∷ s))) (Some (code, size)) = sym (if_true (is_octal_digit b) _ _ y) ∙ e in
+      let f : ◌≡◌ {A = Option (ℕ × ℕ)} (Some (octal 3 0 0 (b ∷ s))) (Some (code, size)) = sym (cond-true (is_octal_digit b) _ _ y) ∙ e in
       let p : octal 3 0 0 (b ∷ s) ≡ (code, size) = cc in
       subst (Ends (b ∷ s)) (let q : w.0 ≡ size = omega (arith, w.1, ap (λ (r : ℕ × ℕ). r.1) p) in q) w.2
-  | inr x ↦ named_ends b (digit_count b) s code size refl (sym (if_false (is_octal_digit b) _ _ x) ∙ e)
+  | inr x ↦ named_ends b (digit_count b) s code size refl (sym (cond-false (is_octal_digit b) _ _ x) ∙ e)
 ]
 
 character_ends : (s : List ℕ) (o : Option (ℕ × ℕ)) → escape_at s ≡ o → Ends s (character o).1
 character_ends s None e = ends_none s
-character_ends s (Some (code, n)) e = elim (cases_bool (is_character code)) [
-  | inl y ↦ subst (Ends s) (sym (ap (λ (p : ℕ × ℕ). p.1) (if_true (is_character code) (code, n) (backslash, 0) y))) (escape_ends s code n e)
-  | inr x ↦ subst (Ends s) (sym (ap (λ (p : ℕ × ℕ). p.1) (if_false (is_character code) (code, n) (backslash, 0) x))) (ends_none s)
+character_ends s (Some (code, n)) e = elim (cases_Bool (is_character code)) [
+  | inl y ↦
+      subst (Ends s) (sym (ap (λ (p : ℕ × ℕ). p.1) (cond-true (is_character code) (code, n) (backslash, 0) y))) (escape_ends s code n e)
+  | inr x ↦ subst (Ends s) (sym (ap (λ (p : ℕ × ℕ). p.1) (cond-false (is_character code) (code, n) (backslash, 0) x))) (ends_none s)
 ]
 
 pub escaped_ends : (s : List ℕ) → Ends s (escaped_by s).1
@@ -130,7 +130,7 @@ escape_boundary s (suc n) utf8 e =
 -- what comes behind the bytes that stand for themselves
 pub stops_at : (s : List ℕ) → 0 < length (drop (run is_no_backslash s) s) → get_or (drop (run is_no_backslash s) s) 0 0 ≡ backslash
 stops_at [] lt = absurd (omega arith)
-stops_at (b ∷ s) lt = elim (cases_bool (is_no_backslash b)) [
+stops_at (b ∷ s) lt = elim (cases_Bool (is_no_backslash b)) [
   | inl y ↦
       let e = run_step is_no_backslash b s y in
       ap (λ (n : ℕ). get_or (drop n (b ∷ s)) 0 0) e ∙ stops_at s (omega (arith, ap (λ (n : ℕ). length (drop n (b ∷ s))) e))
@@ -161,7 +161,7 @@ plain_boundary s n utf8 e = go (drop n s) refl
 plain_is : (text more : List ℕ) → list_all is_no_backslash text ≡ true → unescaped_behind 0 (text ++ more) ≡ text ++ unescaped_behind 0 more
 plain_is [] more h = refl
 plain_is (b ∷ text) more h =
-    let w = all_first is_no_backslash b text h in if_false (b == backslash) _ _ (not_true (b == backslash) w.0) ∙ ap (λ (l : List ℕ). b ∷ l) (plain_is text more w.1)
+    let w = all_first is_no_backslash b text h in cond-false (b == backslash) _ _ (not-true (b == backslash) w.0) ∙ ap (λ (l : List ℕ). b ∷ l) (plain_is text more w.1)
 
 pub skipped_is : (n : ℕ) (s : List ℕ) → unescaped_behind n s ≡ unescaped_behind 0 (drop n s)
 skipped_is zero s = refl
@@ -175,7 +175,9 @@ split_plain rest n e =
 
 marked_is : (s : List ℕ) → 0 < length s → get_or s 0 0 ≡ backslash → unescaped_behind 0 s ≡ encode_utf8 (escaped_by (drop 1 s)).0 ++ unescaped_behind 0 (drop (escaped_by (drop 1 s)).1 (drop 1 s))
 marked_is [] lt e = absurd (omega arith)
-marked_is (b ∷ s) lt e = if_true (b == backslash) _ _ (eq-eqb b backslash e) ∙ ap (λ (l : List ℕ). encode_utf8 (escaped_by s).0 ++ l) (skipped_is (escaped_by s).1 s)
+marked_is (b ∷ s) lt e =
+    cond-true (b == backslash) _ _ (eq-eqb b backslash e)
+    ∙ ap (λ (l : List ℕ). encode_utf8 (escaped_by s).0 ++ l) (skipped_is (escaped_by s).1 s)
 
 -- The text is what was made of the bytes before `rest`, and what `rest` stands for.
 abbrev pub StillUnescapes : List ℕ → List ℕ → List ℕ → Type 0

@@ -1,8 +1,9 @@
 -- Texts with places, and values in lists of any depth.
-use Rattle.std.proofs.Common.{◌≡◌, ℕ, ◌<◌, ◌≤◌, Bool, true, false, List, [], ◌∷◌, ◌++◌, Ok, Err, map, length, refl, sym, ap, ◌∙◌, arith}
+use Rattle.std.proofs.Common.{◌≡◌, ℕ, ◌<◌, ◌≤◌, true, false, List, [], ◌∷◌, ◌++◌, Ok, Err, map, length, refl, sym, ap, ◌∙◌, arith}
 use Rattle.std.specs.Prelude.{Result, ◌&&◌, nat_le, if◌then◌else◌}
 use Rattle.std.specs.List.{list_all, flat_map}
 use Rattle.std.proofs.lemmas.Bool.Decides.{nat_tests}
+use Rattle.std.proofs.lemmas.Bool.{cond-true, cond-false}
 use Rattle.data.specs.declared.refusal.Refusal.{Refusal}
 use Rattle.data.specs.declared.refusal.Refusal.TheVariants as refusal
 use Rattle.data.specs.declared.value.Value.{Value}
@@ -18,14 +19,6 @@ list_all-data_of : (vs : List Value) → list_all is_printable (map data_of vs) 
 list_all-data_of [] = refl
 list_all-data_of (v ∷ vs) = ap (λ b. is_printable (data_of v) && b) (list_all-data_of vs)
 
-when : {X : Type 0} (b : Bool) (x y : X) → b ≡ true → (if b then x else y) ≡ x
-when true x y e = refl
-when false x y e = absurd cc
-
-unless : {X : Type 0} (b : Bool) (x y : X) → b ≡ false → (if b then x else y) ≡ y
-unless true x y e = absurd cc
-unless false x y e = refl
-
 -- ---- a text with places
 
 abbrev result : List ℕ → List Data → Result (List ℕ) Refusal
@@ -36,34 +29,35 @@ result t values =
 pub formatted_refused : (t : List ℕ) (vs : List Value) → list_all (λ v. is_printable (data_of v)) vs ≡ false
     → Err refusal.Arguments ≡ formatted_text t (map data_of vs)
 formatted_refused t vs e =
-    sym (unless (list_all is_printable (map data_of vs)) (result t (map data_of vs)) (Err refusal.Arguments) (list_all-data_of vs ∙ e))
+    sym (cond-false (list_all is_printable (map data_of vs)) (result t (map data_of vs)) (Err refusal.Arguments) (list_all-data_of vs ∙ e))
 
 printable : (t : List ℕ) (vs : List Value) → list_all (λ v. is_printable (data_of v)) vs ≡ true
     → formatted_text t (map data_of vs) ≡ result t (map data_of vs)
-printable t vs e = when (list_all is_printable (map data_of vs)) (result t (map data_of vs)) (Err refusal.Arguments) (list_all-data_of vs ∙ e)
+printable t vs e =
+    cond-true (list_all is_printable (map data_of vs)) (result t (map data_of vs)) (Err refusal.Arguments) (list_all-data_of vs ∙ e)
 
 pub formatted_absent : (t : List ℕ) (vs : List Value) → list_all (λ v. is_printable (data_of v)) vs ≡ true
     → list_all (has_value (map data_of vs)) (segments places.Numbers t) ≡ false → Err refusal.Absent ≡ formatted_text t (map data_of vs)
 formatted_absent t vs e none =
-    sym (printable t vs e ∙ unless (list_all (has_value (map data_of vs)) (segments places.Numbers t))
+    sym (printable t vs e ∙ cond-false (list_all (has_value (map data_of vs)) (segments places.Numbers t))
     (within_bytes (flat_map (filled (map data_of vs)) (segments places.Numbers t))) (Err refusal.Absent) none)
 
 filled_is : (t : List ℕ) (vs : List Value) → list_all (λ v. is_printable (data_of v)) vs ≡ true
     → list_all (has_value (map data_of vs)) (segments places.Numbers t) ≡ true
     → formatted_text t (map data_of vs) ≡ within_bytes (flat_map (filled (map data_of vs)) (segments places.Numbers t))
 filled_is t vs e all =
-    printable t vs e ∙ when (list_all (has_value (map data_of vs)) (segments places.Numbers t))
+    printable t vs e ∙ cond-true (list_all (has_value (map data_of vs)) (segments places.Numbers t))
     (within_bytes (flat_map (filled (map data_of vs)) (segments places.Numbers t))) (Err refusal.Absent) all
 
 short : (t made : List ℕ) → made ≡ t → length made ≤ 16777216 → Ok made ≡ within_bytes t
 short t made is fit =
     let test : nat_le (length t) 16777216 ≡ true = let n = ap length is in grind (arith, nat_tests) in
-    ap (λ x. Ok x) is ∙ sym (when (nat_le (length t) 16777216) (Ok t) (Err refusal.Limit) test)
+    ap (λ x. Ok x) is ∙ sym (cond-true (nat_le (length t) 16777216) (Ok t) (Err refusal.Limit) test)
 
 long : (t : List ℕ) → 16777216 < length t → Err refusal.Limit ≡ within_bytes t
 long t h =
     let test : nat_le (length t) 16777216 ≡ false = grind (arith, nat_tests) in
-    sym (unless (nat_le (length t) 16777216) (Ok t) (Err refusal.Limit) test)
+    sym (cond-false (nat_le (length t) 16777216) (Ok t) (Err refusal.Limit) test)
 
 pub formatted_made : (t : List ℕ) (vs : List Value) (ss : List Segment) (before made : List ℕ)
     → list_all (λ v. is_printable (data_of v)) vs ≡ true → ss ≡ segments places.Numbers t → list_all (has_value (map data_of vs)) ss ≡ true

@@ -1,11 +1,11 @@
 -- Texts as items, one after another.
-use Rattle.std.proofs.Common.{◌≡◌, ℕ, ◌+◌, ◌<◌, ◌≤◌, Bool, true, false, List, [], ◌∷◌, ◌++◌, map, drop, length, get_or, Result, Ok, Err, refl, sym, ap, subst}
+use Rattle.std.proofs.Common.{◌≡◌, ℕ, ◌+◌, ◌<◌, ◌≤◌, List, [], ◌∷◌, ◌++◌, map, drop, length, get_or, Result, Ok, Err, refl, sym, ap, subst}
 use Rattle.std.proofs.Common.{◌∙◌, Bor, arith, rules, tests}
 use Rattle.std.proofs.Math.ListN.{set}
 use Rattle.std.proofs.Math.Seq.{get_or-append_seam, set-append_seam}
-use Rattle.std.proofs.lemmas.Bool.{false≢true}
+use Rattle.std.proofs.lemmas.Bool.{cond-true, cond-false}
 use Rattle.std.proofs.lemmas.List.{at_drop_more}
-use Rattle.std.specs.Prelude.{nat_le, if◌then◌else◌}
+use Rattle.std.specs.Prelude.{nat_le}
 use Rattle.data.specs.Data.{Data, text, Items, no_items, item, items_append}
 use Rattle.data.specs.Limits.{Appends, within}
 use Rattle.data.specs.View.{data_of, items_of}
@@ -20,7 +20,8 @@ use Rattle.operators.specs.TextLists.{PutsText, and_then, texts_behind}
 -- one text more
 pub texts_more : (vs new : List Value) (v : Value) (texts : List (Bor (List ℕ))) (i : ℕ) (d t : Bor (List ℕ)) (whole : Result Items Refusal)
     → i < length texts → t ≡ get_or texts i d → within (text t.now) ≡ Ok (data_of v) → new ≡ vs ++ v ∷ []
-    → texts_behind (items_of vs) (map (λ u. u.now) (drop i texts)) ≡ whole → texts_behind (items_of new) (map (λ u. u.now) (drop (i + 1) texts)) ≡ whole
+    → texts_behind (items_of vs) (map (λ u. u.now) (drop i texts)) ≡ whole
+    → texts_behind (items_of new) (map (λ u. u.now) (drop (i + 1) texts)) ≡ whole
 texts_more vs new v texts i d t whole h is w n now =
     let rest : List (List ℕ) = map (λ u. u.now) (drop (i + 1) texts) in
     ap (λ ds. texts_behind ds rest) (items_of-push vs new v (items_of vs) n refl)
@@ -40,19 +41,11 @@ texts_past vs texts i d t e whole h is w now =
     ∙ sym (at_drop_more (λ us. texts_behind (items_of vs) (map (λ u. u.now) us)) texts i d h)
     ∙ now
 
-when : {X : Type 0} (b : Bool) (x y : X) → b ≡ true → (if b then x else y) ≡ x
-when true x y e = refl
-when false x y e = absurd (false≢true e)
-
-unless : {X : Type 0} (b : Bool) (x y : X) → b ≡ false → (if b then x else y) ≡ y
-unless false x y e = refl
-unless true x y e = absurd (false≢true (sym e))
-
 within_short : (t : List ℕ) → length t ≤ 16777216 → within (text t) ≡ Ok (text t)
-within_short t short = when (nat_le (length t) 16777216) (Ok (text t)) (Err refusals.Limit) (search (rules, tests))
+within_short t short = cond-true (nat_le (length t) 16777216) (Ok (text t)) (Err refusals.Limit) (search (rules, tests))
 
 within_long : (t : List ℕ) → 16777216 < length t → within (text t) ≡ Err refusals.Limit
-within_long t long = unless (nat_le (length t) 16777216) (Ok (text t)) (Err refusals.Limit) (search (rules, tests))
+within_long t long = cond-false (nat_le (length t) 16777216) (Ok (text t)) (Err refusals.Limit) (search (rules, tests))
 
 -- a text that became longer where it lies, behind the others
 pub puts_text : (before after : List Value) (at : ℕ) (empty lies made : Text) (t : List ℕ) (put : Result (Unit {0}) Refusal)

@@ -2,6 +2,7 @@
 use Rattle.std.proofs.Common.{◌≡◌, ℕ, ◌≤◌, Bool, true, false, List, [], ◌∷◌, Err, refl, sym, ap, ◌∙◌, arith, bytes_eq, ◌+◌}
 use Rattle.std.specs.Prelude.{◌&&◌, ◌||◌, not, if◌then◌else◌}
 use Rattle.std.specs.List.{list_all}
+use Rattle.std.proofs.lemmas.Bool.{and_parts}
 use Rattle.edge.specs.Texts.{Path, holds}
 use Rattle.edge.specs.Data.{EdgeData}
 use Rattle.edge.specs.Holding.{are_writable}
@@ -85,10 +86,6 @@ answer_placed w t a b d =
 
 -- ---- a target that fits
 
-split_and : (a b : Bool) → (a && b) ≡ true → (a ≡ true) × (b ≡ true)
-split_and true b e = (refl, e)
-split_and false b e = absurd cc
-
 module _ (w : WorldData) (t : TargetData) (ns : List ℕ) (es : List EdgeData) (a : ns ≡ linked_libraries (linked_of w.targets) t) (e : es ≡ target_edges w.surroundings (linked_of w.targets) ns t) where
   pub edges_are : es ≡ edges_with w t
   edges_are = e ∙ ap (λ n. target_edges w.surroundings (linked_of w.targets) n t) a ∙ edges_same w.surroundings (linked_of w.targets) t
@@ -97,7 +94,8 @@ module _ (w : WorldData) (t : TargetData) (ns : List ℕ) (es : List EdgeData) (
       → IsNext w.surroundings w.targets w.outputs w.present (linked (linked_of w.targets) t) ps
   next_ready ps p wr fit there =
       let s = w.surroundings in
-      let h = split_and (target_fits (linked_of w.targets) t) (list_all (is_made_source (λ q. holds q (made_of s w.targets w.outputs))) (sources_of t)) fit in
+      let h = and_parts (target_fits (linked_of w.targets) t)
+      (list_all (is_made_source (λ q. holds q (made_of s w.targets w.outputs))) (sources_of t)) fit in
       record {
         libraries = refl;
         paths_are = p ∙ ap outputs_of edges_are;

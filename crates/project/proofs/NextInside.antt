@@ -3,6 +3,7 @@ use Rattle.std.proofs.Common.{◌≡◌, ℕ, Bool, true, false, List, [], ◌�
 use Rattle.std.specs.Prelude.{◌&&◌, ◌||◌, not, bytes_eq}
 use Rattle.std.specs.List.{list_all}
 use Rattle.std.proofs.lemmas.List.Folds.{list_all-map}
+use Rattle.std.proofs.lemmas.Bool.{not_from_false, not-true, or_parts}
 use Rattle.edge.specs.Texts.{Path, Text}
 use Rattle.edge.specs.Paths.{is_upward, object_path}
 use Rattle.targets.specs.Data.{SurroundingsData, TargetData, Build, Custom}
@@ -18,18 +19,6 @@ use Rattle.project.proofs.NextMade.{outputs-build}
 and_false : (b : Bool) → (b && false) ≡ false
 and_false true = refl
 and_false false = refl
-
-not_false : (b : Bool) → b ≡ false → not b ≡ true
-not_false true e = absurd cc
-not_false false e = refl
-
-from_not : (b : Bool) → not b ≡ true → b ≡ false
-from_not true e = absurd cc
-from_not false e = refl
-
-or_parts : (a b : Bool) → (a || b) ≡ false → (a ≡ false) × (b ≡ false)
-or_parts true b e = absurd cc
-or_parts false b e = (refl, e)
 
 two_false : (a b : Bool) (c : Bool) → c ≡ false → (a && (b && (c && true))) ≡ false
 two_false a b c e = ap (λ x. a && (b && (x && true))) e ∙ ap (λ x. a && x) (and_false b) ∙ and_false a
@@ -55,8 +44,9 @@ two_dots a b h = h
 pub path_inside : (folder : Path) (name : Text) → is_folder folder ≡ true → has_slash name ≡ false → is_upward (path_in folder name) ≡ false
 path_inside [] name f h = name_inside name h
 path_inside (a ∷ []) name f h = one_false (eqb a 46) false refl
-path_inside (a ∷ b ∷ []) name f h = (or_parts (is_upward (a ∷ b ∷ [])) (bytes_eq (a ∷ b ∷ []) (codes "..")) (from_not _ f)).1
-path_inside (a ∷ b ∷ c ∷ rest) name f h = (or_parts (is_upward (a ∷ b ∷ c ∷ rest)) (bytes_eq (a ∷ b ∷ c ∷ rest) (codes "..")) (from_not _ f)).0
+path_inside (a ∷ b ∷ []) name f h = (or_parts (is_upward (a ∷ b ∷ [])) (bytes_eq (a ∷ b ∷ []) (codes "..")) (not-true _ f)).1
+path_inside (a ∷ b ∷ c ∷ rest) name f h =
+    (or_parts (is_upward (a ∷ b ∷ c ∷ rest)) (bytes_eq (a ∷ b ∷ c ∷ rest) (codes "..")) (not-true _ f)).0
 
 -- nor does the object of a source of a target whose file does not
 object_inside : (file source : Path) → is_upward file ≡ false → is_upward (object_path file source) ≡ false
@@ -67,11 +57,11 @@ object_inside (a ∷ b ∷ c ∷ rest) source h = h
 
 no_slash : (name : Text) → is_file_name name ≡ true → has_slash name ≡ false
 no_slash name e =
-    let h = or_parts (bytes_eq name []) (has_slash name || (bytes_eq name (codes ".") || bytes_eq name (codes ".."))) (from_not _ e) in
+    let h = or_parts (bytes_eq name []) (has_slash name || (bytes_eq name (codes ".") || bytes_eq name (codes ".."))) (not-true _ e) in
     (or_parts (has_slash name) (bytes_eq name (codes ".") || bytes_eq name (codes "..")) h.1).0
 
 pub named_inside : (folder : Path) (name : Text) → is_folder folder ≡ true → is_file_name name ≡ true → not (is_upward (path_in folder name)) ≡ true
-named_inside folder name f e = not_false (is_upward (path_in folder name)) (path_inside folder name f (no_slash name e))
+named_inside folder name f e = not_from_false (is_upward (path_in folder name)) (path_inside folder name f (no_slash name e))
 
 all_named : (folder : Path) (names : List Text) → is_folder folder ≡ true → list_all is_file_name names ≡ true → all_inside (map (path_in folder) names) ≡ true
 all_named folder names f e =
@@ -82,7 +72,7 @@ all_objects : (file : Path) (is : List InputData) → is_upward file ≡ false �
 all_objects file [] h = refl
 all_objects file (i ∷ is) h =
     both (not (is_upward (object_path file i.name))) (all_inside (map (λ k. object_path file k.name) is))
-    (not_false (is_upward (object_path file i.name)) (object_inside file i.name h))
+    (not_from_false (is_upward (object_path file i.name)) (object_inside file i.name h))
     (all_objects file is h)
 
 pub next_inside : (s : SurroundingsData) (earlier : List LinkedData) (t : TargetData) → target_fits earlier t ≡ true → all_inside (outputs_of (edges_of s earlier (linked earlier t))) ≡ true
@@ -99,4 +89,5 @@ next_inside s earlier (Build t) e =
     ap all_inside (outputs-build s earlier (linked earlier (Build t)).libraries t)
     ∙ list_all-joined (λ p. not (is_upward p)) (object_paths s.facts.depth t) (file_path t ∷ link_paths t)
     (all_objects (file_path t) (compiled s.facts.depth t) file)
-    (both (not (is_upward (file_path t))) (all_inside (link_paths t)) (not_false (is_upward (file_path t)) file) (all_named t.folder (link_names t) h.0 d.1))
+    (both (not (is_upward (file_path t))) (all_inside (link_paths t))
+    (not_from_false (is_upward (file_path t)) file) (all_named t.folder (link_names t) h.0 d.1))

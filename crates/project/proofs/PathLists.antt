@@ -7,6 +7,7 @@ use Rattle.std.proofs.lemmas.List.{take_more, map-append}
 use Rattle.std.proofs.Math.Seq.{take-append_seam}
 use Rattle.std.proofs.lemmas.List.Folds.{list_any-append}
 use Rattle.std.proofs.lemmas.Slice.Eq.{bytes_eq-Decides}
+use Rattle.std.proofs.lemmas.Bool.{not-true, not-false}
 use Rattle.indexmap.specs.IndexSet.{insert_key}
 use Rattle.edge.specs.Texts.{Path, texts, holds}
 use Rattle.project.specs.Laws.{first_taken, times, AtMostOnce}
@@ -19,14 +20,6 @@ list_any-map p f (x ∷ xs) = ap (λ b. p (f x) || b) (list_any-map p f xs)
 pub holds-texts : (k : String Global) (ks : List (String Global)) → list_any (string_eq k) ks ≡ holds (string_bytes k) (texts ks)
 holds-texts k ks = sym (list_any-map (bytes_eq (string_bytes k)) string_bytes ks)
 
-pub not_false : (a b : Bool) → a ≡ not b → a ≡ true → b ≡ false
-not_false a true e h = absurd cc
-not_false a false e h = refl
-
-pub not_true : (a b : Bool) → a ≡ not b → a ≡ false → b ≡ true
-not_true a true e h = refl
-not_true a false e h = absurd cc
-
 -- ---- one path inserted
 
 pub record Inserted (ks new : List (String Global)) (item : Path) : Type 0 where
@@ -38,7 +31,7 @@ pub record Inserted (ks new : List (String Global)) (item : Path) : Type 0 where
 pub inserted : (ks new : List (String Global)) (k item : String Global) (added : Bool) → string_bytes k ≡ string_bytes item
     → added ≡ not (list_any (string_eq k) ks) → added ≡ true → new ≡ insert_key string_eq ks k → Inserted ks new (string_bytes item)
 inserted ks new k item added same was so e =
-    let absent = not_false added (list_any (string_eq k) ks) was so in
+    let absent = not-true (list_any (string_eq k) ks) (sym was ∙ so) in
     record {
       key = k;
       bytes = same;
@@ -68,7 +61,7 @@ pub tested_present : (ks fresh : List (String Global)) (i : ℕ) (item k : Strin
 tested_present ks fresh i item k added h at same was no_ =
     fresh_at (texts ks) fresh i item h at
     ∙ ap (λ b. if b then Some (string_bytes item) else first_taken (texts ks ++ string_bytes item ∷ []) (texts (drop (i + 1) fresh)))
-    (ap (λ p. holds p (texts ks)) (sym same) ∙ sym (holds-texts k ks) ∙ not_true added (list_any (string_eq k) ks) was no_)
+    (ap (λ p. holds p (texts ks)) (sym same) ∙ sym (holds-texts k ks) ∙ not-false (list_any (string_eq k) ks) (sym was ∙ no_))
 
 pub added_more : (old : List Path) (ks new fresh : List (String Global)) (i : ℕ) (item : String Global) → i < length fresh → item ≡ get_or fresh i item → Inserted ks new (string_bytes item)
     → texts ks ≡ old ++ texts (take i fresh) → texts new ≡ old ++ texts (take (i + 1) fresh)

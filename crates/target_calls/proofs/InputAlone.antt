@@ -1,8 +1,8 @@
 -- Where one keyword alone says sources, and `input` is given, it says all of them.
 use Rattle.std.proofs.Common.{◌≡◌, ℕ, ◌+◌, Bool, true, false, List, [], ◌∷◌, ◌++◌, map, Option, Some, None, codes, refl, sym, ap, ◌∙◌, append-nil, arith}
-use Rattle.std.specs.Bool.{OnTrue}
 use Rattle.std.specs.Prelude.{◌||◌, bytes_eq, cond, flat_map, is_some, count_by, option_map, if◌then◌else◌}
 use Rattle.std.proofs.lemmas.List.Sums.{sum_by-cons}
+use Rattle.std.proofs.lemmas.Bool.{or_parts}
 use Rattle.arguments.specs.Arguments.{named_data}
 use Rattle.arguments.specs.Leaves.{leaves_in}
 use Rattle.arguments.specs.Row.{value_named}
@@ -27,10 +27,6 @@ one_more : (b : Bool) (n : ℕ) → cond b 1 0 + n ≡ 0 → (b ≡ false) × (n
 one_more true n h = absurd (omega arith)
 one_more false n h = (refl, omega arith)
 
-neither : (a b : Bool) → (a || b) ≡ false → (a ≡ false) × (b ≡ false)
-neither true b h = absurd cc
-neither false b h = (refl, h)
-
 none_written : (ns : List Named) → count_by says ns ≡ 0 → all_written ns ≡ []
 none_written [] h = refl
 none_written (n ∷ ns) h =
@@ -41,7 +37,7 @@ none_named : (ns : List Named) → count_by says ns ≡ 0 → value_of_input ns 
 none_named [] h = refl
 none_named (n ∷ ns) h =
     let k = one_more (says n) (count_by says ns) (sym (count_cons n ns) ∙ h) in
-    let e = neither (bytes_eq n.name (codes "input")) (bytes_eq n.name (codes "depend_files")) k.0 in
+    let e = or_parts (bytes_eq n.name (codes "input")) (bytes_eq n.name (codes "depend_files")) k.0 in
     ap (λ b. if b then Some (named_data n).1 else value_of_input ns) e.0 ∙ none_named ns k.1
 
 first : (is other : Bool) (d : Data) (ns : List Named) → ((count_by says ns ≡ 1) → is_some (value_of_input ns) ≡ true → all_written ns ≡ leaves_in (value_of_input ns))
@@ -60,11 +56,6 @@ pub input_alone : (ns : List Named) → count_by says ns ≡ 1 → is_some (valu
 input_alone [] h some = absurd cc
 input_alone (n ∷ ns) h some =
     first (bytes_eq n.name (codes "input")) (bytes_eq n.name (codes "depend_files")) (named_data n).1 ns (input_alone ns) (sym (count_cons n ns) ∙ h) some
-
--- where a test holds
-pub on_true : {P : Type 0} (b : Bool) → (b ≡ true → P) → OnTrue b P
-on_true true f = f refl
-on_true false f = tt
 
 pub is_some-option_map : {X Y : Type 0} (f : X → Y) (o : Option X) → is_some (option_map f o) ≡ is_some o
 is_some-option_map f None = refl

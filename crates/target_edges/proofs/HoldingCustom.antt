@@ -3,6 +3,7 @@ use Rattle.std.proofs.Common.{◌≡◌, ℕ, zero, suc, ◌-◌, Bool, true, fa
 use Rattle.std.specs.Prelude.{◌&&◌, flat_map, if◌then◌else◌}
 use Rattle.std.specs.List.{list_all}
 use Rattle.std.proofs.lemmas.List.Folds.{list_all-append}
+use Rattle.std.proofs.lemmas.Bool.{and_parts}
 use Rattle.edge.specs.Texts.{Path, Text}
 use Rattle.edge.specs.Paths.{way_up, source_path}
 use Rattle.edge.specs.Holding.{is_path, path_held, value_byte_held, value_held, value_held_if, is_some_list, is_writable, are_writable}
@@ -38,20 +39,15 @@ sources_held depth (s ∷ ss) =
 
 -- ---- outputs
 
-pub both_true : (a b : Bool) → (a && b) ≡ true → (a ≡ true) × (b ≡ true)
-both_true true true h = (refl, refl)
-both_true true false h = absurd cc
-both_true false b h = absurd cc
-
 redirect_held : (captures : Bool) (outputs : List Path) → list_all is_path outputs ≡ true → value_held_if (if captures then first_of outputs else None) ≡ true
 redirect_held false outputs h = refl
 redirect_held true [] h = refl
-redirect_held true (p ∷ ps) h = path_as_value p (both_true (is_path p) (list_all is_path ps) h).0
+redirect_held true (p ∷ ps) h = path_as_value p (and_parts (is_path p) (list_all is_path ps) h).0
 
 names_held : (outputs : List Path) → list_all is_path outputs ≡ true → value_held (flat_map and_path outputs) ≡ true
 names_held [] h = refl
 names_held (p ∷ ps) h =
-    let k = both_true (is_path p) (list_all is_path ps) h in
+    let k = and_parts (is_path p) (list_all is_path ps) h in
     list_all-append value_byte_held p (flat_map and_path ps) ∙ rw (path_as_value p k.0, names_held ps k.1) refl
 
 description_held : (outputs : List Path) → list_all is_path outputs ≡ true → value_held (codes "Generating" ++ flat_map and_path outputs) ≡ true

@@ -3,6 +3,7 @@ use Rattle.std.proofs.Common.{◌≡◌, ℕ, Bool, true, false, List, [], ◌�
 use Rattle.std.specs.Prelude.{◌&&◌, ◌||◌, flat_map, if◌then◌else◌}
 use Rattle.std.specs.List.{list_all}
 use Rattle.std.proofs.lemmas.List.Folds.{list_all-append}
+use Rattle.std.proofs.lemmas.Bool.{and_parts}
 use Rattle.edge.specs.Data.{EdgeData}
 use Rattle.edge.specs.Texts.{Path, Text}
 use Rattle.edge.specs.Paths.{object_path}
@@ -18,14 +19,13 @@ use Rattle.target_edges.specs.Edges.{archiving, linking, naming, file_edge, link
 use Rattle.target_edges.specs.Parts.{front_words, joined_edge, is_none, compiles_held, archive_held, link_held}
 use Rattle.target_edges.specs.Words.{compile_words, library_files, library_words, link_words, shared_words}
 use Rattle.target_edges.proofs.Holding.{and_true, some_behind, compiles_held as each_compile_held}
-use Rattle.target_edges.proofs.HoldingCustom.{both_true}
 use Rattle.target_edges.proofs.HoldingWords.{shared_are}
 use Rattle.target_edges.proofs.Sharing.{joined_all, outputs_are}
 
 paths_as_values : (ps : List Path) → list_all is_path ps ≡ true → list_all value_held ps ≡ true
 paths_as_values [] h = refl
 paths_as_values (p ∷ ps) h =
-    let k = both_true (is_path p) (list_all is_path ps) h in
+    let k = and_parts (is_path p) (list_all is_path ps) h in
     rw (path_as_value p k.0, paths_as_values ps k.1) refl
 
 archive_shape : (pf po a vf vo : Bool) → (pf ≡ true → vf ≡ true) → (po ≡ true → vo ≡ true)

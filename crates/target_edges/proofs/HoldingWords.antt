@@ -2,7 +2,7 @@
 use Rattle.std.proofs.Common.{◌≡◌, ℕ, zero, suc, ◌-◌, Bool, true, false, List, [], ◌∷◌, ◌++◌, map, codes, bytes_eq, refl, sym, ap, ◌∙◌, inl, inr}
 use Rattle.std.specs.Prelude.{◌&&◌, ◌||◌, flat_map, nat_le, if◌then◌else◌}
 use Rattle.std.specs.List.{list_all}
-use Rattle.std.proofs.lemmas.Bool.{cases_Bool}
+use Rattle.std.proofs.lemmas.Bool.{cases_Bool, and_parts}
 use Rattle.std.proofs.lemmas.List.Folds.{list_all-append, list_all-map}
 use Rattle.std.proofs.lemmas.Slice.Eq.{bytes_eq-Decides}
 use Rattle.edge.specs.Texts.{Path, Text, holds, put_new, put_all_new, first_kept}
@@ -14,7 +14,6 @@ use Rattle.targets.specs.Sources.{brought, listed, generated}
 use Rattle.target_edges.specs.Parts.{front_words, shared_held, options_held, includes_held, arguments_held, words_held, compiles_held}
 use Rattle.target_edges.specs.Words.{word_if, include_words, includes, standard_words, optimization_words, warning_words, option_words, argument_words, compile_words}
 use Rattle.target_edges.proofs.Holding.{and_true}
-use Rattle.target_edges.proofs.HoldingCustom.{both_true}
 
 abbrev pub all_held : List Text → Bool
 all_held ws = list_all value_held ws
@@ -24,8 +23,8 @@ all_held ws = list_all value_held ws
 among : (p : Text → Bool) (t : Text) (ks : List Text) → holds t ks ≡ true → list_all p ks ≡ true → p t ≡ true
 among p t [] h a = absurd cc
 among p t (k ∷ ks) h a = elim (cases_Bool (bytes_eq t k)) [
-  | inl e ↦ ap p ((bytes_eq-Decides t k).0 e) ∙ (both_true (p k) (list_all p ks) a).0
-  | inr e ↦ among p t ks (sym (ap (λ b. b || holds t ks) e) ∙ h) (both_true (p k) (list_all p ks) a).1
+  | inl e ↦ ap p ((bytes_eq-Decides t k).0 e) ∙ (and_parts (p k) (list_all p ks) a).0
+  | inr e ↦ among p t ks (sym (ap (λ b. b || holds t ks) e) ∙ h) (and_parts (p k) (list_all p ks) a).1
 ]
 
 and_known : (a b : Bool) → (a ≡ true → b ≡ true) → a ≡ (a && b)

@@ -4,6 +4,7 @@ use Rattle.std.specs.Prelude.{not, if◌then◌else◌, string_eq}
 use Rattle.std.specs.List.{list_any}
 use Rattle.std.specs.Global.{Global}
 use Rattle.std.proofs.lemmas.List.{map-append}
+use Rattle.std.proofs.lemmas.Bool.{not-true, not-false}
 use Rattle.indexmap.specs.IndexSet.{insert_key}
 use Rattle.edge.specs.Texts.{Path, texts, holds}
 use Rattle.edge.proofs.TextLists.{holds-texts, texts-insert_key}
@@ -24,14 +25,6 @@ put_inputs-push kept (x ∷ is) i = put_inputs-push (put_input kept x) is i
 abbrev paths : List InputData → List Path
 paths is = map (λ (i : InputData). i.path) is
 
-not_true : (a b : Bool) → a ≡ not b → a ≡ true → b ≡ false
-not_true a true e h = absurd cc
-not_true a false e h = refl
-
-not_false : (a b : Bool) → a ≡ not b → a ≡ false → b ≡ true
-not_false a true e h = refl
-not_false a false e h = absurd cc
-
 -- whether the path was seen, as the list says
 was_seen : (keys : List (String Global)) (kept : List InputData) (k : String Global) (p : Path) → texts keys ≡ paths kept → string_bytes k ≡ p
     → list_any (string_eq k) keys ≡ holds p (paths kept)
@@ -51,6 +44,12 @@ module _ (all kept : List Input) (keys now : List (String Global)) (item : Input
   in_old : list_any (string_eq k) keys ≡ holds (string_bytes item.path) (paths old)
   in_old = was_seen keys old k (string_bytes item.path) seen same
 
+  held : added ≡ false → holds (string_bytes item.path) (paths old) ≡ true
+  held none = sym in_old ∙ not-false (list_any (string_eq k) keys) (sym was ∙ none)
+
+  not_held : added ≡ true → holds (string_bytes item.path) (paths old) ≡ false
+  not_held one = sym in_old ∙ not-true (list_any (string_eq k) keys) (sym was ∙ one)
+
   now_is : texts now ≡ (if holds (string_bytes item.path) (paths old) then texts keys else texts keys ++ string_bytes item.path ∷ [])
   now_is =
       ap texts is ∙ texts-insert_key keys k
@@ -58,20 +57,19 @@ module _ (all kept : List Input) (keys now : List (String Global)) (item : Input
       ∙ ap (λ p. if holds (string_bytes item.path) (paths old) then texts keys else texts keys ++ p ∷ []) same
 
   pub kept-present : added ≡ false → map input_view kept ≡ put_inputs [] (map input_view (all ++ item ∷ []))
-  kept-present none =
-      sym (more ∙ ap (λ b. if b then old else old ++ input_view item ∷ []) (sym in_old ∙ not_false added (list_any (string_eq k) keys) was none))
+  kept-present none = sym (more ∙ ap (λ b. if b then old else old ++ input_view item ∷ []) (held none))
 
   pub seen-present : added ≡ false → texts now ≡ paths (map input_view kept)
   seen-present none =
-      now_is ∙ ap (λ b. if b then texts keys else texts keys ++ string_bytes item.path ∷ []) (sym in_old ∙ not_false added (list_any (string_eq k) keys) was none) ∙ seen
+      now_is ∙ ap (λ b. if b then texts keys else texts keys ++ string_bytes item.path ∷ []) (held none) ∙ seen
 
   pub kept-new : (new : List Input) → new ≡ kept ++ item ∷ [] → added ≡ true → map input_view new ≡ put_inputs [] (map input_view (all ++ item ∷ []))
   kept-new new e one =
       ap (map input_view) e ∙ map-append input_view kept (item ∷ [])
-      ∙ sym (more ∙ ap (λ b. if b then old else old ++ input_view item ∷ []) (sym in_old ∙ not_true added (list_any (string_eq k) keys) was one))
+      ∙ sym (more ∙ ap (λ b. if b then old else old ++ input_view item ∷ []) (not_held one))
 
   pub seen-new : (new : List Input) → new ≡ kept ++ item ∷ [] → added ≡ true → texts now ≡ paths (map input_view new)
   seen-new new e one =
-      now_is ∙ ap (λ b. if b then texts keys else texts keys ++ string_bytes item.path ∷ []) (sym in_old ∙ not_true added (list_any (string_eq k) keys) was one)
+      now_is ∙ ap (λ b. if b then texts keys else texts keys ++ string_bytes item.path ∷ []) (not_held one)
       ∙ ap (λ l. l ++ string_bytes item.path ∷ []) seen
       ∙ sym (ap (λ l. paths (map input_view l)) e ∙ ap paths (map-append input_view kept (item ∷ [])) ∙ map-append (λ (i : InputData). i.path) old (input_view item ∷ []))

@@ -3,7 +3,7 @@ use Rattle.std.proofs.Common.{◌≡◌, ℕ, suc, ◌+◌, ◌≤◌, Bool, tru
 use Rattle.std.specs.Prelude.{nat_eq, nat_lt, codes}
 use Rattle.std.specs.List.{starts_with, prefix_len, list_all, AllPass}
 use Rattle.std.specs.Str.{bytes_eq}
-use Rattle.std.proofs.lemmas.Bool.{false≢true, cases_Bool}
+use Rattle.std.proofs.lemmas.Bool.{false≢true, cases_Bool, and_parts}
 use Rattle.std.proofs.lemmas.List.Sums.{AllPass-from_list_all}
 use Rattle.std.proofs.lemmas.List.{append-nil, length-take-le}
 use Rattle.template.specs.Line.{Plain, Defines, Malformed, is_blank, is_name, is_name_byte, ended, words, words_after, defined_in, reading_of}
@@ -158,13 +158,9 @@ defines_name word rest [] behind third last first next e f none = absurd (false�
 defines_name word rest (b ∷ second) behind third last first next e f none =
     ap (defined_in word) (first.cut ∙ ended-word b second (words behind) ∙ ap (λ ws. (b ∷ second) ∷ ws) (next.none none)) ∙ one_name word (b ∷ second) e f
 
-and_right : (a b : Bool) → (a && b) ≡ true → b ≡ true
-and_right true b e = e
-and_right false b e = absurd (false≢true e)
-
 pub is_name_bytes : (name : List ℕ) → is_name name ≡ true → AllPass is_name_byte name
 unfolding is_name
-is_name_bytes name e = AllPass-from_list_all is_name_byte name (and_right (nat_lt 0 (length name)) (list_all is_name_byte name) e)
+is_name_bytes name e = AllPass-from_list_all is_name_byte name (and_parts (nat_lt 0 (length name)) (list_all is_name_byte name) e).1
 
 -- how a line begins
 

@@ -1,28 +1,24 @@
 -- Texts that are cut at a byte.
-use Rattle.std.proofs.Common.{◌≡◌, ℕ, ◌+◌, ◌-◌, ◌<◌, ◌≤◌, Bool, true, false, not, List, [], ◌∷◌, ◌++◌, length, get_or, take, drop, nat_eq}
-use Rattle.std.proofs.Common.{refl, sym, ap, ◌∙◌, subst, arith}
+use Rattle.std.proofs.Common.{◌≡◌, ℕ, ◌+◌, ◌-◌, ◌<◌, ◌≤◌, true, false, not, List, [], ◌∷◌, ◌++◌, length, get_or, take, drop, nat_eq}
+use Rattle.std.proofs.Common.{sym, ap, ◌∙◌, subst, arith}
 use Rattle.std.specs.List.{position_or_len}
 use Rattle.std.specs.Str.Pattern.{LacksTextAt}
 use Rattle.std.specs.Str.{IsUtf8, IsCharBoundary}
 use Rattle.std.proofs.lemmas.Str.{IsCharBoundary-after_ascii}
 use Rattle.std.proofs.lemmas.List.{drop_more, get_or-drop, length-drop, nil_from_length, take-append-drop, append-nil}
 use Rattle.std.proofs.lemmas.List.Sums.{prefix_len-le-length, prefix_len_passes, passes_at_first}
-use Rattle.std.proofs.lemmas.Bool.{false≢true}
+use Rattle.std.proofs.lemmas.Bool.{not-true}
 use Rattle.std.proofs.lemmas.Bool.Decides.{nat_tests}
 use Rattle.texts.specs.Pieces.{parts}
 use Rattle.texts.proofs.CutLemmas.{boundary_before, part_at}
 use Rattle.texts.proofs.PiecesLemmas.{parts_none}
-
-no_more : (b : Bool) → not b ≡ true → b ≡ false
-no_more false e = refl
-no_more true e = absurd (false≢true e)
 
 ascii_alone : (byte : ℕ) → byte < 128 → (b : ℕ) → nat_eq b byte ≡ true → b < 128
 ascii_alone byte low b e = grind (arith, nat_tests)
 
 -- another byte stands before the first
 other_before : (byte : ℕ) (text : List ℕ) (k : ℕ) → k < position_or_len (λ b. nat_eq b byte) text → nat_eq (get_or text k 0) byte ≡ false
-other_before byte text k below = no_more (nat_eq (get_or text k 0) byte) (prefix_len_passes (λ b. not (nat_eq b byte)) text k 0 below)
+other_before byte text k below = not-true (nat_eq (get_or text k 0) byte) (prefix_len_passes (λ b. not (nat_eq b byte)) text k 0 below)
 
 -- where another byte stands, the one does not begin
 lacks_byte : (byte : ℕ) (text : List ℕ) (k : ℕ) → (k < length text → nat_eq (get_or text k 0) byte ≡ false) → LacksTextAt (byte ∷ []) text k

@@ -4,22 +4,22 @@ use Rattle.std.proofs.Common.{Bor, refl, sym, ap, ◌∙◌, rules, tests}
 use Rattle.std.specs.Prelude.{Ok, Err, nat_le, nat_eq, ◌==◌, if◌then◌else◌}
 use Rattle.std.specs.List.{flat_map, starts_with, onto_first}
 use Rattle.std.proofs.lemmas.List.{append_assoc, length-append, drop_more, drop_all}
+use Rattle.std.proofs.lemmas.Bool.{cond-true, cond-false}
 use Rattle.data.specs.declared.refusal.Refusal.TheVariants as refusal
 use Rattle.texts.specs.Pieces.{parts, parts_after}
 use Rattle.texts.specs.Joined.{joined, replaced}
 use Rattle.data.specs.Limits.{within_bytes}
-use Rattle.texts.proofs.PiecesLemmas.{when, unless}
 
 pub too_long : (all made piece more : List ℕ) → all ≡ made ++ (piece ++ more) → 16777216 < length (made ++ piece)
     → Err refusal.Limit ≡ within_bytes all
 too_long all made piece more all_is long =
     let count : length all ≡ length (made ++ piece) + length more = ap length (all_is ∙ sym (append_assoc made piece more))
     ∙ length-append (made ++ piece) more in
-    sym (unless (nat_le (length all) 16777216) (Ok all) (Err refusal.Limit) (search (rules, tests)))
+    sym (cond-false (nat_le (length all) 16777216) (Ok all) (Err refusal.Limit) (search (rules, tests)))
 
 pub short_enough : (all made : List ℕ) → all ≡ made → length made ≤ 16777216 → Ok made ≡ within_bytes all
 short_enough all made all_is short =
-    ap (λ text. Ok text) (sym all_is) ∙ sym (when (nat_le (length all) 16777216) (Ok all) (Err refusal.Limit) (search (rules, tests)))
+    ap (λ text. Ok text) (sym all_is) ∙ sym (cond-true (nat_le (length all) 16777216) (Ok all) (Err refusal.Limit) (search (rules, tests)))
 
 -- a piece has moved from what is to come to what was made
 pub grown : (all made piece more new : List ℕ) → all ≡ made ++ (piece ++ more) → new ≡ made ++ piece → all ≡ new ++ more
@@ -60,4 +60,4 @@ joined_more between part separator rest =
     ∙ ap (λ ps. (part ++ between) ++ joined between ps) (sym first.2)
 
 pub replaced_is : (text old new : List ℕ) → length old == 0 ≡ false → replaced text old new ≡ within_bytes (joined new (parts old text))
-replaced_is text old new filled = unless (length old == 0) (Err refusal.Arguments) (within_bytes (joined new (parts old text))) filled
+replaced_is text old new filled = cond-false (length old == 0) (Err refusal.Arguments) (within_bytes (joined new (parts old text))) filled

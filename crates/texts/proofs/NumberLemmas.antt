@@ -1,12 +1,12 @@
 -- Why a text spells no integer.
 use Rattle.std.proofs.Common.{◌≡◌, ℕ, ◌<◌, Bool, true, false, List, [], ◌∷◌, length, ℤ, pos, negsuc, refl, Ok, Err, arith}
-use Rattle.std.specs.Prelude.{◌&&◌, if◌then◌else◌}
+use Rattle.std.specs.Prelude.{if◌then◌else◌}
 use Rattle.std.specs.Char.{is_ascii_digit, digit_value}
 use Rattle.std.specs.Int.{w128}
 use Rattle.std.specs.Prelude.{FitsSigned, nat_lt}
 use Rattle.std.specs.List.{list_all}
 use Rattle.std.specs.Str.Parse.{AllDigits, IsNumeral, without_leading_sign, signed_digits_value}
-use Rattle.std.proofs.lemmas.Bool.{false≢true}
+use Rattle.std.proofs.lemmas.Bool.{false≢true, and_parts}
 use Rattle.std.proofs.lemmas.Bool.Decides.{nat_tests}
 use Rattle.data.specs.declared.refusal.Refusal.TheVariants as refusal
 use Rattle.basics.specs.Limits.{is_in_range}
@@ -15,20 +15,16 @@ use Rattle.texts.specs.Number.{is_numeral, integer_of}
 pub digit_below_ten : (c : ℕ) → is_ascii_digit c ≡ true → digit_value c < 10
 digit_below_ten c h = grind (arith, nat_tests)
 
-pub both : (a b : Bool) → (a && b) ≡ true → (a ≡ true) × (b ≡ true)
-both true b h = (refl, h)
-both false b h = absurd (false≢true h)
-
 pub AllDigits-from_test : (ds : List ℕ) → list_all is_ascii_digit ds ≡ true → AllDigits 10 ds
 AllDigits-from_test [] h = tt
 AllDigits-from_test (d ∷ ds) h =
-    let parts = both (is_ascii_digit d) (list_all is_ascii_digit ds) h in
+    let parts = and_parts (is_ascii_digit d) (list_all is_ascii_digit ds) h in
     (digit_below_ten d parts.0, AllDigits-from_test ds parts.1)
 
 IsNumeral-from_test : (text : List ℕ) → is_numeral text ≡ true → IsNumeral 10 (without_leading_sign text)
 IsNumeral-from_test text h =
     let ds = without_leading_sign text in
-    let parts = both (nat_lt 0 (length ds)) (list_all is_ascii_digit ds) h in
+    let parts = and_parts (nat_lt 0 (length ds)) (list_all is_ascii_digit ds) h in
     let some : 0 < length ds = grind (arith, nat_tests) in
     (some, AllDigits-from_test ds parts.1)
 

@@ -6,14 +6,13 @@ use Rattle.data.specs.declared.refusal.Refusal.{Refusal}
 use Rattle.data.specs.declared.refusal.Refusal.TheVariants as refusal
 use Rattle.std.specs.List.{starts_with, onto_first, flat_map, All}
 use Rattle.std.proofs.lemmas.List.Elements.{All-cons, All-nil}
-use Rattle.std.proofs.lemmas.Bool.{or_from, false≢true}
+use Rattle.std.proofs.lemmas.Bool.{or_from, false≢true, false_from_ne_true}
 use Rattle.std.proofs.lemmas.List.{append_assoc, drop_at}
 use Rattle.texts.specs.Pieces.{parts, parts_after, within_items}
 use Rattle.texts.specs.Search.{contains}
 use Rattle.texts.specs.Joined.{joined}
 use Rattle.texts.proofs.SearchLemmas.{Decides-starts_with}
 use Rattle.texts.proofs.JoinedLemmas.{some_part}
-use Rattle.texts.proofs.PiecesLemmas.{is_false}
 
 joined-onto_first : (separator : List ℕ) (b : ℕ) (pieces : List (List ℕ)) → joined separator
     (onto_first b pieces) ≡ b ∷ joined separator pieces
@@ -63,7 +62,7 @@ front_lacks : (separator : List ℕ) (b : ℕ) (bs front more : List ℕ) → bs
     → contains front separator ≡ false → contains (b ∷ front) separator ≡ false
 front_lacks separator b bs front more bs_is lacks none =
     or_from (starts_with nat_eq (b ∷ front) separator) (contains front separator)
-    (is_false (starts_with nat_eq (b ∷ front) separator) (λ begins.
+    (false_from_ne_true (starts_with nat_eq (b ∷ front) separator) (λ begins.
     let w = (Decides-starts_with (b ∷ front) separator).0 begins in
     let whole : b ∷ bs ≡ separator ++ (w.0 ++ more) =
     ap (λ xs. b ∷ xs) bs_is ∙ ap (λ xs. xs ++ more) w.1 ∙ append_assoc separator w.0 more in

@@ -5,25 +5,13 @@ use Rattle.std.specs.Prelude.{filter, ◌||◌, ◌&&◌, ◌==◌, codes, nat_l
 use Rattle.std.specs.List.{starts_with, slice_split, onto_first, position_or_len, prefix_len}
 use Rattle.std.specs.Str.Pattern.{LacksTextAt}
 use Rattle.std.proofs.lemmas.List.{length-append, append_assoc, map_push}
-use Rattle.std.proofs.lemmas.Bool.{false≢true, eqb-true}
+use Rattle.std.proofs.lemmas.Bool.{false≢true, eqb-true, false_from_ne_true, cond-true, cond-false}
 use Rattle.std.proofs.lemmas.Bool.Decides.{nat_tests}
 use Rattle.data.specs.declared.refusal.Refusal.TheVariants as refusal
 use Rattle.texts.specs.Strip.{is_blank}
 use Rattle.texts.specs.Pieces.{parts, parts_after, words, lines, lines_after, is_filled, is_line_end, within_items}
 use Rattle.texts.specs.Cut.{lines_behind, end_length}
 use Rattle.texts.proofs.SearchLemmas.{Decides-starts_with}
-
-pub is_false : (b : Bool) → (b ≡ true → ⊥) → b ≡ false
-is_false true h = absurd (h refl)
-is_false false h = refl
-
-pub when : {X : Type 0} (b : Bool) (x y : X) → b ≡ true → (if b then x else y) ≡ x
-when true x y e = refl
-when false x y e = absurd (false≢true e)
-
-pub unless : {X : Type 0} (b : Bool) (x y : X) → b ≡ false → (if b then x else y) ≡ y
-unless false x y e = refl
-unless true x y e = absurd (false≢true (sym e))
 
 -- a separator's other bytes are passed over
 passed_over : (separator xs rest : List ℕ) → parts_after (length xs) separator (xs ++ rest) ≡ parts separator rest
@@ -34,7 +22,7 @@ at_separator : (s : ℕ) (ss rest : List ℕ) → parts (s ∷ ss) (s ∷ (ss ++
 at_separator s ss rest =
     let stands = (Decides-starts_with (s ∷ (ss ++ rest)) (s ∷ ss)).1 (rest, refl) in
     let shorter : length (s ∷ ss) - 1 ≡ length ss = omega arith in
-    when (starts_with nat_eq (s ∷ (ss ++ rest)) (s ∷ ss)) ([] ∷ parts_after (length (s ∷ ss) - 1) (s ∷ ss) (ss ++ rest))
+    cond-true (starts_with nat_eq (s ∷ (ss ++ rest)) (s ∷ ss)) ([] ∷ parts_after (length (s ∷ ss) - 1) (s ∷ ss) (ss ++ rest))
     (onto_first s (parts_after zero (s ∷ ss) (ss ++ rest))) stands
     ∙ ap (λ n. [] ∷ parts_after n (s ∷ ss) (ss ++ rest)) shorter
     ∙ ap (λ pieces. [] ∷ pieces) (passed_over (s ∷ ss) ss rest)
@@ -43,9 +31,10 @@ at_separator s ss rest =
 one_byte : (separator : List ℕ) (b : ℕ) (bs : List ℕ) → LacksTextAt separator (b ∷ bs) 0 → parts separator (b ∷ bs) ≡ onto_first b
     (parts separator bs)
 one_byte separator b bs lacks =
-    unless (starts_with nat_eq (b ∷ bs) separator) ([] ∷ parts_after (length separator - 1) separator bs)
+    cond-false (starts_with nat_eq (b ∷ bs) separator) ([] ∷ parts_after (length separator - 1) separator bs)
     (onto_first b (parts separator bs))
-    (is_false (starts_with nat_eq (b ∷ bs) separator) (λ e. let w = (Decides-starts_with (b ∷ bs) separator).0 e in lacks w.0 w.1))
+    (false_from_ne_true (starts_with nat_eq (b ∷ bs) separator)
+    (λ e. let w = (Decides-starts_with (b ∷ bs) separator).0 e in lacks w.0 w.1))
 
 -- the first part ends where the separator first stands
 pub parts_found : (s : ℕ) (ss front rest : List ℕ) → ((i : ℕ) → i < length front → LacksTextAt (s ∷ ss) (front ++ (s ∷ ss ++ rest)) i)
@@ -87,7 +76,7 @@ words_behind_case : (b : Bool) (x : ℕ) (xs : List ℕ) (n : ℕ)
     → filter is_filled (split_behind is_blank (drop (if not b then 1 + n else 0) (x ∷ xs))) ≡ words
     (drop (if not b then 1 + n else 0) (x ∷ xs))
 words_behind_case true x xs n is e = sym
-    (ap (filter is_filled) (when (is_blank x) ([] ∷ slice_split is_blank xs) (onto_first x (slice_split is_blank xs)) is))
+    (ap (filter is_filled) (cond-true (is_blank x) ([] ∷ slice_split is_blank xs) (onto_first x (slice_split is_blank xs)) is))
 words_behind_case false x xs n is e =
     let more : suc n ≡ 1 + n = omega arith in
     let P : ℕ → Type 0 = λ m. filter is_filled (split_behind is_blank (drop m (x ∷ xs))) ≡ words (drop m (x ∷ xs)) in
@@ -113,7 +102,7 @@ pub words_first : (b : ℕ) (bs : List ℕ) → is_blank b ≡ false
 words_first b bs is =
     let m = position_or_len is_blank bs in
     let more : suc m ≡ 1 + m = omega arith in
-    let n : position_or_len is_blank (b ∷ bs) ≡ suc m = when (not (is_blank b)) (1 + m) 0 (ap not is) ∙ sym more in
+    let n : position_or_len is_blank (b ∷ bs) ≡ suc m = cond-true (not (is_blank b)) (1 + m) 0 (ap not is) ∙ sym more in
     ap (filter is_filled) (split_front is_blank (b ∷ bs))
     ∙ filled_front (position_or_len is_blank (b ∷ bs)) m b bs (split_behind is_blank (drop (position_or_len is_blank (b ∷ bs)) (b ∷ bs))) n
     ∙ ap (λ pieces. take (position_or_len is_blank (b ∷ bs)) (b ∷ bs) ∷ pieces) (words_behind (b ∷ bs))
@@ -122,7 +111,7 @@ words_skip_case : (b : Bool) (x : ℕ) (xs : List ℕ) (n : ℕ) → is_blank x 
     → words (x ∷ xs) ≡ words (drop (if b then 1 + n else 0) (x ∷ xs))
 words_skip_case true x xs n is e =
     let more : suc n ≡ 1 + n = omega arith in
-    ap (filter is_filled) (when (is_blank x) ([] ∷ slice_split is_blank xs) (onto_first x (slice_split is_blank xs)) is) ∙ e
+    ap (filter is_filled) (cond-true (is_blank x) ([] ∷ slice_split is_blank xs) (onto_first x (slice_split is_blank xs)) is) ∙ e
     ∙ ap (λ m. words (drop m (x ∷ xs))) more
 words_skip_case false x xs n is e = refl
 
@@ -143,8 +132,8 @@ line_case false true b bs n ten_is thirteen_is e =
     subst P (sym (eqb-true b 13 thirteen_is)) refl
 line_case false false b bs n ten_is thirteen_is e =
     let more : suc n ≡ 1 + n = omega arith in
-    unless (b == 10) ([] ∷ lines bs) (if b == 13 then [] ∷ lines_after true bs else onto_first b (lines bs)) ten_is
-    ∙ unless (b == 13) ([] ∷ lines_after true bs) (onto_first b (lines bs)) thirteen_is
+    cond-false (b == 10) ([] ∷ lines bs) (if b == 13 then [] ∷ lines_after true bs else onto_first b (lines bs)) ten_is
+    ∙ cond-false (b == 13) ([] ∷ lines_after true bs) (onto_first b (lines bs)) thirteen_is
     ∙ e ∙ ap (λ m. take m (b ∷ bs) ∷ lines_behind (drop m (b ∷ bs))) more
 
 -- a text that is not empty begins with a line
@@ -164,11 +153,11 @@ last_byte false b = refl
 
 end_case : (long returned newline : Bool) (b c : ℕ) (cs : List ℕ) → c == 10 ≡ newline → long ≡ (returned && (newline && true))
     → lines_after returned (c ∷ cs) ≡ lines (drop (if long then 2 else 1) (b ∷ c ∷ cs))
-end_case true true true b c cs is both = when (c == 10) (lines cs) (if c == 13 then [] ∷ lines_after true cs else onto_first c
+end_case true true true b c cs is both = cond-true (c == 10) (lines cs) (if c == 13 then [] ∷ lines_after true cs else onto_first c
     (lines cs)) is
 end_case false true false b c cs is both =
-    unless (c == 10) (lines cs) (if c == 13 then [] ∷ lines_after true cs else onto_first c (lines cs)) is
-    ∙ sym (unless (c == 10) ([] ∷ lines cs) (if c == 13 then [] ∷ lines_after true cs else onto_first c (lines cs)) is)
+    cond-false (c == 10) (lines cs) (if c == 13 then [] ∷ lines_after true cs else onto_first c (lines cs)) is
+    ∙ sym (cond-false (c == 10) ([] ∷ lines cs) (if c == 13 then [] ∷ lines_after true cs else onto_first c (lines cs)) is)
 end_case false false newline b c cs is both = refl
 end_case true false newline b c cs is both = absurd (false≢true (sym both))
 end_case false true true b c cs is both = absurd (false≢true both)
@@ -186,11 +175,11 @@ pub too_many : (all found more : List (List ℕ)) (piece : List ℕ) → all ≡
     → Err refusal.Limit ≡ within_items all
 too_many all found more piece all_is full =
     let count : length all ≡ length found + length (piece ∷ more) = ap length all_is ∙ length-append found (piece ∷ more) in
-    sym (unless (nat_le (length all) 65536) (Ok all) (Err refusal.Limit) (search (rules, tests)))
+    sym (cond-false (nat_le (length all) 65536) (Ok all) (Err refusal.Limit) (search (rules, tests)))
 
 pub few_enough : (all found : List (List ℕ)) → all ≡ found → length found ≤ 65536 → Ok found ≡ within_items all
 few_enough all found all_is few =
-    ap (λ pieces. Ok pieces) (sym all_is) ∙ sym (when (nat_le (length all) 65536) (Ok all) (Err refusal.Limit) (search (rules, tests)))
+    ap (λ pieces. Ok pieces) (sym all_is) ∙ sym (cond-true (nat_le (length all) 65536) (Ok all) (Err refusal.Limit) (search (rules, tests)))
 
 -- a piece joins those that were found
 pub one_more_piece : (all : List (List ℕ)) (found more_found : List (Bor (List ℕ))) (piece : Bor (List ℕ)) (here more : List (List ℕ))

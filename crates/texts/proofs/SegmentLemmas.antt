@@ -7,7 +7,7 @@ use Rattle.std.specs.List.{prefix_len, list_all, flat_map}
 use Rattle.std.specs.Str.{IsUtf8, IsCharBoundary}
 use Rattle.std.specs.Str.Parse.{IsNumeral, digits_value, without_leading_plus}
 use Rattle.std.proofs.lemmas.Str.Parse.{without_leading_plus_none}
-use Rattle.std.proofs.lemmas.Bool.{eq-eqb, eqb-true, cases_lt}
+use Rattle.std.proofs.lemmas.Bool.{eq-eqb, eqb-true, cases_lt, cond-true, cond-false, and_parts}
 use Rattle.std.proofs.lemmas.Bool.Decides.{nat_tests}
 use Rattle.std.proofs.lemmas.List.{get_or-drop, take_all, drop_all, drop_more, append-nil, append_assoc, take-append-drop}
 use Rattle.std.proofs.lemmas.List.Sums.{prefix_len_passes}
@@ -15,8 +15,7 @@ use Rattle.texts.specs.declared.placed.Places.{Places}
 use Rattle.texts.specs.declared.placed.Places.TheVariants as places
 use Rattle.texts.specs.Segments.{Segment, text, place, is_name_start, is_name_byte, name_length, place_length, onto_text, segments_after}
 use Rattle.texts.specs.Segments.{segments, text_segments, spelled, is_number, number_of}
-use Rattle.texts.proofs.NumberLemmas.{both, AllDigits-from_test}
-use Rattle.texts.proofs.PiecesLemmas.{when, unless}
+use Rattle.texts.proofs.NumberLemmas.{AllDigits-from_test}
 use Rattle.texts.proofs.CutLemmas.{boundary_after}
 
 behind : (passed : ℕ) (kind : Places) (t : List ℕ) → segments_after passed kind t ≡ segments kind (drop passed t)
@@ -38,8 +37,8 @@ segments_before : (kind : Places) (t : List ℕ) (n : ℕ) → n ≤ length t �
 segments_before kind t zero within none apart = refl
 segments_before kind [] (suc n) within none apart = absurd (omega arith)
 segments_before kind (b ∷ bs) (suc n) within none apart =
-    when (place_length kind (b ∷ bs) == 0) (onto_text b (segments kind bs)) (place (take (place_length kind (b ∷ bs)) bs) ∷ segments_after
-    (place_length kind (b ∷ bs) + 1) kind bs)
+    cond-true (place_length kind (b ∷ bs) == 0) (onto_text b (segments kind bs))
+    (place (take (place_length kind (b ∷ bs)) bs) ∷ segments_after (place_length kind (b ∷ bs) + 1) kind bs)
     (eq-eqb (place_length kind (b ∷ bs)) 0 (none 0 (omega arith)))
     ∙ ap (onto_text b) (segments_before kind bs n (omega arith) (λ k below. none (suc k) (omega arith)) apart)
     ∙ onto_texts b (take n bs) (segments kind (drop n bs)) apart
@@ -52,8 +51,8 @@ segments_at kind (b ∷ bs) count is some =
     let digits : count ≡ count + 1 - 1 = omega arith in
     let end : suc (count + 1) ≡ count + 2 = omega arith in
     let here : (place_length kind (b ∷ bs) == 0) ≡ false = grind (arith, nat_tests) in
-    unless (place_length kind (b ∷ bs) == 0) (onto_text b (segments kind bs)) (place (take (place_length kind (b ∷ bs)) bs) ∷ segments_after
-    (place_length kind (b ∷ bs) + 1) kind bs) here
+    cond-false (place_length kind (b ∷ bs) == 0) (onto_text b (segments kind bs))
+    (place (take (place_length kind (b ∷ bs)) bs) ∷ segments_after (place_length kind (b ∷ bs) + 1) kind bs) here
     ∙ ap (λ n. place (take n bs) ∷ segments_after (n + 1) kind bs) (sym is)
     ∙ ap (λ ss. place (take count bs) ∷ ss) (behind (count + 1) kind bs)
     ∙ (λ k. place (take (digits k) bs) ∷ segments kind (drop (end k) (b ∷ bs)))
@@ -210,14 +209,14 @@ all_found found after whole here t is here_is after_is = after_is ∙ ap (λ ss.
 no_plus : (t : List ℕ) → is_number t ≡ true → without_leading_plus t ≡ t
 no_plus [] h = absurd cc
 no_plus (b ∷ bs) h =
-    let digits = both (nat_lt 0 (length (b ∷ bs))) (list_all is_ascii_digit (b ∷ bs)) h in
-    let first = both (is_ascii_digit b) (list_all is_ascii_digit bs) digits.1 in
+    let digits = and_parts (nat_lt 0 (length (b ∷ bs))) (list_all is_ascii_digit (b ∷ bs)) h in
+    let first = and_parts (is_ascii_digit b) (list_all is_ascii_digit bs) digits.1 in
     let plain : b ≢ 43 = grind (arith, nat_tests) in
     without_leading_plus_none (b ∷ bs) plain
 
 digits_numeral : (t : List ℕ) → is_number t ≡ true → IsNumeral 10 t
 digits_numeral t h =
-    let parts = both (nat_lt 0 (length t)) (list_all is_ascii_digit t) h in
+    let parts = and_parts (nat_lt 0 (length t)) (list_all is_ascii_digit t) h in
     let some : 0 < length t = grind (arith, nat_tests) in
     (some, AllDigits-from_test t parts.1)
 

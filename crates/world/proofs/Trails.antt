@@ -1,18 +1,11 @@
 -- Texts that lie in one text, when a further one is put behind them.
-use Rattle.std.proofs.Common.{◌≡◌, ℕ, ◌+◌, ◌≤◌, Bool, true, false, List, [], ◌∷◌, ◌++◌, take, drop, length, refl, ap, ◌∙◌, arith, length-append, length-drop}
-use Rattle.std.specs.Prelude.{◌&&◌}
-use Rattle.std.proofs.lemmas.Bool.{le-leb, leb-true}
+use Rattle.std.proofs.Common.{◌≡◌, ℕ, ◌+◌, ◌≤◌, true, List, [], ◌∷◌, ◌++◌, take, drop, length, refl, ap, ◌∙◌, arith, length-append}
+use Rattle.std.proofs.Common.{length-drop}
+use Rattle.std.proofs.lemmas.Bool.{le-leb, leb-true, and_parts, and_from}
 use Rattle.std.proofs.lemmas.List.{drop_at, drop-append-le, map-append, take_all, take-append-le}
 use Rattle.std.proofs.lemmas.List.Folds.{list_all-append}
 use Rattle.world.specs.Trail.{are_within, is_within, piece, pieces}
 use Rattle.world.specs.declared.trail.Span.{Span}
-
-both_parts : (a b : Bool) → (a && b) ≡ true → (a ≡ true) × (b ≡ true)
-both_parts true b h = (refl, h)
-both_parts false b h = absurd cc
-
-both_hold : {a b : Bool} → a ≡ true → b ≡ true → (a && b) ≡ true
-both_hold {a = a} {b = b} p q = ap (λ x. x && b) p ∙ q
 
 within : (whole : List ℕ) (s : Span) → is_within whole s ≡ true → s.from + s.length ≤ length whole
 within whole s h = leb-true (s.from + s.length) (length whole) h
@@ -30,13 +23,13 @@ piece-longer whole more s h =
 pub are_within-longer : (whole more : List ℕ) (spans : List Span) → are_within whole spans ≡ true → are_within (whole ++ more) spans ≡ true
 are_within-longer whole more [] h = refl
 are_within-longer whole more (s ∷ spans) h =
-    let k = both_parts (is_within whole s) (are_within whole spans) h in
-    both_hold (is_within-longer whole more s k.0) (are_within-longer whole more spans k.1)
+    let k = and_parts (is_within whole s) (are_within whole spans) h in
+    and_from _ _ (is_within-longer whole more s k.0) (are_within-longer whole more spans k.1)
 
 pieces-longer : (whole more : List ℕ) (spans : List Span) → are_within whole spans ≡ true → pieces (whole ++ more) spans ≡ pieces whole spans
 pieces-longer whole more [] h = refl
 pieces-longer whole more (s ∷ spans) h =
-    let k = both_parts (is_within whole s) (are_within whole spans) h in
+    let k = and_parts (is_within whole s) (are_within whole spans) h in
     ap (λ p. p ∷ pieces (whole ++ more) spans) (piece-longer whole more s k.0) ∙ ap (λ ps. piece whole s ∷ ps) (pieces-longer whole more spans k.1)
 
 abbrev pub last : List ℕ → List ℕ → Span
@@ -52,7 +45,8 @@ pub are_within-more : (whole more : List ℕ) (spans : List Span) → are_within
 are_within-more whole more spans h =
     let end : length whole + length more ≤ length (whole ++ more) = omega (arith, length-append whole more) in
     list_all-append (is_within (whole ++ more)) spans (last whole more ∷ [])
-    ∙ both_hold (are_within-longer whole more spans h) (both_hold (le-leb (length whole + length more) (length (whole ++ more)) end) refl)
+    ∙ and_from _ _ (are_within-longer whole more spans h)
+    (and_from _ _ (le-leb (length whole + length more) (length (whole ++ more)) end) refl)
 
 -- and it comes behind them
 pub pieces-more : (whole more : List ℕ) (spans : List Span) → are_within whole spans ≡ true → pieces (whole ++ more) (spans ++ last whole more ∷ []) ≡ pieces whole spans ++ more ∷ []

@@ -2,10 +2,11 @@ use Rattle.std.proofs.Common.{◌≡◌, ◌+◌, ◌<◌, ◌≤◌, ◌∷◌,
 use Rattle.std.specs.Prelude.{IfSome, if◌then◌else◌}
 use Rattle.std.specs.List.{list_any}
 use Rattle.std.proofs.lemmas.List.{length_push}
+use Rattle.std.proofs.lemmas.Bool.{not-true, not-false}
 use Rattle.data.specs.Data.{put, find, AreDistinct}
 use Rattle.data.specs.Weight.{weight, depth, entries_weight, entries_depth}
 use Rattle.data.specs.View.{data_of, entries_of}
-use Rattle.data.proofs.EntriesLemmas.{place, put_in, put_new, no_any, some_any, not_false, not_true, find_out}
+use Rattle.data.proofs.EntriesLemmas.{place, put_in, put_new, no_any, some_any, find_out}
 use Rattle.data.proofs.BuilderLemmas.{deeper_is, deeper_small, replaced_is, replaced_small, weight_replaced, weight-le-entries_weight, weight_put-new, depth_put-new, put-distinct, length-set}
 use Rattle.data.proofs.value.builder.DictionaryBuilder.put.Goals as goal
 
@@ -16,7 +17,8 @@ overflow_sub-self c =
     let same = c.in_ok-reserve.ensures.items in
     let q = c.args.key in
     let i = c.in_ok-index.index in
-    let there = some_any (λ k. bytes_eq q k) ks (not_true c.in_ok-index.is_new (list_any (bytes_eq q) ks) c.in_ok-index.ensures.added c.if-is_new.false) in
+    let some = not-false (list_any (bytes_eq q) ks) (sym c.in_ok-index.ensures.added ∙ c.if-is_new.false) in
+    let there = some_any (λ k. bytes_eq q k) ks some in
     let pairs : length ks ≡ length vs = c.self.invariant.pairs ∙ sym (ap length same) in
     let inside : i < length vs = omega (arith, there, c.in_ok-index.ensures.index, pairs) in
     omega (arith, weight-le-entries_weight ks vs i c.index.result.now pairs inside, c.weight-old_weight.ensures.weight, ap (λ v. weight (data_of v)) c.index.ensures, c.self.invariant.weight, ap (λ l. entries_weight (entries_of ks l)) same)
@@ -29,7 +31,7 @@ invariant_of-self-else-is_new c =
     let q = c.args.key in
     let i = c.in_ok-index.index in
     let w = c.args.value in
-    let some = not_true c.in_ok-index.is_new (list_any (bytes_eq q) ks) c.in_ok-index.ensures.added c.if-is_new.false in
+    let some = not-false (list_any (bytes_eq q) ks) (sym c.in_ok-index.ensures.added ∙ c.if-is_new.false) in
     let there = some_any (λ k. bytes_eq q k) ks some in
     let pairs : length ks ≡ length vs = c.self.invariant.pairs ∙ sym (ap length same) in
     let inside : i < length vs = omega (arith, there, c.in_ok-index.ensures.index, pairs) in
@@ -62,7 +64,7 @@ invariant_of-self-then-is_new c =
     let vs = c.self.inside.values.items in
     let q = c.args.key in
     let w = c.args.value in
-    let absent = not_false c.in_ok-index.is_new (list_any (bytes_eq q) ks) c.in_ok-index.ensures.added c.if-is_new.true in
+    let absent = not-true (list_any (bytes_eq q) ks) (sym c.in_ok-index.ensures.added ∙ c.if-is_new.true) in
     let past : length ks ≤ place q ks = no_any (λ k. bytes_eq q k) ks absent in
     let keys : c.insert_full.new.self.keys ≡ ks ++ q ∷ [] = c.in_ok-index.ensures.keys ∙ ap (λ (b : Bool). if b then ks else ks ++ q ∷ []) absent in
     let values : c.push_reserved.new.self.items ≡ vs ++ w ∷ [] = c.push_reserved.ensures.items ∙ ap (λ l. l ++ w ∷ []) c.in_ok-reserve.ensures.items in
@@ -88,7 +90,7 @@ returns-else-is_new c =
     let q = c.args.key in
     let i = c.in_ok-index.index in
     let w = c.args.value in
-    let some = not_true c.in_ok-index.is_new (list_any (bytes_eq q) ks) c.in_ok-index.ensures.added c.if-is_new.false in
+    let some = not-false (list_any (bytes_eq q) ks) (sym c.in_ok-index.ensures.added ∙ c.if-is_new.false) in
     let there = some_any (λ k. bytes_eq q k) ks some in
     let pairs : length ks ≡ length vs = c.self.invariant.pairs ∙ sym (ap length same) in
     let keys : c.insert_full.new.self.keys ≡ ks = c.in_ok-index.ensures.keys ∙ ap (λ (b : Bool). if b then ks else ks ++ q ∷ []) some in
@@ -101,7 +103,7 @@ returns-then-is_new c =
     let vs = c.self.inside.values.items in
     let q = c.args.key in
     let w = c.args.value in
-    let absent = not_false c.in_ok-index.is_new (list_any (bytes_eq q) ks) c.in_ok-index.ensures.added c.if-is_new.true in
+    let absent = not-true (list_any (bytes_eq q) ks) (sym c.in_ok-index.ensures.added ∙ c.if-is_new.true) in
     let past : length ks ≤ place q ks = no_any (λ k. bytes_eq q k) ks absent in
     let keys : c.insert_full.new.self.keys ≡ ks ++ q ∷ [] = c.in_ok-index.ensures.keys ∙ ap (λ (b : Bool). if b then ks else ks ++ q ∷ []) absent in
     let values : c.push_reserved.new.self.items ≡ vs ++ w ∷ [] = c.push_reserved.ensures.items ∙ ap (λ l. l ++ w ∷ []) c.in_ok-reserve.ensures.items in
