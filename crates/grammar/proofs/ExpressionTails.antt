@@ -247,19 +247,29 @@ module _ (n : ℕ) (b : Bool) (ts : List Lexeme) where
     unfolding base_at or_at
     base_atom = rw no_call
 
-    pub atom_group : begins Kinds.OpenParenthesis ts ≡ true → base_at (inner_at n) b ts ≡ entered_at Kinds.OpenParenthesis n (λ e. group_at e b) ts
+    pub atom_group : begins Kinds.OpenParenthesis ts ≡ true
+        → base_at (inner_at n) b ts ≡ entered_at Kinds.OpenParenthesis n (λ e. group_at e b) ts
     unfolding atom_at or_at
-    atom_group f = base_atom ∙ rw (begins_other Kinds.OpenParenthesis Kinds.Name refl ts f, f) (opened_entered Kinds.OpenParenthesis (λ e. group_at e b) n ts)
+    atom_group f =
+        base_atom ∙ rw (begins_other Kinds.OpenParenthesis Kinds.Name refl ts f, f)
+        (opened_entered Kinds.OpenParenthesis (λ e. group_at e b) n ts)
 
-    pub atom_list : begins Kinds.OpenParenthesis ts ≡ false → begins Kinds.OpenBracket ts ≡ true → base_at (inner_at n) b ts ≡ entered_at Kinds.OpenBracket n (λ e. list_at e b) ts
+    pub atom_list : begins Kinds.OpenParenthesis ts ≡ false → begins Kinds.OpenBracket ts ≡ true
+        → base_at (inner_at n) b ts ≡ entered_at Kinds.OpenBracket n (λ e. list_at e b) ts
     unfolding atom_at or_at
-    atom_list f g = base_atom ∙ rw (begins_other Kinds.OpenBracket Kinds.Name refl ts g, f, g) (opened_entered Kinds.OpenBracket (λ e. list_at e b) n ts)
+    atom_list f g =
+        base_atom ∙ rw (begins_other Kinds.OpenBracket Kinds.Name refl ts g, f, g)
+        (opened_entered Kinds.OpenBracket (λ e. list_at e b) n ts)
 
-    pub atom_dictionary : begins Kinds.OpenParenthesis ts ≡ false → begins Kinds.OpenBracket ts ≡ false → begins Kinds.OpenBrace ts ≡ true → base_at (inner_at n) b ts ≡ entered_at Kinds.OpenBrace n (λ e. dictionary_at e b) ts
+    pub atom_dictionary : begins Kinds.OpenParenthesis ts ≡ false → begins Kinds.OpenBracket ts ≡ false → begins Kinds.OpenBrace ts ≡ true
+        → base_at (inner_at n) b ts ≡ entered_at Kinds.OpenBrace n (λ e. dictionary_at e b) ts
     unfolding atom_at or_at
-    atom_dictionary f g h = base_atom ∙ rw (begins_other Kinds.OpenBrace Kinds.Name refl ts h, f, g, h) (opened_entered Kinds.OpenBrace (λ e. dictionary_at e b) n ts)
+    atom_dictionary f g h =
+        base_atom ∙ rw (begins_other Kinds.OpenBrace Kinds.Name refl ts h, f, g, h)
+        (opened_entered Kinds.OpenBrace (λ e. dictionary_at e b) n ts)
 
-    pub atom_single : begins Kinds.OpenParenthesis ts ≡ false → begins Kinds.OpenBracket ts ≡ false → begins Kinds.OpenBrace ts ≡ false → base_at (inner_at n) b ts ≡ single_at ts
+    pub atom_single : begins Kinds.OpenParenthesis ts ≡ false → begins Kinds.OpenBracket ts ≡ false → begins Kinds.OpenBrace ts ≡ false
+        → base_at (inner_at n) b ts ≡ single_at ts
     unfolding atom_at or_at single_at
     atom_single f g h = base_atom ∙ elim (cases_bool (begins Kinds.Name ts)) [ inl y ↦ rw y refl | inr m ↦ rw (m, f, g, h) refl ]
 

@@ -46,8 +46,8 @@ first_left byte text rest n e left filled =
     let here : get_or text n 0 ≡ get_or text (position_or_len (λ b. nat_eq b byte) text) 0 = ap (λ i. get_or text i 0) e in
     (omega arith, grind (arith, nat_tests))
 
-pub boundary_behind_byte : (byte : ℕ) (text rest : List ℕ) (n : ℕ) → IsUtf8 text → byte < 128 → n ≡ position_or_len (λ b. nat_eq b byte) text
-    → rest ≡ drop n text → 0 < length rest → IsCharBoundary rest 1
+pub boundary_behind_byte : (byte : ℕ) (text rest : List ℕ) (n : ℕ) → IsUtf8 text → byte < 128
+    → n ≡ position_or_len (λ b. nat_eq b byte) text → rest ≡ drop n text → 0 < length rest → IsCharBoundary rest 1
 boundary_behind_byte byte text rest n utf8 low e left filled =
     let first = first_left byte text rest n e left filled in
     let whole = IsCharBoundary-after_ascii text n utf8 first.0 (omega (arith, first.1)) in
@@ -71,7 +71,8 @@ pub no_byte : (byte : ℕ) (text part rest : List ℕ) (n : ℕ) → n ≡ posit
     → part ≡ take n text → rest ≡ drop n text → length rest ≡ 0 → parts (byte ∷ []) text ≡ part ∷ []
 no_byte byte text part rest n e part_is left none =
     let count : length rest ≡ length text - n = ap length left ∙ length-drop n text in
-    let whole : text ≡ part = sym (take-append-drop n text) ∙ (λ k. sym part_is k ++ nil_from_length (drop n text) (ap length (sym left) ∙ none) k)
+    let whole : text ≡ part =
+    sym (take-append-drop n text) ∙ (λ k. sym part_is k ++ nil_from_length (drop n text) (ap length (sym left) ∙ none) k)
     ∙ append-nil part in
     parts_none (byte ∷ []) text (λ k within. lacks_byte byte text k (λ below. other_before byte text k (omega arith)))
     ∙ ap (λ xs. xs ∷ []) whole

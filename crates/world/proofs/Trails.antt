@@ -26,11 +26,13 @@ are_within-longer whole more (s ∷ spans) h =
     let k = and_parts (is_within whole s) (are_within whole spans) h in
     and_from _ _ (is_within-longer whole more s k.0) (are_within-longer whole more spans k.1)
 
-pieces-longer : (whole more : List ℕ) (spans : List Span) → are_within whole spans ≡ true → pieces (whole ++ more) spans ≡ pieces whole spans
+pieces-longer : (whole more : List ℕ) (spans : List Span) → are_within whole spans ≡ true
+    → pieces (whole ++ more) spans ≡ pieces whole spans
 pieces-longer whole more [] h = refl
 pieces-longer whole more (s ∷ spans) h =
     let k = and_parts (is_within whole s) (are_within whole spans) h in
-    ap (λ p. p ∷ pieces (whole ++ more) spans) (piece-longer whole more s k.0) ∙ ap (λ ps. piece whole s ∷ ps) (pieces-longer whole more spans k.1)
+    ap (λ p. p ∷ pieces (whole ++ more) spans) (piece-longer whole more s k.0)
+    ∙ ap (λ ps. piece whole s ∷ ps) (pieces-longer whole more spans k.1)
 
 abbrev pub last : List ℕ → List ℕ → Span
 last whole more = record { from = length whole; length = length more }
@@ -41,7 +43,8 @@ last_piece whole more =
     ap (take (length more)) (drop_at whole more (length whole) refl) ∙ take_all (length more) more all
 
 -- with a further one they are within
-pub are_within-more : (whole more : List ℕ) (spans : List Span) → are_within whole spans ≡ true → are_within (whole ++ more) (spans ++ last whole more ∷ []) ≡ true
+pub are_within-more : (whole more : List ℕ) (spans : List Span) → are_within whole spans ≡ true
+    → are_within (whole ++ more) (spans ++ last whole more ∷ []) ≡ true
 are_within-more whole more spans h =
     let end : length whole + length more ≤ length (whole ++ more) = omega (arith, length-append whole more) in
     list_all-append (is_within (whole ++ more)) spans (last whole more ∷ [])
@@ -49,7 +52,8 @@ are_within-more whole more spans h =
     (and_from _ _ (le-leb (length whole + length more) (length (whole ++ more)) end) refl)
 
 -- and it comes behind them
-pub pieces-more : (whole more : List ℕ) (spans : List Span) → are_within whole spans ≡ true → pieces (whole ++ more) (spans ++ last whole more ∷ []) ≡ pieces whole spans ++ more ∷ []
+pub pieces-more : (whole more : List ℕ) (spans : List Span) → are_within whole spans ≡ true
+    → pieces (whole ++ more) (spans ++ last whole more ∷ []) ≡ pieces whole spans ++ more ∷ []
 pieces-more whole more spans h =
     map-append (piece (whole ++ more)) spans (last whole more ∷ [])
     ∙ ap (λ ps. ps ++ piece (whole ++ more) (last whole more) ∷ []) (pieces-longer whole more spans h)

@@ -46,7 +46,8 @@ returns-in_ok-shared-in-Text-clause-gives g c = λ files h.
     (given_give h refl)
 
 -- an f-string of these parts
-of_parts : (line : ℕ) (n : LiteralNode) (f : FormatString) (box : Box FormatString Global) → IsTrue (means n.literal (spelled n.source.value) (meanings.Format box))
+of_parts : (line : ℕ) (n : LiteralNode) (f : FormatString) (box : Box FormatString Global)
+    → IsTrue (means n.literal (spelled n.source.value) (meanings.Format box))
     → f ≡ box.value → filled line [] (map part_data f.parts.items) ≡ literal_value line n.literal (spelled n.source.value)
 of_parts line n f box h is =
     ap (filled line []) (f.split ∙ ap (λ (x : FormatString). segments places.Names (written x.parts.items)) is)
