@@ -8,6 +8,7 @@
 use crate::measured::{Measured, count_of};
 use crate::stop::Stop;
 use data::{List, Value};
+use language_names::MethodName;
 use methods::method;
 use operators::{Binary, binary, dictionary, index};
 use std::alloc::Global;
@@ -43,6 +44,12 @@ fn given<E: Drop>(answer: Result<Value, E>) -> Result<Value, Stop> {
         Ok(value) => Ok(value),
         Err(_) => Err(Stop("an operation is refused")),
     }
+}
+
+// What the method with a name gives.
+fn called(alloc: Global, receiver: &Value, name: &str, values: &[Value]) -> Result<Value, Stop> {
+    let name = MethodName::new(String::from_str(alloc, name)?);
+    given(method(alloc, receiver, &name, values)?)
 }
 
 fn text(alloc: Global, string: String) -> Result<Value, Stop> {
@@ -139,7 +146,7 @@ fn format_places(alloc: Global, count: usize, unused: &str) -> Result<usize, Sto
         text(alloc, String::from_str(alloc, "word")?)?,
         text(alloc, String::from_str(alloc, unused)?)?,
     ]?;
-    let formatted = given(method(alloc, &places, "format", &values)?)?;
+    let formatted = called(alloc, &places, "format", &values)?;
     Ok(size(&formatted))
 }
 
@@ -154,6 +161,6 @@ fn join(alloc: Global, count: usize) -> Result<usize, Stop> {
     for i in 0..count {
         words.push(key(alloc, i)?)?;
     }
-    let joined = given(method(alloc, &separator, "join", &words)?)?;
+    let joined = called(alloc, &separator, "join", &words)?;
     Ok(size(&joined))
 }

@@ -26,7 +26,7 @@ node_kept names ts more k (flat.List items line) h = ap (λ l. ListTree (express
     (all_same (λ n i. nat_lt i n) tree_at keeps_number ts more items.items h)
 node_kept names ts more k (flat.Dictionary es line) h = ap (λ l. DictionaryTree (entries l) line)
     (all_same entry_within entry_at keeps_entry ts more es.items h)
-node_kept names ts more k (flat.Call call line) h = ap (λ l. FunctionTree (string_bytes call.value.name) (arguments l) line)
+node_kept names ts more k (flat.Call call line) h = ap (λ l. FunctionTree call.value.name (arguments l) line)
     (all_same argument_within argument_at keeps_argument ts more call.value.arguments.items h)
 node_kept names ts more k (flat.Postfix first ls line) h =
     let p = both_true (nat_lt first (length ts)) (list_all (link_within (length ts)) ls.items) h in

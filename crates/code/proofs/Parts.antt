@@ -102,7 +102,7 @@ all_links_wider m n (Method name items) l h = all_wider argument_within argument
 all_links_wider m n (Index i) l h = lt_wider i m n l h
 
 link_same : (ts more : List ExpressionTree) (x : LinkNode) → IsTrue (link_within (length ts) x) → link_at (ts ++ more) x ≡ link_at ts x
-link_same ts more (Method name items) h = ap (λ l. MethodTree (string_bytes name) (arguments l))
+link_same ts more (Method name items) h = ap (λ l. MethodTree name (arguments l))
     (all_same argument_within argument_at keeps_argument ts more items.items h)
 link_same ts more (Index i) h = ap IndexTree (tree_same ts more i h)
 

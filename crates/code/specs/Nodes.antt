@@ -1,5 +1,5 @@
 -- The trees of expressions that a list of nodes stands for: each node names its parts by their numbers, and stands after them.
-use Rattle.std.specs.Prelude.{ℕ, ◌+◌, Bool, true, ◌&&◌, nat_lt, List, [], ◌∷◌, ◌++◌, map, fold, slice_index_or, string_bytes}
+use Rattle.std.specs.Prelude.{ℕ, ◌+◌, Bool, true, ◌&&◌, nat_lt, List, [], ◌∷◌, ◌++◌, map, fold, slice_index_or}
 use Rattle.std.specs.List.{list_all}
 use Rattle.grammar.specs.ExpressionTree.{ExpressionTree, EntryTree, ArgumentTree, OperandTree, LinkTree, NameTree, LiteralTree, ListTree, DictionaryTree, FunctionTree, PostfixTree, PrefixTree, ChainTree, TernaryTree, MethodTree, IndexTree, expressions, entries, arguments, links, operands}
 use Rattle.code.specs.Literals.{spelled}
@@ -25,7 +25,7 @@ abbrev pub operand_at : List ExpressionTree → OperandNode → OperandTree
 operand_at ts o = (o.operator, tree_at ts o.value)
 
 abbrev pub link_at : List ExpressionTree → LinkNode → LinkTree
-link_at ts (Method name items) = MethodTree (string_bytes name) (arguments (map (argument_at ts) items.items))
+link_at ts (Method name items) = MethodTree name (arguments (map (argument_at ts) items.items))
 link_at ts (Index i) = IndexTree (tree_at ts i)
 
 -- the tree of a node, by the table of names and the trees of the nodes before it
@@ -35,7 +35,7 @@ tree_of names ts (flat.Literal node line) = LiteralTree node.literal (spelled no
 tree_of names ts (flat.List items line) = ListTree (expressions (map (tree_at ts) items.items)) line
 tree_of names ts (flat.Dictionary es line) = DictionaryTree (entries (map (entry_at ts) es.items)) line
 tree_of names ts (flat.Call call line) =
-    FunctionTree (string_bytes call.value.name) (arguments (map (argument_at ts) call.value.arguments.items)) line
+    FunctionTree call.value.name (arguments (map (argument_at ts) call.value.arguments.items)) line
 tree_of names ts (flat.Postfix first ls line) = PostfixTree (tree_at ts first) (links (map (link_at ts) ls.items)) line
 tree_of names ts (flat.Prefix prefix value line) = PrefixTree prefix (tree_at ts value) line
 tree_of names ts (flat.Chain first others line) = ChainTree (tree_at ts first) (operands (map (operand_at ts) others.items)) line

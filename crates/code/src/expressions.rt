@@ -8,6 +8,7 @@ use crate::literal::LiteralNode;
 use crate::node::{ArgumentNode, CallNode, EntryNode, LinkNode, Node, OperandNode};
 use data::Text;
 use grammar::tree::{Argument, Entry, Expression, Link, Literal, Operand, Prefix};
+use language_names::{FunctionName, MethodName};
 use std::alloc::{AllocError, Global};
 
 // The name of an argument, where it has one. For one that is too long for a text, which no file has, memory is refused.
@@ -133,7 +134,8 @@ impl Draft {
         ensures stands { IfOk result (λ number. Stands (trees_in self.new) number
             (FunctionTree name.now (argument_trees arguments.now) line)) }
     {
-        let name = String::from_str(self.alloc, name)?;
+        let text = String::from_str(self.alloc, name)?;
+        let name = FunctionName::new(text);
         let arguments = self.arguments(arguments)?;
         let call = Box::new(self.alloc, CallNode { name, arguments })?;
         self.push(Node::Call { call, line })
@@ -259,7 +261,8 @@ impl Draft {
     {
         match link {
             Link::Method { name, arguments } => {
-                let name = String::from_str(self.alloc, name)?;
+                let text = String::from_str(self.alloc, name)?;
+                let name = MethodName::new(text);
                 let arguments = self.arguments(arguments)?;
                 Ok(LinkNode::Method { name, arguments })
             }

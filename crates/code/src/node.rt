@@ -2,6 +2,7 @@
 use crate::literal::LiteralNode;
 use data::Text;
 use grammar::tree::{Operator, Prefix};
+use language_names::{FunctionName, MethodName};
 
 /// An expression whose parts are named by their numbers in the list of nodes. Each node has the line of its first token.
 #[derive(Drop)]
@@ -61,7 +62,7 @@ pub enum Node {
 /// A function by its name, and its arguments.
 #[derive(Drop)]
 pub struct CallNode {
-    pub name: String,
+    pub name: FunctionName,
     pub arguments: Vec<ArgumentNode>,
 }
 
@@ -91,7 +92,7 @@ pub struct ArgumentNode {
 pub enum LinkNode {
     /// `.name(argument)`
     Method {
-        name: String,
+        name: MethodName,
         arguments: Vec<ArgumentNode>,
     },
     /// `[index]`

@@ -12,11 +12,11 @@ use Rattle.resources.specs.Beside.{call_question}
 use Rattle.world.specs.Deed.{Deed, give, refuse, consult, ◌>>=◌, answered}
 use Rattle.world.specs.Fit.{fit}
 use Rattle.compiler_methods.specs.Checks.{check, find_library}
-use Rattle.compiler_methods.specs.Names.{named}
+use Rattle.language_names.specs.ObjectMethods.{compiler_method_named}
 use Rattle.compiler_methods.specs.Rows.{row_of}
 use Rattle.compiler_methods.specs.Said.{argument_topic, id_of, id_topic, is_true, number_of, version_of, version_topic}
-use Rattle.compiler_methods.specs.declared.names.CompilerMethod.{CompilerMethod}
-use Rattle.compiler_methods.specs.declared.names.CompilerMethod.TheVariants as methods
+use Rattle.language_names.specs.declared.object_methods.CompilerMethod.{CompilerMethod}
+use Rattle.language_names.specs.declared.object_methods.CompilerMethod.TheVariants as methods
 
 -- `get_id()`
 unfoldable pub get_id : Deed (Option Data)
@@ -68,7 +68,7 @@ does methods.Version name a = version
 
 -- whether the compiler has a method of a name that is not left out
 abbrev pub has_method : List ℕ → Bool
-has_method name = is_some (named name)
+has_method name = is_some (compiler_method_named name)
 
 -- a method on its arguments, which its row looks at first
 unfoldable pub called : CompilerMethod → (name : List ℕ) → ArgumentsData → Deed (Option Data)
@@ -82,4 +82,4 @@ called_by (Some method) name a = called method name a
 
 -- the method with a name on its arguments; E8 where there is none
 unfoldable pub compiler_method : (name : List ℕ) → ArgumentsData → Deed (Option Data)
-compiler_method name a = called_by (named name) name a
+compiler_method name a = called_by (compiler_method_named name) name a

@@ -18,11 +18,11 @@ ghost use Rattle.compiler_methods.specs.Rows.{row_of};
 ghost use Rattle.compiler_methods.specs.Said.{argument_topic, is_true, number_of};
 
 use crate::checks::{ask_check, check, find_library};
-use crate::names::CompilerMethod;
 use crate::rows::row;
 use crate::said::{id_of, is_true, number_of, version_of};
 use arguments::Arguments;
 use data::{List, Refusal, Value};
+use language_names::{CompilerMethod, MethodName};
 use machine_file::{Machine, Question, Topic};
 use ports::{Outputs, Tree};
 use std::alloc::{AllocError, Global};
@@ -224,14 +224,14 @@ fn called<T: Tree, O: Outputs>(
 /// [`has_compiler_method`](crate::has_compiler_method) is true; of any other it is E8.
 pub fn compiler_method<T: Tree, O: Outputs>(
     caller: &mut Caller<'_, T, O>,
-    name: &str,
+    name: &MethodName,
     arguments: &Arguments,
 ) -> Result<Option<Value>, Stop>
     ensures { Carries (option_map data_of) (compiler_method name.now (arguments_data arguments.now)) (state_of T.seen O.seen caller.old)
         result (state_of T.seen O.seen caller.new) }
 {
-    match CompilerMethod::named(name) {
-        Some(method) => called(caller, method, name, arguments),
+    match name.of_compiler() {
+        Some(method) => called(caller, method, name.as_str(), arguments),
         None => caller.refuse(basics::faults::Refusal::UnknownFunction, ""),
     }
 }

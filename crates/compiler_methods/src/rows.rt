@@ -3,8 +3,8 @@ ghost use Rattle.std.specs.Prelude.{◌≡◌};
 ghost use Rattle.arguments.specs.RowView.{row_data};
 ghost use Rattle.compiler_methods.specs.Rows.{row_of};
 
-use crate::names::CompilerMethod;
 use arguments::{Keyword, Kind, Row};
+use language_names::CompilerMethod;
 
 // What all take that ask the compiler.
 const ASKING: &[Keyword] = &[

@@ -16,24 +16,12 @@ use Rattle.configuration_calls.specs.Contents.{content_in, found_or, found_unquo
 use Rattle.operators.specs.TextLists.{text_list}
 use Rattle.configuration_calls.specs.Given.{entries_of, number_in}
 use Rattle.configuration_calls.specs.Rows.{row_of}
-use Rattle.configuration_calls.specs.declared.methods.Method.{Method}
-use Rattle.configuration_calls.specs.declared.methods.Method.TheVariants as methods
-
--- the method of a name
-abbrev pub named : List ℕ → Option Method
-named name =
-    if bytes_eq name (codes "get") then Some methods.Get
-    else if bytes_eq name (codes "get_unquoted") then Some methods.GetUnquoted
-    else if bytes_eq name (codes "has") then Some methods.Has
-    else if bytes_eq name (codes "keys") then Some methods.Keys
-    else if bytes_eq name (codes "merge_from") then Some methods.MergeFrom
-    else if bytes_eq name (codes "set") then Some methods.Set
-    else if bytes_eq name (codes "set10") then Some methods.Set10
-    else if bytes_eq name (codes "set_quoted") then Some methods.SetQuoted
-    else None
+use Rattle.language_names.specs.declared.object_methods.ConfigurationMethod.{ConfigurationMethod}
+use Rattle.language_names.specs.declared.object_methods.ConfigurationMethod.TheVariants as methods
+use Rattle.language_names.specs.ObjectMethods.{configuration_method_named}
 
 abbrev pub has_method : List ℕ → Bool
-has_method name = is_some (named name)
+has_method name = is_some (configuration_method_named name)
 
 -- the name that a call is given first: E9 where it is no name of configuration data
 unfoldable pub name_given : ArgumentsData → Deed (List ℕ)
@@ -113,7 +101,7 @@ set_text_quoted number a = do
   give None
 
 -- what a method does with arguments that its row has let through; the changes are refused by E20 where the data are frozen
-abbrev pub does : Method → ℕ → ArgumentsData → Deed (Option Data)
+abbrev pub does : ConfigurationMethod → ℕ → ArgumentsData → Deed (Option Data)
 does methods.Get number a = get number a
 does methods.GetUnquoted number a = get_unquoted number a
 does methods.Has number a = has number a
@@ -123,15 +111,15 @@ does methods.Set number a = set number a
 does methods.Set10 number a = set10 number a
 does methods.SetQuoted number a = set_text_quoted number a
 
-unfoldable pub fitting_does : Method → ℕ → ArgumentsData → Deed (Option Data)
+unfoldable pub fitting_does : ConfigurationMethod → ℕ → ArgumentsData → Deed (Option Data)
 fitting_does method number a = do
   _ ← fit (row_of method) a
   does method number a
 
-abbrev pub does_if : Option Method → ℕ → ArgumentsData → Deed (Option Data)
+abbrev pub does_if : Option ConfigurationMethod → ℕ → ArgumentsData → Deed (Option Data)
 does_if None number a = refuse refusals.UnknownFunction []
 does_if (Some method) number a = fitting_does method number a
 
 -- a method of the data with a number on its arguments, which its row looks at first: it gives a value, or nothing
 unfoldable pub configuration_method : ℕ → List ℕ → ArgumentsData → Deed (Option Data)
-configuration_method number name a = does_if (named name) number a
+configuration_method number name a = does_if (configuration_method_named name) number a

@@ -3,8 +3,8 @@ use Rattle.std.specs.Prelude.{List, [], ◌∷◌, codes}
 use Rattle.arguments.specs.declared.row.Kind.TheVariants as kinds
 use Rattle.arguments.specs.declared.row.Piece.TheVariants as pieces
 use Rattle.arguments.specs.Row.{KeywordData, RowData, leaving_out, needed, optional, row}
-use Rattle.configuration_calls.specs.declared.methods.Method.{Method}
-use Rattle.configuration_calls.specs.declared.methods.Method.TheVariants as methods
+use Rattle.language_names.specs.declared.object_methods.ConfigurationMethod.{ConfigurationMethod}
+use Rattle.language_names.specs.declared.object_methods.ConfigurationMethod.TheVariants as methods
 
 -- `configuration_data(dictionary)`, which may be left out
 abbrev pub configuration_data_row : RowData
@@ -35,7 +35,7 @@ other_format_row = leaving_out (codes "command" ∷ codes "copy" ∷ codes "form
 abbrev pub described : List KeywordData
 described = optional (codes "description") kinds.Any ∷ []
 
-abbrev pub row_of : Method → RowData
+abbrev pub row_of : ConfigurationMethod → RowData
 -- `get(name, fallback)`
 row_of methods.Get = row (kinds.Text ∷ kinds.Any ∷ []) 1 []
 row_of methods.GetUnquoted = row (kinds.Text ∷ kinds.Any ∷ []) 1 []

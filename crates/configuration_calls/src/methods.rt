@@ -13,7 +13,7 @@ ghost use Rattle.configuration_calls.specs.Contents.{content_in};
 ghost use Rattle.configuration_calls.specs.Given.{entries_of, number_in};
 ghost use Rattle.configuration_calls.specs.Methods.{configuration_method, content_given, does, fitting_does, get, get_unquoted, has};
 ghost use Rattle.configuration_calls.specs.Methods.{has_method};
-ghost use Rattle.configuration_calls.specs.Methods.{keys, merge_from, name_given, named, one_or_zero, other_given, set, set10};
+ghost use Rattle.configuration_calls.specs.Methods.{keys, merge_from, name_given, one_or_zero, other_given, set, set10};
 ghost use Rattle.configuration_calls.specs.Methods.{set_text_quoted};
 ghost use Rattle.configuration_calls.specs.Rows.{row_of};
 
@@ -23,49 +23,18 @@ use crate::rows::row_of;
 use arguments::{Arguments, Rule};
 use basics::faults::Refusal;
 use data::{Object, Value};
+use language_names::{ConfigurationMethod, MethodName};
 use operators::text_list;
 use ports::{Outputs, Tree};
 use std::alloc::{AllocError, Global};
 use template::ConfigValue;
 use world::{Caller, Stop, Store};
 
-/// A method of configuration data.
-#[derive(Clone, Copy)]
-pub enum Method {
-    Get,
-    GetUnquoted,
-    Has,
-    Keys,
-    MergeFrom,
-    Set,
-    Set10,
-    SetQuoted,
-}
-
-impl Method {
-    /// The method of a name.
-    pub fn named(name: &str) -> Option<Method>
-        ensures { result ≡ named name.now }
-    {
-        match name {
-            "get" => Some(Method::Get),
-            "get_unquoted" => Some(Method::GetUnquoted),
-            "has" => Some(Method::Has),
-            "keys" => Some(Method::Keys),
-            "merge_from" => Some(Method::MergeFrom),
-            "set" => Some(Method::Set),
-            "set10" => Some(Method::Set10),
-            "set_quoted" => Some(Method::SetQuoted),
-            _ => None,
-        }
-    }
-}
-
 /// Whether configuration data have a method of a name. It takes no memory.
-pub fn has_configuration_method(name: &str) -> bool
+pub fn has_configuration_method(name: &MethodName) -> bool
     ensures { result ≡ has_method name.now }
 {
-    Method::named(name).is_some()
+    name.of_configuration().is_some()
 }
 
 // The name that a call is given first.
@@ -275,7 +244,7 @@ fn set_text_quoted<T: Tree, O: Outputs>(
 // What a method does with arguments that its row has let through.
 fn act<T: Tree, O: Outputs>(
     caller: &mut Caller<'_, T, O>,
-    method: Method,
+    method: ConfigurationMethod,
     number: usize,
     arguments: &Arguments,
 ) -> Result<Option<Value>, Stop>
@@ -283,21 +252,21 @@ fn act<T: Tree, O: Outputs>(
         (state_of T.seen O.seen caller.old) result (state_of T.seen O.seen caller.new) }
 {
     match method {
-        Method::Get => get(caller, number, arguments),
-        Method::GetUnquoted => get_unquoted(caller, number, arguments),
-        Method::Has => has(caller, number, arguments),
-        Method::Keys => keys(caller, number),
-        Method::MergeFrom => merge_from(caller, number, arguments),
-        Method::Set => set(caller, number, arguments),
-        Method::Set10 => set10(caller, number, arguments),
-        Method::SetQuoted => set_text_quoted(caller, number, arguments),
+        ConfigurationMethod::Get => get(caller, number, arguments),
+        ConfigurationMethod::GetUnquoted => get_unquoted(caller, number, arguments),
+        ConfigurationMethod::Has => has(caller, number, arguments),
+        ConfigurationMethod::Keys => keys(caller, number),
+        ConfigurationMethod::MergeFrom => merge_from(caller, number, arguments),
+        ConfigurationMethod::Set => set(caller, number, arguments),
+        ConfigurationMethod::Set10 => set10(caller, number, arguments),
+        ConfigurationMethod::SetQuoted => set_text_quoted(caller, number, arguments),
     }
 }
 
 // Refuses arguments that the method does not take.
 fn fit<T: Tree, O: Outputs>(
     caller: &Caller<'_, T, O>,
-    method: Method,
+    method: ConfigurationMethod,
     arguments: &Arguments,
 ) -> Result<(), Stop>
     ensures { Carries (λ u. u) (fit (row_of method) (arguments_data arguments.now))
@@ -308,7 +277,7 @@ fn fit<T: Tree, O: Outputs>(
 
 fn fitting_act<T: Tree, O: Outputs>(
     caller: &mut Caller<'_, T, O>,
-    method: Method,
+    method: ConfigurationMethod,
     number: usize,
     arguments: &Arguments,
 ) -> Result<Option<Value>, Stop>
@@ -324,13 +293,13 @@ fn fitting_act<T: Tree, O: Outputs>(
 pub fn configuration_method<T: Tree, O: Outputs>(
     caller: &mut Caller<'_, T, O>,
     number: usize,
-    name: &str,
+    name: &MethodName,
     arguments: &Arguments,
 ) -> Result<Option<Value>, Stop>
     ensures { Carries (option_map data_of) (configuration_method number name.now (arguments_data arguments.now))
         (state_of T.seen O.seen caller.old) result (state_of T.seen O.seen caller.new) }
 {
-    match Method::named(name) {
+    match name.of_configuration() {
         Some(method) => fitting_act(caller, method, number, arguments),
         None => caller.refuse(Refusal::UnknownFunction, ""),
     }

@@ -3,8 +3,8 @@ ghost use Rattle.std.specs.Prelude.{◌≡◌};
 ghost use Rattle.arguments.specs.RowView.{row_data};
 ghost use Rattle.configuration_calls.specs.Rows.{configuration_data_row, configure_file_row, other_format_row, row_of};
 
-use crate::methods::Method;
 use arguments::{Keyword, Kind, Piece, Row};
+use language_names::ConfigurationMethod;
 
 const FILE: &[Keyword] = &[
     Keyword::Needed("output", Kind::Text),
@@ -39,16 +39,20 @@ pub fn other_format_row() -> Row
 }
 
 /// What a method takes.
-pub fn row_of(method: Method) -> Row
+pub fn row_of(method: ConfigurationMethod) -> Row
     ensures { row_data result ≡ row_of method }
 {
     match method {
-        Method::Get | Method::GetUnquoted => Row::of(&[Kind::Text, Kind::Any], 1, &[]),
-        Method::Has => Row::of(&[Kind::Text], 1, &[]),
-        Method::Keys => Row::of(&[], 0, &[]),
-        Method::MergeFrom => Row::of(&[Kind::ConfigurationData], 1, &[]),
-        Method::Set => Row::of(&[Kind::Text, Kind::Setting], 2, &[DESCRIBED]),
-        Method::Set10 => Row::of(&[Kind::Text, Kind::Boolean], 2, &[DESCRIBED]),
-        Method::SetQuoted => Row::of(&[Kind::Text, Kind::Text], 2, &[DESCRIBED]),
+        ConfigurationMethod::Get | ConfigurationMethod::GetUnquoted => Row::of(
+            &[Kind::Text, Kind::Any],
+            1,
+            &[],
+        ),
+        ConfigurationMethod::Has => Row::of(&[Kind::Text], 1, &[]),
+        ConfigurationMethod::Keys => Row::of(&[], 0, &[]),
+        ConfigurationMethod::MergeFrom => Row::of(&[Kind::ConfigurationData], 1, &[]),
+        ConfigurationMethod::Set => Row::of(&[Kind::Text, Kind::Setting], 2, &[DESCRIBED]),
+        ConfigurationMethod::Set10 => Row::of(&[Kind::Text, Kind::Boolean], 2, &[DESCRIBED]),
+        ConfigurationMethod::SetQuoted => Row::of(&[Kind::Text, Kind::Text], 2, &[DESCRIBED]),
     }
 }

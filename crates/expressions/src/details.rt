@@ -5,6 +5,7 @@ ghost use Rattle.expressions.specs.Details.{key_twice, method_detail, method_wor
 
 use arguments::values_words;
 use data::{Refusal, Value};
+use language_names::MethodName;
 use methods::takes_words;
 use std::alloc::{AllocError, Global};
 
@@ -19,12 +20,13 @@ pub fn key_twice(alloc: Global, key: &str) -> Result<String, AllocError>
 fn method_words(
     alloc: Global,
     receiver: &Value,
-    name: &str,
+    name: &MethodName,
     values: &[Value],
 ) -> Result<String, AllocError>
     ensures { IfOk result (λ text. string_bytes text ≡ method_words (data_of receiver.now) name.now (map data_of values.now)) }
 {
     let takes = takes_words(receiver, name);
+    let name = name.as_str();
     let got = values_words(alloc, values)?;
     format!(in alloc; "{name}: takes {takes}, and got {got}")
 }
@@ -33,7 +35,7 @@ fn method_words(
 pub fn method_detail(
     alloc: Global,
     receiver: &Value,
-    name: &str,
+    name: &MethodName,
     values: &[Value],
     refusal: Refusal,
 ) -> Result<String, AllocError>

@@ -14,9 +14,8 @@ use crate::details::method_detail;
 use arguments::{Arguments, check};
 use basics::faults::Refusal;
 use data::{Object, Value};
-use language_calls::{
-    Function, any_values, function_named, is_left_out, is_predefined, predefined,
-};
+use language_calls::{any_values, is_left_out, is_predefined, predefined};
+use language_names::{Function, FunctionName, MethodName};
 use methods::{has_method, method};
 use ports::{Outputs, Tree};
 use std::alloc::{AllocError, Global};
@@ -49,12 +48,12 @@ fn is_empty(arguments: &Arguments) -> bool
 /// A method of a disabler: `found()` is false, and anything else is a disabler.
 pub fn disabler_method(
     alloc: Global,
-    name: &str,
+    name: &MethodName,
     arguments: &Arguments,
 ) -> Result<Value, AllocError>
     ensures { IfOk result (λ v. data_of v ≡ disabler_method name.now (arguments_data arguments.now)) }
 {
-    if name == "found" && is_empty(arguments) {
+    if name.as_str() == "found" && is_empty(arguments) {
         Ok(Value::Boolean(false))
     } else {
         Value::of_object(alloc, Object::Disabler)
@@ -112,17 +111,18 @@ impl<'a, T: Tree, O: Outputs, L: Ledger> Context<'a, T, O, L> {
     }
 
     /// The function of a name.
-    pub fn function_at(&self, line: usize, name: &str) -> Result<Function, Stop>
+    pub fn function_at(&self, line: usize, name: &FunctionName) -> Result<Function, Stop>
         ensures gives { Answers T.seen O.seen (λ f. f) (function_at line name.now) self.now result self.now }
         ensures quiet { (n : ℕ) → failures_after n result ≡ n }
     {
-        match function_named(name) {
+        match name.function() {
             Some(function) => Ok(function),
             None => {
-                if is_left_out(name) {
-                    self.left_out(line, name)
+                let text = name.as_str();
+                if is_left_out(text) {
+                    self.left_out(line, text)
                 } else {
-                    self.refuse(line, Refusal::UnknownFunction, name)
+                    self.refuse(line, Refusal::UnknownFunction, text)
                 }
             }
         }
@@ -136,7 +136,7 @@ impl<'a, T: Tree, O: Outputs, L: Ledger> Context<'a, T, O, L> {
     }
 
     /// The function of a call that is a part of an expression.
-    pub fn function_inside(&self, line: usize, name: &str) -> Result<Function, Stop>
+    pub fn function_inside(&self, line: usize, name: &FunctionName) -> Result<Function, Stop>
         ensures gives { Answers T.seen O.seen (λ f. f) (function_inside line name.now) self.now result self.now }
         ensures quiet { (n : ℕ) → failures_after n result ≡ n }
     {
@@ -170,7 +170,7 @@ impl<'a, T: Tree, O: Outputs, L: Ledger> Context<'a, T, O, L> {
     }
 
     /// Refuses a name that no method of a value has.
-    pub fn value_method_at(&self, line: usize, whole: &Value, name: &str) -> Result<(), Stop>
+    pub fn value_method_at(&self, line: usize, whole: &Value, name: &MethodName) -> Result<(), Stop>
         ensures gives { Answers T.seen O.seen (λ u. u) (known_method (has_name (data_of whole.now) name.now) line name.now)
             self.now result self.now }
         ensures quiet { (n : ℕ) → failures_after n result ≡ n }
@@ -178,7 +178,7 @@ impl<'a, T: Tree, O: Outputs, L: Ledger> Context<'a, T, O, L> {
         if has_method(whole, name) {
             Ok(())
         } else {
-            self.refuse(line, Refusal::UnknownFunction, name)
+            self.refuse(line, Refusal::UnknownFunction, name.as_str())
         }
     }
 
@@ -187,7 +187,7 @@ impl<'a, T: Tree, O: Outputs, L: Ledger> Context<'a, T, O, L> {
         &self,
         line: usize,
         whole: &Value,
-        name: &str,
+        name: &MethodName,
         values: &[Value],
     ) -> Result<Value, Stop>
         ensures gives { Answers T.seen O.seen data_of
@@ -221,7 +221,7 @@ impl<'a, T: Tree, O: Outputs, L: Ledger> Context<'a, T, O, L> {
         &self,
         line: usize,
         whole: &Value,
-        name: &str,
+        name: &MethodName,
         arguments: &Arguments,
     ) -> Result<Option<Value>, Stop>
         ensures gives { Answers T.seen O.seen (option_map data_of)

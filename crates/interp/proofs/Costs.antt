@@ -33,9 +33,10 @@ use Rattle.texts.specs.Segments.{Segment, text as between, place}
 use Rattle.arguments.specs.Arguments.{ArgumentsData, no_arguments, with_argument}
 use Rattle.arguments.specs.Disablers.{gives_disabler}
 use Rattle.language_calls.specs.Turning.{is_turned_off}
-use Rattle.language_calls.specs.Names.{function_named, is_left_out, is_predefined}
+use Rattle.language_names.specs.Functions.{function_named}
+use Rattle.language_calls.specs.Names.{is_left_out, is_predefined}
 use Rattle.paths.specs.Paths.{folder_below}
-use Rattle.language_calls.specs.declared.function.Function.{Function}
+use Rattle.language_names.specs.declared.functions.Function.{Function}
 use Rattle.ports.specs.Tree.{file_at}
 use Rattle.world.specs.World.{World, Facts, looking, entering, with_facts, with_place}
 use Rattle.world.specs.Run.{Run, ran, follow, after, Done, Faulted, marks_of}

@@ -162,7 +162,7 @@ drop_all xs i le = drop_of_length-le xs le
 
 -- the tree of a node that is a call
 pub call_at : (table : List (List ℕ)) (c : Code) (value : ℕ) (x : Node) (call : Box CallNode Global) (line : ℕ) → value < length c.nodes.items → x ≡ get_or c.nodes.items value x → x ≡ nodes.Call call line
-    → tree_at (expressions_by table c) value ≡ FunctionTree (string_bytes call.value.name) (arguments (map (argument_at (expressions_by table c)) call.value.arguments.items)) line
+    → tree_at (expressions_by table c) value ≡ FunctionTree call.value.name (arguments (map (argument_at (expressions_by table c)) call.value.arguments.items)) line
 call_at table c value x call line l at is = node_opens table c.names c.nodes.items value x c.ordered l ∙ ap (tree_of table (expressions_by table c)) (sym at ∙ is)
 
 stated_other : (into : List ℕ → Plan Flow) (table : List (List ℕ)) (ts : List ExpressionTree) (x : Node)

@@ -13,7 +13,7 @@ use Rattle.arguments.specs.Arguments.{ArgumentsData, no_arguments, with_argument
 use Rattle.arguments.specs.Disablers.{gives_disabler}
 use Rattle.interp.specs.Functions.{call}
 use Rattle.language_calls.specs.Turning.{is_turned_off}
-use Rattle.language_calls.specs.declared.function.Function.{Function}
+use Rattle.language_names.specs.declared.functions.Function.{Function}
 use Rattle.objects.specs.Left.{is_left_out as is_left_out_method}
 use Rattle.objects.specs.Methods.{has_method as has_object_method, object_method}
 use Rattle.world.specs.Plan.{Plan, deed, ruled, ◌>>=◌, give, at, refuse}

@@ -17,8 +17,8 @@ use Rattle.project_calls.specs.Project.{project}
 use Rattle.language_calls.specs.Range.{range}
 use Rattle.interp.specs.Rows.{row_of}
 use Rattle.language_calls.specs.Variables.{set_variable, get_variable, is_variable, unset_variable}
-use Rattle.language_calls.specs.declared.function.Function.{Function}
-use Rattle.language_calls.specs.declared.function.Function.TheVariants as functions
+use Rattle.language_names.specs.declared.functions.Function.{Function}
+use Rattle.language_names.specs.declared.functions.Function.TheVariants as functions
 use Rattle.language_calls.specs.Turning.{makes_file}
 
 -- what a function does with arguments that its row has let through: a value, or none

@@ -24,8 +24,8 @@ use Rattle.target_calls.specs.Rows.{target_row}
 use Rattle.target_calls.specs.Targets.{declare, library}
 use Rattle.targets.specs.declared.target.Kind.TheVariants as kinds
 use Rattle.world.specs.Deed.{Deed}
-use Rattle.language_calls.specs.declared.function.ProjectFunction.{ProjectFunction}
-use Rattle.language_calls.specs.declared.function.ProjectFunction.TheVariants as functions
+use Rattle.language_names.specs.declared.functions.ProjectFunction.{ProjectFunction}
+use Rattle.language_names.specs.declared.functions.ProjectFunction.TheVariants as functions
 
 -- what a function takes
 abbrev pub project_function_row : ProjectFunction → RowData

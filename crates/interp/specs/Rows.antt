@@ -5,8 +5,8 @@ use Rattle.arguments.specs.Row.{RowData}
 use Rattle.interp.specs.ProjectFunctions.{project_function_row}
 use Rattle.project_calls.specs.Rows.{project_row}
 use Rattle.language_calls.specs.Rows.{any_values, some_texts, subdir_row, values}
-use Rattle.language_calls.specs.declared.function.Function.{Function}
-use Rattle.language_calls.specs.declared.function.Function.TheVariants as functions
+use Rattle.language_names.specs.declared.functions.Function.{Function}
+use Rattle.language_names.specs.declared.functions.Function.TheVariants as functions
 
 abbrev pub row_of : Function → RowData
 row_of functions.Assert = values (Boolean ∷ Text ∷ []) 1

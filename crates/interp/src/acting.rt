@@ -16,7 +16,7 @@ use crate::rows::row;
 use arguments::{Arguments, are_found, check, gives_disabler};
 use code::Code;
 use code::node::ArgumentNode;
-use language_calls::Function;
+use language_names::{Function, FunctionName};
 use ports::{Outputs, Tree};
 use std::alloc::{AllocError, Global};
 use std::sync::ledger::Ledger;
@@ -125,7 +125,7 @@ impl<'a, T: Tree, O: Outputs, L: Ledger> Evaluator<'a, T, O, L> {
         &mut self,
         code: &Code,
         line: usize,
-        name: &str,
+        name: &FunctionName,
         arguments: &[ArgumentNode],
     ) -> Result<Way, Halt>
         requires here { above above_argument arguments.now ≤ length code.now.nodes.items }

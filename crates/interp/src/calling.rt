@@ -12,7 +12,8 @@ use arguments::{Arguments, gives_disabler};
 use basics::faults::Refusal;
 use data::{Object, Value};
 use expressions::{Context, disabler_method};
-use language_calls::{Function, is_turned_off};
+use language_calls::is_turned_off;
+use language_names::{Function, MethodName};
 use objects::{has_object_method, is_left_out_method, object_method};
 use ports::{Outputs, Tree};
 use std::sync::ledger::Ledger;
@@ -46,7 +47,7 @@ fn object_method_of<T: Tree, O: Outputs, L: Ledger>(
     context: &mut Context<'_, T, O, L>,
     line: usize,
     object: &Object,
-    name: &str,
+    name: &MethodName,
     arguments: &Arguments,
 ) -> Result<Option<Value>, Stop>
     requires room { HasRoom T.seen O.seen context.old }
@@ -86,7 +87,7 @@ impl<'a, T: Tree, O: Outputs, L: Ledger> Evaluator<'a, T, O, L> {
     }
 
     // Refuses a name that no method of an object has, and what may not be asked yet.
-    fn object_method_at(&self, line: usize, object: &Object, name: &str) -> Result<(), Stop>
+    fn object_method_at(&self, line: usize, object: &Object, name: &MethodName) -> Result<(), Stop>
         ensures gives { Answers T.seen O.seen (λ u. u) (object_method_at line object.now name.now)
             self.now.context result self.now.context }
         ensures quiet { (n : ℕ) → failures_after n result ≡ n }
@@ -94,15 +95,16 @@ impl<'a, T: Tree, O: Outputs, L: Ledger> Evaluator<'a, T, O, L> {
         if has_object_method(object, name) {
             return self.context.asked_of(line, object);
         }
-        if is_left_out_method(object, name) {
-            self.context.left_out(line, name)
+        let text = name.as_str();
+        if is_left_out_method(object, text) {
+            self.context.left_out(line, text)
         } else {
-            self.context.refuse(line, Refusal::UnknownFunction, name)
+            self.context.refuse(line, Refusal::UnknownFunction, text)
         }
     }
 
     // Refuses a name that no method of a receiver has.
-    pub fn method_at(&self, line: usize, whole: &Value, name: &str) -> Result<(), Stop>
+    pub fn method_at(&self, line: usize, whole: &Value, name: &MethodName) -> Result<(), Stop>
         ensures gives { Answers T.seen O.seen (λ u. u) (method_at line (data_of whole.now) name.now)
             self.now.context result self.now.context }
         ensures quiet { (n : ℕ) → failures_after n result ≡ n }
@@ -121,7 +123,7 @@ impl<'a, T: Tree, O: Outputs, L: Ledger> Evaluator<'a, T, O, L> {
         &mut self,
         line: usize,
         whole: &Value,
-        name: &str,
+        name: &MethodName,
         arguments: &Arguments,
     ) -> Result<Option<Value>, Stop>
         requires room { HasRoom T.seen O.seen self.old.context }

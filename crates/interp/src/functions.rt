@@ -7,7 +7,6 @@ ghost use Rattle.world.specs.Answering.{Carries, HasRoom};
 ghost use Rattle.world.specs.Caller.{state_of};
 ghost use Rattle.world.specs.Fit.{fit};
 ghost use Rattle.interp.specs.Functions.{call, does, has_unwanted_disabler, row_for, without_disabler};
-ghost use Rattle.language_calls.specs.Turning.{makes_file};
 
 use crate::project_functions::project_function;
 use crate::rows::row;
@@ -16,9 +15,10 @@ use basics::faults::Refusal;
 use configuration_calls::{has_meson_format, other_format_row};
 use data::Value;
 use language_calls::{
-    Function, assert, disabler, error, get_variable, is_disabler, is_variable, join_paths,
-    makes_file, message, range, set_variable, unset_variable, warning,
+    assert, disabler, error, get_variable, is_disabler, is_variable, join_paths, makes_file,
+    message, range, set_variable, unset_variable, warning,
 };
+use language_names::Function;
 use ports::{Outputs, Tree};
 use project_calls::project;
 use world::{Caller, Stop};

@@ -18,7 +18,7 @@ use crate::halt::{Halt, Inside};
 use arguments::{Arguments, gives_disabler};
 use basics::faults::Refusal;
 use data::{Object, Value};
-use language_calls::Function;
+use language_names::Function;
 use ports::{Outputs, Tree};
 use std::sync::ledger::Ledger;
 use world::Stop;

@@ -12,7 +12,7 @@ use configuration_calls::{
     configuration_data, configuration_data_row, configure_file, configure_file_row,
 };
 use data::Value;
-use language_calls::ProjectFunction;
+use language_names::ProjectFunction;
 use ports::{Outputs, Tree};
 use project_calls::{get_option, get_option_row};
 use resource_calls::{

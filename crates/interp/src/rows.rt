@@ -5,7 +5,8 @@ ghost use Rattle.interp.specs.Rows.{row_of};
 
 use crate::project_functions::project_function_row;
 use arguments::{Kind, Row};
-use language_calls::{Function, any_values, some_texts, subdir_row, values};
+use language_calls::{any_values, some_texts, subdir_row, values};
+use language_names::Function;
 use project_calls::project_row;
 
 /// What a function takes.

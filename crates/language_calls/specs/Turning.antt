@@ -2,9 +2,9 @@
 use Rattle.std.specs.Prelude.{Bool, true, false, not, ◌&&◌}
 use Rattle.arguments.specs.Arguments.{ArgumentsData}
 use Rattle.arguments.specs.Disablers.{gives_disabler}
-use Rattle.language_calls.specs.declared.function.Function.{Function}
-use Rattle.language_calls.specs.declared.function.Function.TheVariants as functions
-use Rattle.language_calls.specs.declared.function.ProjectFunction.TheVariants as of_project
+use Rattle.language_names.specs.declared.functions.Function.{Function}
+use Rattle.language_names.specs.declared.functions.Function.TheVariants as functions
+use Rattle.language_names.specs.declared.functions.ProjectFunction.TheVariants as of_project
 
 -- the functions that take a disabler as they take any value
 abbrev pub takes_disablers : Function → Bool

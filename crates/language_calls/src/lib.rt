@@ -1,10 +1,10 @@
-//! The functions of the page "Reference manual" that say nothing of the project, and the names of all.
+//! The functions of the page "Reference manual" that say nothing of the project, and the names that have a meaning of
+//! their own.
 //!
 //! What a function does is a deed of `specs/`, and its code carries it out on a [`world::Caller`].
 #![tactic(auto)]
 
 mod disablers;
-mod function;
 mod laws;
 mod messages;
 mod names;
@@ -15,10 +15,9 @@ mod turning;
 mod variables;
 
 pub use disablers::{disabler, is_disabler};
-pub use function::{Function, ProjectFunction};
 pub use laws::range_is_below;
 pub use messages::{assert, error, message, warning};
-pub use names::{function_named, is_left_out, is_name, is_predefined, predefined};
+pub use names::{is_left_out, is_name, is_predefined, predefined};
 pub use path_joining::join_paths;
 pub use ranges::range;
 pub use rows::{any_values, some_texts, subdir_row, values};

@@ -1,12 +1,9 @@
 //! The names that the language gives a meaning to.
-ghost use Rattle.std.specs.Prelude.{◌≡◌, IfOk, option_map};
+ghost use Rattle.std.specs.Prelude.{◌≡◌, IfOk};
 ghost use Rattle.std.specs.List.{list_all};
-ghost use Rattle.language_calls.specs.Names.{begins_name, function_named, is_left_out, is_name, is_name_byte, is_predefined, predefined};
-ghost use Rattle.language_calls.specs.Names.{project_function_named};
+ghost use Rattle.language_calls.specs.Names.{begins_name, is_left_out, is_name, is_name_byte, is_predefined, predefined};
 ghost use Rattle.data.specs.View.{data_of};
-ghost use Rattle.language_calls.specs.declared.function.Function.TheVariants as functions;
 
-use crate::function::{Function, ProjectFunction};
 use basics::text_lists::is_among;
 use data::{Object, Value};
 use std::alloc::{AllocError, Global};
@@ -112,62 +109,4 @@ pub fn is_name(text: &str) -> bool
     ensures { result ≡ is_name text.now }
 {
     begins_name(text.as_bytes()) && are_name_bytes(text.as_bytes()) && !is_among(&KEYWORDS, text)
-}
-
-/// The function of a name.
-pub fn function_named(name: &str) -> Option<Function>
-    ensures { result ≡ function_named name.now }
-{
-    match name {
-        "assert" => Some(Function::Assert),
-        "disabler" => Some(Function::Disabler),
-        "error" => Some(Function::Error),
-        "get_variable" => Some(Function::GetVariable),
-        "is_disabler" => Some(Function::IsDisabler),
-        "is_variable" => Some(Function::IsVariable),
-        "join_paths" => Some(Function::JoinPaths),
-        "message" => Some(Function::Message),
-        "project" => Some(Function::Project),
-        "range" => Some(Function::Range),
-        "set_variable" => Some(Function::SetVariable),
-        "subdir" => Some(Function::Subdir),
-        "subdir_done" => Some(Function::SubdirDone),
-        "unset_variable" => Some(Function::UnsetVariable),
-        "warning" => Some(Function::Warning),
-        _ => of_project(project_function_named(name)),
-    }
-}
-
-fn of_project(function: Option<ProjectFunction>) -> Option<Function>
-    ensures { result ≡ option_map functions.OfProject function }
-{
-    Some(Function::OfProject(function?))
-}
-
-// The function of a name that says something of the project.
-fn project_function_named(name: &str) -> Option<ProjectFunction>
-    ensures { result ≡ project_function_named name.now }
-{
-    match name {
-        "add_project_arguments" => Some(ProjectFunction::AddProjectArguments),
-        "add_project_link_arguments" => Some(ProjectFunction::AddProjectLinkArguments),
-        "configuration_data" => Some(ProjectFunction::ConfigurationData),
-        "configure_file" => Some(ProjectFunction::ConfigureFile),
-        "custom_target" => Some(ProjectFunction::CustomTarget),
-        "declare_dependency" => Some(ProjectFunction::DeclareDependency),
-        "dependency" => Some(ProjectFunction::Dependency),
-        "executable" => Some(ProjectFunction::Executable),
-        "files" => Some(ProjectFunction::Files),
-        "find_program" => Some(ProjectFunction::FindProgram),
-        "get_option" => Some(ProjectFunction::GetOption),
-        "include_directories" => Some(ProjectFunction::IncludeDirectories),
-        "install_data" => Some(ProjectFunction::InstallData),
-        "install_headers" => Some(ProjectFunction::InstallHeaders),
-        "install_man" => Some(ProjectFunction::InstallMan),
-        "library" => Some(ProjectFunction::Library),
-        "shared_library" => Some(ProjectFunction::SharedLibrary),
-        "static_library" => Some(ProjectFunction::StaticLibrary),
-        "test" => Some(ProjectFunction::Test),
-        _ => None,
-    }
 }

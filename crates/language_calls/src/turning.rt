@@ -3,8 +3,8 @@ ghost use Rattle.std.specs.Prelude.{◌≡◌, not, ◌&&◌};
 ghost use Rattle.arguments.specs.Arguments.{arguments_data};
 ghost use Rattle.language_calls.specs.Turning.{is_turned_off, makes_file, takes_disablers};
 
-use crate::function::{Function, ProjectFunction};
 use arguments::{Arguments, gives_disabler};
+use language_names::{Function, ProjectFunction};
 
 fn takes_disablers(function: Function) -> bool
     ensures { result ≡ takes_disablers function }

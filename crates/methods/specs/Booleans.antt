@@ -1,20 +1,14 @@
 -- The methods of booleans: the type `bool` of the page "Reference manual".
-use Rattle.std.specs.Prelude.{ℕ, pos, Bool, List, [], ◌∷◌, Option, Some, None, ok_or, codes, bytes_eq, Result, Ok, Err}
+use Rattle.std.specs.Prelude.{ℕ, pos, Bool, List, [], ◌∷◌, ok_or, codes, Result, Ok, Err}
 use Rattle.std.specs.Prelude.{if◌then◌else◌}
 use Rattle.data.specs.declared.refusal.Refusal.{Refusal}
 use Rattle.data.specs.declared.refusal.Refusal.TheVariants as refusal
 use Rattle.data.specs.Data.{Data, integer, text}
-use Rattle.methods.specs.declared.booleans.BooleanMethod.{BooleanMethod}
-use Rattle.methods.specs.declared.booleans.BooleanMethod.TheVariants.{ToInt, ToString}
+use Rattle.language_names.specs.declared.value_methods.BooleanMethod.{BooleanMethod}
+use Rattle.language_names.specs.declared.value_methods.BooleanMethod.TheVariants.{ToInt, ToString}
 use Rattle.methods.specs.Steps.{◌>>=◌}
 use Rattle.methods.specs.Arguments.{no_arguments}
-
--- the method of a name
-abbrev pub named : List ℕ → Option BooleanMethod
-named name =
-    if bytes_eq name (codes "to_int") then Some ToInt
-    else if bytes_eq name (codes "to_string") then Some ToString
-    else None
+use Rattle.language_names.specs.ValueMethods.{boolean_method_named}
 
 -- 1 or 0
 abbrev pub to_int : Bool → List Data → Result Data Refusal
@@ -34,5 +28,5 @@ call ToString b arguments = to_string b arguments
 
 abbrev pub answer : Bool → List ℕ → List Data → Result Data Refusal
 answer b name arguments = do
-  method ← ok_or (named name) refusal.UnknownMethod
+  method ← ok_or (boolean_method_named name) refusal.UnknownMethod
   call method b arguments

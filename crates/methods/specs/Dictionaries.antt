@@ -1,5 +1,5 @@
 -- The methods of dictionaries: the type `dict` of the page "Reference manual".
-use Rattle.std.specs.Prelude.{ℕ, List, [], ◌∷◌, Option, Some, None, ok_or, is_some, codes, bytes_eq, Result, Ok, if◌then◌else◌}
+use Rattle.std.specs.Prelude.{ℕ, List, [], ◌∷◌, ok_or, is_some, Result, Ok}
 use Rattle.std.specs.Ordering.{nat_cmp}
 use Rattle.std.specs.Cmp.Lexicographic.{slice_cmp}
 use Rattle.std.specs.BTreeSet.{insert_key}
@@ -7,20 +7,13 @@ use Rattle.data.specs.declared.refusal.Refusal.{Refusal}
 use Rattle.data.specs.declared.refusal.Refusal.TheVariants as refusal
 use Rattle.data.specs.Data.{Data, boolean, list, Entries, find, keys_in}
 use Rattle.data.specs.Limits.{within}
-use Rattle.methods.specs.declared.dictionaries.DictionaryMethod.{DictionaryMethod}
-use Rattle.methods.specs.declared.dictionaries.DictionaryMethod.TheVariants.{Get, HasKey, Keys}
+use Rattle.language_names.specs.declared.value_methods.DictionaryMethod.{DictionaryMethod}
+use Rattle.language_names.specs.declared.value_methods.DictionaryMethod.TheVariants.{Get, HasKey, Keys}
 use Rattle.methods.specs.Steps.{◌>>=◌}
 use Rattle.methods.specs.Arguments.{no_arguments, one_argument, key_and_fallback, text_argument}
 use Rattle.methods.specs.Lists.{found_or}
 use Rattle.methods.specs.TextLists.{texts}
-
--- the method of a name
-abbrev pub named : List ℕ → Option DictionaryMethod
-named name =
-    if bytes_eq name (codes "get") then Some Get
-    else if bytes_eq name (codes "has_key") then Some HasKey
-    else if bytes_eq name (codes "keys") then Some Keys
-    else None
+use Rattle.language_names.specs.ValueMethods.{dictionary_method_named}
 
 -- the value at a key
 abbrev pub get : Entries → List Data → Result Data Refusal
@@ -53,5 +46,5 @@ call Keys es arguments = keys es arguments
 
 abbrev pub answer : Entries → List ℕ → List Data → Result Data Refusal
 answer es name arguments = do
-  method ← ok_or (named name) refusal.UnknownMethod
+  method ← ok_or (dictionary_method_named name) refusal.UnknownMethod
   call method es arguments

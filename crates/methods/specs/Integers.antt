@@ -1,23 +1,15 @@
 -- The methods of integers: the type `int` of the page "Reference manual".
-use Rattle.std.specs.Prelude.{ℕ, ℤ, ◌%◌, ◌==◌, not, unsigned_abs, List, Option, Some, None, ok_or, codes, bytes_eq, Result, Ok}
-use Rattle.std.specs.Prelude.{if◌then◌else◌}
+use Rattle.std.specs.Prelude.{ℕ, ℤ, ◌%◌, ◌==◌, not, unsigned_abs, List, ok_or, Result, Ok}
 use Rattle.std.specs.Fmt.{signed_decimal}
 use Rattle.data.specs.declared.refusal.Refusal.{Refusal}
 use Rattle.data.specs.declared.refusal.Refusal.TheVariants as refusal
 use Rattle.data.specs.Data.{Data, boolean, text}
 use Rattle.data.specs.Limits.{within}
-use Rattle.methods.specs.declared.integers.IntegerMethod.{IntegerMethod}
-use Rattle.methods.specs.declared.integers.IntegerMethod.TheVariants.{IsEven, IsOdd, ToString}
+use Rattle.language_names.specs.declared.value_methods.IntegerMethod.{IntegerMethod}
+use Rattle.language_names.specs.declared.value_methods.IntegerMethod.TheVariants.{IsEven, IsOdd, ToString}
 use Rattle.methods.specs.Steps.{◌>>=◌}
 use Rattle.methods.specs.Arguments.{no_arguments}
-
--- the method of a name
-abbrev pub named : List ℕ → Option IntegerMethod
-named name =
-    if bytes_eq name (codes "is_even") then Some IsEven
-    else if bytes_eq name (codes "is_odd") then Some IsOdd
-    else if bytes_eq name (codes "to_string") then Some ToString
-    else None
+use Rattle.language_names.specs.ValueMethods.{integer_method_named}
 
 -- an integer is even where its distance from zero is
 abbrev pub is_even : ℤ → List Data → Result Data Refusal
@@ -42,5 +34,5 @@ call ToString z arguments = to_string z arguments
 
 abbrev pub answer : ℤ → List ℕ → List Data → Result Data Refusal
 answer z name arguments = do
-  method ← ok_or (named name) refusal.UnknownMethod
+  method ← ok_or (integer_method_named name) refusal.UnknownMethod
   call method z arguments

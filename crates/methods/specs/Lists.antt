@@ -1,22 +1,15 @@
 -- The methods of lists: the type `list` of the page "Reference manual".
-use Rattle.std.specs.Prelude.{ℕ, pos, Bool, false, ◌||◌, List, Option, Some, None, ok_or, codes, bytes_eq, Result, Ok, Err, if◌then◌else◌}
+use Rattle.std.specs.Prelude.{ℕ, pos, Bool, false, ◌||◌, List, Option, Some, None, ok_or, Result, Ok, Err}
 use Rattle.data.specs.declared.refusal.Refusal.{Refusal}
 use Rattle.data.specs.declared.refusal.Refusal.TheVariants as refusal
 use Rattle.data.specs.Data.{Data, boolean, integer, text, list, dictionary, object, Items, no_items, item, count}
 use Rattle.data.specs.Same.{same}
 use Rattle.operators.specs.Index.{indexed_item}
-use Rattle.methods.specs.declared.lists.ListMethod.{ListMethod}
-use Rattle.methods.specs.declared.lists.ListMethod.TheVariants.{Contains, Get, Length}
+use Rattle.language_names.specs.declared.value_methods.ListMethod.{ListMethod}
+use Rattle.language_names.specs.declared.value_methods.ListMethod.TheVariants.{Contains, Get, Length}
 use Rattle.methods.specs.Steps.{◌>>=◌}
 use Rattle.methods.specs.Arguments.{no_arguments, one_argument, key_and_fallback, integer_argument}
-
--- the method of a name
-abbrev pub named : List ℕ → Option ListMethod
-named name =
-    if bytes_eq name (codes "contains") then Some Contains
-    else if bytes_eq name (codes "get") then Some Get
-    else if bytes_eq name (codes "length") then Some Length
-    else None
+use Rattle.language_names.specs.ValueMethods.{list_method_named}
 
 -- whether a value is an item, or stands in an item that is a list, at any depth
 abbrev mutual
@@ -62,5 +55,5 @@ call Length ds arguments = len ds arguments
 
 abbrev pub answer : Items → List ℕ → List Data → Result Data Refusal
 answer ds name arguments = do
-  method ← ok_or (named name) refusal.UnknownMethod
+  method ← ok_or (list_method_named name) refusal.UnknownMethod
   call method ds arguments

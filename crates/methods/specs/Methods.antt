@@ -3,6 +3,8 @@ use Rattle.std.specs.Prelude.{ℕ, Bool, false, List, is_some, Result, Err}
 use Rattle.data.specs.declared.refusal.Refusal.{Refusal}
 use Rattle.data.specs.declared.refusal.Refusal.TheVariants as refusal
 use Rattle.data.specs.Data.{Data, boolean, integer, text, list, dictionary, object}
+use Rattle.language_names.specs.ValueMethods.{boolean_method_named, dictionary_method_named, integer_method_named, list_method_named}
+use Rattle.language_names.specs.ValueMethods.{text_method_named}
 use Rattle.methods.specs.Integers as integers
 use Rattle.methods.specs.Booleans as booleans
 use Rattle.methods.specs.TextMethods as texts
@@ -20,9 +22,9 @@ answer (object o) name arguments = Err refusal.UnknownMethod
 
 -- whether the type of a receiver has a method of a name
 abbrev pub has_name : Data → List ℕ → Bool
-has_name (boolean b) name = is_some (booleans.named name)
-has_name (integer z) name = is_some (integers.named name)
-has_name (text t) name = is_some (texts.named name)
-has_name (list ds) name = is_some (lists.named name)
-has_name (dictionary es) name = is_some (dictionaries.named name)
+has_name (boolean b) name = is_some (boolean_method_named name)
+has_name (integer z) name = is_some (integer_method_named name)
+has_name (text t) name = is_some (text_method_named name)
+has_name (list ds) name = is_some (list_method_named name)
+has_name (dictionary es) name = is_some (dictionary_method_named name)
 has_name (object o) name = false

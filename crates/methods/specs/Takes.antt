@@ -1,21 +1,18 @@
 -- What each method takes, in words, and of which values.
 use Rattle.std.specs.Prelude.{ℕ, List, [], Option, Some, None, codes}
 use Rattle.data.specs.Data.{Data, boolean, integer, text, list, dictionary, object}
-use Rattle.methods.specs.Integers as integers
-use Rattle.methods.specs.Booleans as booleans
-use Rattle.methods.specs.TextMethods as texts
-use Rattle.methods.specs.Lists as lists
-use Rattle.methods.specs.Dictionaries as dictionaries
-use Rattle.methods.specs.declared.booleans.BooleanMethod.{BooleanMethod}
-use Rattle.methods.specs.declared.booleans.BooleanMethod.TheVariants as of_boolean
-use Rattle.methods.specs.declared.integers.IntegerMethod.{IntegerMethod}
-use Rattle.methods.specs.declared.integers.IntegerMethod.TheVariants as of_integer
-use Rattle.methods.specs.declared.lists.ListMethod.{ListMethod}
-use Rattle.methods.specs.declared.lists.ListMethod.TheVariants as of_list
-use Rattle.methods.specs.declared.dictionaries.DictionaryMethod.{DictionaryMethod}
-use Rattle.methods.specs.declared.dictionaries.DictionaryMethod.TheVariants as of_dictionary
-use Rattle.methods.specs.declared.text_methods.TextMethod.{TextMethod}
-use Rattle.methods.specs.declared.text_methods.TextMethod.TheVariants as of_text
+use Rattle.language_names.specs.ValueMethods.{boolean_method_named, dictionary_method_named, integer_method_named, list_method_named}
+use Rattle.language_names.specs.ValueMethods.{text_method_named}
+use Rattle.language_names.specs.declared.value_methods.BooleanMethod.{BooleanMethod}
+use Rattle.language_names.specs.declared.value_methods.BooleanMethod.TheVariants as of_boolean
+use Rattle.language_names.specs.declared.value_methods.IntegerMethod.{IntegerMethod}
+use Rattle.language_names.specs.declared.value_methods.IntegerMethod.TheVariants as of_integer
+use Rattle.language_names.specs.declared.value_methods.ListMethod.{ListMethod}
+use Rattle.language_names.specs.declared.value_methods.ListMethod.TheVariants as of_list
+use Rattle.language_names.specs.declared.value_methods.DictionaryMethod.{DictionaryMethod}
+use Rattle.language_names.specs.declared.value_methods.DictionaryMethod.TheVariants as of_dictionary
+use Rattle.language_names.specs.declared.value_methods.TextMethod.{TextMethod}
+use Rattle.language_names.specs.declared.value_methods.TextMethod.TheVariants as of_text
 
 abbrev pub boolean_takes : BooleanMethod → List ℕ
 boolean_takes of_boolean.ToInt = codes "no arguments"
@@ -60,9 +57,9 @@ words_of words None = []
 
 -- what the method of a name takes, by the type of the receiver
 abbrev pub takes_words : Data → List ℕ → List ℕ
-takes_words (boolean b) name = words_of boolean_takes (booleans.named name)
-takes_words (integer z) name = words_of integer_takes (integers.named name)
-takes_words (text t) name = words_of text_takes (texts.named name)
-takes_words (list ds) name = words_of list_takes (lists.named name)
-takes_words (dictionary es) name = words_of dictionary_takes (dictionaries.named name)
+takes_words (boolean b) name = words_of boolean_takes (boolean_method_named name)
+takes_words (integer z) name = words_of integer_takes (integer_method_named name)
+takes_words (text t) name = words_of text_takes (text_method_named name)
+takes_words (list ds) name = words_of list_takes (list_method_named name)
+takes_words (dictionary es) name = words_of dictionary_takes (dictionary_method_named name)
 takes_words (object o) name = []

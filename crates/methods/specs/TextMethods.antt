@@ -1,5 +1,5 @@
 -- The methods of texts: the type `str` of the page "Reference manual".
-use Rattle.std.specs.Prelude.{ℕ, List, [], Option, Some, None, ok_or, map, nat_eq, codes, bytes_eq, Result, Ok, if◌then◌else◌}
+use Rattle.std.specs.Prelude.{ℕ, List, [], ok_or, map, nat_eq, Result, Ok}
 use Rattle.std.specs.Char.{to_ascii_lowercase, to_ascii_uppercase}
 use Rattle.std.specs.List as lists
 use Rattle.data.specs.declared.refusal.Refusal.{Refusal}
@@ -14,33 +14,14 @@ use Rattle.texts.specs.Part.{part}
 use Rattle.texts.specs.Pieces as pieces
 use Rattle.texts.specs.Strip.{stripped, is_blank, is_among}
 use Rattle.texts.specs.Condition.{meets}
-use Rattle.methods.specs.declared.text_methods.TextMethod.{TextMethod}
-use Rattle.methods.specs.declared.text_methods.TextMethod.TheVariants as method
+use Rattle.language_names.specs.declared.value_methods.TextMethod.{TextMethod}
+use Rattle.language_names.specs.declared.value_methods.TextMethod.TheVariants as method
 use Rattle.methods.specs.Steps.{◌>>=◌}
 use Rattle.methods.specs.Arguments.{no_arguments, one_text, two_texts, bounds}
 use Rattle.methods.specs.FlatTexts.{flat_texts}
 use Rattle.methods.specs.Formatted.{formatted_text}
 use Rattle.operators.specs.TextLists.{text_list}
-
--- the method of a name
-abbrev pub named : List ℕ → Option TextMethod
-named name =
-    if bytes_eq name (codes "contains") then Some method.Contains
-    else if bytes_eq name (codes "startswith") then Some method.StartsWith
-    else if bytes_eq name (codes "endswith") then Some method.EndsWith
-    else if bytes_eq name (codes "format") then Some method.Format
-    else if bytes_eq name (codes "join") then Some method.Join
-    else if bytes_eq name (codes "replace") then Some method.Replace
-    else if bytes_eq name (codes "split") then Some method.Split
-    else if bytes_eq name (codes "splitlines") then Some method.SplitLines
-    else if bytes_eq name (codes "strip") then Some method.Strip
-    else if bytes_eq name (codes "substring") then Some method.Substring
-    else if bytes_eq name (codes "to_int") then Some method.ToInt
-    else if bytes_eq name (codes "to_lower") then Some method.ToLower
-    else if bytes_eq name (codes "to_upper") then Some method.ToUpper
-    else if bytes_eq name (codes "underscorify") then Some method.Underscorify
-    else if bytes_eq name (codes "version_compare") then Some method.VersionCompare
-    else None
+use Rattle.language_names.specs.ValueMethods.{text_method_named}
 
 -- `contains`
 abbrev pub contains : List ℕ → List Data → Result Data Refusal
@@ -159,5 +140,5 @@ call method.VersionCompare t arguments = version_compare t arguments
 
 abbrev pub answer : List ℕ → List ℕ → List Data → Result Data Refusal
 answer t name arguments = do
-  called ← ok_or (named name) refusal.UnknownMethod
+  called ← ok_or (text_method_named name) refusal.UnknownMethod
   call called t arguments

@@ -3,43 +3,24 @@
 ghost use Rattle.std.specs.Prelude.{◌≡◌, map};
 ghost use Rattle.data.specs.View.{data_of};
 ghost use Rattle.methods.specs.Steps.{Gives};
-ghost use Rattle.methods.specs.Booleans.{named, to_int, to_string, answer};
+ghost use Rattle.methods.specs.Booleans.{to_int, to_string, answer};
 
 use crate::readers::none;
 use crate::stop::Stop;
 use data::{Refusal, Value};
+use language_names::{BooleanMethod, MethodName};
 use std::alloc::Global;
-
-/// A method of booleans.
-#[derive(Clone, Copy)]
-pub enum BooleanMethod {
-    ToInt,
-    ToString,
-}
-
-impl BooleanMethod {
-    /// The method of a name.
-    pub fn named(name: &str) -> Option<BooleanMethod>
-        ensures { result ≡ named name.now }
-    {
-        match name {
-            "to_int" => Some(BooleanMethod::ToInt),
-            "to_string" => Some(BooleanMethod::ToString),
-            _ => None,
-        }
-    }
-}
 
 /// What the method with a name gives for a boolean.
 pub fn boolean_method(
     alloc: Global,
     boolean: bool,
-    name: &str,
+    name: &MethodName,
     arguments: &[Value],
 ) -> Result<Value, Stop>
     ensures { Gives (answer boolean name.now (map data_of arguments.now)) result }
 {
-    let method = BooleanMethod::named(name).ok_or(Refusal::UnknownMethod)?;
+    let method = name.of_boolean().ok_or(Refusal::UnknownMethod)?;
     match method {
         BooleanMethod::ToInt => to_int(boolean, arguments),
         BooleanMethod::ToString => to_string(alloc, boolean, arguments),

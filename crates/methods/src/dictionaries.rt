@@ -5,48 +5,27 @@ ghost use Rattle.data.specs.Data.{keys_in};
 ghost use Rattle.data.specs.View.{data_of, items_of};
 ghost use Rattle.methods.specs.Steps.{Gives};
 ghost use Rattle.methods.specs.TextLists.{texts};
-ghost use Rattle.methods.specs.Dictionaries.{named, get, has_key, keys, sorted_with, answer};
+ghost use Rattle.methods.specs.Dictionaries.{get, has_key, keys, sorted_with, answer};
 
 use crate::lists::found_or;
 use crate::readers::{key_and_fallback, none, one, text};
 use crate::stop::Stop;
 use data::{Dictionary, Refusal, Text, Value};
+use language_names::{DictionaryMethod, MethodName};
 use operators::list;
 use std::alloc::{AllocError, Global};
 use std::collections::BTreeSet;
-
-/// A method of dictionaries.
-#[derive(Clone, Copy)]
-pub enum DictionaryMethod {
-    Get,
-    HasKey,
-    Keys,
-}
-
-impl DictionaryMethod {
-    /// The method of a name.
-    pub fn named(name: &str) -> Option<DictionaryMethod>
-        ensures { result ≡ named name.now }
-    {
-        match name {
-            "get" => Some(DictionaryMethod::Get),
-            "has_key" => Some(DictionaryMethod::HasKey),
-            "keys" => Some(DictionaryMethod::Keys),
-            _ => None,
-        }
-    }
-}
 
 /// What the method with a name gives for a dictionary.
 pub fn dictionary_method(
     alloc: Global,
     dictionary: &Dictionary,
-    name: &str,
+    name: &MethodName,
     arguments: &[Value],
 ) -> Result<Value, Stop>
     ensures { Gives (answer dictionary.now name.now (map data_of arguments.now)) result }
 {
-    let method = DictionaryMethod::named(name).ok_or(Refusal::UnknownMethod)?;
+    let method = name.of_dictionary().ok_or(Refusal::UnknownMethod)?;
     match method {
         DictionaryMethod::Get => get(dictionary, arguments),
         DictionaryMethod::HasKey => has_key(dictionary, arguments),

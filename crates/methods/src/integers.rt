@@ -3,46 +3,25 @@
 ghost use Rattle.std.specs.Prelude.{◌≡◌, map};
 ghost use Rattle.data.specs.View.{data_of};
 ghost use Rattle.methods.specs.Steps.{Gives};
-ghost use Rattle.methods.specs.Integers.{named, is_even, is_odd, to_string, answer};
+ghost use Rattle.methods.specs.Integers.{is_even, is_odd, to_string, answer};
 
 use crate::readers::none;
 use crate::stop::Stop;
 use data::{Refusal, Value};
+use language_names::{IntegerMethod, MethodName};
 use printing::printed;
 use std::alloc::Global;
-
-/// A method of integers.
-#[derive(Clone, Copy)]
-pub enum IntegerMethod {
-    IsEven,
-    IsOdd,
-    ToString,
-}
-
-impl IntegerMethod {
-    /// The method of a name.
-    pub fn named(name: &str) -> Option<IntegerMethod>
-        ensures { result ≡ named name.now }
-    {
-        match name {
-            "is_even" => Some(IntegerMethod::IsEven),
-            "is_odd" => Some(IntegerMethod::IsOdd),
-            "to_string" => Some(IntegerMethod::ToString),
-            _ => None,
-        }
-    }
-}
 
 /// What the method with a name gives for an integer.
 pub fn integer_method(
     alloc: Global,
     integer: i128,
-    name: &str,
+    name: &MethodName,
     arguments: &[Value],
 ) -> Result<Value, Stop>
     ensures { Gives (answer integer name.now (map data_of arguments.now)) result }
 {
-    let method = IntegerMethod::named(name).ok_or(Refusal::UnknownMethod)?;
+    let method = name.of_integer().ok_or(Refusal::UnknownMethod)?;
     match method {
         IntegerMethod::IsEven => is_even(integer, arguments),
         IntegerMethod::IsOdd => is_odd(integer, arguments),

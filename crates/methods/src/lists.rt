@@ -3,40 +3,19 @@
 ghost use Rattle.std.specs.Prelude.{◌≡◌, map, option_map};
 ghost use Rattle.data.specs.View.{data_of, items_of};
 ghost use Rattle.methods.specs.Steps.{Gives};
-ghost use Rattle.methods.specs.Lists.{named, stands_in, stands_inside, contains, get, found_or, len, answer};
+ghost use Rattle.methods.specs.Lists.{stands_in, stands_inside, contains, get, found_or, len, answer};
 
 use crate::readers::{integer, key_and_fallback, none, one};
 use crate::stop::Stop;
 use data::{List, Refusal, Value, is_equal};
+use language_names::{ListMethod, MethodName};
 use operators::indexed_item;
 
-/// A method of lists.
-#[derive(Clone, Copy)]
-pub enum ListMethod {
-    Contains,
-    Get,
-    Length,
-}
-
-impl ListMethod {
-    /// The method of a name.
-    pub fn named(name: &str) -> Option<ListMethod>
-        ensures { result ≡ named name.now }
-    {
-        match name {
-            "contains" => Some(ListMethod::Contains),
-            "get" => Some(ListMethod::Get),
-            "length" => Some(ListMethod::Length),
-            _ => None,
-        }
-    }
-}
-
 /// What the method with a name gives for a list.
-pub fn list_method(list: &List, name: &str, arguments: &[Value]) -> Result<Value, Stop>
+pub fn list_method(list: &List, name: &MethodName, arguments: &[Value]) -> Result<Value, Stop>
     ensures { Gives (answer list.now name.now (map data_of arguments.now)) result }
 {
-    let method = ListMethod::named(name).ok_or(Refusal::UnknownMethod)?;
+    let method = name.of_list().ok_or(Refusal::UnknownMethod)?;
     match method {
         ListMethod::Contains => contains(list, arguments),
         ListMethod::Get => get(list, arguments),

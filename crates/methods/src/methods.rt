@@ -5,13 +5,14 @@ ghost use Rattle.data.specs.View.{data_of};
 ghost use Rattle.data.specs.Tables.{Answers};
 ghost use Rattle.methods.specs.Methods.{answer, has_name};
 
-use crate::booleans::{BooleanMethod, boolean_method};
-use crate::dictionaries::{DictionaryMethod, dictionary_method};
-use crate::integers::{IntegerMethod, integer_method};
-use crate::lists::{ListMethod, list_method};
+use crate::booleans::boolean_method;
+use crate::dictionaries::dictionary_method;
+use crate::integers::integer_method;
+use crate::lists::list_method;
 use crate::stop::Stop;
-use crate::text_methods::{TextMethod, text_method};
+use crate::text_methods::text_method;
 use data::{Refusal, Value};
+use language_names::MethodName;
 use std::alloc::{AllocError, Global};
 
 /// What the method with a name gives for a receiver and arguments.
@@ -21,7 +22,7 @@ use std::alloc::{AllocError, Global};
 pub fn method(
     alloc: Global,
     receiver: &Value,
-    name: &str,
+    name: &MethodName,
     arguments: &[Value],
 ) -> Result<Result<Value, Refusal>, AllocError>
     ensures { IfOk result (λ r. Answers (answer (data_of receiver.now) name.now (map data_of arguments.now)) r) }
@@ -42,15 +43,15 @@ pub fn method(
 }
 
 /// Whether the type of a receiver has a method with a name. It takes no memory.
-pub fn has_method(receiver: &Value, name: &str) -> bool
+pub fn has_method(receiver: &Value, name: &MethodName) -> bool
     ensures { result ≡ has_name (data_of receiver.now) name.now }
 {
     match receiver {
-        Value::Boolean(_) => BooleanMethod::named(name).is_some(),
-        Value::Integer(_) => IntegerMethod::named(name).is_some(),
-        Value::List(_) => ListMethod::named(name).is_some(),
-        Value::Dictionary(_) => DictionaryMethod::named(name).is_some(),
-        Value::Text(_) => TextMethod::named(name).is_some(),
+        Value::Boolean(_) => name.of_boolean().is_some(),
+        Value::Integer(_) => name.of_integer().is_some(),
+        Value::List(_) => name.of_list().is_some(),
+        Value::Dictionary(_) => name.of_dictionary().is_some(),
+        Value::Text(_) => name.of_text().is_some(),
         Value::Object(_) => false,
     }
 }

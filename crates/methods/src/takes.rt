@@ -3,12 +3,10 @@ ghost use Rattle.std.specs.Prelude.{◌≡◌};
 ghost use Rattle.data.specs.View.{data_of};
 ghost use Rattle.methods.specs.Takes.{boolean_takes, dictionary_takes, integer_takes, list_takes, takes_words, text_takes};
 
-use crate::booleans::BooleanMethod;
-use crate::dictionaries::DictionaryMethod;
-use crate::integers::IntegerMethod;
-use crate::lists::ListMethod;
-use crate::text_methods::TextMethod;
 use data::Value;
+use language_names::{
+    BooleanMethod, DictionaryMethod, IntegerMethod, ListMethod, MethodName, TextMethod,
+};
 
 fn boolean_takes(method: BooleanMethod) -> &'static str
     ensures { result.now ≡ boolean_takes method }
@@ -70,15 +68,15 @@ fn text_takes(method: TextMethod) -> &'static str
 }
 
 /// What the method with a name takes, by the type of the receiver; empty where there is no such method.
-pub fn takes_words(receiver: &Value, name: &str) -> &'static str
+pub fn takes_words(receiver: &Value, name: &MethodName) -> &'static str
     ensures { result.now ≡ takes_words (data_of receiver.now) name.now }
 {
     match receiver {
-        Value::Boolean(_) => BooleanMethod::named(name).map_or("", boolean_takes),
-        Value::Integer(_) => IntegerMethod::named(name).map_or("", integer_takes),
-        Value::List(_) => ListMethod::named(name).map_or("", list_takes),
-        Value::Dictionary(_) => DictionaryMethod::named(name).map_or("", dictionary_takes),
-        Value::Text(_) => TextMethod::named(name).map_or("", text_takes),
+        Value::Boolean(_) => name.of_boolean().map_or("", boolean_takes),
+        Value::Integer(_) => name.of_integer().map_or("", integer_takes),
+        Value::List(_) => name.of_list().map_or("", list_takes),
+        Value::Dictionary(_) => name.of_dictionary().map_or("", dictionary_takes),
+        Value::Text(_) => name.of_text().map_or("", text_takes),
         Value::Object(_) => "",
     }
 }

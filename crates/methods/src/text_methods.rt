@@ -5,7 +5,7 @@ ghost use Rattle.data.specs.Data.{text as text_data};
 ghost use Rattle.data.specs.Limits.{within};
 ghost use Rattle.data.specs.View.{data_of};
 ghost use Rattle.methods.specs.Steps.{Gives};
-ghost use Rattle.methods.specs.TextMethods.{named, answer, contains, starts_with, ends_with, format, join, replace, split};
+ghost use Rattle.methods.specs.TextMethods.{answer, contains, starts_with, ends_with, format, join, replace, split};
 ghost use Rattle.methods.specs.TextMethods.{split_lines, strip, substring, to_int, to_lower, to_upper, underscorify, version_compare};
 
 use crate::flattening::flat_texts;
@@ -13,77 +13,20 @@ use crate::formatted::format_text;
 use crate::readers::{bounds, none, one_text, two_texts};
 use crate::stop::Stop;
 use data::{Refusal, Text, Value};
+use language_names::{MethodName, TextMethod};
 use operators::text_list;
 use std::alloc::Global;
-
-/// A method of texts.
-#[derive(Clone, Copy)]
-pub enum TextMethod {
-    Contains,
-    StartsWith,
-    EndsWith,
-    Format,
-    Join,
-    Replace,
-    Split,
-    SplitLines,
-    Strip,
-    Substring,
-    ToInt,
-    ToLower,
-    ToUpper,
-    Underscorify,
-    VersionCompare,
-}
-
-impl TextMethod {
-    /// The method of a name.
-    pub fn named(name: &str) -> Option<TextMethod>
-        ensures { result ≡ named name.now }
-    {
-        // a name is compared with those of about its length alone
-        match name.len() {
-            4 | 5 => match name {
-                "join" => Some(TextMethod::Join),
-                "split" => Some(TextMethod::Split),
-                "strip" => Some(TextMethod::Strip),
-                _ => None,
-            },
-            6 | 7 => match name {
-                "format" => Some(TextMethod::Format),
-                "replace" => Some(TextMethod::Replace),
-                "to_int" => Some(TextMethod::ToInt),
-                _ => None,
-            },
-            8 => match name {
-                "contains" => Some(TextMethod::Contains),
-                "endswith" => Some(TextMethod::EndsWith),
-                "to_lower" => Some(TextMethod::ToLower),
-                "to_upper" => Some(TextMethod::ToUpper),
-                _ => None,
-            },
-            _ => match name {
-                "startswith" => Some(TextMethod::StartsWith),
-                "splitlines" => Some(TextMethod::SplitLines),
-                "substring" => Some(TextMethod::Substring),
-                "underscorify" => Some(TextMethod::Underscorify),
-                "version_compare" => Some(TextMethod::VersionCompare),
-                _ => None,
-            },
-        }
-    }
-}
 
 /// What the method with a name gives for a text.
 pub fn text_method(
     alloc: Global,
     text: &str,
-    name: &str,
+    name: &MethodName,
     arguments: &[Value],
 ) -> Result<Value, Stop>
     ensures { Gives (answer text.now name.now (map data_of arguments.now)) result }
 {
-    let method = TextMethod::named(name).ok_or(Refusal::UnknownMethod)?;
+    let method = name.of_text().ok_or(Refusal::UnknownMethod)?;
     match method {
         TextMethod::Contains => contains(text, arguments),
         TextMethod::StartsWith => starts_with(text, arguments),

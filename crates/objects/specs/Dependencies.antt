@@ -5,16 +5,9 @@ use Rattle.data.specs.Limits.{within}
 use Rattle.data.specs.declared.object.Dependency.{Dependency}
 use Rattle.data.specs.declared.refusal.Refusal.{Refusal}
 use Rattle.data.specs.declared.refusal.Refusal.TheVariants as refusal
-use Rattle.objects.specs.declared.dependencies.DependencyMethod.{DependencyMethod}
-use Rattle.objects.specs.declared.dependencies.DependencyMethod.TheVariants.{Found, Name, Version}
-
--- the method of a name
-abbrev pub named : List ℕ → Option DependencyMethod
-named name =
-    if bytes_eq name (codes "found") then Some Found
-    else if bytes_eq name (codes "name") then Some Name
-    else if bytes_eq name (codes "version") then Some Version
-    else None
+use Rattle.language_names.specs.declared.object_methods.DependencyMethod.{DependencyMethod}
+use Rattle.language_names.specs.declared.object_methods.DependencyMethod.TheVariants.{Found, Name, Version}
+use Rattle.language_names.specs.ObjectMethods.{dependency_method_named}
 
 -- the version, `unknown` where it is not found
 abbrev pub version_of : Dependency → Result Data Refusal
@@ -27,4 +20,4 @@ answer_by (Some Name) d = Ok (text d.name)
 answer_by (Some Version) d = version_of d
 
 abbrev pub answer : Dependency → List ℕ → Result Data Refusal
-answer d name = answer_by (named name) d
+answer d name = answer_by (dependency_method_named name) d

@@ -5,17 +5,9 @@ use Rattle.data.specs.declared.object.Feature.{Feature}
 use Rattle.data.specs.declared.object.Feature.TheVariants as features
 use Rattle.data.specs.declared.refusal.Refusal.{Refusal}
 use Rattle.data.specs.declared.refusal.Refusal.TheVariants as refusal
-use Rattle.objects.specs.declared.features.FeatureMethod.{FeatureMethod}
-use Rattle.objects.specs.declared.features.FeatureMethod.TheVariants.{Allowed, Auto, Disabled, Enabled}
-
--- the method of a name
-abbrev pub named : List ℕ → Option FeatureMethod
-named name =
-    if bytes_eq name (codes "allowed") then Some Allowed
-    else if bytes_eq name (codes "auto") then Some Auto
-    else if bytes_eq name (codes "disabled") then Some Disabled
-    else if bytes_eq name (codes "enabled") then Some Enabled
-    else None
+use Rattle.language_names.specs.declared.object_methods.FeatureMethod.{FeatureMethod}
+use Rattle.language_names.specs.declared.object_methods.FeatureMethod.TheVariants.{Allowed, Auto, Disabled, Enabled}
+use Rattle.language_names.specs.ObjectMethods.{feature_method_named}
 
 abbrev pub is_enabled : Feature → Bool
 is_enabled features.Enabled = true
@@ -41,4 +33,4 @@ answer_by None f = Err refusal.UnknownMethod
 answer_by (Some method) f = Ok (boolean (tells method f))
 
 abbrev pub answer : Feature → List ℕ → Result Data Refusal
-answer f name = answer_by (named name) f
+answer f name = answer_by (feature_method_named name) f

@@ -7,19 +7,11 @@ use Rattle.compiler_methods.specs.Said.{said_or}
 use Rattle.data.specs.Data.{Data, text}
 use Rattle.data.specs.Limits.{within}
 use Rattle.machine_file.specs.Questions.{Topic, Key, plain}
-use Rattle.objects.specs.declared.machines.MachineMethod.{MachineMethod}
-use Rattle.objects.specs.declared.machines.MachineMethod.TheVariants.{Cpu, CpuFamily, Endian, System}
+use Rattle.language_names.specs.declared.object_methods.MachineMethod.{MachineMethod}
+use Rattle.language_names.specs.declared.object_methods.MachineMethod.TheVariants.{Cpu, CpuFamily, Endian, System}
 use Rattle.world.specs.Deed.{Deed, give, refuse, consult, ◌>>=◌, answered}
 use Rattle.world.specs.Fit.{fit}
-
--- the method of a name
-abbrev pub named : List ℕ → Option MachineMethod
-named name =
-    if bytes_eq name (codes "cpu") then Some Cpu
-    else if bytes_eq name (codes "cpu_family") then Some CpuFamily
-    else if bytes_eq name (codes "endian") then Some Endian
-    else if bytes_eq name (codes "system") then Some System
-    else None
+use Rattle.language_names.specs.ObjectMethods.{machine_method_named}
 
 -- the method's key in the section `host_machine` of the machine file
 abbrev pub key_of : MachineMethod → List ℕ
@@ -53,4 +45,4 @@ told_by (Some method) = told method
 unfoldable pub machine_method : List ℕ → ArgumentsData → Deed (Option Data)
 machine_method name a = do
   _ ← fit (row [] 0 []) a
-  told_by (named name)
+  told_by (machine_method_named name)

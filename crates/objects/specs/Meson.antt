@@ -9,26 +9,9 @@ use Rattle.data.specs.declared.refusal.Refusal.{Refusal}
 use Rattle.data.specs.declared.refusal.Refusal.TheVariants as refusal
 use Rattle.operators.specs.Texts.{path_below}
 use Rattle.world.specs.World.{Facts}
-use Rattle.objects.specs.declared.meson_object.MesonMethod.{MesonMethod}
-use Rattle.objects.specs.declared.meson_object.MesonMethod.TheVariants as methods
-
--- the method of a name
-abbrev pub named : List ℕ → Option MesonMethod
-named name =
-    if bytes_eq name (codes "backend") then Some methods.Backend
-    else if bytes_eq name (codes "build_root") then Some methods.BuildRoot
-    else if bytes_eq name (codes "current_build_dir") then Some methods.CurrentBuildDir
-    else if bytes_eq name (codes "current_source_dir") then Some methods.CurrentSourceDir
-    else if bytes_eq name (codes "get_compiler") then Some methods.GetCompiler
-    else if bytes_eq name (codes "is_cross_build") then Some methods.IsCrossBuild
-    else if bytes_eq name (codes "is_subproject") then Some methods.IsSubproject
-    else if bytes_eq name (codes "project_build_root") then Some methods.BuildRoot
-    else if bytes_eq name (codes "project_name") then Some methods.ProjectName
-    else if bytes_eq name (codes "project_source_root") then Some methods.SourceRoot
-    else if bytes_eq name (codes "project_version") then Some methods.ProjectVersion
-    else if bytes_eq name (codes "source_root") then Some methods.SourceRoot
-    else if bytes_eq name (codes "version") then Some methods.Version
-    else None
+use Rattle.language_names.specs.declared.object_methods.MesonMethod.{MesonMethod}
+use Rattle.language_names.specs.declared.object_methods.MesonMethod.TheVariants as methods
+use Rattle.language_names.specs.ObjectMethods.{meson_method_named}
 
 -- a folder of the tree below a root; the root folder is the root itself
 abbrev pub folder_below : List ℕ → List ℕ → List ℕ
@@ -54,4 +37,4 @@ answer_by (Some methods.SourceRoot) f a = within (text f.settings.source_root)
 answer_by (Some methods.Version) f a = within (text (codes "1.3.0"))
 
 abbrev pub answer : Facts → List ℕ → ArgumentsData → Result Data Refusal
-answer f name a = answer_by (named name) f a
+answer f name a = answer_by (meson_method_named name) f a

@@ -11,6 +11,9 @@ use Rattle.data.specs.declared.object.Object.{Object}
 use Rattle.data.specs.declared.object.Object.TheVariants as objects
 use Rattle.data.specs.declared.refusal.Refusal.{Refusal}
 use Rattle.data.specs.declared.refusal.Refusal.TheVariants as refusal
+use Rattle.language_names.specs.ObjectMethods.{build_target_method_named, custom_target_method_named, dependency_method_named}
+use Rattle.language_names.specs.ObjectMethods.{feature_method_named, machine_method_named, meson_method_named}
+use Rattle.language_names.specs.ObjectMethods.{output_method_named, program_method_named}
 use Rattle.world.specs.Deed.{Deed, give, read, ◌>>=◌}
 use Rattle.world.specs.Fit.{fit}
 use Rattle.world.specs.Ruled.{answered_by}
@@ -25,14 +28,14 @@ use Rattle.objects.specs.Targets as targets
 
 -- whether the kind of an object has a method of a name that is not left out
 abbrev pub has_method : Object → List ℕ → Bool
-has_method (objects.Feature f) name = is_some (features.named name)
-has_method (objects.Dependency d) name = is_some (dependencies.named name)
-has_method (objects.Program p) name = is_some (programs.named name)
-has_method (objects.BuildTarget number) name = is_some (targets.build_named name)
-has_method (objects.CustomTarget number outputs) name = is_some (targets.custom_named name)
-has_method (objects.CustomOutput target output) name = is_some (targets.output_named name)
-has_method objects.Machine name = is_some (machines.named name)
-has_method objects.Meson name = is_some (meson.named name)
+has_method (objects.Feature f) name = is_some (feature_method_named name)
+has_method (objects.Dependency d) name = is_some (dependency_method_named name)
+has_method (objects.Program p) name = is_some (program_method_named name)
+has_method (objects.BuildTarget number) name = is_some (build_target_method_named name)
+has_method (objects.CustomTarget number outputs) name = is_some (custom_target_method_named name)
+has_method (objects.CustomOutput target output) name = is_some (output_method_named name)
+has_method objects.Machine name = is_some (machine_method_named name)
+has_method objects.Meson name = is_some (meson_method_named name)
 has_method objects.Compiler name = compilers.has_method name
 has_method (objects.ConfigurationData number) name = configurations.has_method name
 has_method _ name = false

@@ -7,16 +7,9 @@ use Rattle.data.specs.declared.object.Program.TheVariants as programs
 use Rattle.data.specs.declared.refusal.Refusal.{Refusal}
 use Rattle.data.specs.declared.refusal.Refusal.TheVariants as refusal
 use Rattle.operators.specs.Texts.{path_below}
-use Rattle.objects.specs.declared.programs.ProgramMethod.{ProgramMethod}
-use Rattle.objects.specs.declared.programs.ProgramMethod.TheVariants.{Found, FullPath}
-
--- the method of a name
-abbrev pub named : List ℕ → Option ProgramMethod
-named name =
-    if bytes_eq name (codes "found") then Some Found
-    else if bytes_eq name (codes "full_path") then Some FullPath
-    else if bytes_eq name (codes "path") then Some FullPath
-    else None
+use Rattle.language_names.specs.declared.object_methods.ProgramMethod.{ProgramMethod}
+use Rattle.language_names.specs.declared.object_methods.ProgramMethod.TheVariants.{Found, FullPath}
+use Rattle.language_names.specs.ObjectMethods.{program_method_named}
 
 abbrev pub is_found : Program → Bool
 is_found programs.NotFound = false
@@ -38,4 +31,4 @@ answer_by (Some Found) source_root p = Ok (boolean (is_found p))
 answer_by (Some FullPath) source_root p = full_path source_root p
 
 abbrev pub answer : List ℕ → Program → List ℕ → Result Data Refusal
-answer source_root p name = answer_by (named name) source_root p
+answer source_root p name = answer_by (program_method_named name) source_root p

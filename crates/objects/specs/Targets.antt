@@ -13,29 +13,11 @@ use Rattle.targets.specs.Data.{TargetData, Build, Custom}
 use Rattle.targets.specs.Files.{file_path, path_in}
 use Rattle.targets.specs.Libraries.{LinkedData, linked_of}
 use Rattle.world.specs.World.{Facts}
-use Rattle.objects.specs.declared.target_methods.TargetMethod.{TargetMethod}
-use Rattle.objects.specs.declared.target_methods.TargetMethod.TheVariants.{FullPath, Name, ToList}
+use Rattle.language_names.specs.declared.object_methods.TargetMethod.{TargetMethod}
+use Rattle.language_names.specs.declared.object_methods.TargetMethod.TheVariants.{FullPath, Name, ToList}
+use Rattle.language_names.specs.ObjectMethods.{build_target_method_named, custom_target_method_named, output_method_named}
 
 -- ---- names
-
--- the method of a name, of an executable or a library
-abbrev pub build_named : List ℕ → Option TargetMethod
-build_named name =
-    if bytes_eq name (codes "full_path") then Some FullPath
-    else if bytes_eq name (codes "name") then Some Name
-    else None
-
--- of a custom target
-abbrev pub custom_named : List ℕ → Option TargetMethod
-custom_named name =
-    if bytes_eq name (codes "full_path") then Some FullPath
-    else if bytes_eq name (codes "name") then Some Name
-    else if bytes_eq name (codes "to_list") then Some ToList
-    else None
-
--- of an output of a custom target
-abbrev pub output_named : List ℕ → Option TargetMethod
-output_named name = if bytes_eq name (codes "full_path") then Some FullPath else None
 
 -- ---- what a target has
 
@@ -100,10 +82,10 @@ answer_by (Some method) facts number outputs = told_of method facts number outpu
 
 -- an executable or a library, which has one output
 abbrev pub build_answer : Facts → (number : ℕ) → List ℕ → Result Data Refusal
-build_answer facts number name = answer_by (build_named name) facts number 1
+build_answer facts number name = answer_by (build_target_method_named name) facts number 1
 
 abbrev pub custom_answer : Facts → (number outputs : ℕ) → List ℕ → Result Data Refusal
-custom_answer facts number outputs name = answer_by (custom_named name) facts number outputs
+custom_answer facts number outputs name = answer_by (custom_target_method_named name) facts number outputs
 
 abbrev pub output_answer_by : Option TargetMethod → Facts → (target output : ℕ) → Result Data Refusal
 output_answer_by None facts target output = Err refusal.UnknownMethod
@@ -112,4 +94,4 @@ output_answer_by (Some method) facts target output =
 
 -- an output of a custom target
 abbrev pub output_answer : Facts → (target output : ℕ) → List ℕ → Result Data Refusal
-output_answer facts target output name = output_answer_by (output_named name) facts target output
+output_answer facts target output name = output_answer_by (output_method_named name) facts target output

@@ -11,33 +11,34 @@ ghost use Rattle.objects.specs.Methods.{breaking, has_method, object_method, rul
 ghost use Rattle.objects.specs.Rows.{row_of};
 ghost use Rattle.world.specs.Store.{world_of};
 
-use crate::dependencies::{DependencyMethod, dependency_answer};
-use crate::features::{FeatureMethod, feature_answer};
-use crate::machines::{MachineMethod, machine_answer};
-use crate::meson_object::{MesonMethod, meson_answer};
-use crate::programs::{ProgramMethod, program_answer};
-use crate::target_methods::{TargetMethod, build_answer, custom_answer, output_answer};
+use crate::dependencies::dependency_answer;
+use crate::features::feature_answer;
+use crate::machines::machine_answer;
+use crate::meson_object::meson_answer;
+use crate::programs::program_answer;
+use crate::target_methods::{build_answer, custom_answer, output_answer};
 use arguments::{Arguments, Kind, Row, Rule};
 use compiler_methods::{compiler_method, has_compiler_method};
 use configuration_calls::{configuration_method, has_configuration_method};
 use data::{Object, Refusal, Value};
+use language_names::MethodName;
 use ports::{Outputs, Tree};
 use std::alloc::{AllocError, Global};
 use world::{Caller, Stop, Store};
 
 /// Whether the kind of an object has a method of a name that is not left out. It takes no memory.
-pub fn has_object_method(object: &Object, name: &str) -> bool
+pub fn has_object_method(object: &Object, name: &MethodName) -> bool
     ensures { result ≡ has_method object.now name.now }
 {
     match object {
-        Object::Feature(_) => FeatureMethod::named(name).is_some(),
-        Object::Dependency(_) => DependencyMethod::named(name).is_some(),
-        Object::Program(_) => ProgramMethod::named(name).is_some(),
-        Object::BuildTarget(_) => TargetMethod::build_named(name).is_some(),
-        Object::CustomTarget { .. } => TargetMethod::custom_named(name).is_some(),
-        Object::CustomOutput { .. } => TargetMethod::output_named(name).is_some(),
-        Object::Machine => MachineMethod::named(name).is_some(),
-        Object::Meson => MesonMethod::named(name).is_some(),
+        Object::Feature(_) => name.of_feature().is_some(),
+        Object::Dependency(_) => name.of_dependency().is_some(),
+        Object::Program(_) => name.of_program().is_some(),
+        Object::BuildTarget(_) => name.of_build_target().is_some(),
+        Object::CustomTarget { .. } => name.of_custom_target().is_some(),
+        Object::CustomOutput { .. } => name.of_output().is_some(),
+        Object::Machine => name.of_machine().is_some(),
+        Object::Meson => name.of_meson().is_some(),
         Object::Compiler => has_compiler_method(name),
         Object::ConfigurationData(_) => has_configuration_method(name),
         _ => false,
@@ -49,7 +50,7 @@ fn told_of(
     alloc: Global,
     store: &Store,
     object: &Object,
-    name: &str,
+    name: &MethodName,
     arguments: &Arguments,
 ) -> Result<Result<Value, Refusal>, AllocError>
     ensures { IfOk result (λ r. Answers (told_of (world_of store.now).facts object.now name.now (arguments_data arguments.now)) r) }
@@ -82,11 +83,11 @@ fn meson_row(name: &str) -> Row
 }
 
 // What the method with a name takes.
-fn row_of(object: &Object, name: &str) -> Row
+fn row_of(object: &Object, name: &MethodName) -> Row
     ensures { row_data result ≡ row_of object.now name.now }
 {
     match object {
-        Object::Meson => meson_row(name),
+        Object::Meson => meson_row(name.as_str()),
         _ => Row::of(&[], 0, &[]),
     }
 }
@@ -103,12 +104,12 @@ fn rule_of(object: &Object) -> Rule
 }
 
 // What breaks it: the language that `meson` is asked for, or else the method of this name.
-fn breaking<'a>(object: &Object, name: &'a str, arguments: &'a Arguments) -> &'a str
+fn breaking<'a>(object: &Object, name: &'a MethodName, arguments: &'a Arguments) -> &'a str
     ensures { result.now ≡ breaking object.now name.now (arguments_data arguments.now) }
 {
     match object {
         Object::Meson => arguments.text_at(0),
-        _ => name,
+        _ => name.as_str(),
     }
 }
 
@@ -116,7 +117,7 @@ fn breaking<'a>(object: &Object, name: &'a str, arguments: &'a Arguments) -> &'a
 fn tell<T: Tree, O: Outputs>(
     caller: &Caller<'_, T, O>,
     object: &Object,
-    name: &str,
+    name: &MethodName,
     arguments: &Arguments,
 ) -> Result<Option<Value>, Stop>
     ensures { Carries (option_map data_of) (tell object.now name.now (arguments_data arguments.now))
@@ -133,7 +134,7 @@ fn tell<T: Tree, O: Outputs>(
 // The method of a machine with a name.
 fn machine_method<T: Tree, O: Outputs>(
     caller: &mut Caller<'_, T, O>,
-    name: &str,
+    name: &MethodName,
     arguments: &Arguments,
 ) -> Result<Option<Value>, Stop>
     ensures { Carries (option_map data_of) (machine_method name.now (arguments_data arguments.now))
@@ -148,7 +149,7 @@ fn machine_method<T: Tree, O: Outputs>(
 pub fn object_method<T: Tree, O: Outputs>(
     caller: &mut Caller<'_, T, O>,
     object: &Object,
-    name: &str,
+    name: &MethodName,
     arguments: &Arguments,
 ) -> Result<Option<Value>, Stop>
     requires { HasRoom (state_of T.seen O.seen caller.old) }

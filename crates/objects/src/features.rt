@@ -1,33 +1,10 @@
 //! The methods of a feature: the type `feature` of the page "Reference manual".
 ghost use Rattle.std.specs.Prelude.{◌≡◌};
 ghost use Rattle.data.specs.Tables.{Answers};
-ghost use Rattle.objects.specs.Features.{answer, named, tells};
+ghost use Rattle.objects.specs.Features.{answer, tells};
 
 use data::{Feature, Refusal, Value};
-
-/// A method of features.
-#[derive(Clone, Copy)]
-pub enum FeatureMethod {
-    Allowed,
-    Auto,
-    Disabled,
-    Enabled,
-}
-
-impl FeatureMethod {
-    /// The method of a name.
-    pub fn named(name: &str) -> Option<FeatureMethod>
-        ensures { result ≡ named name.now }
-    {
-        match name {
-            "allowed" => Some(FeatureMethod::Allowed),
-            "auto" => Some(FeatureMethod::Auto),
-            "disabled" => Some(FeatureMethod::Disabled),
-            "enabled" => Some(FeatureMethod::Enabled),
-            _ => None,
-        }
-    }
-}
+use language_names::{FeatureMethod, MethodName};
 
 fn tells(method: FeatureMethod, feature: Feature) -> bool
     ensures { result ≡ tells method feature }
@@ -42,10 +19,10 @@ fn tells(method: FeatureMethod, feature: Feature) -> bool
 
 /// What the method with a name gives for a feature: `enabled`, `disabled` and `auto` say which of these it is, and `allowed`
 /// whether it is not disabled.
-pub fn feature_answer(feature: Feature, name: &str) -> Result<Value, Refusal>
+pub fn feature_answer(feature: Feature, name: &MethodName) -> Result<Value, Refusal>
     ensures { Answers (answer feature name.now) result }
 {
-    match FeatureMethod::named(name) {
+    match name.of_feature() {
         Some(method) => Ok(Value::Boolean(tells(method, feature))),
         None => Err(Refusal::UnknownMethod),
     }

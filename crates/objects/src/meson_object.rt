@@ -4,56 +4,15 @@ ghost use Rattle.arguments.specs.Arguments.{arguments_data};
 ghost use Rattle.data.specs.Data.{text};
 ghost use Rattle.data.specs.Limits.{within};
 ghost use Rattle.data.specs.Tables.{Answers};
-ghost use Rattle.objects.specs.Meson.{answer, compiler_of, folder_below, named};
+ghost use Rattle.objects.specs.Meson.{answer, compiler_of, folder_below};
 ghost use Rattle.world.specs.Store.{world_of};
 
 use arguments::Arguments;
 use data::{Object, Refusal, Value};
+use language_names::{MesonMethod, MethodName};
 use operators::path_below;
 use std::alloc::{AllocError, Global};
 use world::Store;
-
-/// A method of `meson`.
-#[derive(Clone, Copy)]
-pub enum MesonMethod {
-    Backend,
-    /// `build_root` and `project_build_root`.
-    BuildRoot,
-    CurrentBuildDir,
-    CurrentSourceDir,
-    GetCompiler,
-    IsCrossBuild,
-    IsSubproject,
-    ProjectName,
-    ProjectVersion,
-    /// `source_root` and `project_source_root`.
-    SourceRoot,
-    Version,
-}
-
-impl MesonMethod {
-    /// The method of a name.
-    pub fn named(name: &str) -> Option<MesonMethod>
-        ensures { result ≡ named name.now }
-    {
-        match name {
-            "backend" => Some(MesonMethod::Backend),
-            "build_root" => Some(MesonMethod::BuildRoot),
-            "current_build_dir" => Some(MesonMethod::CurrentBuildDir),
-            "current_source_dir" => Some(MesonMethod::CurrentSourceDir),
-            "get_compiler" => Some(MesonMethod::GetCompiler),
-            "is_cross_build" => Some(MesonMethod::IsCrossBuild),
-            "is_subproject" => Some(MesonMethod::IsSubproject),
-            "project_build_root" => Some(MesonMethod::BuildRoot),
-            "project_name" => Some(MesonMethod::ProjectName),
-            "project_source_root" => Some(MesonMethod::SourceRoot),
-            "project_version" => Some(MesonMethod::ProjectVersion),
-            "source_root" => Some(MesonMethod::SourceRoot),
-            "version" => Some(MesonMethod::Version),
-            _ => None,
-        }
-    }
-}
 
 /// The source root of the run.
 pub fn source_root(store: &Store) -> &str
@@ -154,12 +113,12 @@ fn compiler_of(alloc: Global, language: &str) -> Result<Result<Value, Refusal>, 
 pub fn meson_answer(
     alloc: Global,
     store: &Store,
-    name: &str,
+    name: &MethodName,
     arguments: &Arguments,
 ) -> Result<Result<Value, Refusal>, AllocError>
     ensures { IfOk result (λ r. Answers (answer (world_of store.now).facts name.now (arguments_data arguments.now)) r) }
 {
-    match MesonMethod::named(name) {
+    match name.of_meson() {
         Some(MesonMethod::Backend) => Value::of_str(alloc, "ninja"),
         Some(MesonMethod::BuildRoot) => build_root_value(alloc, store),
         Some(MesonMethod::CurrentBuildDir) => build_folder(alloc, store),

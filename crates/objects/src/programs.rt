@@ -1,36 +1,15 @@
 //! The methods of a program: the type `external_program` of the page "Reference manual".
 ghost use Rattle.std.specs.Prelude.{◌≡◌, IfOk};
 ghost use Rattle.data.specs.Tables.{Answers};
-ghost use Rattle.objects.specs.Programs.{answer, first_word, full_path, is_found, named};
+ghost use Rattle.objects.specs.Programs.{answer, first_word, full_path, is_found};
 ghost use Rattle.world.specs.Store.{world_of};
 
 use crate::meson_object::source_root;
 use data::{Program, Refusal, Text, Value};
+use language_names::{MethodName, ProgramMethod};
 use operators::path_below;
 use std::alloc::{AllocError, Global};
 use world::Store;
-
-/// A method of programs.
-#[derive(Clone, Copy)]
-pub enum ProgramMethod {
-    Found,
-    /// `full_path` and `path`.
-    FullPath,
-}
-
-impl ProgramMethod {
-    /// The method of a name.
-    pub fn named(name: &str) -> Option<ProgramMethod>
-        ensures { result ≡ named name.now }
-    {
-        match name {
-            "found" => Some(ProgramMethod::Found),
-            "full_path" => Some(ProgramMethod::FullPath),
-            "path" => Some(ProgramMethod::FullPath),
-            _ => None,
-        }
-    }
-}
 
 fn is_found(program: &Program) -> bool
     ensures { result ≡ is_found program.now }
@@ -80,11 +59,11 @@ pub fn program_answer(
     alloc: Global,
     store: &Store,
     program: &Program,
-    name: &str,
+    name: &MethodName,
 ) -> Result<Result<Value, Refusal>, AllocError>
     ensures { IfOk result (λ r. Answers (answer (world_of store.now).facts.settings.source_root program.now name.now) r) }
 {
-    match ProgramMethod::named(name) {
+    match name.of_program() {
         Some(ProgramMethod::Found) => Ok(Ok(Value::Boolean(is_found(program)))),
         Some(ProgramMethod::FullPath) => path_of(alloc, store, program),
         None => Ok(Err(Refusal::UnknownMethod)),

@@ -7,59 +7,17 @@ ghost use Rattle.edge.specs.Texts.{texts};
 ghost use Rattle.targets.specs.LinkedViews.{linked_views};
 ghost use Rattle.targets.specs.View.{target_view};
 ghost use Rattle.world.specs.Store.{world_of};
-ghost use Rattle.objects.specs.Targets.{answer_by, at, build_answer, build_named, custom_answer, custom_named, name_of, name_value};
-ghost use Rattle.objects.specs.Targets.{only_path, output_answer, output_list, output_named, output_of, outputs_from, path_of, path_value};
+ghost use Rattle.objects.specs.Targets.{answer_by, at, build_answer, custom_answer, name_of, name_value};
+ghost use Rattle.objects.specs.Targets.{only_path, output_answer, output_list, output_of, outputs_from, path_of, path_value};
 ghost use Rattle.objects.specs.Targets.{told_of};
 
 use crate::meson_object::build_root;
 use data::{List, Object, Refusal, Value};
+use language_names::{MethodName, TargetMethod};
 use operators::path_below;
 use std::alloc::{AllocError, Global};
 use targets::{Linked, Target, file_path, path_in, target_at};
 use world::Store;
-
-/// A method of targets.
-#[derive(Clone, Copy)]
-pub enum TargetMethod {
-    FullPath,
-    Name,
-    ToList,
-}
-
-impl TargetMethod {
-    /// The method of a name, of an executable or a library.
-    pub fn build_named(name: &str) -> Option<TargetMethod>
-        ensures { result ≡ build_named name.now }
-    {
-        match name {
-            "full_path" => Some(TargetMethod::FullPath),
-            "name" => Some(TargetMethod::Name),
-            _ => None,
-        }
-    }
-
-    /// The method of a name, of a custom target.
-    pub fn custom_named(name: &str) -> Option<TargetMethod>
-        ensures { result ≡ custom_named name.now }
-    {
-        match name {
-            "full_path" => Some(TargetMethod::FullPath),
-            "name" => Some(TargetMethod::Name),
-            "to_list" => Some(TargetMethod::ToList),
-            _ => None,
-        }
-    }
-
-    /// The method of a name, of an output of a custom target.
-    pub fn output_named(name: &str) -> Option<TargetMethod>
-        ensures { result ≡ output_named name.now }
-    {
-        match name {
-            "full_path" => Some(TargetMethod::FullPath),
-            _ => None,
-        }
-    }
-}
 
 // ---- what a target has
 
@@ -226,11 +184,11 @@ pub fn build_answer(
     alloc: Global,
     store: &Store,
     number: usize,
-    name: &str,
+    name: &MethodName,
 ) -> Result<Result<Value, Refusal>, AllocError>
     ensures { IfOk result (λ r. Answers (build_answer (world_of store.now).facts number name.now) r) }
 {
-    answer_by(alloc, store, TargetMethod::build_named(name), number, 1)
+    answer_by(alloc, store, name.of_build_target(), number, 1)
 }
 
 /// What the method with a name gives for a custom target: `name`, `full_path`, the absolute path of its only output (E9 where it has
@@ -240,17 +198,11 @@ pub fn custom_answer(
     store: &Store,
     number: usize,
     outputs: usize,
-    name: &str,
+    name: &MethodName,
 ) -> Result<Result<Value, Refusal>, AllocError>
     ensures { IfOk result (λ r. Answers (custom_answer (world_of store.now).facts number outputs name.now) r) }
 {
-    answer_by(
-        alloc,
-        store,
-        TargetMethod::custom_named(name),
-        number,
-        outputs,
-    )
+    answer_by(alloc, store, name.of_custom_target(), number, outputs)
 }
 
 /// What the method with a name gives for an output of a custom target: `full_path`, its absolute path.
@@ -259,11 +211,11 @@ pub fn output_answer(
     store: &Store,
     target: usize,
     output: usize,
-    name: &str,
+    name: &MethodName,
 ) -> Result<Result<Value, Refusal>, AllocError>
     ensures { IfOk result (λ r. Answers (output_answer (world_of store.now).facts target output name.now) r) }
 {
-    match TargetMethod::output_named(name) {
+    match name.of_output() {
         Some(_) => {
             let path = output_at(alloc, store.project().targets(), target, output)?;
             path_value(alloc, build_root(store), path)

@@ -1,4 +1,4 @@
-use Rattle.std.proofs.Common.{ap, sym, ◌∙◌}
+use Rattle.std.proofs.Common.{Some, ap, sym, ◌∙◌}
 use Rattle.arguments.specs.Arguments.{arguments_data}
 use Rattle.world.proofs.Answering.{carries_as, carries_refuse}
 use Rattle.compiler_methods.specs.Methods.{called_by, compiler_method}
@@ -7,9 +7,11 @@ use Rattle.compiler_methods.proofs.calling.compiler_method.Goals as goal
 pub returns-in-Some : goal.returns-in-Some
 unfolding compiler_method
 returns-in-Some g c =
-    carries_as (ap (λ m. called_by m c.args.name.now (arguments_data c.args.arguments.now)) (sym c.in-Some.is ∙ c.named.ensures)) c.called.ensures
+    let a = arguments_data c.args.arguments.now in
+    carries_as (ap (λ n. called_by (Some c.in-Some.method) n a) c.as_str.ensures
+    ∙ ap (λ m. called_by m c.args.name.now a) (sym c.in-Some.is ∙ c.of_compiler.ensures)) c.called.ensures
 
 pub returns-in-None : goal.returns-in-None
 unfolding compiler_method
 returns-in-None g c =
-    carries_as (ap (λ m. called_by m c.args.name.now (arguments_data c.args.arguments.now)) (sym c.in-None.is ∙ c.named.ensures)) (carries_refuse c.refuse.ensures)
+    carries_as (ap (λ m. called_by m c.args.name.now (arguments_data c.args.arguments.now)) (sym c.in-None.is ∙ c.of_compiler.ensures)) (carries_refuse c.refuse.ensures)

@@ -7,9 +7,9 @@ use Rattle.configuration_calls.proofs.methods.configuration_method.Goals as goal
 pub returns-in-Some : goal.returns-in-Some
 unfolding configuration_method
 returns-in-Some g c =
-    carries_as (ap (λ m. does_if m c.args.number (arguments_data c.args.arguments.now)) (sym c.in-Some.is ∙ c.named.ensures)) c.fitting_act.ensures
+    carries_as (ap (λ m. does_if m c.args.number (arguments_data c.args.arguments.now)) (sym c.in-Some.is ∙ c.of_configuration.ensures)) c.fitting_act.ensures
 
 pub returns-in-None : goal.returns-in-None
 unfolding configuration_method
 returns-in-None g c =
-    carries_as (ap (λ m. does_if m c.args.number (arguments_data c.args.arguments.now)) (sym c.in-None.is ∙ c.named.ensures)) (carries_refuse c.refuse.ensures)
+    carries_as (ap (λ m. does_if m c.args.number (arguments_data c.args.arguments.now)) (sym c.in-None.is ∙ c.of_configuration.ensures)) (carries_refuse c.refuse.ensures)

@@ -84,7 +84,7 @@ pub rare-dictionary-requires : goal.rare-dictionary-requires
 rare-dictionary-requires g t c κs lives = let reach : above above_entry c.deref-in-Dictionary.result.now ≤ c.args.node = rw c.deref-in-Dictionary.ensures.value (entries_reach c.args.node c.in-Dictionary.entries.items (parts_at c.args.code.now c.args.node c.index.result.now (flat.Dictionary c.in-Dictionary.entries c.in-Dictionary.line) c.requires.here c.index.ensures c.in-Dictionary.is)) in (omega arith, (lives.0, (lives.1.0, (lives.1.1, (omega arith, c.requires.room)))))
 
 pub rare-arguments-requires : goal.rare-arguments-requires
-rare-arguments-requires g t c κs lives = let reach : above above_argument c.deref-in-Call-2.result.now ≤ c.args.node = rw (c.deref-in-Call-2.ensures.value ∙ ap (λ (x : CallNode). x.arguments.items) c.deref-call.ensures) (arguments_reach c.args.node c.in-Call.call.value.arguments.items (parts_at c.args.code.now c.args.node c.index.result.now (flat.Call c.in-Call.call c.in-Call.line) c.requires.here c.index.ensures c.in-Call.is)) in (omega arith, (lives.0, (lives.1.0, (lives.1.1, (omega arith, c.requires.room)))))
+rare-arguments-requires g t c κs lives = let reach : above above_argument c.deref-in-Call.result.now ≤ c.args.node = rw (c.deref-in-Call.ensures.value ∙ ap (λ (x : CallNode). x.arguments.items) c.deref-call.ensures) (arguments_reach c.args.node c.in-Call.call.value.arguments.items (parts_at c.args.code.now c.args.node c.index.result.now (flat.Call c.in-Call.call c.in-Call.line) c.requires.here c.index.ensures c.in-Call.is)) in (omega arith, (lives.0, (lives.1.0, (lives.1.1, (omega arith, c.requires.room)))))
 
 pub compound-chain-requires : goal.compound-chain-requires
 compound-chain-requires g t c κs lives = let reach : max (suc c.in-Chain.first) (above above_operand c.deref-in-Chain.result.now) ≤ c.args.node = rw c.deref-in-Chain.ensures.value (first_reach c.args.node c.in-Chain.first above_operand c.in-Chain.others.items (operand_within c.args.node) (operands_reach c.args.node c.in-Chain.others.items) (parts_at c.args.code.now c.args.node c.index.result.now (flat.Chain c.in-Chain.first c.in-Chain.others c.in-Chain.line) c.requires.here c.index.ensures c.in-Chain.is)) in (omega arith, (lives.0, (lives.1.0, (lives.1.1, (omega arith, c.requires.room)))))
@@ -105,40 +105,36 @@ pub rare-returns-in_err-function-in-Call-clause-gives : goal.rare-returns-in_err
 rare-returns-in_err-function-in-Call-clause-gives g t c = λ files left ts hold reads.
     let line = c.in-Call.line in
     comes_as (ap (value_of (folder left)) (sym (opened reads c.args.node c.index.result.now (flat.Call c.in-Call.call line) c.requires.here c.index.ensures c.in-Call.is)))
-    (comes_as (ap (λ (x : CallNode). value_of (folder left) (FunctionTree (string_bytes x.name) (arguments (map (argument_at ts) x.arguments.items)) line)) c.deref-call.ensures)
-    (comes_as (ap (λ (name : List ℕ). value_of (folder left) (FunctionTree name (arguments (map (argument_at ts) c.deref-call.result.now.arguments.items)) line)) c.deref-in-Call.ensures)
-    (comes_stop (c.in_err-function-in-Call.ensures.gives files hold) c.from_residual-in_err-function-in-Call.ensures.1)))
+    (comes_as (ap (λ (x : CallNode). value_of (folder left) (FunctionTree x.name (arguments (map (argument_at ts) x.arguments.items)) line)) c.deref-call.ensures)
+    (comes_stop (c.in_err-function-in-Call.ensures.gives files hold) c.from_residual-in_err-function-in-Call.ensures.1))
 
 pub rare-returns-in_err-arguments-in-Call-clause-gives : goal.rare-returns-in_err-arguments-in-Call-clause-gives
 rare-returns-in_err-arguments-in-Call-clause-gives g t c = λ files left ts hold reads.
     let line = c.in-Call.line in
     comes_as (ap (value_of (folder left)) (sym (opened reads c.args.node c.index.result.now (flat.Call c.in-Call.call line) c.requires.here c.index.ensures c.in-Call.is)))
-    (comes_as (ap (λ (x : CallNode). value_of (folder left) (FunctionTree (string_bytes x.name) (arguments (map (argument_at ts) x.arguments.items)) line)) c.deref-call.ensures)
-    (comes_as (ap (λ (name : List ℕ). value_of (folder left) (FunctionTree name (arguments (map (argument_at ts) c.deref-call.result.now.arguments.items)) line)) c.deref-in-Call.ensures)
-    (comes_as (ap (λ (xs : List ArgumentNode). value_of (folder left) (FunctionTree c.deref-in-Call.result.now (arguments (map (argument_at ts) xs)) line)) c.deref-in-Call-2.ensures.value)
+    (comes_as (ap (λ (x : CallNode). value_of (folder left) (FunctionTree x.name (arguments (map (argument_at ts) x.arguments.items)) line)) c.deref-call.ensures)
+    (comes_as (ap (λ (xs : List ArgumentNode). value_of (folder left) (FunctionTree c.deref-call.result.now.name (arguments (map (argument_at ts) xs)) line)) c.deref-in-Call.ensures.value)
     (comes_then (c.in_ok-function-in-Call.ensures.gives files hold)
-    (comes_halt (c.in_err-arguments-in-Call.ensures.gives files left ts hold reads) c.from_residual-in_err-arguments-in-Call.ensures.1)))))
+    (comes_halt (c.in_err-arguments-in-Call.ensures.gives files left ts hold reads) c.from_residual-in_err-arguments-in-Call.ensures.1))))
 
 pub rare-returns-in_err-called_inside-in-Call-clause-gives : goal.rare-returns-in_err-called_inside-in-Call-clause-gives
 rare-returns-in_err-called_inside-in-Call-clause-gives g t c = λ files left ts hold reads.
     let line = c.in-Call.line in
     let with = (c.in_ok-arguments-in-Call.ensures.gives files left ts hold reads).comes in
     comes_as (ap (value_of (folder left)) (sym (opened reads c.args.node c.index.result.now (flat.Call c.in-Call.call line) c.requires.here c.index.ensures c.in-Call.is)))
-    (comes_as (ap (λ (x : CallNode). value_of (folder left) (FunctionTree (string_bytes x.name) (arguments (map (argument_at ts) x.arguments.items)) line)) c.deref-call.ensures)
-    (comes_as (ap (λ (name : List ℕ). value_of (folder left) (FunctionTree name (arguments (map (argument_at ts) c.deref-call.result.now.arguments.items)) line)) c.deref-in-Call.ensures)
-    (comes_as (ap (λ (xs : List ArgumentNode). value_of (folder left) (FunctionTree c.deref-in-Call.result.now (arguments (map (argument_at ts) xs)) line)) c.deref-in-Call-2.ensures.value)
+    (comes_as (ap (λ (x : CallNode). value_of (folder left) (FunctionTree x.name (arguments (map (argument_at ts) x.arguments.items)) line)) c.deref-call.ensures)
+    (comes_as (ap (λ (xs : List ArgumentNode). value_of (folder left) (FunctionTree c.deref-call.result.now.name (arguments (map (argument_at ts) xs)) line)) c.deref-in-Call.ensures.value)
     (comes_then (c.in_ok-function-in-Call.ensures.gives files hold) (comes_then with
-    (comes_same (c.in_err-called_inside-in-Call.ensures.gives files left with.holds) c.from_residual-in_err-called_inside-in-Call.ensures.1))))))
+    (comes_same (c.in_err-called_inside-in-Call.ensures.gives files left with.holds) c.from_residual-in_err-called_inside-in-Call.ensures.1)))))
 
 pub rare-returns-in-Call-clause-gives : goal.rare-returns-in-Call-clause-gives
 rare-returns-in-Call-clause-gives g t c = λ files left ts hold reads.
     let line = c.in-Call.line in
     let with = (c.in_ok-arguments-in-Call.ensures.gives files left ts hold reads).comes in
     comes_as (ap (value_of (folder left)) (sym (opened reads c.args.node c.index.result.now (flat.Call c.in-Call.call line) c.requires.here c.index.ensures c.in-Call.is)))
-    (comes_as (ap (λ (x : CallNode). value_of (folder left) (FunctionTree (string_bytes x.name) (arguments (map (argument_at ts) x.arguments.items)) line)) c.deref-call.ensures)
-    (comes_as (ap (λ (name : List ℕ). value_of (folder left) (FunctionTree name (arguments (map (argument_at ts) c.deref-call.result.now.arguments.items)) line)) c.deref-in-Call.ensures)
-    (comes_as (ap (λ (xs : List ArgumentNode). value_of (folder left) (FunctionTree c.deref-in-Call.result.now (arguments (map (argument_at ts) xs)) line)) c.deref-in-Call-2.ensures.value)
-    (comes_then (c.in_ok-function-in-Call.ensures.gives files hold) (comes_then with (c.in_ok-called_inside-in-Call.ensures.gives files left with.holds))))))
+    (comes_as (ap (λ (x : CallNode). value_of (folder left) (FunctionTree x.name (arguments (map (argument_at ts) x.arguments.items)) line)) c.deref-call.ensures)
+    (comes_as (ap (λ (xs : List ArgumentNode). value_of (folder left) (FunctionTree c.deref-call.result.now.name (arguments (map (argument_at ts) xs)) line)) c.deref-in-Call.ensures.value)
+    (comes_then (c.in_ok-function-in-Call.ensures.gives files hold) (comes_then with (c.in_ok-called_inside-in-Call.ensures.gives files left with.holds)))))
 
 pub compound-returns-in_err-chain-in-Chain-clause-gives : goal.compound-returns-in_err-chain-in-Chain-clause-gives
 compound-returns-in_err-chain-in-Chain-clause-gives g t c = λ files left ts hold reads. comes_as (ap (value_of (folder left)) (sym (opened reads c.args.node c.index.result.now (flat.Chain c.in-Chain.first c.in-Chain.others c.in-Chain.line) c.requires.here c.index.ensures c.in-Chain.is))) (comes_as (ap (λ (xs : List OperandNode). value_of (folder left) (ChainTree (tree_at ts c.in-Chain.first) (operands (map (operand_at ts) xs)) c.in-Chain.line)) c.deref-in-Chain.ensures.value) (comes_same (c.in_err-chain-in-Chain.ensures.gives files left ts hold reads) c.from_residual-in_err-chain-in-Chain.ensures.1))
@@ -405,35 +401,29 @@ rare-returns-in-Prefix-clause-gives g t c = λ files left ts hold reads.
 pub link-returns-in_err-method_at-in-Method-clause-gives : goal.link-returns-in_err-method_at-in-Method-clause-gives
 link-returns-in_err-method_at-in-Method-clause-gives g t c = λ files left ts hold reads.
     comes_as (ap (λ (x : LinkNode). link_of (folder left) c.args.line (data_of c.args.whole) (link_at ts x)) (sym c.in-Method.is))
-    (comes_as (ap (λ (name : List ℕ). method_of c.args.line (data_of c.args.whole) name (arguments_of (folder left) no_arguments (arguments (map (argument_at ts) c.in-Method.arguments.items)))) c.deref.ensures)
-    (comes_stop (c.in_err-method_at-in-Method.ensures.gives files hold) c.from_residual.ensures.1))
+    (comes_stop (c.in_err-method_at-in-Method.ensures.gives files hold) c.from_residual.ensures.1)
 
 pub link-returns-in_err-arguments-in-Method-clause-gives : goal.link-returns-in_err-arguments-in-Method-clause-gives
 link-returns-in_err-arguments-in-Method-clause-gives g t c = λ files left ts hold reads.
     comes_as (ap (λ (x : LinkNode). link_of (folder left) c.args.line (data_of c.args.whole) (link_at ts x)) (sym c.in-Method.is))
-    (comes_as (ap (λ (name : List ℕ). method_of c.args.line (data_of c.args.whole) name (arguments_of (folder left) no_arguments (arguments (map (argument_at ts) c.in-Method.arguments.items)))) c.deref.ensures)
-    (comes_as (ap (λ (xs : List ArgumentNode). method_of c.args.line (data_of c.args.whole) c.deref.result.now (arguments_of (folder left) no_arguments (arguments (map (argument_at ts) xs)))) c.deref-in-Method.ensures.value)
-    (comes_then (c.in_ok-method_at-in-Method.ensures.gives files hold) (comes_halt (c.in_err-arguments-in-Method.ensures.gives files left ts hold reads) c.from_residual-in_err-arguments-in-Method.ensures.1))))
+    (comes_as (ap (λ (xs : List ArgumentNode). method_of c.args.line (data_of c.args.whole) c.in-Method.name (arguments_of (folder left) no_arguments (arguments (map (argument_at ts) xs)))) c.deref.ensures.value)
+    (comes_then (c.in_ok-method_at-in-Method.ensures.gives files hold) (comes_halt (c.in_err-arguments-in-Method.ensures.gives files left ts hold reads) c.from_residual-in_err-arguments-in-Method.ensures.1)))
 
 pub link-returns-in_err-given-in-Method-clause-gives : goal.link-returns-in_err-given-in-Method-clause-gives
 link-returns-in_err-given-in-Method-clause-gives g t c = λ files left ts hold reads.
     let asked = (c.in_ok-arguments-in-Method.ensures.gives files left ts hold reads).comes in
     comes_as (ap (λ (x : LinkNode). link_of (folder left) c.args.line (data_of c.args.whole) (link_at ts x)) (sym c.in-Method.is))
-    (comes_as (ap (λ (name : List ℕ). method_of c.args.line (data_of c.args.whole) name (arguments_of (folder left) no_arguments (arguments (map (argument_at ts) c.in-Method.arguments.items)))) c.deref.ensures)
-    (comes_as (ap (λ (xs : List ArgumentNode). method_of c.args.line (data_of c.args.whole) c.deref.result.now (arguments_of (folder left) no_arguments (arguments (map (argument_at ts) xs)))) c.deref-in-Method.ensures.value)
+    (comes_as (ap (λ (xs : List ArgumentNode). method_of c.args.line (data_of c.args.whole) c.in-Method.name (arguments_of (folder left) no_arguments (arguments (map (argument_at ts) xs)))) c.deref.ensures.value)
     (comes_then (c.in_ok-method_at-in-Method.ensures.gives files hold) (comes_then asked
-    (comes_as (ap (λ (name : List ℕ). method_called c.args.line (data_of c.args.whole) name (arguments_data c.in_ok-arguments-in-Method.arguments)) (c.deref-in-Method-2.ensures ∙ sym c.deref.ensures))
-    (comes_last (c.in_err-given-in-Method.ensures.gives files asked.holds) c.from_residual-in_err-given-in-Method.ensures.1))))))
+    (comes_last (c.in_err-given-in-Method.ensures.gives files asked.holds) c.from_residual-in_err-given-in-Method.ensures.1))))
 
 pub link-returns-in-Method-clause-gives : goal.link-returns-in-Method-clause-gives
 link-returns-in-Method-clause-gives g t c = λ files left ts hold reads.
     let asked = (c.in_ok-arguments-in-Method.ensures.gives files left ts hold reads).comes in
     comes_given (given_as (ap (λ (x : LinkNode). link_of (folder left) c.args.line (data_of c.args.whole) (link_at ts x)) (sym c.in-Method.is))
-    (given_as (ap (λ (name : List ℕ). method_of c.args.line (data_of c.args.whole) name (arguments_of (folder left) no_arguments (arguments (map (argument_at ts) c.in-Method.arguments.items)))) c.deref.ensures)
-    (given_as (ap (λ (xs : List ArgumentNode). method_of c.args.line (data_of c.args.whole) c.deref.result.now (arguments_of (folder left) no_arguments (arguments (map (argument_at ts) xs)))) c.deref-in-Method.ensures.value)
+    (given_as (ap (λ (xs : List ArgumentNode). method_of c.args.line (data_of c.args.whole) c.in-Method.name (arguments_of (folder left) no_arguments (arguments (map (argument_at ts) xs)))) c.deref.ensures.value)
     (given_then (c.in_ok-method_at-in-Method.ensures.gives files hold) (given_then asked
-    (given_as (ap (λ (name : List ℕ). method_called c.args.line (data_of c.args.whole) name (arguments_data c.in_ok-arguments-in-Method.arguments)) (c.deref-in-Method-2.ensures ∙ sym c.deref.ensures))
-    (c.in_ok-given-in-Method.ensures.gives files asked.holds)))))))
+    (c.in_ok-given-in-Method.ensures.gives files asked.holds)))))
 
 pub link-returns-in_err-at-in-Index-clause-gives : goal.link-returns-in_err-at-in-Index-clause-gives
 link-returns-in_err-at-in-Index-clause-gives g t c = λ files left ts hold reads.

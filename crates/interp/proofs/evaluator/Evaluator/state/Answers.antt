@@ -30,7 +30,7 @@ perform-requires-clause-here g c =
     (parts_at c.args.code.now c.args.value c.index.result.now (nodes.Call c.in-Call.call c.in-Call.line) c.requires.here c.index.ensures c.in-Call.is) in
     let near : above above_argument items ≤ length c.args.code.now.nodes.items = omega (arith, reach, c.requires.here) in
     subst (λ (xs : List ArgumentNode). above above_argument xs ≤ length c.args.code.now.nodes.items)
-    (sym (c.deref-in-Call.ensures.value ∙ ap (λ (x : CallNode). x.arguments.items) c.deref-call.ensures)) near
+    (sym (c.deref.ensures.value ∙ ap (λ (x : CallNode). x.arguments.items) c.deref-call.ensures)) near
 
 pub returns-in_err-push-clause-gives : goal.returns-in_err-push-clause-gives
 returns-in_err-push-clause-gives g c = λ few files rests table hold stacked made.
@@ -45,9 +45,9 @@ returns-in-Ok-Ends-clause-gives g c = λ few files rests table hold stacked made
     let two = stacked_top fs gs rests frames.End End c.in_ok-push.ensures.items stacked refl in
     let ts = expressions_by table c.args.code.now in
     let done = λ (n : List ℕ) (xs : List ArgumentNode). performed into c.in-Call.line n (arguments (map (argument_at ts) xs)) in
-    let same = ap (λ (n : List ℕ). done n c.deref-in-Call.result.now) c.deref.ensures ∙ ap (done (string_bytes c.deref-call.result.now.name)) c.deref-in-Call.ensures.value
-    ∙ ap (λ (x : CallNode). done (string_bytes x.name) x.arguments.items) c.deref-call.ensures in
-    let whole = behind_top rests End (next (done (string_bytes c.in-Call.call.value.name) c.in-Call.call.value.arguments.items) (λ w. by_way into w)) ∙ ap (λ (t : ExpressionTree). behind_all rests (stated into t)) (sym tree) in
+    let same = ap (done c.deref-call.result.now.name) c.deref.ensures.value
+    ∙ ap (λ (x : CallNode). done x.name x.arguments.items) c.deref-call.ensures in
+    let whole = behind_top rests End (next (done c.in-Call.call.value.name c.in-Call.call.value.arguments.items) (λ w. by_way into w)) ∙ ap (λ (t : ExpressionTree). behind_all rests (stated into t)) (sym tree) in
     let p = given_as same (c.in-Ok-Ends.ensures.gives files (bounds few c.args.left) ts hold (reads_at refl made)).comes in
     let is = ap (λ (w : Way). behind_all (rests ++ End ∷ []) (by_way into (way_view w))) (sym c.in-Ok-Ends.field-0-is) in
     moves_as whole (moves_then (Ok c.in-Ok-Ends.flow) (leads_under (rests ++ End ∷ []) (leads_next {view = way_view} {others = λ w. by_way into w} p))
@@ -62,9 +62,9 @@ returns-in-Ok-Enters-clause-gives g c = λ few files rests table hold stacked ma
     let two = stacked_top fs gs rests frames.End End c.in_ok-push.ensures.items stacked refl in
     let ts = expressions_by table c.args.code.now in
     let done = λ (n : List ℕ) (xs : List ArgumentNode). performed into c.in-Call.line n (arguments (map (argument_at ts) xs)) in
-    let same = ap (λ (n : List ℕ). done n c.deref-in-Call.result.now) c.deref.ensures ∙ ap (done (string_bytes c.deref-call.result.now.name)) c.deref-in-Call.ensures.value
-    ∙ ap (λ (x : CallNode). done (string_bytes x.name) x.arguments.items) c.deref-call.ensures in
-    let whole = behind_top rests End (next (done (string_bytes c.in-Call.call.value.name) c.in-Call.call.value.arguments.items) (λ w. by_way into w)) ∙ ap (λ (t : ExpressionTree). behind_all rests (stated into t)) (sym tree) in
+    let same = ap (done c.deref-call.result.now.name) c.deref.ensures.value
+    ∙ ap (λ (x : CallNode). done x.name x.arguments.items) c.deref-call.ensures in
+    let whole = behind_top rests End (next (done c.in-Call.call.value.name c.in-Call.call.value.arguments.items) (λ w. by_way into w)) ∙ ap (λ (t : ExpressionTree). behind_all rests (stated into t)) (sym tree) in
     let p = given_as same (c.in-Ok-Enters.ensures.gives files (bounds few c.args.left) ts hold (reads_at refl made)).comes in
     let is = ap (λ (t : List ℕ). behind_all (rests ++ End ∷ []) (into t)) c.deref-in-Ok-Enters.ensures
     ∙ ap (λ (w : Way). behind_all (rests ++ End ∷ []) (by_way into (way_view w))) (sym c.in-Ok-Enters.field-0-is) in
@@ -80,9 +80,9 @@ returns-in-Err-Stops-clause-gives g c = λ few files rests table hold stacked ma
     let two = stacked_top fs gs rests frames.End End c.in_ok-push.ensures.items stacked refl in
     let ts = expressions_by table c.args.code.now in
     let done = λ (n : List ℕ) (xs : List ArgumentNode). performed into c.in-Call.line n (arguments (map (argument_at ts) xs)) in
-    let same = ap (λ (n : List ℕ). done n c.deref-in-Call.result.now) c.deref.ensures ∙ ap (done (string_bytes c.deref-call.result.now.name)) c.deref-in-Call.ensures.value
-    ∙ ap (λ (x : CallNode). done (string_bytes x.name) x.arguments.items) c.deref-call.ensures in
-    let whole = behind_top rests End (next (done (string_bytes c.in-Call.call.value.name) c.in-Call.call.value.arguments.items) (λ w. by_way into w)) ∙ ap (λ (t : ExpressionTree). behind_all rests (stated into t)) (sym tree) in
+    let same = ap (done c.deref-call.result.now.name) c.deref.ensures.value
+    ∙ ap (λ (x : CallNode). done x.name x.arguments.items) c.deref-call.ensures in
+    let whole = behind_top rests End (next (done c.in-Call.call.value.name c.in-Call.call.value.arguments.items) (λ w. by_way into w)) ∙ ap (λ (t : ExpressionTree). behind_all rests (stated into t)) (sym tree) in
     let p = given_as same (halted_stops c.in-Err-Stops.field-0-is (c.in-Err-Stops.ensures.gives files (bounds few c.args.left) ts hold (reads_at refl made))) in
     moves_as whole (moves_given gs (rests ++ End ∷ []) (Err c.in-Err-Stops.stop) two (given_stop p refl))
 
@@ -95,9 +95,9 @@ returns-in-Err-Enters-clause-gives g c = λ few files rests table hold stacked m
     let two = stacked_top fs gs rests frames.End End c.in_ok-push.ensures.items stacked refl in
     let ts = expressions_by table c.args.code.now in
     let done = λ (n : List ℕ) (xs : List ArgumentNode). performed into c.in-Call.line n (arguments (map (argument_at ts) xs)) in
-    let same = ap (λ (n : List ℕ). done n c.deref-in-Call.result.now) c.deref.ensures ∙ ap (done (string_bytes c.deref-call.result.now.name)) c.deref-in-Call.ensures.value
-    ∙ ap (λ (x : CallNode). done (string_bytes x.name) x.arguments.items) c.deref-call.ensures in
-    let whole = behind_top rests End (next (done (string_bytes c.in-Call.call.value.name) c.in-Call.call.value.arguments.items) (λ w. by_way into w)) ∙ ap (λ (t : ExpressionTree). behind_all rests (stated into t)) (sym tree) in
+    let same = ap (done c.deref-call.result.now.name) c.deref.ensures.value
+    ∙ ap (λ (x : CallNode). done x.name x.arguments.items) c.deref-call.ensures in
+    let whole = behind_top rests End (next (done c.in-Call.call.value.name c.in-Call.call.value.arguments.items) (λ w. by_way into w)) ∙ ap (λ (t : ExpressionTree). behind_all rests (stated into t)) (sym tree) in
     let l = leads_other same (halted_enters c.in-Err-Enters.field-0-is (c.in-Err-Enters.ensures.gives files (bounds few c.args.left) ts hold (reads_at refl made))) in
     moves_as whole (moves_then c.enter_inside.result (leads_under (rests ++ End ∷ []) (leads_left (bounds few c.args.left) c.in-Err-Enters.entry.value {others = λ w. by_way into w} l))
     (c.enter_inside.ensures.gives few files (rests ++ End ∷ []) l.holds (stacked_on gs (rests ++ End ∷ []) l.continues.written.names two)))

@@ -1,0 +1,4 @@
+pub mod Functions
+pub mod MethodNames
+pub mod ObjectMethods
+pub mod ValueMethods
