@@ -6,16 +6,6 @@ use crate::names::Names;
 use crate::node::Node;
 use std::alloc::{AllocError, Global};
 
-/// A number in 32 bits. A file is too small for numbers that they don't hold; where one has them, memory for its code is refused.
-pub fn narrow(number: usize) -> Result<u32, AllocError>
-    ensures { IfOk result (λ n. n ≡ number) }
-{
-    match u32::try_from(number) {
-        Ok(narrow) => Ok(narrow),
-        Err(_) => Err(AllocError),
-    }
-}
-
 /// The nodes so far, with the table of the names that they use.
 #[derive(Drop)]
 pub struct Draft {

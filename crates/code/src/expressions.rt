@@ -3,12 +3,13 @@ ghost use Rattle.std.specs.Prelude.{◌≡◌, IfOk, IsTrue, map, length, option
 ghost use Rattle.grammar.specs.ExpressionTree.{NameTree, LiteralTree, ListTree, DictionaryTree, FunctionTree, PostfixTree, PrefixTree, ChainTree, TernaryTree, expressions, entries as entry_trees, argument_trees, links as link_trees, operands as operand_trees, expression_of, entry_of, argument_of, operand_of, link_of};
 ghost use Rattle.code.specs.Nodes.{argument_at, link_at, argument_within, link_within};
 
-use crate::draft::{Draft, narrow};
+use crate::draft::Draft;
 use crate::literal::LiteralNode;
 use crate::node::{ArgumentNode, CallNode, EntryNode, LinkNode, Node, OperandNode};
 use data::Text;
 use grammar::tree::{Argument, Entry, Expression, Link, Literal, Operand, Prefix};
 use language_names::{FunctionName, MethodName};
+use lexer::token::narrow;
 use std::alloc::{AllocError, Global};
 
 // The name of an argument, where it has one. For one that is too long for a text, which no file has, memory is refused.

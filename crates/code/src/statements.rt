@@ -7,10 +7,10 @@ ghost use Rattle.grammar.specs.ReadingStatements.{set_tree};
 ghost use Rattle.grammar.specs.Tree.{ValueTree, ForeachTree, IfTree, statement_of, branch_of, branches as branch_trees, statements};
 ghost use Rattle.code.specs.Statements.{statement_at, name_at, second_within, set_node};
 
-use crate::draft::narrow;
 use crate::file_draft::FileDraft;
 use crate::node::{BranchNode, ForeachNode, IfNode, StatementNode};
 use grammar::tree::{Branch, Expression, Statement};
+use lexer::token::narrow;
 use std::alloc::AllocError;
 
 // The node that gives a name a value, or adds one to what it has.

@@ -126,7 +126,7 @@ fn line_of(source: &str, tokens: &[Token<'_>], left: usize) -> usize
     ensures { result ≡ line_of source.now (lexemes tokens.now) (length tokens.now - left) }
 {
     if left > 0 {
-        tokens[tokens.len() - left].line
+        tokens[tokens.len() - left].line as usize
     } else {
         1 + newlines(source.as_bytes())
     }

@@ -13,7 +13,7 @@ use crate::gap::gap_length;
 use crate::number::number_at;
 use crate::string::{format_at, string_at};
 use crate::symbol::symbol_at;
-use crate::token::{Kind, Token};
+use crate::token::{Kind, Token, narrow};
 use crate::word::word_at;
 use std::alloc::Global;
 
@@ -89,7 +89,12 @@ pub fn tokens(alloc: Global, source: &str) -> Result<Vec<Token<'_>>, SyntaxError
             return Err(SyntaxError::Fault(SyntaxFault { kind, line }));
         };
         let (text, after) = here.split_at(length);
-        tokens.push(Token { kind, text, line })?;
+        let at = narrow(line)?;
+        tokens.push(Token {
+            kind,
+            text,
+            line: at,
+        })?;
         line += newlines(text.as_bytes());
         depth = depth_after(kind, depth);
         rest = after;

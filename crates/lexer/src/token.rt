@@ -1,6 +1,8 @@
 //! The tokens of a source.
 
-ghost use Rattle.std.specs.Prelude.{◌≡◌};
+ghost use Rattle.std.specs.Prelude.{◌≡◌, IfOk};
+
+use std::alloc::AllocError;
 
 /// What a token is.
 #[derive(Clone, Copy, PartialEq, Eq, Debug)]
@@ -72,10 +74,10 @@ pub enum Kind {
 #[derive(Clone, Copy, Debug)]
 pub struct Token<'a> {
     pub kind: Kind,
+    /// The line, from 1, of its first byte. It lies in the room beside the kind: a file may have a token for each byte.
+    pub line: u32,
     /// As it stands in the source, a string with its quotes.
     pub text: &'a str,
-    /// The line, from 1, of its first byte.
-    pub line: usize,
 }
 
 impl Token<'_> {
@@ -86,5 +88,15 @@ impl Token<'_> {
         ensures { result ≡ is self.now.kind kind }
     {
         self.kind == kind
+    }
+}
+
+/// A number in 32 bits. A file is too small for numbers that they don't hold; where one has them, memory is refused.
+pub fn narrow(number: usize) -> Result<u32, AllocError>
+    ensures { IfOk result (λ n. n ≡ number) }
+{
+    match u32::try_from(number) {
+        Ok(narrow) => Ok(narrow),
+        Err(_) => Err(AllocError),
     }
 }

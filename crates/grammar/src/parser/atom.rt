@@ -37,14 +37,14 @@ fn single_of<'a>(token: &Token<'a>) -> Option<Expression<'a>>
     if token.is(Kind::Name) {
         return Some(Expression::Name {
             name: token.text,
-            line: token.line,
+            line: token.line as usize,
         });
     }
     let literal = literal_of(token.kind)?;
     Some(Expression::Literal {
         literal,
         text: token.text,
-        line: token.line,
+        line: token.line as usize,
     })
 }
 
@@ -138,7 +138,7 @@ impl<'a> Parser<'_, 'a> {
         let items = self.closed(Kind::CloseBracket, items)?;
         Ok(Expression::List {
             items: fitted(items),
-            line: open.line,
+            line: open.line as usize,
         })
     }
 
@@ -168,7 +168,7 @@ impl<'a> Parser<'_, 'a> {
         let entries = self.closed(Kind::CloseBrace, entries)?;
         Ok(Expression::Dictionary {
             entries: fitted(entries),
-            line: open.line,
+            line: open.line as usize,
         })
     }
 
@@ -191,7 +191,7 @@ impl<'a> Parser<'_, 'a> {
             Ok(Expression::Call {
                 name: name.text,
                 arguments,
-                line: name.line,
+                line: name.line as usize,
             })
         } else if self.begins(Kind::OpenParenthesis) {
             let (_, levels) = self.enter(Kind::OpenParenthesis, levels)?;

@@ -82,7 +82,7 @@ impl<'a> Parser<'_, 'a> {
         ensures { result ≡ first_line (lexemes self.now.rest.now) }
     {
         match self.rest {
-            [token, ..] => token.line,
+            [token, ..] => token.line as usize,
             [] => 0,
         }
     }

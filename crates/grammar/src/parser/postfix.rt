@@ -147,7 +147,7 @@ impl<'a> Parser<'_, 'a> {
             let (word, levels) = self.enter(word_of(prefix), levels)?;
             let value = self.unary(alloc, levels, ternaries)?;
             let value = boxed(alloc, value)?;
-            let line = word.line;
+            let line = word.line as usize;
             return Ok(Expression::Prefix {
                 prefix,
                 value,

@@ -23,13 +23,13 @@ fn set<'a>(name: Token<'a>, adds: bool, value: Box<Expression<'a>>) -> Statement
     if adds {
         Statement::Append {
             name: name.text,
-            line: name.line,
+            line: name.line as usize,
             value,
         }
     } else {
         Statement::Assign {
             name: name.text,
-            line: name.line,
+            line: name.line as usize,
             value,
         }
     }
@@ -116,7 +116,9 @@ impl<'a> Parser<'_, 'a> {
     {
         if inside {
             let word = self.take(Kind::Break)?;
-            Ok(Statement::Break { line: word.line })
+            Ok(Statement::Break {
+                line: word.line as usize,
+            })
         } else {
             Err(self.unexpected())
         }
@@ -131,7 +133,9 @@ impl<'a> Parser<'_, 'a> {
     {
         if inside {
             let word = self.take(Kind::Continue)?;
-            Ok(Statement::Continue { line: word.line })
+            Ok(Statement::Continue {
+                line: word.line as usize,
+            })
         } else {
             Err(self.unexpected())
         }
@@ -236,7 +240,7 @@ impl<'a> Parser<'_, 'a> {
         let round = self.closed(Kind::EndForeach, round)?;
         let round = boxed(alloc, round)?;
         Ok(Statement::Foreach {
-            line: word.line,
+            line: word.line as usize,
             first,
             second,
             round,
@@ -261,7 +265,7 @@ impl<'a> Parser<'_, 'a> {
         let otherwise = self.otherwise(alloc, inside, levels)?;
         let (branches, otherwise) = self.closed(Kind::EndIf, (branches, otherwise))?;
         Ok(Statement::If {
-            line: word.line,
+            line: word.line as usize,
             branches,
             otherwise,
         })

@@ -8,7 +8,7 @@ use Rattle.lexer.specs.Lexing.{fault_at, gap, lexed, token_at}
 use Rattle.lexer.specs.declared.token.Token.{Token}
 use Rattle.std.specs.Prelude.{List}
 use Rattle.lexer.proofs.Boundaries.{after_gap, gap_boundary, token_boundary}
-use Rattle.lexer.proofs.Cutting.{place, still_first, still_end, still_fault, still_more, only_ok, only_err, refused_is, newlines_le, depth_after_le, lexemes_push, token_size}
+use Rattle.lexer.proofs.Cutting.{place, still_first, still_end, still_fault, still_more, only_ok, only_err, refused_is, newlines_le, depth_after_le, lexemes_push_at, token_size}
 use Rattle.lexer.proofs.Cuts.{StillLexes}
 use Rattle.lexer.proofs.Spans.{lexed_sound, lexed_fault}
 use Rattle.lexer.proofs.cut.tokens.Goals as goal
@@ -98,5 +98,5 @@ loop-here-preserved c =
       still = still_more c.args.source.now (lexemes c.loop-here.tokens.items) (lexemes c.push.new.self.items) c.loop-here.rest.now c.split_at.result.1.now c.split_at-in-loop-here.result.0.now c.split_at-in-loop-here.result.1.now
           c.loop-here.line c.loop-here.depth c.gap_length.result c.newlines-line.result c.in-Some.length c.newlines-line-in-loop-here.result c.depth_after-depth.result c.in-Some.kind c.loop-here.invariant.still
           (c.gap_length.ensures ∙ ap (gap c.loop-here.depth _) c.as_bytes.ensures.value) c.split_at.ensures.back gap_lines (found c) c.split_at-in-loop-here.ensures.front c.split_at-in-loop-here.ensures.back text_lines c.depth_after-depth.ensures
-          (lexemes_push _ _ _ (chosen _ _ _ _ c.push.ensures.items (ap is_ok c.in_ok-push.was)));
+          (lexemes_push_at _ _ _ _ c.in_ok-at.ensures (chosen _ _ _ _ c.push.ensures.items (ap is_ok c.in_ok-push.was)));
     }
