@@ -15,7 +15,7 @@ use crate::string::{format_at, string_at};
 use crate::symbol::symbol_at;
 use crate::token::{Kind, Token, narrow};
 use crate::word::word_at;
-use std::alloc::Global;
+use std::alloc::{AllocError, Global};
 
 // The kind and length of the longest token at the front.
 #[tactic(auto, using(crate::proofs::Cuts::token_cases))]
@@ -54,6 +54,22 @@ fn depth_after(kind: Kind, depth: usize) -> usize
     }
 }
 
+// Of how many bytes a source is whose tokens leave their room to others.
+const LEAST_KEPT: usize = 16_384;
+
+const MOST_KEPT: usize = 1_048_576;
+
+// Has the C library keep the room of a source's tokens when they are let go, for what is made of them next. A block of 128 KiB or more it
+// takes from the system and gives back to it, until a block was given back: then it keeps those up to that size. So one for as many
+// tokens as there may be is asked for and given back, with nothing put into it.
+fn keep_room(alloc: Global, most: usize) -> Result<(), AllocError> {
+    if most >= LEAST_KEPT && most <= MOST_KEPT {
+        let room: Vec<Token<'_>> = Vec::with_capacity(alloc, most)?;
+        drop(room);
+    }
+    Ok(())
+}
+
 /// The tokens of a source, in order; their texts are slices of it.
 ///
 /// Names and keywords, numbers of all bases, strings (`'..'`, `'''..'''`, and either with an `f` before it), the symbols of
@@ -74,6 +90,7 @@ pub fn tokens(alloc: Global, source: &str) -> Result<Vec<Token<'_>>, SyntaxError
     ensures refused { (f : SyntaxFault) → result ≡ Err (SyntaxError.Fault f)
         → (f.kind ≡ FaultKind.Token) × IsUnreadable source.now f.line }
 {
+    keep_room(alloc, source.len())?;
     let mut tokens = Vec::new(alloc);
     let mut rest = source;
     let mut line = 1;
