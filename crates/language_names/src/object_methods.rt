@@ -1,8 +1,8 @@
 //! The methods of objects by their names, for each type of the page "Reference manual".
 ghost use Rattle.std.specs.Prelude.{◌≡◌};
-ghost use Rattle.language_names.specs.ObjectMethods.{build_target_method_named, compiler_method_named, configuration_method_named, custom_target_method_named};
-ghost use Rattle.language_names.specs.ObjectMethods.{dependency_method_named, feature_method_named, machine_method_named, meson_method_named};
-ghost use Rattle.language_names.specs.ObjectMethods.{output_method_named, program_method_named};
+ghost use Rattle.language_names.specs.ObjectMethods.{build_target_method_named, compiler_method_named, configuration_method_named};
+ghost use Rattle.language_names.specs.ObjectMethods.{custom_target_method_named, dependency_method_named, feature_method_named};
+ghost use Rattle.language_names.specs.ObjectMethods.{machine_method_named, meson_method_named, output_method_named, program_method_named};
 
 /// A method of the compiler, by what it gives.
 #[derive(Clone, Copy)]

@@ -117,7 +117,8 @@ lexemes_push ts us t e = ap lexemes e ∙ map-append lexeme_of ts (t ∷ [])
 -- the same of a token whose line is known by another number
 pub lexemes_push_at : (ts us : List Token) (t : Token) (line : ℕ) → t.line ≡ line → us ≡ ts ++ t ∷ []
     → lexemes us ≡ lexemes ts ++ record { kind = t.kind; text = t.text.now; line = line } ∷ []
-lexemes_push_at ts us t line e h = lexemes_push ts us t h ∙ ap (λ n. lexemes ts ++ record { kind = t.kind; text = t.text.now; line = n } ∷ []) e
+lexemes_push_at ts us t line e h =
+    lexemes_push ts us t h ∙ ap (λ n. lexemes ts ++ record { kind = t.kind; text = t.text.now; line = n } ∷ []) e
 
 pub token_size : (s : List ℕ) (k : Kind) (n : ℕ) → token_at s ≡ Some (k, n) → (0 < n) × (n ≤ length s)
 token_size s k n e = let f = token_sound s k n e in (f.some, omega (arith, f.size, ap length f.parts, length-append f.text f.rest))
