@@ -7,7 +7,7 @@
 
 use crate::measured::{Measured, count_of};
 use crate::stop::Stop;
-use data::{List, Value};
+use data::{List, Text, Value};
 use language_names::MethodName;
 use methods::method;
 use operators::{Binary, binary, dictionary, index};
@@ -48,7 +48,10 @@ fn given<E: Drop>(answer: Result<Value, E>) -> Result<Value, Stop> {
 
 // What the method with a name gives.
 fn called(alloc: Global, receiver: &Value, name: &str, values: &[Value]) -> Result<Value, Stop> {
-    let name = MethodName::new(String::from_str(alloc, name)?);
+    let Ok(name) = Text::of_str(alloc, name)? else {
+        return Err(Stop("the name of a method is too long"));
+    };
+    let name = MethodName::new(name);
     given(method(alloc, receiver, &name, values)?)
 }
 

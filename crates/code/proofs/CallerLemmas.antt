@@ -21,7 +21,7 @@ use Rattle.code.proofs.StatementTrees.{statement_same}
 node_kept : (names : List (List ℕ)) (ts more : List ExpressionTree) (k : ℕ) (x : Node) → IsTrue (within k (length ts) x)
     → tree_of names (ts ++ more) x ≡ tree_of names ts x
 node_kept names ts more k (flat.Name number line) h = refl
-node_kept names ts more k (flat.Literal node line) h = refl
+node_kept names ts more k (flat.Literal line node) h = refl
 node_kept names ts more k (flat.List items line) h = ap (λ l. ListTree (expressions l) line)
     (all_same (λ n i. nat_lt i n) tree_at keeps_number ts more items.items h)
 node_kept names ts more k (flat.Dictionary es line) h = ap (λ l. DictionaryTree (entries l) line)

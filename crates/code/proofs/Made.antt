@@ -54,9 +54,9 @@ module _ (e : Expression) (line : ℕ) where
   dictionary_made es xs is same = ap (λ l. DictionaryTree (entries (map entry_of l)) line) same
       ∙ sym (ap expression_of is ∙ ap expression_of (sym (Variants.rolls-Dictionary es line)) ∙ fold-roll-Expression ExpressionTree LinkTree ArgumentTree EntryTree OperandTree expression_step link_step argument_step entry_step operand_step (Open.Dictionary es line))
 
-  pub call_made : (name : Bor (List ℕ)) (items : Vec Argument Global) (xs : List Argument) → e ≡ Variants.Call name items line → xs ≡ items.items → FunctionTree name.now (argument_trees xs) line ≡ expression_of e
+  pub call_made : (name : Bor (List ℕ)) (items : Vec Argument Global) (xs : List Argument) → e ≡ Variants.Call line name items → xs ≡ items.items → FunctionTree name.now (argument_trees xs) line ≡ expression_of e
   call_made name items xs is same = ap (λ l. FunctionTree name.now (argument_trees l) line) same
-      ∙ sym (ap expression_of is ∙ ap expression_of (sym (Variants.rolls-Call name items line)) ∙ fold-roll-Expression ExpressionTree LinkTree ArgumentTree EntryTree OperandTree expression_step link_step argument_step entry_step operand_step (Open.Call name items line))
+      ∙ sym (ap expression_of is ∙ ap expression_of (sym (Variants.rolls-Call line name items)) ∙ fold-roll-Expression ExpressionTree LinkTree ArgumentTree EntryTree OperandTree expression_step link_step argument_step entry_step operand_step (Open.Call line name items))
 
   pub postfix_made : (first : Box Expression Global) (ls : Vec Link Global) (xs : List Link) → e ≡ Variants.Postfix first ls line → xs ≡ ls.items
       → PostfixTree (expression_of first.value) (links (map link_of xs)) line ≡ expression_of e

@@ -49,7 +49,7 @@ tree_kept : (names more : List (List ℕ)) (m : ℕ) (ts : List ExpressionTree) 
     → tree_of (names ++ more) ts n ≡ tree_of names ts n
 tree_kept names more m ts (flat.Name number line) h = ap (λ name. NameTree name line)
     (at_front names more number [] (less number (length names) h))
-tree_kept names more m ts (flat.Literal node line) h = refl
+tree_kept names more m ts (flat.Literal line node) h = refl
 tree_kept names more m ts (flat.List items line) h = refl
 tree_kept names more m ts (flat.Dictionary es line) h = refl
 tree_kept names more m ts (flat.Call call line) h = refl
@@ -72,7 +72,7 @@ trees_kept old new nodes b h = ap (λ names. trees names nodes) b.is ∙ kept_fr
 
 within_wider : (j k n : ℕ) (x : Node) → j ≤ k → IsTrue (within j n x) → IsTrue (within k n x)
 within_wider j k n (flat.Name number line) l h = is_less number k (let g = less number j h in omega arith)
-within_wider j k n (flat.Literal node line) l h = h
+within_wider j k n (flat.Literal line node) l h = h
 within_wider j k n (flat.List items line) l h = h
 within_wider j k n (flat.Dictionary es line) l h = h
 within_wider j k n (flat.Call call line) l h = h

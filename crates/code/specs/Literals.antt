@@ -53,6 +53,7 @@ is_format _ = false
 abbrev pub means : Literal → List ℕ → Meaning → Bool
 means literal source (meanings.Boolean b) = is_boolean b literal
 means literal source (meanings.Integer n) = is_number literal && (n == magnitude source)
+means literal source (meanings.Short t) = is_plain literal && bytes_eq t (text_of (kind_of literal) source)
 means literal source (meanings.Text t) = is_plain literal && bytes_eq t.value (text_of (kind_of literal) source)
 means literal source (meanings.Format f) = is_format literal && bytes_eq (written f.value.parts.items) (text_of (kind_of literal) source)
 means literal source (meanings.Source t) = not (is_format literal) && bytes_eq (string_bytes t.value) source

@@ -31,7 +31,7 @@ link_at ts (Index i) = IndexTree (tree_at ts i)
 -- the tree of a node, by the table of names and the trees of the nodes before it
 abbrev pub tree_of : List (List ℕ) → List ExpressionTree → Node → ExpressionTree
 tree_of names ts (flat.Name number line) = NameTree (slice_index_or names number []) line
-tree_of names ts (flat.Literal node line) = LiteralTree node.literal (spelled node.source.value) line
+tree_of names ts (flat.Literal line node) = LiteralTree node.literal (spelled node.source.value) line
 tree_of names ts (flat.List items line) = ListTree (expressions (map (tree_at ts) items.items)) line
 tree_of names ts (flat.Dictionary es line) = DictionaryTree (entries (map (entry_at ts) es.items)) line
 tree_of names ts (flat.Call call line) =
@@ -66,7 +66,7 @@ link_within n (Index i) = nat_lt i n
 
 abbrev pub within : ℕ → ℕ → Node → Bool
 within k n (flat.Name number line) = nat_lt number k
-within k n (flat.Literal node line) = true
+within k n (flat.Literal line node) = true
 within k n (flat.List items line) = list_all (λ i. nat_lt i n) items.items
 within k n (flat.Dictionary es line) = list_all (entry_within n) es.items
 within k n (flat.Call call line) = list_all (argument_within n) call.value.arguments.items

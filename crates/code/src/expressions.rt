@@ -12,17 +12,36 @@ use language_names::{FunctionName, MethodName};
 use lexer::token::narrow;
 use std::alloc::{AllocError, Global};
 
-// The name of an argument, where it has one. For one that is too long for a text, which no file has, memory is refused.
-fn own_name(alloc: Global, name: Option<&str>) -> Result<Option<Text>, AllocError>
-    ensures { IfOk result (λ own. own ≡ option_map (λ n. n.now) name.entry) }
+// A name. For one that is too long for a text, which no file has, memory is refused.
+fn own_name(alloc: Global, name: &str) -> Result<Text, AllocError>
+    ensures { IfOk result (λ own. own ≡ name.now) }
 {
-    let Some(name) = name else {
-        return Ok(None);
-    };
     match Text::of_str(alloc, name)? {
-        Ok(name) => Ok(Some(name)),
+        Ok(name) => Ok(name),
         Err(_) => Err(AllocError),
     }
+}
+
+// The name of an argument, where it has one.
+fn argument_name(alloc: Global, name: Option<&str>) -> Result<Option<Text>, AllocError>
+    ensures { IfOk result (λ own. own ≡ option_map (λ n. n.now) name.entry) }
+{
+    match name {
+        Some(name) => Ok(Some(own_name(alloc, name)?)),
+        None => Ok(None),
+    }
+}
+
+fn function_name(alloc: Global, name: &str) -> Result<FunctionName, AllocError>
+    ensures { IfOk result (λ own. own ≡ name.now) }
+{
+    Ok(FunctionName::new(own_name(alloc, name)?))
+}
+
+fn method_name(alloc: Global, name: &str) -> Result<MethodName, AllocError>
+    ensures { IfOk result (λ own. own ≡ name.now) }
+{
+    Ok(MethodName::new(own_name(alloc, name)?))
 }
 
 impl Draft {
@@ -44,10 +63,10 @@ impl Draft {
             Expression::List { items, line } => self.list(items, *line),
             Expression::Dictionary { entries, line } => self.dictionary(entries, *line),
             Expression::Call {
+                line,
                 name,
                 arguments,
-                line,
-            } => self.call(name, arguments, *line),
+            } => self.call(name, arguments, *line as usize),
             Expression::Postfix { first, links, line } => self.postfix(first, links, *line),
             Expression::Prefix {
                 prefix,
@@ -82,8 +101,9 @@ impl Draft {
         ensures grows { Grows self.old self.new }
         ensures stands { IfOk result (λ number. Stands (trees_in self.new) number (LiteralTree literal text.now line)) }
     {
+        let line = narrow(line)?;
         let literal = LiteralNode::new(self.alloc, &self.names, literal, text)?;
-        self.push(Node::Literal { literal, line })
+        self.push(Node::Literal { line, literal })
     }
 
     // `[first, second]`
@@ -93,7 +113,7 @@ impl Draft {
         ensures stands { IfOk result (λ number. Stands (trees_in self.new) number
             (ListTree (expressions (map expression_of items.now)) line)) }
     {
-        let mut numbers = Vec::new(self.alloc);
+        let mut numbers = Vec::with_capacity(self.alloc, items.len())?;
         for item in items {
             let number = self.expression(item)?;
             numbers.push(number)?;
@@ -111,7 +131,7 @@ impl Draft {
         ensures stands { IfOk result (λ number. Stands (trees_in self.new) number
             (DictionaryTree (entry_trees (map entry_of entries.now)) line)) }
     {
-        let mut nodes = Vec::new(self.alloc);
+        let mut nodes = Vec::with_capacity(self.alloc, entries.len())?;
         for entry in entries {
             let key = self.expression(&entry.key)?;
             let value = self.expression(&entry.value)?;
@@ -135,8 +155,7 @@ impl Draft {
         ensures stands { IfOk result (λ number. Stands (trees_in self.new) number
             (FunctionTree name.now (argument_trees arguments.now) line)) }
     {
-        let text = String::from_str(self.alloc, name)?;
-        let name = FunctionName::new(text);
+        let name = function_name(self.alloc, name)?;
         let arguments = self.arguments(arguments)?;
         let call = Box::new(self.alloc, CallNode { name, arguments })?;
         self.push(Node::Call { call, line })
@@ -156,7 +175,7 @@ impl Draft {
     {
         let head = self.expression(first)?;
         let first = narrow(head)?;
-        let mut nodes = Vec::new(self.alloc);
+        let mut nodes = Vec::with_capacity(self.alloc, links.len())?;
         for link in links {
             let node = self.link(link)?;
             nodes.push(node)?;
@@ -201,7 +220,7 @@ impl Draft {
     {
         let head = self.expression(first)?;
         let first = narrow(head)?;
-        let mut nodes = Vec::new(self.alloc);
+        let mut nodes = Vec::with_capacity(self.alloc, others.len())?;
         for operand in others {
             let value = self.expression(&operand.value)?;
             nodes.push(OperandNode {
@@ -245,9 +264,9 @@ impl Draft {
         ensures grows { Grows self.old self.new }
         ensures parts { IfOk result (λ v. Parts argument_within argument_at (trees_in self.new) v.items (map argument_of arguments.now)) }
     {
-        let mut nodes = Vec::new(self.alloc);
+        let mut nodes = Vec::with_capacity(self.alloc, arguments.len())?;
         for argument in arguments {
-            let name = own_name(self.alloc, argument.name)?;
+            let name = argument_name(self.alloc, argument.name)?;
             let value = self.expression(&argument.value)?;
             nodes.push(ArgumentNode { name, value })?;
         }
@@ -262,8 +281,7 @@ impl Draft {
     {
         match link {
             Link::Method { name, arguments } => {
-                let text = String::from_str(self.alloc, name)?;
-                let name = MethodName::new(text);
+                let name = method_name(self.alloc, name)?;
                 let arguments = self.arguments(arguments)?;
                 Ok(LinkNode::Method { name, arguments })
             }

@@ -1,5 +1,5 @@
 //! Literals, and what they stand for.
-ghost use Rattle.std.specs.Prelude.{◌≡◌, false, IfOk, IsTrue};
+ghost use Rattle.std.specs.Prelude.{◌≡◌, false, IfOk, IfSome, IsTrue};
 ghost use Rattle.std.specs.Option.{ForSome};
 ghost use Rattle.lexer.specs.Numerals.{magnitude};
 ghost use Rattle.lexer.specs.Texts.{text_of};
@@ -7,20 +7,23 @@ ghost use Rattle.code.specs.Literals.{is_format, is_number, is_plain, kind_of, m
 
 use crate::format_string::FormatString;
 use crate::names::Names;
-use data::Text;
+use data::{Short, Text};
 use grammar::tree::Literal;
 use lexer::token::Kind;
 use lexer::{magnitude, text_in_slice, text_of_slice};
 use std::alloc::{AllocError, Global};
 use std::snapshot::Snapshot;
 
-/// What a literal stands for, or its text where that is not kept. A text stands in a box, so that no node is larger for it.
+/// What a literal stands for, or its text where that is not kept. A short text needs no memory of its own, and what is longer stands in a
+/// box, so that no node is larger for it.
 #[derive(Drop)]
 pub enum Meaning {
     /// `true` or `false`.
     Boolean(bool),
     /// The number that it spells.
     Integer(u64),
+    /// The text that a string stands for, where it stands so in the source and is short.
+    Short(Short),
     /// The text that a string stands for.
     Text(Box<Text>),
     /// The parts of an f-string, before its places are filled.
@@ -75,6 +78,14 @@ fn small_number(text: &str) -> Option<u64>
     }
 }
 
+// The text of a string, where it stands so in the source and is short.
+fn short(literal: Literal, text: &str) -> Option<Short>
+    ensures { IfSome result (λ s. s ≡ text_of (kind_of literal) text.now) }
+{
+    let piece = text_in_slice(kind_of(literal), text)?;
+    Short::of_str(piece)
+}
+
 // The text of a string, where it is not too long.
 fn decoded(alloc: Global, literal: Literal, text: &str) -> Result<Option<Box<Text>>, AllocError>
     ensures { IfOk result (λ o. ForSome o (λ t. t.value ≡ text_of (kind_of literal) text.now)) }
@@ -125,6 +136,9 @@ fn plain(alloc: Global, literal: Literal, text: &str) -> Result<Meaning, AllocEr
     requires { IsTrue (is_plain literal) }
     ensures { IfOk result (λ m. IsTrue (means literal text.now m)) }
 {
+    if let Some(short) = short(literal, text) {
+        return Ok(Meaning::Short(short));
+    }
     match decoded(alloc, literal, text)? {
         Some(decoded) => Ok(Meaning::Text(decoded)),
         None => unread(alloc, literal, text),

@@ -12,10 +12,10 @@ pub enum Node {
         number: usize,
         line: usize,
     },
-    /// A literal.
+    /// A literal. None of the others holds more, so the line lies beside what tells that it is a literal.
     Literal {
+        line: u32,
         literal: LiteralNode,
-        line: usize,
     },
     /// `[first, second]`
     List {

@@ -169,7 +169,7 @@ impl FileDraft {
         ensures extends { Extends self.old self.new }
         ensures are { IfOk result (λ v. AreStatements self.new v.items (map statement_of body.now)) }
     {
-        let mut numbers = Vec::new(self.draft.alloc);
+        let mut numbers = Vec::with_capacity(self.draft.alloc, body.len())?;
         for statement in body {
             let number = self.statement(statement)?;
             numbers.push(number)?;
@@ -182,7 +182,7 @@ impl FileDraft {
         ensures extends { Extends self.old self.new }
         ensures are { IfOk result (λ v. AreBranches self.new v.items (map branch_of branches.now)) }
     {
-        let mut nodes = Vec::new(self.draft.alloc);
+        let mut nodes = Vec::with_capacity(self.draft.alloc, branches.len())?;
         for branch in branches {
             let condition = self.expression(&branch.condition)?;
             let body = self.body(&branch.body)?;

@@ -25,5 +25,6 @@ pub use laws::values_have_few_items;
 pub use object::{Dependency, Feature, Numbers, Object, Program, Source, Sources};
 pub use opening::{opened, opened_all, opened_count};
 pub use refusal::Refusal;
+pub use short::Short;
 pub use text::{Text, Texts};
 pub use value::{Dictionary, DictionaryBuilder, List, Value, have_disabler};

@@ -1,5 +1,6 @@
 //! Texts that need no memory of their own.
-ghost use Rattle.std.specs.Prelude.{◌≡◌, ◌+◌, ◌≤◌, ◌++◌, length};
+ghost use Rattle.std.specs.Prelude.{◌≡◌, ◌+◌, ◌<◌, ◌≤◌, ◌++◌, IfSome, length};
+ghost use Rattle.std.specs.Option.{IfNone};
 
 use std::marker::Model;
 use std::str;
@@ -9,7 +10,7 @@ pub(crate) const SHORT_BYTES: usize = 22;
 
 /// A text of at most 22 bytes, which lie in it.
 #[derive(Drop)]
-pub(crate) struct Short {
+pub struct Short {
     bytes: [u8; SHORT_BYTES],
     count: u8,
 }
@@ -35,6 +36,20 @@ impl Short {
         }
     }
 
+    /// The text of a copy of some bytes, where they are at most 22.
+    #[inline(always)]
+    pub fn of_str(bytes: &str) -> Option<Short>
+        ensures text { IfSome result (λ s. s ≡ bytes.now) }
+        ensures long { IfNone result (22 < length bytes.now) }
+    {
+        if bytes.len() > SHORT_BYTES {
+            return None;
+        }
+        let mut short = Short::new();
+        short.push(bytes);
+        Some(short)
+    }
+
     /// Puts a piece behind the text.
     #[inline(always)]
     pub(crate) fn push(&mut self, piece: &str)
@@ -47,7 +62,7 @@ impl Short {
         self.count = to as u8;
     }
 
-    pub(crate) fn as_str(&self) -> &str
+    pub fn as_str(&self) -> &str
         ensures text { result.now ≡ self.now }
         ensures short { length result.now ≤ 22 }
     {
@@ -56,7 +71,7 @@ impl Short {
 
     /// The same text.
     #[inline(always)]
-    pub(crate) fn copy(&self) -> Short
+    pub fn copy(&self) -> Short
         ensures { result ≡ self.now }
     {
         Short {

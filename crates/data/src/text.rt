@@ -74,10 +74,17 @@ impl Text {
     pub fn of_short(bytes: &str) -> Option<Text>
         ensures { IfSome result (λ t. t ≡ bytes.now) }
     {
-        if bytes.len() <= SHORT_BYTES {
-            Some(Text::short(bytes))
-        } else {
-            None
+        let short = Short::of_str(bytes)?;
+        Some(Text::from_short(&short))
+    }
+
+    /// The same text.
+    #[inline(always)]
+    pub fn from_short(short: &Short) -> Text
+        ensures { result ≡ short.now }
+    {
+        Text {
+            kept: Kept::Short(short.copy()),
         }
     }
 

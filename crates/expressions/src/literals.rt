@@ -13,7 +13,7 @@ ghost use Rattle.expressions.specs.Forms.{literal_value, number};
 
 use crate::context::Context;
 use code::{FormatString, LiteralNode, Meaning};
-use data::{Text, Value};
+use data::{Short, Text, Value};
 use grammar::tree::Literal;
 use lexer::token::Kind;
 use lexer::{magnitude, text_of_slice};
@@ -41,6 +41,15 @@ fn small_integer(n: u64) -> Value
     ensures { number n ≡ Ok (data_of result) }
 {
     Value::Integer(n as i128)
+}
+
+// The value of a short text.
+fn short_text(short: &Short) -> Value
+    ensures { within (text short.now) ≡ Ok (data_of result) }
+{
+    let text = Text::from_short(short);
+    let _within = text.as_str();
+    Value::Text(text)
 }
 
 // The value of a text, shared.
@@ -90,6 +99,7 @@ impl<'a, T: Tree, O: Outputs, L: Ledger> Context<'a, T, O, L> {
         match &node.meaning {
             Meaning::Boolean(value) => Ok(Value::Boolean(*value)),
             Meaning::Integer(n) => Ok(small_integer(*n)),
+            Meaning::Short(text) => Ok(short_text(text)),
             Meaning::Text(text) => {
                 let text: &Text = text;
                 Ok(shared(text)?)

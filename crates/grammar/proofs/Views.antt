@@ -65,9 +65,9 @@ pub ternary_seen : (test one other : Box Expression Global) (line : ℕ) (e f g 
 ternary_seen test one other line e f g l same same_one same_other same_line = rw (same, same_one, same_other, same_line) (sym (ap expression_of (sym (Variants.rolls-Ternary test one other line))
     ∙ fold-roll-Expression ExpressionTree LinkTree ArgumentTree EntryTree OperandTree expression_step link_step argument_step entry_step operand_step (Open.Ternary test one other line)))
 
-pub call_seen : (name : Bor (List ℕ)) (xs : Vec Argument Global) (line : ℕ) → FunctionTree name.now (arguments (map argument_of xs.items)) line ≡ expression_of (Variants.Call name xs line)
-call_seen name xs line = sym (ap expression_of (sym (Variants.rolls-Call name xs line))
-    ∙ fold-roll-Expression ExpressionTree LinkTree ArgumentTree EntryTree OperandTree expression_step link_step argument_step entry_step operand_step (Open.Call name xs line))
+pub call_seen : (name : Bor (List ℕ)) (xs : Vec Argument Global) (line : ℕ) → FunctionTree name.now (arguments (map argument_of xs.items)) line ≡ expression_of (Variants.Call line name xs)
+call_seen name xs line = sym (ap expression_of (sym (Variants.rolls-Call line name xs))
+    ∙ fold-roll-Expression ExpressionTree LinkTree ArgumentTree EntryTree OperandTree expression_step link_step argument_step entry_step operand_step (Open.Call line name xs))
 
 pub method_seen : (name : Bor (List ℕ)) (xs : Vec Argument Global) → MethodTree name.now (arguments (map argument_of xs.items)) ≡ link_of (Links.Method name xs)
 method_seen name xs = sym (ap link_of (sym (Links.rolls-Method name xs))

@@ -94,11 +94,11 @@ pub enum Expression<'a> {
         entries: Vec<Entry<'a>>,
         line: usize,
     },
-    /// `name(argument, name: argument)`
+    /// `name(argument, name: argument)`. No other expression holds more, so the line lies beside what tells that it is a call.
     Call {
+        line: u32,
         name: &'a str,
         arguments: Vec<Argument<'a>>,
-        line: usize,
     },
     /// `first.name(argument)[index]`: a value, and what is asked of it in turn.
     Postfix {
@@ -291,9 +291,9 @@ impl Drop for Expression<'_> {
                 line: _,
             } => {}
             Expression::Call {
+                line: _,
                 name: _,
                 arguments: _,
-                line: _,
             } => {}
             Expression::Postfix {
                 first: _,

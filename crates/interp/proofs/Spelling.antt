@@ -169,7 +169,7 @@ stated_other : (into : List ℕ → Plan Flow) (table : List (List ℕ)) (ts : L
     → ((call : Box CallNode Global) (line : ℕ) → x ≡ nodes.Call call line → ⊥)
     → stated into (tree_of table ts x) ≡ next (ruled (given_by into (tree_of table ts x))) (λ _. give Next)
 stated_other into table ts (nodes.Name number line) h = refl
-stated_other into table ts (nodes.Literal node line) h = refl
+stated_other into table ts (nodes.Literal line node) h = refl
 stated_other into table ts (nodes.List items line) h = refl
 stated_other into table ts (nodes.Dictionary es line) h = refl
 stated_other into table ts (nodes.Call call line) h = absurd (h call line refl)
@@ -190,7 +190,7 @@ given_other : (into : List ℕ → Plan Flow) (table : List (List ℕ)) (ts : Li
     → ((first : ℕ) (ls : Vec LinkNode Global) (line : ℕ) → x ≡ nodes.Postfix first ls line → ⊥)
     → next (value_of into (tree_of table ts x)) (λ d. give (Some d)) ≡ given_by into (tree_of table ts x)
 given_other into table ts (nodes.Name number line) h = refl
-given_other into table ts (nodes.Literal node line) h = refl
+given_other into table ts (nodes.Literal line node) h = refl
 given_other into table ts (nodes.List items line) h = refl
 given_other into table ts (nodes.Dictionary es line) h = refl
 given_other into table ts (nodes.Call call line) h = refl

@@ -33,7 +33,7 @@ above_link (Index i) = suc i
 
 abbrev pub has_parts : Node → Bool
 has_parts (nodes.Name number line) = false
-has_parts (nodes.Literal literal line) = false
+has_parts (nodes.Literal line literal) = false
 has_parts (nodes.List items line) = true
 has_parts (nodes.Dictionary entries line) = true
 has_parts (nodes.Call call line) = true
@@ -49,7 +49,7 @@ has_parts_at c i = has_parts (slice_index_or c.nodes.items i (nodes.Name 0 0))
 -- those that are no chain and of which nothing is asked
 abbrev pub is_rare : Node → Bool
 is_rare (nodes.Name number line) = false
-is_rare (nodes.Literal literal line) = false
+is_rare (nodes.Literal line literal) = false
 is_rare (nodes.List items line) = true
 is_rare (nodes.Dictionary entries line) = true
 is_rare (nodes.Call call line) = true

@@ -136,7 +136,10 @@ impl<'a, T: Tree, O: Outputs, L: Ledger> Evaluator<'a, T, O, L> {
             (map (argument_at ts) arguments.now))) code.now self.old.context result self.new.context }
     {
         let function = self.context.function_at(line, name)?;
-        let arguments = self.arguments(code, arguments)?;
-        Ok(self.acted(line, function, &arguments)?)
+        let mut arguments = self.arguments(code, arguments)?;
+        let way = self.acted(line, function, &arguments)?;
+        arguments.clear();
+        *self.room = arguments;
+        Ok(way)
     }
 }

@@ -53,7 +53,9 @@ impl<'a, T: Tree, O: Outputs, L: Ledger> Evaluator<'a, T, O, L> {
     {
         match &code.nodes[node] {
             Node::Name { number, line } => Ok(self.context.variable(*number, *line)?),
-            Node::Literal { literal, line } => Ok(self.context.literal(*line, literal)?),
+            Node::Literal { line, literal } => {
+                Ok(self.context.literal(*line as usize, literal)?)
+            }
             _ => Ok(self.compound(code, node)?),
         }
     }
@@ -104,8 +106,11 @@ impl<'a, T: Tree, O: Outputs, L: Ledger> Evaluator<'a, T, O, L> {
             Node::Call { call, line } => {
                 let call: &CallNode = call;
                 let function = self.context.function_inside(*line, &call.name)?;
-                let arguments = self.arguments(code, &call.arguments)?;
-                Ok(self.called_inside(*line, function, &arguments)?)
+                let mut arguments = self.arguments(code, &call.arguments)?;
+                let given = self.called_inside(*line, function, &arguments)?;
+                arguments.clear();
+                *self.room = arguments;
+                Ok(given)
             }
             Node::Prefix {
                 prefix,

@@ -1,8 +1,9 @@
 //! The functions by their names.
-ghost use Rattle.std.specs.Prelude.{◌≡◌, option_map, string_bytes};
+ghost use Rattle.std.specs.Prelude.{◌≡◌, option_map};
 ghost use Rattle.language_names.specs.Functions.{function_named, project_function_named};
 ghost use Rattle.language_names.specs.declared.functions.Function.TheVariants as functions;
 
+use data::Text;
 use std::marker::Model;
 
 /// A function of the page "Reference manual".
@@ -55,7 +56,7 @@ pub enum ProjectFunction {
 /// The name by which a definition file calls a function. Which function it names was looked up when it was made. To whoever uses it, it is
 /// its text.
 pub struct FunctionName {
-    text: String,
+    text: Text,
     function: Option<Function>,
 }
 
@@ -69,20 +70,20 @@ impl Drop for FunctionName {
 }
 
 impl Model for FunctionName {
-    ghost use Rattle.std.specs.Prelude.{◌≡◌, List, ℕ, string_bytes};
+    ghost use Rattle.std.specs.Prelude.{◌≡◌, List, ℕ};
     ghost use Rattle.language_names.specs.Functions.{function_named};
 
     ghost Value = { List ℕ };
 
-    ghost view = { λ n. string_bytes n.text };
+    ghost view = { λ n. n.text };
 
-    ghost invariant = { λ n. n.function ≡ function_named (string_bytes n.text) };
+    ghost invariant = { λ n. n.function ≡ function_named n.text };
 }
 
 impl FunctionName {
     /// The name with this text.
-    pub fn new(text: String) -> FunctionName
-        ensures { result ≡ string_bytes text }
+    pub fn new(text: Text) -> FunctionName
+        ensures { result ≡ text }
     {
         let function = function_named(text.as_str());
         FunctionName { text, function }

@@ -1,5 +1,5 @@
 //! The name of a method, with the methods that it names.
-ghost use Rattle.std.specs.Prelude.{◌≡◌, string_bytes};
+ghost use Rattle.std.specs.Prelude.{◌≡◌};
 ghost use Rattle.language_names.specs.MethodNames.{object_methods_named, value_methods_named};
 ghost use Rattle.language_names.specs.ObjectMethods.{build_target_method_named, compiler_method_named, configuration_method_named};
 ghost use Rattle.language_names.specs.ObjectMethods.{custom_target_method_named, dependency_method_named, feature_method_named};
@@ -14,6 +14,7 @@ use crate::object_methods::{
 use crate::value_methods::{
     BooleanMethod, DictionaryMethod, IntegerMethod, ListMethod, TextMethod,
 };
+use data::Text;
 use std::marker::Model;
 
 // The methods of values that a name names.
@@ -84,7 +85,7 @@ impl ObjectMethods {
 /// The name by which a definition file asks a receiver for a method. What it names for each kind of receiver was looked up when it was
 /// made. To whoever uses it, it is its text.
 pub struct MethodName {
-    text: String,
+    text: Text,
     methods: Methods,
 }
 
@@ -98,20 +99,20 @@ impl Drop for MethodName {
 }
 
 impl Model for MethodName {
-    ghost use Rattle.std.specs.Prelude.{◌≡◌, List, ℕ, string_bytes};
+    ghost use Rattle.std.specs.Prelude.{◌≡◌, List, ℕ};
     ghost use Rattle.language_names.specs.MethodNames.{methods_named};
 
     ghost Value = { List ℕ };
 
-    ghost view = { λ n. string_bytes n.text };
+    ghost view = { λ n. n.text };
 
-    ghost invariant = { λ n. n.methods ≡ methods_named (string_bytes n.text) };
+    ghost invariant = { λ n. n.methods ≡ methods_named n.text };
 }
 
 impl MethodName {
     /// The name with this text.
-    pub fn new(text: String) -> MethodName
-        ensures { result ≡ string_bytes text }
+    pub fn new(text: Text) -> MethodName
+        ensures { result ≡ text }
     {
         let values = ValueMethods::named(text.as_str());
         let objects = ObjectMethods::named(text.as_str());

@@ -189,9 +189,9 @@ impl<'a> Parser<'_, 'a> {
             let name = self.take(Kind::Name)?;
             let arguments = self.arguments(alloc, levels, ternaries)?;
             Ok(Expression::Call {
+                line: name.line,
                 name: name.text,
                 arguments,
-                line: name.line as usize,
             })
         } else if self.begins(Kind::OpenParenthesis) {
             let (_, levels) = self.enter(Kind::OpenParenthesis, levels)?;

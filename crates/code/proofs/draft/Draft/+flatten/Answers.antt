@@ -224,7 +224,7 @@ call-returns-in_err-call-clause-grows t c = c.arguments.ensures.grows
 pub call-returns-clause-stands : goal.call-returns-clause-stands
 call-returns-clause-stands t c = stands_as c.push.result (trees_in c.push.new.self) _ _ c.push.ensures.stands
     (ap (λ (x : CallNode). FunctionTree x.name (arguments (map (argument_at (trees_in c.arguments.new.self)) x.arguments.items)) c.args.line) c.in_ok-call.ensures.ok
-    ∙ ap (λ n. FunctionTree n (arguments (map (argument_at (trees_in c.arguments.new.self)) c.in_ok-arguments.arguments.items)) c.args.line) (c.new-name.ensures ∙ c.in_ok-text.ensures.ok)
+    ∙ ap (λ n. FunctionTree n (arguments (map (argument_at (trees_in c.arguments.new.self)) c.in_ok-arguments.arguments.items)) c.args.line) c.in_ok-name.ensures
     ∙ ap (λ l. FunctionTree c.args.name.now (arguments l) c.args.line) c.in_ok-arguments.ensures.parts.are)
 
 pub prefix-returns-in_err-value-clause-grows : goal.prefix-returns-in_err-value-clause-grows
@@ -355,8 +355,8 @@ postfix-returns-in_err-push-clause-grows t c = grows_trans c.args.self.now c.loo
 pub chain-returns-in_err-value-clause-grows : goal.chain-returns-in_err-value-clause-grows
 chain-returns-in_err-value-clause-grows t c = grows_trans c.args.self.now c.loop-operand.self c.expression-in-loop-operand.new.self c.loop-operand.invariant.grows c.expression-in-loop-operand.ensures.grows
 
-pub call-returns-in_err-text-clause-grows : goal.call-returns-in_err-text-clause-grows
-call-returns-in_err-text-clause-grows t c = grows_same c.args.self.now
+pub call-returns-in_err-name-clause-grows : goal.call-returns-in_err-name-clause-grows
+call-returns-in_err-name-clause-grows t c = grows_same c.args.self.now
 
 pub ternary-returns-in_err-test-clause-grows : goal.ternary-returns-in_err-test-clause-grows
 ternary-returns-in_err-test-clause-grows t c = c.expression.ensures.grows

@@ -34,6 +34,13 @@ returns-in-Integer-clause-gives g c = λ files h.
     ∙ of_integer c.args.line (spelled n.source.value) n.literal c.in-Integer.n (stands n (meanings.Integer c.in-Integer.n) c.in-Integer.is))
     (given_give h refl)
 
+pub returns-in-Short-clause-gives : goal.returns-in-Short-clause-gives
+returns-in-Short-clause-gives g c = λ files h.
+    let n = c.args.node.now in
+    given_as (ap (answered c.args.line) (sym c.short_text.ensures)
+    ∙ of_text c.args.line (spelled n.source.value) n.literal c.in-Short.text (stands n (meanings.Short c.in-Short.text) c.in-Short.is))
+    (given_give h refl)
+
 pub returns-in_err-shared-in-Text-clause-gives : goal.returns-in_err-shared-in-Text-clause-gives
 returns-in_err-shared-in-Text-clause-gives g c = λ files h. given_none h c.from_residual.ensures.1
 

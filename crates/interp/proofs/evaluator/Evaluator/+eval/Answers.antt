@@ -117,15 +117,15 @@ rare-returns-in_err-arguments-in-Call-clause-gives g t c = λ files left ts hold
     (comes_then (c.in_ok-function-in-Call.ensures.gives files hold)
     (comes_halt (c.in_err-arguments-in-Call.ensures.gives files left ts hold reads) c.from_residual-in_err-arguments-in-Call.ensures.1))))
 
-pub rare-returns-in_err-called_inside-in-Call-clause-gives : goal.rare-returns-in_err-called_inside-in-Call-clause-gives
-rare-returns-in_err-called_inside-in-Call-clause-gives g t c = λ files left ts hold reads.
+pub rare-returns-in_err-given-in-Call-clause-gives : goal.rare-returns-in_err-given-in-Call-clause-gives
+rare-returns-in_err-given-in-Call-clause-gives g t c = λ files left ts hold reads.
     let line = c.in-Call.line in
     let with = (c.in_ok-arguments-in-Call.ensures.gives files left ts hold reads).comes in
     comes_as (ap (value_of (folder left)) (sym (opened reads c.args.node c.index.result.now (flat.Call c.in-Call.call line) c.requires.here c.index.ensures c.in-Call.is)))
     (comes_as (ap (λ (x : CallNode). value_of (folder left) (FunctionTree x.name (arguments (map (argument_at ts) x.arguments.items)) line)) c.deref-call.ensures)
     (comes_as (ap (λ (xs : List ArgumentNode). value_of (folder left) (FunctionTree c.deref-call.result.now.name (arguments (map (argument_at ts) xs)) line)) c.deref-in-Call.ensures.value)
     (comes_then (c.in_ok-function-in-Call.ensures.gives files hold) (comes_then with
-    (comes_same (c.in_err-called_inside-in-Call.ensures.gives files left with.holds) c.from_residual-in_err-called_inside-in-Call.ensures.1)))))
+    (comes_same (c.in_err-given-in-Call.ensures.gives files left with.holds) c.from_residual-in_err-given-in-Call.ensures.1)))))
 
 pub rare-returns-in-Call-clause-gives : goal.rare-returns-in-Call-clause-gives
 rare-returns-in-Call-clause-gives g t c = λ files left ts hold reads.
@@ -134,7 +134,7 @@ rare-returns-in-Call-clause-gives g t c = λ files left ts hold reads.
     comes_as (ap (value_of (folder left)) (sym (opened reads c.args.node c.index.result.now (flat.Call c.in-Call.call line) c.requires.here c.index.ensures c.in-Call.is)))
     (comes_as (ap (λ (x : CallNode). value_of (folder left) (FunctionTree x.name (arguments (map (argument_at ts) x.arguments.items)) line)) c.deref-call.ensures)
     (comes_as (ap (λ (xs : List ArgumentNode). value_of (folder left) (FunctionTree c.deref-call.result.now.name (arguments (map (argument_at ts) xs)) line)) c.deref-in-Call.ensures.value)
-    (comes_then (c.in_ok-function-in-Call.ensures.gives files hold) (comes_then with (c.in_ok-called_inside-in-Call.ensures.gives files left with.holds)))))
+    (comes_then (c.in_ok-function-in-Call.ensures.gives files hold) (comes_then with (c.in_ok-given-in-Call.ensures.gives files left with.holds)))))
 
 pub compound-returns-in_err-chain-in-Chain-clause-gives : goal.compound-returns-in_err-chain-in-Chain-clause-gives
 compound-returns-in_err-chain-in-Chain-clause-gives g t c = λ files left ts hold reads. comes_as (ap (value_of (folder left)) (sym (opened reads c.args.node c.index.result.now (flat.Chain c.in-Chain.first c.in-Chain.others c.in-Chain.line) c.requires.here c.index.ensures c.in-Chain.is))) (comes_as (ap (λ (xs : List OperandNode). value_of (folder left) (ChainTree (tree_at ts c.in-Chain.first) (operands (map (operand_at ts) xs)) c.in-Chain.line)) c.deref-in-Chain.ensures.value) (comes_same (c.in_err-chain-in-Chain.ensures.gives files left ts hold reads) c.from_residual-in_err-chain-in-Chain.ensures.1))
@@ -188,10 +188,10 @@ pub form-returns-in_ok-variable-in-Name-clause-gives : goal.form-returns-in_ok-v
 form-returns-in_ok-variable-in-Name-clause-gives g t c = λ files left ts hold reads. comes_given (let number = (name_of reads c.in-Name.number (parts_at c.args.code.now c.args.node c.index.result.now (flat.Name c.in-Name.number c.in-Name.line) c.requires.here c.index.ensures c.in-Name.is)) in given_as (ap (value_of (folder left)) (sym (opened reads c.args.node c.index.result.now (flat.Name c.in-Name.number c.in-Name.line) c.requires.here c.index.ensures c.in-Name.is))) (given_as (ap (variable c.in-Name.line) number.1) (c.in_ok-variable-in-Name.ensures.gives number.0 files hold)))
 
 pub form-returns-in_err-literal-in-Literal-clause-gives : goal.form-returns-in_err-literal-in-Literal-clause-gives
-form-returns-in_err-literal-in-Literal-clause-gives g t c = λ files left ts hold reads. comes_as (ap (value_of (folder left)) (sym (opened reads c.args.node c.index.result.now (flat.Literal c.in-Literal.literal c.in-Literal.line) c.requires.here c.index.ensures c.in-Literal.is))) (comes_last (c.in_err-literal-in-Literal.ensures.gives files hold) c.from_residual-in_err-literal-in-Literal.ensures.1)
+form-returns-in_err-literal-in-Literal-clause-gives g t c = λ files left ts hold reads. comes_as (ap (value_of (folder left)) (sym (opened reads c.args.node c.index.result.now (flat.Literal c.in-Literal.line c.in-Literal.literal) c.requires.here c.index.ensures c.in-Literal.is))) (comes_last (c.in_err-literal-in-Literal.ensures.gives files hold) c.from_residual-in_err-literal-in-Literal.ensures.1)
 
 pub form-returns-in_ok-literal-in-Literal-clause-gives : goal.form-returns-in_ok-literal-in-Literal-clause-gives
-form-returns-in_ok-literal-in-Literal-clause-gives g t c = λ files left ts hold reads. comes_given (given_as (ap (value_of (folder left)) (sym (opened reads c.args.node c.index.result.now (flat.Literal c.in-Literal.literal c.in-Literal.line) c.requires.here c.index.ensures c.in-Literal.is))) (c.in_ok-literal-in-Literal.ensures.gives files hold))
+form-returns-in_ok-literal-in-Literal-clause-gives g t c = λ files left ts hold reads. comes_given (given_as (ap (value_of (folder left)) (sym (opened reads c.args.node c.index.result.now (flat.Literal c.in-Literal.line c.in-Literal.literal) c.requires.here c.index.ensures c.in-Literal.is))) (c.in_ok-literal-in-Literal.ensures.gives files hold))
 
 pub list-loop-item-init : goal.list-loop-item-init
 list-loop-item-init g t c = record { same = (refl, (refl, (refl, refl))); tree = refl; out = refl; done = λ files left ts hold reads. rw c.new-values.ensures.items (leads_start hold) }

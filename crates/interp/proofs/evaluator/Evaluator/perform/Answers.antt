@@ -8,12 +8,12 @@ returns-in_err-function-clause-gives g c = λ files left ts hold reads. comes_st
 pub returns-in_err-arguments-clause-gives : goal.returns-in_err-arguments-clause-gives
 returns-in_err-arguments-clause-gives g c = λ files left ts hold reads. comes_then (c.in_ok-function.ensures.gives files hold) (comes_halt (c.in_err-arguments.ensures.gives files left ts hold reads) c.from_residual-in_err-arguments.ensures.1)
 
-pub returns-in_err-acted-clause-gives : goal.returns-in_err-acted-clause-gives
-returns-in_err-acted-clause-gives g c = λ files left ts hold reads.
+pub returns-in_err-way-clause-gives : goal.returns-in_err-way-clause-gives
+returns-in_err-way-clause-gives g c = λ files left ts hold reads.
     let a = (c.in_ok-arguments.ensures.gives files left ts hold reads).comes in
-    comes_then (c.in_ok-function.ensures.gives files hold) (comes_then a (comes_last (c.in_err-acted.ensures.gives files a.holds) c.from_residual-in_err-acted.ensures.1))
+    comes_then (c.in_ok-function.ensures.gives files hold) (comes_then a (comes_last (c.in_err-way.ensures.gives files a.holds) c.from_residual-in_err-way.ensures.1))
 
 pub returns-clause-gives : goal.returns-clause-gives
 returns-clause-gives g c = λ files left ts hold reads.
     let a = (c.in_ok-arguments.ensures.gives files left ts hold reads).comes in
-    comes_given (given_then (c.in_ok-function.ensures.gives files hold) (given_then a (c.in_ok-acted.ensures.gives files a.holds)))
+    comes_given (given_then (c.in_ok-function.ensures.gives files hold) (given_then a (c.in_ok-way.ensures.gives files a.holds)))
