@@ -16,3 +16,4 @@ pub mod Stands
 pub mod Strings
 pub mod Symbols
 pub mod Texts
+pub mod Words

@@ -9,3 +9,4 @@ pub mod Numerals
 pub mod Texts
 pub mod Tokens
 pub mod Answers
+pub mod Words
