@@ -224,7 +224,8 @@ class Room:
     def read_trace(self, came, trace, counts):
         with open(trace, "rb") as file:
             lines = [line.partition(" ")[::2] for line in os.fsdecode(file.read()).split("\n") if line]
-        below = [os.path.join(self.root, self.inside, path).removeprefix(self.root + "/") for _, path in lines]
+        # The sources are looked at below the current folder.
+        below = [os.path.join(self.root, self.inside, path.removeprefix("./")).removeprefix(self.root + "/") for _, path in lines]
         looks = [path for (word, _), path in zip(lines, below) if word == "look"]
         # The machine file lies beside the sources.
         came.looks = {path for path in looks if not path.startswith(("/", "../")) and not self.is_of_build(path)}

@@ -23,12 +23,15 @@ use world::Settings;
 // The exit status for words that are no command line.
 const BAD_LINE: u8 = 4;
 
+// Where the sources are read. The system follows the path of each file, and by this one it needs not go through the folders above.
+const CURRENT_FOLDER: &str = ".";
+
 // The most bytes that are read of a machine file, which may be a pipe or a device. A text that is too long for a value fits.
 const MACHINE_FILE_BYTES: usize = 33_554_432;
 
-/// Configures the project in the folder `root`, or tells what that asks of the machine file or which fault it ends in, as the words say,
-/// of which the first is the program's name. The log goes to `log`, fault lines and the program's own texts to `faults`, outputs to the
-/// folder that the words name, below `root`.
+/// Configures the project in the current folder, whose path is `root`, or tells what that asks of the machine file or which fault it ends
+/// in, as the words say, of which the first is the program's name. The log goes to `log`, fault lines and the program's own texts to
+/// `faults`, outputs to the folder that the words name, below `root`.
 ///
 /// Answers the exit status: 0 done, 1 a fault of the sources, 2 a device failed, 3 memory ran out,
 /// 4 the words are no command line.
@@ -83,7 +86,11 @@ fn perform<R: Files<File = File> + AllocGlobal, L: Write + Drop, F: Write + Drop
     let mut out = DiskOutputs::new(rt, rt.alloc(), place, log, faults)?;
     let task = line.task;
     let settings = settings_of(rt.alloc(), line, root)?;
-    let mut tree = DiskTree::new(rt, rt.alloc(), String::from_str(rt.alloc(), root)?);
+    let mut tree = DiskTree::new(
+        rt,
+        rt.alloc(),
+        String::from_str(rt.alloc(), CURRENT_FOLDER)?,
+    );
     let status = match task {
         Task::Setup => {
             out.claim()?;

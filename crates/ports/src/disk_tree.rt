@@ -17,18 +17,18 @@ pub struct DiskTree<'a, R: Files> {
     files: &'a R,
     alloc: Global,
     folder: String,
-    // the file that `size` found in the last call
-    found: Option<Found>,
+    // what `size` looked at in the last call
+    last: Look,
     // the file that was read last
     current: Option<OpenFile<R::File>>,
     failures: u64,
 }
 
-// A file that was found at a whole path.
+// What was looked at, by its whole path, and the size of the file that was found there. The next look takes the room of this path.
 #[derive(Drop)]
-struct Found {
+struct Look {
     whole: String,
-    size: u64,
+    size: Option<u64>,
 }
 
 // A file that is being read.
@@ -71,36 +71,30 @@ fn file_size<R: Files>(files: &R, whole: &str) -> io::Result<Option<u64>> {
     }
 }
 
-// How many bytes the file has that was found, if it was found at this whole path.
-fn size_found(found: &Option<Found>, whole: &str) -> Option<u64> {
-    match found {
-        Some(file) if file.whole.as_str() == whole => Some(file.size),
-        _ => None,
+// Whether the whole path is that of a path below a folder.
+fn is_at(whole: &str, folder: &str, path: &str) -> bool {
+    let Some(below) = whole.strip_prefix(folder) else {
+        return false;
+    };
+    match below.strip_prefix("/") {
+        Some(below) => below == path,
+        None => false,
     }
 }
 
-fn size_in(found: &Option<Found>) -> Option<u64> {
-    match found {
-        Some(file) => Some(file.size),
-        None => None,
-    }
-}
-
-// The file at this path, if there is one: as it was found before, or looked at.
-fn look<R: Files>(
-    files: &R,
-    alloc: Global,
-    folder: &str,
-    path: &str,
-    found: &Option<Found>,
-) -> io::Result<Option<Found>> {
-    let whole = joined(alloc, folder, path)?;
-    if let Some(size) = size_found(found, whole.as_str()) {
-        return Ok(Some(Found { whole, size }));
-    }
-    match file_size(files, whole.as_str())? {
-        Some(size) => Ok(Some(Found { whole, size })),
-        None => Ok(None),
+impl Look {
+    // Looks at this path, unless a file was found there in the last call, and answers the size of the file, if there is one.
+    fn at<R: Files>(&mut self, files: &R, folder: &str, path: &str) -> io::Result<Option<u64>> {
+        if self.size.is_some() && is_at(self.whole.as_str(), folder, path) {
+            return Ok(self.size);
+        }
+        self.size = None;
+        self.whole.clear();
+        self.whole.push_str(folder)?;
+        self.whole.push_str("/")?;
+        self.whole.push_str(path)?;
+        self.size = file_size(files, self.whole.as_str())?;
+        Ok(self.size)
     }
 }
 
@@ -110,10 +104,11 @@ fn open_file<R: Files>(
     alloc: Global,
     folder: &str,
     path: &str,
-    found: &Option<Found>,
+    last: &Look,
 ) -> io::Result<Option<OpenFile<R::File>>> {
     let whole = joined(alloc, folder, path)?;
-    if size_found(found, whole.as_str()).is_none() && file_size(files, whole.as_str())?.is_none() {
+    let is_found = last.size.is_some() && last.whole.as_str() == whole.as_str();
+    if !is_found && file_size(files, whole.as_str())?.is_none() {
         return Ok(None);
     }
     let file = fs::open(files, whole.as_str())?;
@@ -147,7 +142,10 @@ impl<'a, R: Files> DiskTree<'a, R> {
             files,
             alloc,
             folder,
-            found: None,
+            last: Look {
+                whole: String::new(alloc),
+                size: None,
+            },
             current: None,
             failures: 0,
         }
@@ -170,18 +168,8 @@ impl<'a, R: Files> Tree for DiskTree<'a, R> {
 
     fn size(&mut self, path: &str) -> Result<Option<u64>, DeviceFault> {
         self.current = None;
-        match look(
-            self.files,
-            self.alloc,
-            self.folder.as_str(),
-            path,
-            &self.found,
-        ) {
-            Ok(found) => {
-                let size = size_in(&found);
-                self.found = found;
-                Ok(size)
-            }
+        match self.last.at(self.files, self.folder.as_str(), path) {
+            Ok(size) => Ok(size),
             Err(_) => {
                 self.failures += 1;
                 Err(DeviceFault)
@@ -196,7 +184,7 @@ impl<'a, R: Files> Tree for DiskTree<'a, R> {
                 self.alloc,
                 self.folder.as_str(),
                 path,
-                &self.found,
+                &self.last,
             ) {
                 Ok(opened) => self.current = opened,
                 Err(_) => {
