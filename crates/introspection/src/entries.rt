@@ -9,6 +9,7 @@ ghost use Rattle.targets.specs.View.{build_view, custom_view, option_entry_view,
 ghost use Rattle.project.specs.View.{answer_view, test_view};
 ghost use Rattle.introspection.specs.Document.{build_entry, custom_entry, definition_file, dependency_entry};
 ghost use Rattle.introspection.specs.Pieces.{entry_text};
+ghost use Rattle.introspection.specs.Questions.{json_text};
 ghost use Rattle.introspection.specs.Document.{kind_name, option_entry, option_value, target_entry, test_entry, type_name};
 
 use crate::shown::{Shown, object_of, strings};
@@ -106,11 +107,17 @@ fn kind_name(kind: Kind) -> &'static str
     }
 }
 
-#[tactic(auto, unfolding(crate::specs::Document::definition_file))]
-fn definition_file(alloc: Global, folder: &str) -> Result<String, AllocError>
-    ensures { IfOk result (λ s. string_bytes s ≡ definition_file folder.now) }
+// Appends the definition file of a folder.
+fn push_definition_file(text: &mut String, alloc: Global, folder: &str) -> Result<(), AllocError>
+    ensures { IfOk result (λ _. string_bytes text.new ≡ string_bytes text.old ++ json_text (definition_file folder.now)) }
 {
-    path_in(alloc, folder, "meson.build")
+    match folder {
+        "" => push_string(text, alloc, "meson.build"),
+        _ => {
+            let file = path_in(alloc, folder, "meson.build")?;
+            push_string(text, alloc, &file)
+        }
+    }
 }
 
 // What both kinds of target show.
@@ -129,11 +136,10 @@ fn push_entry(text: &mut String, alloc: Global, entry: &Entry) -> Result<(), All
         let all = entry_text e.is_default e.folder.now (texts e.files.now) e.is_installed e.name.now e.kind.now in
         IfOk result (λ _. string_bytes text.new ≡ string_bytes text.old ++ all) }
 {
-    let defined_in = definition_file(alloc, entry.folder)?;
     text.push_str("{\"build_by_default\":")?;
     text.push_str(truth_text(entry.is_default))?;
     text.push_str(",\"defined_in\":")?;
-    push_string(text, alloc, &defined_in)?;
+    push_definition_file(text, alloc, entry.folder)?;
     text.push_str(",\"filename\":")?;
     push_strings(text, alloc, entry.files)?;
     text.push_str(",\"installed\":")?;
