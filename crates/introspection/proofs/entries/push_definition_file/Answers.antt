@@ -1,4 +1,4 @@
-use Rattle.std.proofs.Common.{ℕ, List, IfOk, ◌≡◌, ◌++◌, ◌∙◌, ap, string_bytes, subst, sym}
+use Rattle.std.proofs.Common.{ℕ, List, IfOk, ◌≡◌, ◌++◌, ◌∙◌, string_bytes, subst, sym}
 use Rattle.introspection.specs.Document.{definition_file}
 use Rattle.introspection.specs.Questions.{json_text}
 use Rattle.introspection.proofs.entries.push_definition_file.Goals as goal
