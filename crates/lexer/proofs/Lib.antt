@@ -16,4 +16,3 @@ pub mod Stands
 pub mod Strings
 pub mod Symbols
 pub mod Texts
-pub mod Words

@@ -9,4 +9,3 @@ pub mod Numerals
 pub mod Texts
 pub mod Tokens
 pub mod Answers
-pub mod Words
