@@ -1,6 +1,6 @@
 //! What is given to a call. The row of the call has been checked before, so nothing here tests a type again: an argument of
 //! another type counts as one that is not given.
-ghost use Rattle.std.specs.Prelude.{◌≡◌, IfOk, bytes_eq, drop, map, option_map, string_bytes};
+ghost use Rattle.std.specs.Prelude.{◌≡◌, IfOk, drop, map, option_map, string_bytes};
 ghost use Rattle.data.specs.Data.{text_in};
 ghost use Rattle.data.specs.View.{data_of};
 ghost use Rattle.arguments.specs.Arguments.{arguments_data, named_data};
@@ -59,21 +59,12 @@ fn requirement_of(value: &Value) -> Option<Requirement>
     }
 }
 
-// Whether two names are one. Most often their lengths tell them apart, and their bytes need not be compared.
-#[inline(always)]
-#[tactic(auto, using(crate::proofs::Lengths::by_length))]
-pub(crate) fn is_name(one: &str, other: &str) -> bool
-    ensures { result ≡ bytes_eq one.now other.now }
-{
-    one.len() == other.len() && one == other
-}
-
 /// The value of the first argument with a name.
 pub fn value_named<'a>(name: &str, named: &'a [Named]) -> Option<&'a Value>
     ensures { option_map (λ v. data_of v.now) result ≡ value_named name.now (map named_data named.now) }
 {
     for one in named {
-        if is_name(one.name.as_str(), name) {
+        if one.name.as_str() == name {
             return Some(&one.value);
         }
     }

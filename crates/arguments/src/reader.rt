@@ -15,7 +15,7 @@ ghost use Rattle.arguments.specs.RowView.{keyword_data, row_data};
 
 use crate::arguments::{Arguments, Named};
 use crate::dependencies::are_dependencies;
-use crate::given::{is_name, value_named};
+use crate::given::value_named;
 use crate::misfit::Misfit;
 use crate::pieces::{are_pieces, is_command, is_configuration, is_feature, is_file};
 use crate::refused::Refused;
@@ -132,7 +132,7 @@ fn keyword_kind(name: &str, lists: &[&[Keyword]]) -> Option<Kind>
 {
     for keywords in lists {
         for keyword in *keywords {
-            if is_name(keyword.name(), name) {
+            if keyword.name() == name {
                 return Some(keyword.kind());
             }
         }

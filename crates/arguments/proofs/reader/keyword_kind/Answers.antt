@@ -8,8 +8,8 @@ loop-keywords-init c = grind (arith, common_steps)
 pub loop-keyword-init : goal.loop-keyword-init
 loop-keyword-init c = grind (arith, common_steps)
 
-pub returns-then-is_name : goal.returns-then-is_name
-returns-then-is_name c = grind (arith, common_steps)
+pub returns-then-eq : goal.returns-then-eq
+returns-then-eq c = grind (arith, common_steps)
 
 pub loop-keyword-preserved : goal.loop-keyword-preserved
 loop-keyword-preserved c = grind (arith, common_steps)
