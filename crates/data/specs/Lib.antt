@@ -10,3 +10,4 @@ pub mod Builder
 pub mod Flat
 pub mod Few
 pub mod Kept
+pub mod Keys

@@ -38,10 +38,10 @@ pub record IsList (inside : ListInside) : Type 0 where
 
 -- a dictionary has as many values as keys, knows its weight and depth, and is within the limits
 pub record IsDictionary (inside : DictionaryInside) : Type 0 where
-  pub pairs : length inside.keys.keys ≡ length inside.values.items
-  pub distinct : AreDistinct (entries_of inside.keys.keys inside.values.items)
-  pub weight : inside.weight ≡ entries_weight (entries_of inside.keys.keys inside.values.items)
-  pub depth : inside.depth ≡ entries_depth (entries_of inside.keys.keys inside.values.items)
+  pub pairs : length inside.keys ≡ length inside.values.items
+  pub distinct : AreDistinct (entries_of inside.keys inside.values.items)
+  pub weight : inside.weight ≡ entries_weight (entries_of inside.keys inside.values.items)
+  pub depth : inside.depth ≡ entries_depth (entries_of inside.keys inside.values.items)
   pub few : length inside.values.items ≤ 65536
   pub light : inside.weight + 1 ≤ 33554432
   pub shallow : inside.depth + 1 ≤ 64

@@ -11,6 +11,7 @@
 
 mod equal;
 mod flat_texts;
+mod keys;
 mod laws;
 mod object;
 mod opening;

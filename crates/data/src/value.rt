@@ -14,11 +14,11 @@ ghost use Rattle.data.specs.View.{data_of, items_of};
 
 mod builder;
 
+use crate::keys::Keys;
 use crate::object::Object;
 use crate::refusal::Refusal;
 use crate::text::Text;
 use basics::limits::{ITEMS, LEVELS, WEIGHT};
-use basics::tables::{SipSet, new_set};
 pub use builder::DictionaryBuilder;
 use std::alloc::{AllocError, Global};
 use std::marker::Model;
@@ -53,7 +53,7 @@ pub struct List {
 #[cycle(value)]
 #[derive(Drop)]
 pub struct Dictionary {
-    keys: SipSet<Text>,
+    keys: Keys,
     // the value of each key, at the key's index
     values: Vec<Value>,
     weight: u64,
@@ -95,7 +95,7 @@ impl Model for Dictionary {
 
     ghost use Rattle.data.specs.View.{entries_of, IsDictionary};
 
-    ghost view = { λ a. entries_of a.keys.keys a.values.items };
+    ghost view = { λ a. entries_of a.keys a.values.items };
 
     ghost invariant = { IsDictionary };
 
@@ -103,7 +103,7 @@ impl Model for Dictionary {
 
     ghost use Rattle.data.specs.Falls.{most-le-entries_weight};
 
-    ghost size_decreases = { λ a h. omega (arith, most-le-entries_weight a.keys.keys a.values.items h.pairs) };
+    ghost size_decreases = { λ a h. omega (arith, most-le-entries_weight a.keys a.values.items h.pairs) };
 }
 
 impl Clone for Value {
@@ -423,7 +423,7 @@ impl Dictionary {
         ensures { result ≡ no_entries }
     {
         Dictionary {
-            keys: new_set(alloc),
+            keys: Keys::new(alloc),
             values: Vec::new(alloc),
             weight: 0,
             depth: 0,

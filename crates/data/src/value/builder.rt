@@ -10,16 +10,16 @@ ghost use Rattle.data.specs.View.{data_of, items_of};
 ghost use Rattle.data.specs.declared.refusal.Refusal.TheVariants as refusal;
 
 use super::{Dictionary, Value, deepest, is_within};
+use crate::keys::Keys;
 use crate::refusal::Refusal;
 use crate::text::Text;
-use basics::tables::{SipSet, new_set};
 use std::alloc::{AllocError, Global};
 use std::marker::Model;
 
 /// A dictionary that may pass the limits while it is made; `finish` looks at them once.
 #[derive(Drop)]
 pub struct DictionaryBuilder {
-    keys: SipSet<Text>,
+    keys: Keys,
     values: Vec<Value>,
     // wide enough for the weight of all that memory holds
     weight: u128,
@@ -38,7 +38,7 @@ impl Model for DictionaryBuilder {
     ghost use Rattle.data.specs.View.{entries_of};
     ghost use Rattle.data.specs.Builder.{IsBuilder};
 
-    ghost view = { λ a. entries_of a.keys.keys a.values.items };
+    ghost view = { λ a. entries_of a.keys a.values.items };
 
     ghost invariant = { IsBuilder };
 }
@@ -48,7 +48,7 @@ impl DictionaryBuilder {
         ensures { result ≡ no_entries }
     {
         DictionaryBuilder {
-            keys: new_set(alloc),
+            keys: Keys::new(alloc),
             values: Vec::new(alloc),
             weight: 0,
             depth: Some(0),
@@ -88,9 +88,6 @@ impl DictionaryBuilder {
     pub fn contains_key(&self, key: &Text) -> bool
         ensures { result ≡ is_some (find key.now self.now) }
     {
-        if self.keys.is_empty() {
-            return false;
-        }
         self.keys.get_index_of(key).is_some()
     }
 

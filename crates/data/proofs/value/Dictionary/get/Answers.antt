@@ -7,13 +7,13 @@ use Rattle.data.proofs.value.Dictionary.get.Goals as goal
 
 pub returns-in_err-index : goal.returns-in_err-index
 returns-in_err-index c =
-    let out = find_out c.args.key.now c.self.inside.keys.keys c.self.inside.values.items (no_position c.args.key.now c.self.inside.keys.keys c.in_err-index.ensures.index) in
+    let out = find_out c.args.key.now c.self.inside.keys c.self.inside.values.items (no_position c.args.key.now c.self.inside.keys c.in_err-index.ensures.index) in
     ap (option_map (λ v. data_of v.now)) c.from_residual.ensures ∙ sym out ∙ ap (find c.args.key.now) c.self.view_is
 
 pub returns : goal.returns
 returns c =
     let vs = c.self.inside.values.items in
-    let ks = c.self.inside.keys.keys in
+    let ks = c.self.inside.keys in
     let at = at_position c.args.key.now ks c.in_ok-index.index c.in_ok-index.ensures.index in
     let lookup = c.get.ensures.lookup in
     let is = find_in c.args.key.now ks vs at.0 in

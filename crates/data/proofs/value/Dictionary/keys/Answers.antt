@@ -5,5 +5,5 @@ use Rattle.data.proofs.value.Dictionary.keys.Goals as goal
 
 pub returns : goal.returns
 returns c =
-    c.as_slice.ensures.keys ∙ sym (keys_in-entries_of c.self.inside.keys.keys c.self.inside.values.items c.self.invariant.pairs)
+    c.as_slice.ensures.keys ∙ sym (keys_in-entries_of c.self.inside.keys c.self.inside.values.items c.self.invariant.pairs)
     ∙ ap keys_in c.self.view_is

@@ -5,5 +5,5 @@ use Rattle.data.proofs.value.Dictionary.len.Goals as goal
 
 pub returns-clause-len : goal.returns-clause-len
 returns-clause-len c =
-    let n = entry_count-entries_of c.self.inside.keys.keys c.self.inside.values.items c.self.invariant.pairs in
+    let n = entry_count-entries_of c.self.inside.keys c.self.inside.values.items c.self.invariant.pairs in
     omega (arith, n, ap entry_count c.self.view_is)

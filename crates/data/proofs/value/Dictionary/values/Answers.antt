@@ -5,4 +5,4 @@ use Rattle.data.proofs.EntriesLemmas.{entry_values-entries_of}
 use Rattle.data.proofs.value.Dictionary.values.Goals as goal
 
 pub returns-clause-values : goal.returns-clause-values
-returns-clause-values c = ap items_of c.deref.ensures.value ∙ sym (entry_values-entries_of c.self.inside.keys.keys c.self.inside.values.items c.self.invariant.pairs) ∙ ap entry_values c.self.view_is
+returns-clause-values c = ap items_of c.deref.ensures.value ∙ sym (entry_values-entries_of c.self.inside.keys c.self.inside.values.items c.self.invariant.pairs) ∙ ap entry_values c.self.view_is

@@ -6,5 +6,5 @@ use Rattle.data.proofs.value.builder.DictionaryBuilder.contains_key.Goals as goa
 pub returns : goal.returns
 returns c =
     c.is_some.ensures
-    ∙ has_key c.args.key.now c.self.inside.keys.keys c.self.inside.values.items c.get_index_of.result c.self.invariant.pairs c.get_index_of.ensures.index
+    ∙ has_key c.args.key.now c.self.inside.keys c.self.inside.values.items c.get_index_of.result c.self.invariant.pairs c.get_index_of.ensures.index
     ∙ ap (λ es. is_some (find c.args.key.now es)) c.self.view_is
