@@ -173,7 +173,7 @@ fn declared_from(
     };
     let target = build_target(here, kind, arguments, own, dependencies)?;
     Ok(Some(NamedTarget {
-        target: Target::Build(target),
+        target: Target::Build(Box::new(here.alloc, target)?),
         files,
     }))
 }

@@ -463,7 +463,7 @@ fn declared_files(
 {
     match custom_from(here, arguments, inputs)? {
         Some(target) => Ok(Some(NamedTarget {
-            target: Target::Custom(target),
+            target: Target::Custom(Box::new(here.alloc, target)?),
             files,
         })),
         None => Ok(None),

@@ -100,5 +100,5 @@ custom_view t = record {
 }
 
 abbrev pub target_view : Target → plain.TargetData
-target_view (target.Build t) = plain.Build (build_view t)
-target_view (target.Custom t) = plain.Custom (custom_view t)
+target_view (target.Build t) = plain.Build (build_view t.value)
+target_view (target.Custom t) = plain.Custom (custom_view t.value)

@@ -158,9 +158,10 @@ impl Drop for CustomTarget {
     }
 }
 
+/// A target. Its parts lie in a place of their own: it goes through many hands before it stands among the others.
 pub enum Target {
-    Build(BuildTarget),
-    Custom(CustomTarget),
+    Build(Box<BuildTarget>),
+    Custom(Box<CustomTarget>),
 }
 
 impl Drop for Target {

@@ -9,8 +9,9 @@ use Rattle.project.proofs.project.Project.target_fits.Goals as goal
 
 pub returns-in-Build : goal.returns-in-Build
 returns-in-Build c =
-    let t = build_view c.in-Build.target in
+    let t = build_view c.deref-in-Build.result.now in
     let ls = linked_of c.args.self.now.targets in
     let all : linked_views c.deref.result.now ≡ ls = ap linked_views c.deref.ensures.value ∙ c.self.invariant.libraries ∙ ap (λ (x : WorldData). linked_of x.targets) c.self.view_is in
     IfOk-weaker c.build_fits.result (λ fit. fit ≡ build_fits (linked_views c.deref.result.now) t) (λ fit. fit ≡ target_fits ls (target_view c.args.target.now))
-    (λ fit e. e ∙ ap (λ k. build_fits k t) all ∙ ap (λ x. target_fits ls (target_view x)) (sym c.in-Build.is)) c.build_fits.ensures
+    (λ fit e. e ∙ ap (λ k. build_fits k t) all ∙ ap (λ x. build_fits ls (build_view x)) c.deref-in-Build.ensures
+    ∙ ap (λ x. target_fits ls (target_view x)) (sym c.in-Build.is)) c.build_fits.ensures
