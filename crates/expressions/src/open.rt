@@ -24,6 +24,7 @@ use definition_files::{MOST_BYTES, line_at, read_file, refusal_of};
 use grammar::fault::SyntaxError;
 use grammar::parse;
 use grammar::tree::File;
+use lexer::keep_room;
 use paths::{folder_below, path_in};
 use ports::{Outputs, Tree};
 use std::alloc::AllocError;
@@ -148,6 +149,7 @@ impl<'a, T: Tree, O: Outputs, L: Ledger> Context<'a, T, O, L> {
         if size > MOST_BYTES {
             return self.refuse(line, Refusal::Limit, "");
         }
+        keep_room(self.alloc, size as usize)?;
         let bytes = read_file(self.alloc, self.tree, self.store.file(), size as usize)?;
         self.code_of(&bytes)
     }

@@ -54,17 +54,18 @@ fn depth_after(kind: Kind, depth: usize) -> usize
     }
 }
 
-// Of how many bytes a source is whose tokens leave their room to others.
+// Of how many bytes a source is that leaves its room, and that of its tokens, to others.
 const LEAST_KEPT: usize = 16_384;
 
 const MOST_KEPT: usize = 1_048_576;
 
-// Has the C library keep the room of a source's tokens when they are let go, for what is made of them next. A block of 128 KiB or more it
-// takes from the system and gives back to it, until a block was given back: then it keeps those up to that size. So one for as many
-// tokens as there may be is asked for and given back, with nothing put into it.
-fn keep_room(alloc: Global, most: usize) -> Result<(), AllocError> {
-    if most >= LEAST_KEPT && most <= MOST_KEPT {
-        let room: Vec<Token<'_>> = Vec::with_capacity(alloc, most)?;
+/// Has the C library keep the room of a source of so many bytes and of its tokens when they are let go, for what is made of them next. A
+/// block of 128 KiB or more it takes from the system and gives back to it, until a block was given back: then it keeps those up to that
+/// size. So one for as many tokens as there may be is asked for and given back, with nothing put into it. It comes before the source is
+/// read, so that this lies among what is kept too.
+pub fn keep_room(alloc: Global, bytes: usize) -> Result<(), AllocError> {
+    if bytes >= LEAST_KEPT && bytes <= MOST_KEPT {
+        let room: Vec<Token<'_>> = Vec::with_capacity(alloc, bytes)?;
         drop(room);
     }
     Ok(())
@@ -90,7 +91,6 @@ pub fn tokens(alloc: Global, source: &str) -> Result<Vec<Token<'_>>, SyntaxError
     ensures refused { (f : SyntaxFault) → result ≡ Err (SyntaxError.Fault f)
         → (f.kind ≡ FaultKind.Token) × IsUnreadable source.now f.line }
 {
-    keep_room(alloc, source.len())?;
     let mut tokens = Vec::new(alloc);
     let mut rest = source;
     let mut line = 1;

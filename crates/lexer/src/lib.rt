@@ -34,7 +34,7 @@ pub mod token;
 mod word;
 
 pub use bytes::newlines;
-pub use cut::tokens;
+pub use cut::{keep_room, tokens};
 pub use law::{texts_are_lexed, tokens_stand_for_texts};
 pub use numeral::magnitude;
 pub use text::{text_in_slice, text_of, text_of_slice};
