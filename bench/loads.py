@@ -147,6 +147,7 @@ def growing(begin: str, step: str) -> Maker:
 growing_list = growing("[]", "'item'")
 growing_text = growing("''", "'.'")
 growing_dictionary = growing("{}", "{f'key_@i@': i}")
+growing_table = growing("{}", "{'k' + i.to_string(): i}")
 
 
 def bare_names(folder: str, size: int) -> int:
@@ -242,6 +243,15 @@ def custom_targets(folder: str, count: int) -> int:
     for i in range(count):
         write(folder, f"g{i}.in", "")
     write(folder, "meson.build", "project('p','c')\ng = []\n" + "".join(line.format(i) for i in range(count)))
+    return count
+
+
+def one_input(folder: str, count: int) -> int:
+    """So many custom targets of one file of the tree, but each tenth of the one before."""
+    line = "c{0} = custom_target('c{0}', input: {1}, output: 'o{0}', command: ['cp', '@INPUT@', '@OUTPUT@'], build_by_default: true)\n"
+    write(folder, "in.txt", "")
+    inputs = (f"c{i - 1}" if i and i % 10 == 0 else "'in.txt'" for i in range(count))
+    write(folder, "meson.build", "project('p','c')\n" + "".join(line.format(i, given) for i, given in enumerate(inputs)))
     return count
 
 
