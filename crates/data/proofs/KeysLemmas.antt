@@ -1,10 +1,11 @@
 -- Keys of which none is there twice, and one more.
-use Rattle.std.proofs.Common.{◌≡◌, ℕ, ◌<◌, ◌≤◌, Bool, true, false, List, [], ◌∷◌, ◌++◌, length, None, Some, bytes_eq, refl, sym, ap, ◌∙◌, arith}
+use Rattle.std.proofs.Common.{◌≡◌, ℕ, Bool, true, false, List, [], ◌∷◌, ◌++◌, length, None, Some, bytes_eq}
+use Rattle.std.proofs.Common.{refl, sym, ap, ◌∙◌, arith}
 use Rattle.std.specs.Prelude.{if◌then◌else◌, not}
 use Rattle.std.specs.List.{position, position_or_len, list_any}
 use Rattle.std.proofs.lemmas.List.Sums.{fold-append, prefix_len-le-length}
 use Rattle.indexmap.specs.IndexSet.{insert_key, insert_all}
-use Rattle.data.proofs.EntriesLemmas.{place, at_position, no_position, no_any, some_any}
+use Rattle.data.proofs.EntriesLemmas.{at_position, no_position, no_any, some_any}
 
 is_true : (b : Bool) → (b ≡ false → ⊥) → b ≡ true
 is_true true h = refl
@@ -34,4 +35,5 @@ inserted_new q ks e = ap (λ b. if b then ks else ks ++ q ∷ []) (sym (is_missi
 -- keys that are apart stay so with a new one behind
 pub still_apart : (q : List ℕ) (ks : List (List ℕ)) → None ≡ position (bytes_eq q) ks → insert_all bytes_eq [] ks ≡ ks
     → insert_all bytes_eq [] (ks ++ q ∷ []) ≡ ks ++ q ∷ []
-still_apart q ks e apart = fold-append (insert_key bytes_eq) [] ks (q ∷ []) ∙ ap (λ l. insert_key bytes_eq l q) apart ∙ sym (inserted_new q ks e)
+still_apart q ks e apart =
+    fold-append (insert_key bytes_eq) [] ks (q ∷ []) ∙ ap (λ l. insert_key bytes_eq l q) apart ∙ sym (inserted_new q ks e)

@@ -120,7 +120,23 @@ impl Text {
     /// Puts a piece behind the text, or answers `Refusal::Limit` where it becomes longer than 16,777,216 bytes; then the text is as it was.
     ///
     /// Where nobody else holds the text it grows in place, and the work is that of the piece.
+    #[inline(always)]
     pub fn push(&mut self, alloc: Global, piece: &str) -> Result<Result<(), Refusal>, AllocError>
+        ensures pushed { IfOk result (λ r. Appends self.old piece.now self.new r) }
+        ensures same { IfOk result (λ r. OnErr r (self.new ≡ self.old)) }
+    {
+        if let Kept::Short(short) = &mut self.kept {
+            if short.as_str().len() + piece.len() <= SHORT_BYTES {
+                short.push(piece);
+                return Ok(Ok(()));
+            }
+        }
+        self.push_far(alloc, piece)
+    }
+
+    // The same, where the text may need memory of its own.
+    #[inline(never)]
+    fn push_far(&mut self, alloc: Global, piece: &str) -> Result<Result<(), Refusal>, AllocError>
         ensures pushed { IfOk result (λ r. Appends self.old piece.now self.new r) }
         ensures same { IfOk result (λ r. OnErr r (self.new ≡ self.old)) }
     {
@@ -128,18 +144,10 @@ impl Text {
         if count > TEXT_BYTES {
             return Ok(Err(Refusal::Limit));
         }
-        match &mut self.kept {
-            Kept::Short(short) => {
-                if count <= SHORT_BYTES {
-                    short.push(piece);
-                    return Ok(Ok(()));
-                }
-            }
-            Kept::Long(string) => {
-                if let Some(own) = Rc::get_mut(string) {
-                    own.push_str(piece)?;
-                    return Ok(Ok(()));
-                }
+        if let Kept::Long(string) = &mut self.kept {
+            if let Some(own) = Rc::get_mut(string) {
+                own.push_str(piece)?;
+                return Ok(Ok(()));
             }
         }
         let mut copy = String::with_capacity(alloc, count)?;

@@ -1,5 +1,5 @@
 -- The value of a literal, by what it means.
-use Rattle.std.proofs.Common.{◌≡◌, ℕ, Bool, true, false, List, refl, ap, ◌∙◌}
+use Rattle.std.proofs.Common.{◌≡◌, ℕ, Bool, true, false, List, refl, ap, subst, ◌∙◌}
 use Rattle.std.specs.Prelude.{IsTrue, ◌&&◌, ◌==◌, not, bytes_eq}
 use Rattle.std.proofs.lemmas.Bool.Decides.{Decides-eqb}
 use Rattle.std.proofs.lemmas.Slice.Eq.{bytes_eq-Decides}
@@ -7,12 +7,18 @@ use Rattle.grammar.specs.declared.tree.Literal.{Literal}
 use Rattle.grammar.specs.declared.tree.Literal.TheVariants as literals
 use Rattle.lexer.specs.Numerals.{magnitude}
 use Rattle.lexer.specs.Texts.{text_of}
-use Rattle.code.specs.Literals.{is_boolean, is_format, is_number, is_plain, kind_of}
+use Rattle.code.specs.Literals.{is_boolean, is_format, is_number, is_plain, kind_of, means, spelled}
+use Rattle.code.specs.declared.literal.LiteralNode.{LiteralNode}
+use Rattle.code.specs.declared.literal.Meaning.{Meaning}
 use Rattle.code.proofs.Trees.{both_true}
 use Rattle.data.specs.Data.{boolean, text}
 use Rattle.data.specs.Limits.{within}
 use Rattle.world.specs.Plan.{answered, give}
 use Rattle.expressions.specs.Forms.{format_string, literal_value, number}
+
+-- the test that a node keeps, at its meaning
+pub stands : (n : LiteralNode) (m : Meaning) → n.meaning ≡ m → IsTrue (means n.literal (spelled n.source.value) m)
+stands n m is = subst (λ (x : Meaning). IsTrue (means n.literal (spelled n.source.value) x)) is n.stands
 
 module _ (line : ℕ) (s : List ℕ) where
   pub of_boolean : (l : Literal) (b : Bool) → IsTrue (is_boolean b l) → give (boolean b) ≡ literal_value line l s

@@ -12,12 +12,14 @@ pub returns-in-Build : goal.returns-in-Build
 returns-in-Build c =
     let t = c.deref.result.now in
     c.build_has_made.ensures ∙ sym (all_listed (λ l. lists_view l.value) (λ l. l.value.sources.items) (λ l. refl) (is_made_source (is_made_in (texts c.args.taken.now.keys))) t.own.sources.items t.dependencies.items)
-    ∙ ap (λ x. list_all (is_made_source (is_made_in (texts c.args.taken.now.keys))) (sources_of (plain.Build (build_view x)))) c.deref.ensures
+    ∙ ap (λ x. list_all (is_made_source (is_made_in (texts c.args.taken.now.keys))) (sources_of (plain.Build (build_view x))))
+    c.deref.ensures
     ∙ ap (λ x. list_all (is_made_source (is_made_in (texts c.args.taken.now.keys))) (sources_of (target_view x))) (sym c.in-Build.is)
 
 pub returns-in-Custom : goal.returns-in-Custom
 returns-in-Custom c =
     let t = c.deref-in-Custom.result.now in
     c.custom_has_made.ensures ∙ sym (all_both (is_made_source (is_made_in (texts c.args.taken.now.keys))) t.inputs.items t.needs.items)
-    ∙ ap (λ x. list_all (is_made_source (is_made_in (texts c.args.taken.now.keys))) (sources_of (plain.Custom (custom_view x)))) c.deref-in-Custom.ensures
+    ∙ ap (λ x. list_all (is_made_source (is_made_in (texts c.args.taken.now.keys))) (sources_of (plain.Custom (custom_view x))))
+    c.deref-in-Custom.ensures
     ∙ ap (λ x. list_all (is_made_source (is_made_in (texts c.args.taken.now.keys))) (sources_of (target_view x))) (sym c.in-Custom.is)

@@ -1,38 +1,10 @@
-use Rattle.std.proofs.Common.{◌≡◌, ℕ, [], Box, ap, map, refl, string_bytes, subst, sym, ◌∙◌}
-use Rattle.std.specs.Prelude.{IsTrue}
-use Rattle.std.specs.declared.alloc.Global.{Global}
-use Rattle.code.specs.FormatStrings.{part_data, written}
-use Rattle.code.specs.Literals.{means, spelled}
-use Rattle.code.specs.declared.format_string.FormatString.{FormatString}
-use Rattle.code.specs.declared.literal.LiteralNode.{LiteralNode}
-use Rattle.code.specs.declared.literal.Meaning.{Meaning}
+use Rattle.std.proofs.Common.{ap, refl, sym, ◌∙◌}
+use Rattle.code.specs.Literals.{spelled}
 use Rattle.code.specs.declared.literal.Meaning.TheVariants as meanings
-use Rattle.data.specs.Data.{text}
-use Rattle.data.specs.Limits.{within}
-use Rattle.texts.specs.declared.placed.Places.TheVariants as places
-use Rattle.texts.specs.Segments.{segments}
 use Rattle.world.specs.Plan.{answered}
-use Rattle.expressions.specs.Forms.{filled, literal_value}
-use Rattle.expressions.proofs.Evaluating.{given_as, given_give, given_none, given_same}
-use Rattle.expressions.proofs.Meanings.{of_boolean, of_integer, of_text, of_format, of_source}
+use Rattle.expressions.proofs.Evaluating.{given_as, given_give}
+use Rattle.expressions.proofs.Meanings.{stands, of_integer, of_text}
 use Rattle.expressions.proofs.context.Context.literal.Goals as goal
-
--- the test that the node keeps, at its meaning
-stands : (n : LiteralNode) (m : Meaning) → n.meaning ≡ m → IsTrue (means n.literal (spelled n.source.value) m)
-stands n m is = subst (λ (x : Meaning). IsTrue (means n.literal (spelled n.source.value) x)) is n.stands
-
-pub returns-in-Boolean-clause-gives : goal.returns-in-Boolean-clause-gives
-returns-in-Boolean-clause-gives g c = λ files h.
-    let n = c.args.node.now in
-    given_as (of_boolean c.args.line (spelled n.source.value) n.literal c.in-Boolean.value (stands n (meanings.Boolean c.in-Boolean.value) c.in-Boolean.is))
-    (given_give h refl)
-
-pub returns-in-Integer-clause-gives : goal.returns-in-Integer-clause-gives
-returns-in-Integer-clause-gives g c = λ files h.
-    let n = c.args.node.now in
-    given_as (ap (answered c.args.line) (sym c.small_integer.ensures)
-    ∙ of_integer c.args.line (spelled n.source.value) n.literal c.in-Integer.n (stands n (meanings.Integer c.in-Integer.n) c.in-Integer.is))
-    (given_give h refl)
 
 pub returns-in-Short-clause-gives : goal.returns-in-Short-clause-gives
 returns-in-Short-clause-gives g c = λ files h.
@@ -41,52 +13,9 @@ returns-in-Short-clause-gives g c = λ files h.
     ∙ of_text c.args.line (spelled n.source.value) n.literal c.in-Short.text (stands n (meanings.Short c.in-Short.text) c.in-Short.is))
     (given_give h refl)
 
-pub returns-in_err-shared-in-Text-clause-gives : goal.returns-in_err-shared-in-Text-clause-gives
-returns-in_err-shared-in-Text-clause-gives g c = λ files h. given_none h c.from_residual.ensures.1
-
-pub returns-in_ok-shared-in-Text-clause-gives : goal.returns-in_ok-shared-in-Text-clause-gives
-returns-in_ok-shared-in-Text-clause-gives g c = λ files h.
+pub returns-in-Integer-clause-gives : goal.returns-in-Integer-clause-gives
+returns-in-Integer-clause-gives g c = λ files h.
     let n = c.args.node.now in
-    given_as (ap (answered c.args.line) (sym c.in_ok-shared-in-Text.ensures)
-    ∙ ap (λ t. answered c.args.line (within (text t))) c.deref-text.ensures
-    ∙ of_text c.args.line (spelled n.source.value) n.literal c.in-Text.text.value (stands n (meanings.Text c.in-Text.text) c.in-Text.is))
+    given_as (ap (answered c.args.line) (sym c.small_integer.ensures)
+    ∙ of_integer c.args.line (spelled n.source.value) n.literal c.in-Integer.n (stands n (meanings.Integer c.in-Integer.n) c.in-Integer.is))
     (given_give h refl)
-
--- an f-string of these parts
-of_parts : (line : ℕ) (n : LiteralNode) (f : FormatString) (box : Box FormatString Global)
-    → IsTrue (means n.literal (spelled n.source.value) (meanings.Format box))
-    → f ≡ box.value → filled line [] (map part_data f.parts.items) ≡ literal_value line n.literal (spelled n.source.value)
-of_parts line n f box h is =
-    ap (filled line []) (f.split ∙ ap (λ (x : FormatString). segments places.Names (written x.parts.items)) is)
-    ∙ of_format line (spelled n.source.value) n.literal (written box.value.parts.items) h
-
-pub returns-in_err-filled-in-Format-clause-gives : goal.returns-in_err-filled-in-Format-clause-gives
-returns-in_err-filled-in-Format-clause-gives g c = λ files h.
-    let n = c.args.node.now in
-    given_as (ap (λ ps. filled c.args.line [] (map part_data ps)) c.deref.ensures.value ∙ of_parts c.args.line n c.deref-format.result.now c.in-Format.format (stands n (meanings.Format c.in-Format.format) c.in-Format.is) c.deref-format.ensures)
-    (given_same (c.in_err-filled-in-Format.ensures.gives files h) c.from_residual-in_err-filled-in-Format.ensures.1)
-
-pub returns-in_ok-filled-in-Format-clause-gives : goal.returns-in_ok-filled-in-Format-clause-gives
-returns-in_ok-filled-in-Format-clause-gives g c = λ files h.
-    let n = c.args.node.now in
-    given_as (ap (λ ps. filled c.args.line [] (map part_data ps)) c.deref.ensures.value ∙ of_parts c.args.line n c.deref-format.result.now c.in-Format.format (stands n (meanings.Format c.in-Format.format) c.in-Format.is) c.deref-format.ensures)
-    (c.in_ok-filled-in-Format.ensures.gives files h)
-
-pub returns-in_err-unread-in-Source-clause-gives : goal.returns-in_err-unread-in-Source-clause-gives
-returns-in_err-unread-in-Source-clause-gives g c = λ files h.
-    let n = c.args.node.now in
-    given_as (ap (literal_value c.args.line n.literal) (c.as_str.ensures.value ∙ ap string_bytes c.deref-in-Source.ensures)
-    ∙ (of_source c.args.line (spelled n.source.value) n.literal (string_bytes c.in-Source.text.value) (stands n (meanings.Source c.in-Source.text) c.in-Source.is)).1)
-    (given_same (c.in_err-unread-in-Source.ensures.gives files h) c.from_residual-in_err-unread-in-Source.ensures.1)
-
-pub returns-in_ok-unread-in-Source-clause-gives : goal.returns-in_ok-unread-in-Source-clause-gives
-returns-in_ok-unread-in-Source-clause-gives g c = λ files h.
-    let n = c.args.node.now in
-    given_as (ap (literal_value c.args.line n.literal) (c.as_str.ensures.value ∙ ap string_bytes c.deref-in-Source.ensures)
-    ∙ (of_source c.args.line (spelled n.source.value) n.literal (string_bytes c.in-Source.text.value) (stands n (meanings.Source c.in-Source.text) c.in-Source.is)).1)
-    (c.in_ok-unread-in-Source.ensures.gives files h)
-
-pub unread-requires : goal.unread-requires
-unread-requires g c =
-    let n = c.args.node.now in
-    (of_source c.args.line (spelled n.source.value) n.literal (string_bytes c.in-Source.text.value) (stands n (meanings.Source c.in-Source.text) c.in-Source.is)).0
