@@ -90,8 +90,8 @@ impl<'a, T: Tree, O: Outputs, L: Ledger> Context<'a, T, O, L> {
         }
     }
 
-    /// The value of a literal. Most are short strings and small numbers, and these are told first: a function that knows all makes places
-    /// for what each asks.
+    /// The value of a literal, put together from registers: what a call answers is taken apart. Most literals are short strings and small
+    /// numbers, and these are told first: a function that knows all makes places for what each asks.
     pub fn literal(&self, line: usize, node: &LiteralNode) -> Result<Value, Stop>
         ensures gives { Answers T.seen O.seen data_of (literal_value line node.now.literal (spelled node.now.source.value))
             self.now result self.now }
@@ -100,11 +100,11 @@ impl<'a, T: Tree, O: Outputs, L: Ledger> Context<'a, T, O, L> {
         match &node.meaning {
             Meaning::Short(text) => Ok(short_text(text)),
             Meaning::Integer(n) => Ok(small_integer(*n)),
-            _ => self.any_literal(line, node),
+            _ => Ok(self.any_literal(line, node)?),
         }
     }
 
-    // The value of a literal of any kind, put together from registers: what a call answers is taken apart.
+    // The value of a literal of any kind.
     #[inline(never)]
     fn any_literal(&self, line: usize, node: &LiteralNode) -> Result<Value, Stop>
         ensures gives { Answers T.seen O.seen data_of (literal_value line node.now.literal (spelled node.now.source.value))
