@@ -248,7 +248,8 @@ def custom_targets(folder: str, count: int) -> int:
 
 def one_input(folder: str, count: int) -> int:
     """So many custom targets of one file of the tree, but each tenth of the one before."""
-    line = "c{0} = custom_target('c{0}', input: {1}, output: 'o{0}', command: ['cp', '@INPUT@', '@OUTPUT@'], build_by_default: true)\n"
+    words = "command: ['cp', '@INPUT@', '@OUTPUT@'], build_by_default: true"
+    line = f"c{{0}} = custom_target('c{{0}}', input: {{1}}, output: 'out{{0}}.txt', {words})\n"
     write(folder, "in.txt", "")
     inputs = (f"c{i - 1}" if i and i % 10 == 0 else "'in.txt'" for i in range(count))
     write(folder, "meson.build", "project('p','c')\n" + "".join(line.format(i, given) for i, given in enumerate(inputs)))
