@@ -4,7 +4,7 @@ use ports::DeviceFault;
 use std::alloc::AllocError;
 
 /// Why a file was not written whole.
-#[derive(Clone, Copy, Debug, PartialEq, Eq)]
+#[derive(Clone, Copy)]
 pub enum WriteStop {
     /// A device failed.
     Device,

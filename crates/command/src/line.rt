@@ -3,7 +3,7 @@ ghost use Rattle.std.specs.Prelude.{IsTrue, ◌≡◌, ◌≤◌, length, string
 ghost use Rattle.command.specs.BuildFolder.{is_tidy_folder, pieces_of};
 
 /// What is done with a project.
-#[derive(Clone, Copy, Debug, Eq, PartialEq)]
+#[derive(Clone, Copy)]
 pub enum Task {
     /// A build is configured.
     Setup,
@@ -14,7 +14,7 @@ pub enum Task {
 }
 
 /// What a command line asks for.
-#[derive(Debug, Drop)]
+#[derive(Drop)]
 pub struct Line {
     /// What is done.
     pub task: Task,

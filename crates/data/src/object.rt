@@ -63,7 +63,7 @@ impl Drop for Object {
 }
 
 /// The value of a feature option.
-#[derive(Clone, Copy, PartialEq, Eq, Debug)]
+#[derive(Clone, Copy, PartialEq, Eq)]
 pub enum Feature {
     Enabled,
     Disabled,

@@ -1,7 +1,7 @@
 //! Why an operation gives no value.
 
 /// Why an operation on values is refused.
-#[derive(Clone, Copy, PartialEq, Eq, Debug)]
+#[derive(Clone, Copy)]
 pub enum Refusal {
     /// E6: no such operator for values of these types.
     Type,

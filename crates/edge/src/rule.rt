@@ -1,5 +1,5 @@
 /// The rules of `build.ninja`: each edge names one.
-#[derive(Clone, Copy, Debug, PartialEq, Eq)]
+#[derive(Clone, Copy)]
 pub enum Rule {
     /// Compiles a C source, and learns from the compiler which headers it read.
     CCompile,

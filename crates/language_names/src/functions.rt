@@ -7,7 +7,7 @@ use data::Text;
 use std::marker::Model;
 
 /// A function of the page "Reference manual".
-#[derive(Clone, Copy, PartialEq, Eq)]
+#[derive(Clone, Copy)]
 pub enum Function {
     Assert,
     Disabler,
@@ -30,7 +30,7 @@ pub enum Function {
 
 /// A function that says something of the project: its targets and what they are made with, its options, and what is installed and
 /// tested.
-#[derive(Clone, Copy, PartialEq, Eq)]
+#[derive(Clone, Copy)]
 pub enum ProjectFunction {
     AddProjectArguments,
     AddProjectLinkArguments,

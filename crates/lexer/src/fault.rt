@@ -6,7 +6,7 @@ ghost use Rattle.lexer.specs.declared.fault.SyntaxError.TheVariants.{Memory};
 use std::alloc::{AllocError, AllocFailed};
 
 /// What is wrong with a source.
-#[derive(Clone, Copy, PartialEq, Eq, Debug)]
+#[derive(Clone, Copy)]
 pub enum FaultKind {
     /// No token begins here.
     Token,
@@ -17,14 +17,14 @@ pub enum FaultKind {
 }
 
 /// A fault, and the line, from 1, of the token that it is at.
-#[derive(Clone, Copy, PartialEq, Eq, Debug)]
+#[derive(Clone, Copy)]
 pub struct SyntaxFault {
     pub kind: FaultKind,
     pub line: usize,
 }
 
 /// A fault of the source, or want of memory.
-#[derive(Clone, Copy, PartialEq, Eq, Debug)]
+#[derive(Clone, Copy)]
 pub enum SyntaxError {
     Memory,
     Fault(SyntaxFault),

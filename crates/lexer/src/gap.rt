@@ -6,7 +6,7 @@ ghost use Rattle.lexer.specs.Lexing.{in_line_rest, continues_line, in_gap, part_
 use crate::bytes::is_blank;
 
 /// Where in a gap a byte is.
-#[derive(Clone, Copy, PartialEq, Eq, Debug)]
+#[derive(Clone, Copy)]
 pub enum GapPart {
     /// In neither of the others.
     Blank,

@@ -1,7 +1,7 @@
 //! The operators.
 
 /// An operator of one operand.
-#[derive(Clone, Copy, PartialEq, Eq, Debug)]
+#[derive(Clone, Copy)]
 pub enum Unary {
     /// `not`
     Not,
@@ -10,7 +10,7 @@ pub enum Unary {
 }
 
 /// An operator of two operands, both of which are evaluated.
-#[derive(Clone, Copy, PartialEq, Eq, Debug)]
+#[derive(Clone, Copy)]
 pub enum Binary {
     /// `+`
     Add,
@@ -41,7 +41,7 @@ pub enum Binary {
 }
 
 /// An operator whose left operand decides whether the right one is looked at.
-#[derive(Clone, Copy, PartialEq, Eq, Debug)]
+#[derive(Clone, Copy)]
 pub enum Connective {
     /// `and`
     And,

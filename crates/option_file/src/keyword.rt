@@ -14,7 +14,7 @@ use option_values::{Choices, OptionKind, OptionType};
 use std::alloc::{AllocError, Global};
 
 /// A keyword of `option`, by what it gives.
-#[derive(Clone, Copy, PartialEq, Eq)]
+#[derive(Clone, Copy)]
 pub enum Keyword {
     /// `type:`
     Kind,

@@ -61,7 +61,7 @@ impl Drop for OptionValue {
 }
 
 /// What a feature option says of its feature.
-#[derive(Clone, Copy, PartialEq, Eq)]
+#[derive(Clone, Copy)]
 pub enum FeatureState {
     Enabled,
     Disabled,
@@ -70,7 +70,7 @@ pub enum FeatureState {
 }
 
 /// The type of an option, as the Meson manual's page "Build options" has them.
-#[derive(Clone, Copy, PartialEq, Eq)]
+#[derive(Clone, Copy)]
 pub enum OptionType {
     Text,
     Boolean,

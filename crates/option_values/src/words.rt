@@ -11,7 +11,7 @@ ghost use Rattle.option_values.specs.WordsView.{cut_in};
 use std::alloc::{AllocError, Global};
 
 /// Where a character stands.
-#[derive(Clone, Copy, PartialEq, Eq, Debug)]
+#[derive(Clone, Copy)]
 pub enum Place {
     /// Between words.
     Between,

@@ -9,7 +9,7 @@ use basics::faults::{Fault, Refusal};
 use std::alloc::{AllocError, Global};
 
 /// Where a value stands.
-#[derive(Clone, Copy, PartialEq, Eq)]
+#[derive(Clone, Copy)]
 pub enum Place {
     /// The statement on this line, from 1, of the option file.
     Declared(usize),

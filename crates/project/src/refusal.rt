@@ -6,7 +6,7 @@ use std::alloc::{AllocError, Global};
 use thiserror::Error;
 
 /// Why a project does not take what it is given.
-#[derive(Clone, Copy, Debug, PartialEq, Eq, Error)]
+#[derive(Clone, Copy, Debug, Error)]
 pub enum Refusal {
     /// E9: a name that no file may have, a source that is no C source or header or that nothing makes, no source that is compiled, or
     /// a number that is not that of an earlier library.

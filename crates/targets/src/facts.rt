@@ -29,7 +29,7 @@ impl Drop for Flags {
 }
 
 /// The type of an option (the manual's page "Build options").
-#[derive(Clone, Copy, Debug, PartialEq, Eq)]
+#[derive(Clone, Copy)]
 pub enum OptionType {
     String,
     Boolean,

@@ -4,7 +4,7 @@ ghost use Rattle.targets.specs.Files.{is_static, is_library, is_shared};
 use std::rc::Rc;
 
 /// What a build target makes.
-#[derive(Clone, Copy, Debug, PartialEq, Eq)]
+#[derive(Clone, Copy)]
 pub enum Kind {
     Executable,
     StaticLibrary,

@@ -16,7 +16,7 @@ use std::marker::Model;
 use thiserror::Error;
 
 /// What a name of configuration data stands for.
-#[derive(Debug, Drop)]
+#[derive(Drop)]
 pub enum ConfigValue {
     Boolean(bool),
     Integer(i128),
@@ -39,7 +39,7 @@ impl Clone for ConfigValue {
 }
 
 /// Why configuration data was not changed.
-#[derive(Clone, Copy, Debug, PartialEq, Eq, Error)]
+#[derive(Clone, Copy, Debug, Error)]
 pub enum SetStop {
     /// E20: the data is frozen, since an output was made with it.
     #[error("frozen configuration data")]

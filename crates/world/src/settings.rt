@@ -6,7 +6,7 @@ use edge::copies;
 use std::alloc::{AllocError, Global};
 
 /// What a user sets for a run.
-#[derive(Drop, Debug)]
+#[derive(Drop)]
 pub struct Settings {
     /// Option words, `name=value` each, in the order in which they were given.
     pub words: Vec<String>,

@@ -39,7 +39,7 @@ use targets::{Facts, Flags};
 use template::ConfigData;
 
 /// A place in the definition files.
-#[derive(Drop, Debug)]
+#[derive(Drop)]
 pub struct Place {
     /// The definition file.
     pub file: String,

@@ -2,7 +2,7 @@ ghost use Rattle.std.specs.Prelude.{◌≡◌, option_map};
 ghost use Rattle.basics.specs.Faults.{detail_sign, number_of, words_of};
 
 /// What a run is refused for. The numbers are fixed: scripts may look for them.
-#[derive(Clone, Copy, PartialEq, Eq)]
+#[derive(Clone, Copy)]
 pub enum Refusal {
     /// E1: the bytes are no UTF-8.
     NotUtf8,
