@@ -12,7 +12,7 @@ use Rattle.template.specs.Template.{Agrees, PassFailures, OneMore, ending_of, te
 use Rattle.template.specs.declared.stop.PassStop.{PassStop}
 use Rattle.template.specs.declared.stop.PassStop.TheVariants as pass_stops
 use Rattle.ports.specs.Endings.{is_whole}
-use Rattle.targets.specs.Files.{path_in}
+use Rattle.paths.specs.Paths.{path_in}
 use Rattle.world.specs.Answering.{Acts, Carries, Fails, State, seen_at}
 use Rattle.world.specs.Deed.{Deed, Files, give, make, need, perform, read, required, then, there}
 use Rattle.world.specs.Gives.{Gives, Continues, IsRefusal, failures_after}

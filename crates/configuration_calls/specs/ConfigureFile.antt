@@ -12,12 +12,11 @@ use Rattle.data.specs.declared.object.Object.TheVariants as objects
 use Rattle.edge.specs.Texts.{Path, Text}
 use Rattle.arguments.specs.declared.rule.Rule.TheVariants as rules
 use Rattle.basics.specs.declared.faults.refusal.Refusal.TheVariants as refusals
-use Rattle.operators.specs.Texts.{path_below}
-use Rattle.paths.specs.Paths.{tree_path}
-use Rattle.project.specs.Adding.{is_file_name}
+use Rattle.paths.specs.Below.{path_below}
+use Rattle.paths.specs.Paths.{tree_path, path_in}
+use Rattle.paths.specs.Names.{is_file_name}
 use Rattle.project.specs.World.{InstallData}
 use Rattle.resources.specs.Installs.{destination}
-use Rattle.targets.specs.Files.{path_in}
 use Rattle.world.specs.Configuring.{freeze_configured}
 use Rattle.world.specs.Declaring.{add_install}
 use Rattle.world.specs.Deed.{Deed, give, read, make, ◌>>=◌, answered, need}

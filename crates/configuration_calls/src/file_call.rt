@@ -3,7 +3,7 @@ ghost use Rattle.std.specs.Prelude.{◌≡◌, IfOk, Some, option_map, string_by
 ghost use Rattle.arguments.specs.Arguments.{arguments_data};
 ghost use Rattle.data.specs.View.{data_of};
 ghost use Rattle.project.specs.View.{install_view};
-ghost use Rattle.targets.specs.Files.{path_in};
+ghost use Rattle.paths.specs.Paths.{path_in};
 ghost use Rattle.world.specs.Answering.{Carries, HasRoom};
 ghost use Rattle.world.specs.Caller.{state_of};
 ghost use Rattle.world.specs.Store.{world_of};
@@ -17,12 +17,11 @@ use crate::written::write_output;
 use arguments::{Arguments, Rule};
 use basics::faults::Refusal;
 use data::{Object, Text, Value};
-use operators::path_below;
+use paths::{is_file_name, path_below, path_in};
 use ports::{Outputs, Tree};
-use project::{Install, is_file_name};
+use project::Install;
 use resources::destination;
 use std::alloc::{AllocError, Global};
-use targets::path_in;
 use world::{Caller, Stop, Store};
 
 // Where an output goes that is installed.

@@ -1,27 +1,22 @@
 -- Keys of which none is there twice, and one more.
-use Rattle.std.proofs.Common.{◌≡◌, ℕ, Bool, true, false, List, [], ◌∷◌, ◌++◌, length, None, Some, bytes_eq}
+use Rattle.std.proofs.Common.{◌≡◌, ℕ, true, false, List, [], ◌∷◌, ◌++◌, length, None, Some, bytes_eq}
 use Rattle.std.proofs.Common.{refl, sym, ap, ◌∙◌, arith}
 use Rattle.std.specs.Prelude.{if◌then◌else◌, not}
 use Rattle.std.specs.List.{position, position_or_len, list_any}
+use Rattle.std.proofs.lemmas.Bool.{false_from_ne_true, true_from_ne_false}
 use Rattle.std.proofs.lemmas.List.Sums.{fold-append, prefix_len-le-length}
 use Rattle.indexmap.specs.IndexSet.{insert_key, insert_all}
 use Rattle.data.proofs.EntriesLemmas.{at_position, no_position, no_any, some_any}
 
-is_true : (b : Bool) → (b ≡ false → ⊥) → b ≡ true
-is_true true h = refl
-is_true false h = absurd (h refl)
-
-is_false : (b : Bool) → (b ≡ true → ⊥) → b ≡ false
-is_false true h = absurd (h refl)
-is_false false h = refl
-
 -- a key that has a place is there
 pub is_there : (q : List ℕ) (ks : List (List ℕ)) (i : ℕ) → Some i ≡ position (bytes_eq q) ks → list_any (bytes_eq q) ks ≡ true
-is_there q ks i e = is_true (list_any (bytes_eq q) ks) (λ no. omega (arith, no_any (bytes_eq q) ks no, (at_position q ks i e).0))
+is_there q ks i e =
+    true_from_ne_false (list_any (bytes_eq q) ks) (λ no. omega (arith, no_any (bytes_eq q) ks no, (at_position q ks i e).0))
 
 -- and one that has none is not, and would go last
 pub is_missing : (q : List ℕ) (ks : List (List ℕ)) → None ≡ position (bytes_eq q) ks → list_any (bytes_eq q) ks ≡ false
-is_missing q ks e = is_false (list_any (bytes_eq q) ks) (λ yes. omega (arith, some_any (bytes_eq q) ks yes, no_position q ks e))
+is_missing q ks e =
+    false_from_ne_true (list_any (bytes_eq q) ks) (λ yes. omega (arith, some_any (bytes_eq q) ks yes, no_position q ks e))
 
 pub goes_last : (q : List ℕ) (ks : List (List ℕ)) → None ≡ position (bytes_eq q) ks → position_or_len (bytes_eq q) ks ≡ length ks
 goes_last q ks e = omega (arith, no_position q ks e, prefix_len-le-length (λ k. not (bytes_eq q k)) ks)

@@ -2,6 +2,7 @@
 #![tactic(auto)]
 
 mod edge;
+mod folders;
 mod holding;
 mod parts;
 mod paths;
@@ -10,6 +11,7 @@ mod texts;
 
 pub use basics::text_lists::{copies, strings};
 pub use edge::Edge;
+pub use folders::{build_folder, source_folder};
 pub use holding::{
     are_paths, are_writable, can_hold_path, can_hold_value, can_hold_values, is_path, is_some_list,
 };

@@ -3,7 +3,7 @@ ghost use Rattle.std.specs.Prelude.{◌≡◌, ◌≢◌, ◌<◌, ◌≤◌, If
 ghost use Rattle.std.specs.IoError.{error_kind};
 ghost use Rattle.command.specs.BuildFolder.{pieces_of};
 ghost use Rattle.command.specs.CommandLine.{IsRefused, IsTaken};
-ghost use Rattle.operators.specs.Texts.{path_below};
+ghost use Rattle.paths.specs.Below.{path_below};
 ghost use Rattle.build_file.specs.Concluding.{exit_status};
 
 use crate::asking::questions;
@@ -11,7 +11,7 @@ use crate::ending::fault;
 use crate::running::setup;
 use build_file::Status;
 use command::{Line, LineFault, Task, command_line};
-use operators::path_below;
+use paths::path_below;
 use ports::{DiskOutputs, DiskTree, OutputPlace};
 use std::alloc::{AllocError, Global};
 use std::fs::File;

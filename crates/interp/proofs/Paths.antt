@@ -1,15 +1,12 @@
 -- The definition files of folders.
 use Rattle.std.proofs.Common.{◌≡◌, ℕ, Bool, true, false, List, [], ◌∷◌, ◌++◌, length, length-append, drop, ◌-◌, refl, sym, ap, ◌∙◌, arith}
-use Rattle.std.specs.Prelude.{◌||◌, codes, bytes_eq, if◌then◌else◌}
+use Rattle.std.specs.Prelude.{◌||◌, codes, bytes_eq}
 use Rattle.std.specs.List.{list_any}
 use Rattle.std.proofs.Math.Seq.{drop-append_seam}
 use Rattle.std.proofs.lemmas.Bool.{false≢true}
 use Rattle.std.proofs.lemmas.Slice.Eq.{bytes_eq-Decides}
 use Rattle.interp.specs.Cost.{is_definition_file}
 use Rattle.world.specs.Costs.{definition_file, is_opened}
-
-behind : List ℕ → List ℕ
-behind folder = folder ++ (codes "/" ++ codes "meson.build")
 
 -- a list and what stands behind it
 front_same : (a b c : List ℕ) → length a ≡ length b → a ++ c ≡ b ++ c → a ≡ b
@@ -29,19 +26,12 @@ same_length a b c e = omega (arith, ap length e, length-append a c, length-appen
 front_as : (a b c : List ℕ) → a ++ c ≡ b ++ c → a ≡ b
 front_as a b c e = front_same a b c (same_length a b c e) e
 
-is_empty : (b : Bool) (a : List ℕ) → bytes_eq a [] ≡ b → b ≡ true → a ≡ []
-is_empty b a e h = (bytes_eq-Decides a []).0 (e ∙ h)
-
 -- folders of one definition file are one
-same_by : (a b : List ℕ) (x y : Bool) → bytes_eq a [] ≡ x → bytes_eq b [] ≡ y
-    → (if x then codes "meson.build" else a ++ (codes "/" ++ codes "meson.build")) ≡ (if y then codes "meson.build" else b ++ (codes "/" ++ codes "meson.build")) → a ≡ b
-same_by a b true true p q e = is_empty true a p refl ∙ sym (is_empty true b q refl)
-same_by a b true false p q e = absurd (omega (arith, ap length e, length-append b (codes "/" ++ codes "meson.build")))
-same_by a b false true p q e = absurd (omega (arith, ap length e, length-append a (codes "/" ++ codes "meson.build")))
-same_by a b false false p q e = front_as a b (codes "/" ++ codes "meson.build") e
-
 pub same_folder : (a b : List ℕ) → definition_file a ≡ definition_file b → a ≡ b
-same_folder a b e = same_by a b (bytes_eq a []) (bytes_eq b []) refl refl e
+same_folder [] [] e = refl
+same_folder [] (y ∷ b) e = absurd (omega (arith, ap length e, length-append b (codes "/" ++ codes "meson.build")))
+same_folder (x ∷ a) [] e = absurd (omega (arith, ap length e, length-append a (codes "/" ++ codes "meson.build")))
+same_folder (x ∷ a) (y ∷ b) e = front_as (x ∷ a) (y ∷ b) (codes "/" ++ codes "meson.build") e
 
 test_as : (a b : List ℕ) (x y : Bool) → bytes_eq (definition_file a) (definition_file b) ≡ x → bytes_eq b a ≡ y → x ≡ y
 test_as a b true true p q = refl
@@ -60,9 +50,8 @@ any_true : (b : Bool) → (b || true) ≡ true
 any_true true = refl
 any_true false = refl
 
-definition_by : (folder : List ℕ) (b : Bool) → is_definition_file (if b then codes "meson.build" else folder ++ (codes "/" ++ codes "meson.build")) ≡ true
-definition_by folder true = refl
-definition_by folder false =
+ends_so : (folder : List ℕ) → is_definition_file (folder ++ (codes "/" ++ codes "meson.build")) ≡ true
+ends_so folder =
     let needle : List ℕ = codes "/" ++ codes "meson.build" in
     let size : length (folder ++ needle) - 12 ≡ length folder = omega (arith, length-append folder needle) in
     let rest : drop (length (folder ++ needle) - 12) (folder ++ needle) ≡ needle = ap (λ n. drop n (folder ++ needle)) size ∙ drop-append_seam folder needle in
@@ -70,4 +59,5 @@ definition_by folder false =
 
 -- it is one
 pub is_definition : (folder : List ℕ) → is_definition_file (definition_file folder) ≡ true
-is_definition folder = definition_by folder (bytes_eq folder [])
+is_definition [] = refl
+is_definition (x ∷ xs) = ends_so (x ∷ xs)

@@ -8,7 +8,8 @@ use Rattle.serde_json.specs.Written.{compact_text}
 use Rattle.edge.specs.Texts.{Path, Text}
 use Rattle.targets.specs.Data.{FactsData, OptionData, text, boolean as truth, integer, texts, OptionEntryData}
 use Rattle.targets.specs.Data.{BuildData, CustomData, TargetData, Build, Custom}
-use Rattle.targets.specs.Files.{path_in, file_path, output_paths}
+use Rattle.paths.specs.Paths.{path_in}
+use Rattle.targets.specs.Files.{file_path, output_paths}
 use Rattle.targets.specs.declared.facts.OptionType.{OptionType}
 use Rattle.targets.specs.declared.facts.OptionType.TheVariants as types
 use Rattle.targets.specs.declared.target.Kind.{Kind}

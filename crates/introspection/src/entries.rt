@@ -14,11 +14,12 @@ ghost use Rattle.introspection.specs.Document.{kind_name, option_entry, option_v
 
 use crate::shown::{Shown, object_of, strings};
 use crate::writing::{Written, push_string, push_strings, truth_text};
+use paths::path_in;
 use project::{Answer, Test};
 use serde_json::Value;
 use std::alloc::{AllocError, Global};
 use targets::{
-    BuildTarget, CustomTarget, Kind, Linked, OptionEntry, OptionType, OptionValue, Target, path_in,
+    BuildTarget, CustomTarget, Kind, Linked, OptionEntry, OptionType, OptionValue, Target,
 };
 
 fn type_name(kind: OptionType) -> &'static str

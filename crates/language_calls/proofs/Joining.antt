@@ -3,7 +3,7 @@ use Rattle.std.proofs.Common.{◌≡◌, ℕ, ◌+◌, ◌<◌, ◌==◌, Bool, 
 use Rattle.std.specs.Prelude.{◌||◌, if◌then◌else◌}
 use Rattle.std.proofs.lemmas.Bool.Decides.{nat_tests}
 use Rattle.std.proofs.lemmas.List.{get_or-map, length-map, take_more}
-use Rattle.operators.specs.Texts.{begins_with_slash, ends_with_slash, path_below}
+use Rattle.paths.specs.Below.{begins_with_slash, ends_with_slash, path_below}
 use Rattle.language_calls.specs.JoinPaths.{path_of}
 
 -- a path that is not empty, and a relative one below it

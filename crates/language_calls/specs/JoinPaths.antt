@@ -2,7 +2,7 @@
 use Rattle.std.specs.Prelude.{ℕ, List, [], ◌∷◌, Option, Some}
 use Rattle.data.specs.Data.{Data, text}
 use Rattle.data.specs.Limits.{within}
-use Rattle.operators.specs.Texts.{path_below}
+use Rattle.paths.specs.Below.{path_below}
 use Rattle.arguments.specs.Arguments.{ArgumentsData}
 use Rattle.data.specs.Flat.{flat_all}
 use Rattle.world.specs.Deed.{Deed, give, ◌>>=◌, answered}

@@ -1,6 +1,5 @@
 mod Examples
 pub mod FilesBehind
-pub mod NameTexts
 pub mod Numbers
 pub mod Places
 pub mod Steps

@@ -1,17 +1,17 @@
 -- Texts without placeholders.
 use Rattle.std.proofs.Common.{◌≡◌, ◌==◌, eqb, false, List, ℕ, [], ◌∷◌, Some, refl, ap, ◌∙◌, append-nil}
 use Rattle.std.specs.List.{slice_split, onto_first}
+use Rattle.std.proofs.lemmas.Bool.{or_parts}
 use Rattle.std.proofs.lemmas.List.Splits.{slice_split-cons_no}
 use Rattle.named_sources.specs.Holes.{PlaceData, meaning, filled_parts, filled}
-use Rattle.named_sources.specs.Names.{has}
+use Rattle.paths.specs.Names.{has}
 use Rattle.named_sources.specs.declared.holes.Scope.{Scope}
-use Rattle.named_sources.proofs.NameTexts.{or_false}
 
 -- a text without an `@` is one part
 one_part : (text : List ℕ) → has 64 text ≡ false → slice_split (λ b. b == 64) text ≡ text ∷ []
 one_part [] h = refl
 one_part (b ∷ bs) h =
-    let s = or_false (eqb b 64) (has 64 bs) h in
+    let s = or_parts (eqb b 64) (has 64 bs) h in
     slice_split-cons_no (λ b. b == 64) b bs s.0 ∙ ap (onto_first b) (one_part bs s.1)
 
 pub filled_unmarked : (scope : Scope) (at : PlaceData) (text : List ℕ) → has 64 text ≡ false → filled scope at text ≡ Some text

@@ -4,9 +4,8 @@ use Rattle.std.specs.Prelude.{Option, Some, None, option_map, if◌then◌else�
 use Rattle.std.specs.List.{list_all, starts_with, slice_split}
 use Rattle.std.specs.Char.{is_ascii_digit}
 use Rattle.std.specs.Str.Parse.{digits_value}
-use Rattle.edge.specs.Paths.{source_path, source_root}
 use Rattle.edge.specs.Texts.{Path, Text}
-use Rattle.named_sources.specs.Names.{plain_name, base_name}
+use Rattle.paths.specs.Names.{plain_name, base_name}
 use Rattle.named_sources.specs.declared.holes.Scope.{Scope}
 use Rattle.named_sources.specs.declared.holes.Scope.TheVariants.{Command, FileName}
 
@@ -19,16 +18,6 @@ pub record PlaceData : Type 0 where
   pub build_folder : Path
   pub source_folder : Path
   pub source_root : Path
-
--- the folder of a definition file in the build folder
-abbrev pub build_folder : Path → Path
-build_folder [] = codes "."
-build_folder (b ∷ bs) = b ∷ bs
-
--- and in the tree
-abbrev pub source_folder : ℕ → Path → Path
-source_folder depth [] = source_root depth
-source_folder depth (b ∷ bs) = source_path depth (b ∷ bs)
 
 -- a placeholder stands for a text, or for none here, which is refused (E9); any other name stays as it is
 pub data MeaningData : Type 0 where

@@ -1,8 +1,9 @@
 -- Places and meanings without where they lie in memory.
 use Rattle.std.specs.Prelude.{string_bytes, option_map}
+use Rattle.edge.specs.Folders.{build_folder, source_folder}
 use Rattle.edge.specs.Paths.{source_root}
 use Rattle.edge.specs.Texts.{texts}
-use Rattle.named_sources.specs.Holes.{PlaceData, build_folder, source_folder, MeaningData, stays, refused, means}
+use Rattle.named_sources.specs.Holes.{PlaceData, MeaningData, stays, refused, means}
 use Rattle.named_sources.specs.declared.holes.Place.{Place}
 use Rattle.named_sources.specs.declared.holes.Meaning.{Meaning}
 use Rattle.named_sources.specs.declared.holes.Meaning.TheVariants as meaning

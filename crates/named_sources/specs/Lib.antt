@@ -3,7 +3,6 @@ pub mod Folders
 pub mod Holes
 pub mod HolesView
 pub mod Libraries
-pub mod Names
 pub mod Outputs
 pub mod Sources
 pub mod SourcesView

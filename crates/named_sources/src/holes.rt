@@ -4,17 +4,17 @@ ghost use Rattle.std.specs.List.{list_all};
 ghost use Rattle.std.specs.Char.{is_ascii_digit};
 ghost use Rattle.std.specs.Str.Parse.{IsNumeral, digits_value};
 ghost use Rattle.edge.specs.Texts.{texts};
-ghost use Rattle.named_sources.specs.Names.{plain_name as plain_of, base_name as base_of};
+ghost use Rattle.paths.specs.Names.{plain_name as plain_of, base_name as base_of};
 ghost use Rattle.named_sources.specs.Holes.{means_if, only_of, first_of, is_number, numbered, numbered_if, rest_after, numbered_name};
-ghost use Rattle.named_sources.specs.Holes.{build_folder, source_folder, stays, with_p, place_name, file_name, other_name, meaning};
+ghost use Rattle.named_sources.specs.Holes.{stays, with_p, place_name, file_name, other_name, meaning};
 ghost use Rattle.named_sources.specs.HolesView.{place_view, meaning_view};
 
-use crate::names::{base_name, plain_name};
-use edge::{source_path, source_root};
+use edge::{build_folder, source_folder, source_root};
+use paths::{base_name, plain_name};
 use std::alloc::{AllocError, Global};
 
 /// Where a text with placeholders stands.
-#[derive(Clone, Copy, Debug, PartialEq, Eq)]
+#[derive(Clone, Copy)]
 pub enum Scope {
     /// In the command.
     Command,
@@ -136,22 +136,6 @@ fn numbered_name<'p>(place: &Place<'p>, name: &str) -> Meaning<'p>
 }
 
 // ---- names
-
-fn build_folder(folder: &str) -> &str
-    ensures { result.now ≡ build_folder folder.now }
-{
-    if folder.is_empty() { "." } else { folder }
-}
-
-fn source_folder(alloc: Global, depth: usize, folder: &str) -> Result<String, AllocError>
-    ensures { IfOk result (λ s. string_bytes s ≡ source_folder depth folder.now) }
-{
-    if folder.is_empty() {
-        source_root(alloc, depth)
-    } else {
-        source_path(alloc, depth, folder)
-    }
-}
 
 fn private_folder(alloc: Global, outputs: &[String]) -> Result<Meaning<'_>, AllocError>
     ensures { IfOk result (λ m. meaning_view m ≡ means_if (option_map with_p (first_of (texts outputs.now)))) }

@@ -7,7 +7,7 @@ use Rattle.data.specs.Limits.{within}
 use Rattle.data.specs.declared.object.Object.TheVariants as objects
 use Rattle.data.specs.declared.refusal.Refusal.{Refusal}
 use Rattle.data.specs.declared.refusal.Refusal.TheVariants as refusal
-use Rattle.operators.specs.Texts.{path_below}
+use Rattle.paths.specs.Below.{path_below}
 use Rattle.world.specs.World.{Facts}
 use Rattle.language_names.specs.declared.object_methods.MesonMethod.{MesonMethod}
 use Rattle.language_names.specs.declared.object_methods.MesonMethod.TheVariants as methods

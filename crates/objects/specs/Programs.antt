@@ -6,7 +6,7 @@ use Rattle.data.specs.declared.object.Program.{Program}
 use Rattle.data.specs.declared.object.Program.TheVariants as programs
 use Rattle.data.specs.declared.refusal.Refusal.{Refusal}
 use Rattle.data.specs.declared.refusal.Refusal.TheVariants as refusal
-use Rattle.operators.specs.Texts.{path_below}
+use Rattle.paths.specs.Below.{path_below}
 use Rattle.language_names.specs.declared.object_methods.ProgramMethod.{ProgramMethod}
 use Rattle.language_names.specs.declared.object_methods.ProgramMethod.TheVariants.{Found, FullPath}
 use Rattle.language_names.specs.ObjectMethods.{program_method_named}

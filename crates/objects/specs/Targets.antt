@@ -8,9 +8,10 @@ use Rattle.data.specs.declared.object.Object.TheVariants as objects
 use Rattle.data.specs.declared.refusal.Refusal.{Refusal}
 use Rattle.data.specs.declared.refusal.Refusal.TheVariants as refusal
 use Rattle.edge.specs.Texts.{Path, Text}
-use Rattle.operators.specs.Texts.{path_below}
+use Rattle.paths.specs.Below.{path_below}
 use Rattle.targets.specs.Data.{TargetData, Build, Custom}
-use Rattle.targets.specs.Files.{file_path, path_in}
+use Rattle.paths.specs.Paths.{path_in}
+use Rattle.targets.specs.Files.{file_path}
 use Rattle.targets.specs.Libraries.{LinkedData, linked_of}
 use Rattle.world.specs.World.{Facts}
 use Rattle.language_names.specs.declared.object_methods.TargetMethod.{TargetMethod}

@@ -10,7 +10,7 @@ ghost use Rattle.world.specs.Store.{world_of};
 use arguments::Arguments;
 use data::{Object, Refusal, Value};
 use language_names::{MesonMethod, MethodName};
-use operators::path_below;
+use paths::path_below;
 use std::alloc::{AllocError, Global};
 use world::Store;
 

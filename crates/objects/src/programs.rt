@@ -7,7 +7,7 @@ ghost use Rattle.world.specs.Store.{world_of};
 use crate::meson_object::source_root;
 use data::{Program, Refusal, Text, Value};
 use language_names::{MethodName, ProgramMethod};
-use operators::path_below;
+use paths::path_below;
 use std::alloc::{AllocError, Global};
 use world::Store;
 

@@ -14,9 +14,9 @@ ghost use Rattle.objects.specs.Targets.{told_of};
 use crate::meson_object::build_root;
 use data::{List, Object, Refusal, Value};
 use language_names::{MethodName, TargetMethod};
-use operators::path_below;
+use paths::{path_below, path_in};
 use std::alloc::{AllocError, Global};
-use targets::{Linked, Target, file_path, path_in, target_at};
+use targets::{Linked, Target, file_path, target_at};
 use world::Store;
 
 // ---- what a target has

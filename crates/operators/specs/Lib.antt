@@ -1,5 +1,4 @@
 pub mod Integers
-pub mod Texts
 pub mod Types
 pub mod Rows
 pub mod Operations

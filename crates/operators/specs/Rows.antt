@@ -7,7 +7,7 @@ use Rattle.data.specs.Data.{Data, boolean, integer, text, list, dictionary, Item
 use Rattle.data.specs.Same.{same}
 use Rattle.operators.specs.Integers as integers
 use Rattle.texts.specs.Search.{contains}
-use Rattle.operators.specs.Texts.{path_below}
+use Rattle.paths.specs.Below.{path_below}
 use Rattle.operators.specs.Types.{is_one_type}
 
 -- `+`: a dictionary's keys keep their places, values of the right win, new keys go last

@@ -33,4 +33,3 @@ pub use logic::{Left, left_side, right_side};
 pub use operations::{binary, unary};
 pub use operator::{Binary, Connective, Unary};
 pub use parts::{index, indexed_item};
-pub use text_sums::{begins_with_slash, ends_with_slash, path_below};

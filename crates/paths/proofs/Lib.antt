@@ -1,3 +1,4 @@
+pub mod NameTexts
 pub mod PathTexts
 pub mod Staying
 mod Examples

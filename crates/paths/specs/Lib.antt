@@ -1,2 +1,4 @@
 pub mod Folder
 pub mod Paths
+pub mod Below
+pub mod Names

@@ -6,7 +6,8 @@ use Rattle.std.specs.Str.{bytes_eq}
 
 -- a name in a folder; the root's is empty
 abbrev pub path_in : List ℕ → List ℕ → List ℕ
-path_in folder name = if bytes_eq folder [] then name else folder ++ (codes "/" ++ name)
+path_in [] name = name
+path_in (b ∷ bs) name = (b ∷ bs) ++ (codes "/" ++ name)
 
 -- what stands between the slashes
 abbrev pub parts_of : List ℕ → List (List ℕ)

@@ -1,9 +1,13 @@
-//! The paths of the tree that texts of a definition file name.
+//! The rules of paths: the paths of the tree that texts of a definition file name, paths below others, and the names of files.
 //!
 //! A text is relative to the folder of the file, or an absolute path below the source root; parts `.` go, and `..` takes the part before
 //! it away. A path of the tree has none of them, and the root's is empty.
 #![tactic(auto)]
 
+mod below;
 mod named;
+mod names;
 
+pub use below::{before_path, begins_with_slash, ends_with_slash, path_below};
 pub use named::{folder_below, folder_path, folder_paths, path_in, tree_path, tree_paths};
+pub use names::{base_name, has_slash, is_file_name, plain_name};

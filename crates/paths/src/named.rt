@@ -32,7 +32,7 @@ fn below(alloc: Global, folder: &str, name: &str) -> Result<String, AllocError>
 pub fn path_in(alloc: Global, folder: &str, name: &str) -> Result<String, AllocError>
     ensures { IfOk result (λ path. string_bytes path ≡ path_in folder.now name.now) }
 {
-    if folder == "" {
+    if folder.is_empty() {
         String::from_str(alloc, name)
     } else {
         below(alloc, folder, name)

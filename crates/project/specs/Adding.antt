@@ -3,13 +3,15 @@ use Rattle.std.specs.Prelude.{ℕ, zero, suc, ◌+◌, Bool, true, false, nat_le
 use Rattle.std.specs.Prelude.{slice_get, bytes_eq, codes, Option, Some, None, Result, Ok, Err, if◌then◌else◌}
 use Rattle.std.specs.List.{list_any, list_all, sum_by}
 use Rattle.basics.specs.Limits.{items}
+use Rattle.paths.specs.Names.{has_slash, is_file_name}
 use Rattle.edge.specs.Texts.{Path, Text, holds, put_new}
 use Rattle.edge.specs.Paths.{is_upward}
 use Rattle.edge.specs.Data.{EdgeData}
 use Rattle.edge.specs.Holding.{path_held, value_held, are_writable}
 use Rattle.targets.specs.Data.{SurroundingsData, SourceData, Tree, Built, Made, ListsData, BuildData, CustomData, TargetData, Build, Custom}
 use Rattle.targets.specs.Sources.{all_sources, is_c, has_foreign}
-use Rattle.targets.specs.Files.{path_in, file_name, link_names}
+use Rattle.paths.specs.Paths.{path_in}
+use Rattle.targets.specs.Files.{file_name, link_names}
 use Rattle.targets.specs.Libraries.{LinkedData, linked, linked_of, links_libraries}
 use Rattle.target_edges.specs.Edges.{edges_of}
 use Rattle.project.specs.Laws.{first_taken, outputs_of}
@@ -21,13 +23,6 @@ use Rattle.project.specs.declared.fitting.ListOf.TheVariants.{OfSources, OfFolde
 use Rattle.project.specs.declared.refusal.Refusal.TheVariants.{Arguments, Missing, Unholdable, Duplicate, Limit, Late}
 
 -- ---- names (E9)
-
-abbrev pub has_slash : Text → Bool
-has_slash text = list_any (λ b. b == 47) text
-
--- the name of a file: not empty, `.` or `..`, and without `/`
-abbrev pub is_file_name : Text → Bool
-is_file_name name = not (bytes_eq name [] || (has_slash name || (bytes_eq name (codes ".") || bytes_eq name (codes ".."))))
 
 abbrev pub begins_with_dash : Text → Bool
 begins_with_dash [] = false

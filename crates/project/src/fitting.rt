@@ -8,13 +8,15 @@ ghost use Rattle.targets.specs.View.{source_view, lists_view, build_view, custom
 ghost use Rattle.targets.specs.Libraries.{links_libraries as links_all};
 ghost use Rattle.targets.specs.Sources.{is_c as is_c_path, has_foreign};
 ghost use Rattle.project.specs.World.{reserved, is_made_in};
-ghost use Rattle.project.specs.Adding.{has_slash, is_file_name, begins_with_dash, is_folder, sources_of, is_made_source, is_present};
+ghost use Rattle.paths.specs.Names.{has_slash, is_file_name};
+ghost use Rattle.project.specs.Adding.{begins_with_dash, is_folder, sources_of, is_made_source, is_present};
 ghost use Rattle.project.specs.Adding.{is_target_name};
 ghost use Rattle.project.specs.Adding.{has_c_in, has_c, names_fit, optional_file_name, build_fits, custom_fits, length_in, length_of};
 ghost use Rattle.project.specs.Adding.{is_short, is_within, is_build};
 
 use basics::tables::SipSet;
 use edge::{holds, is_upward};
+use paths::{has_slash, is_file_name};
 use std::alloc::{AllocError, Global};
 use targets::{
     BuildTarget, CustomTarget, Linked, Lists, Source, Target, file_name, has_foreign_source, is_c,
@@ -22,20 +24,6 @@ use targets::{
 };
 
 // ---- names
-
-/// Whether there is a `/` in the text.
-pub fn has_slash(text: &str) -> bool
-    ensures { result ≡ has_slash text.now }
-{
-    text.as_bytes().iter().any(|byte| *byte == b'/')
-}
-
-/// Whether a file may have the name: it is not empty, `.` or `..`, and has no `/`.
-pub fn is_file_name(name: &str) -> bool
-    ensures { result ≡ is_file_name name.now }
-{
-    !(name == "" || has_slash(name) || name == "." || name == "..")
-}
 
 fn are_file_names(names: &[String]) -> bool
     ensures { result ≡ list_all (λ s. is_file_name (string_bytes s)) names.now }

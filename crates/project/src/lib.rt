@@ -8,7 +8,6 @@ mod project;
 mod refusal;
 mod unheld;
 
-pub use fitting::{has_slash, is_file_name};
 pub use notes::{Answer, Install, Test};
 pub use project::{
     Project, edges_are_writable, edges_stand_in_order, needs_are_made, no_circle, outputs_differ,

@@ -9,13 +9,15 @@ ghost use Rattle.project.specs.Whole.{IsNext};
 ghost use Rattle.project.specs.Earlier.{refer_back};
 ghost use Rattle.project.specs.Adding.{is_fit, target_answer, after_target, place_answer, with_target, after_answer, target_fits};
 ghost use Rattle.project.specs.Adding.{output_answer, place_output_answer, with_output, with_present, with_absent, with_dependency};
-ghost use Rattle.project.specs.Adding.{with_install, with_test, edges_at, is_folder as is_folder_of, is_file_name as is_name};
+ghost use Rattle.paths.specs.Names.{is_file_name as is_name};
+ghost use Rattle.project.specs.Adding.{with_install, with_test, edges_at, is_folder as is_folder_of};
 ghost use Rattle.project.specs.Adding.{edges_by_number, arguments_answer, with_arguments, with_link_arguments};
 ghost use Rattle.project.specs.Adding.{first_build, is_build as is_build_target};
 ghost use Rattle.std.specs.List.{list_any};
 ghost use Rattle.edge.specs.Paths.{is_upward};
 ghost use Rattle.edge.specs.Holding.{are_writable};
-ghost use Rattle.targets.specs.Files.{default_paths, path_in as path_of};
+ghost use Rattle.paths.specs.Paths.{path_in as path_of};
+ghost use Rattle.targets.specs.Files.{default_paths};
 ghost use Rattle.project.specs.Laws.{AtMostOnce, all_made, outputs_of, Reaches};
 ghost use Rattle.project.specs.World.{new_world, edges_in, known_in, taken_in};
 ghost use Rattle.project.specs.Refused.{answer_data};
@@ -24,18 +26,18 @@ ghost use Rattle.target_edges.specs.PartsView.{parts_edges};
 
 use crate::claims::claim;
 use crate::fitting::{
-    build_fits, custom_fits, has_made_sources, has_present_sources, is_build, is_file_name,
-    is_folder, is_within,
+    build_fits, custom_fits, has_made_sources, has_present_sources, is_build, is_folder, is_within,
 };
 use crate::notes::{Answer, Install, Test};
 use crate::refusal::{Refusal, Refused, refuse};
 use crate::unheld::{unheld, unheld_word};
 use basics::tables::{SipSet, new_set};
 use edge::{can_hold_path, can_hold_values, copies, strings};
+use paths::{is_file_name, path_in};
 use std::alloc::{AllocError, Global};
 use std::marker::Model;
 use target_edges::{Claims, Context, TargetParts, claims_of, no_parts, target_parts};
-use targets::{Facts, Linked, Surroundings, Target, linked_libraries, path_in};
+use targets::{Facts, Linked, Surroundings, Target, linked_libraries};
 
 // What was looked at, and what was noted.
 struct Notes {

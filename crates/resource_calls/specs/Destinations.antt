@@ -5,9 +5,9 @@ use Rattle.arguments.specs.Given.{text_given, text_of}
 use Rattle.arguments.specs.Leaves.{leaves_from}
 use Rattle.arguments.specs.Maybe.{◌>>=◌}
 use Rattle.edge.specs.Texts.{Path, Text}
-use Rattle.operators.specs.Texts.{path_below}
+use Rattle.paths.specs.Below.{path_below}
 use Rattle.project.specs.World.{InstallData}
-use Rattle.named_sources.specs.Names.{plain_name}
+use Rattle.paths.specs.Names.{plain_name}
 use Rattle.resources.specs.Installs.{destination, headers_folder, man_folder}
 use Rattle.named_sources.specs.Each.{each_or_none}
 use Rattle.named_sources.specs.Sources.{NamedData, tree, built, sources_of}

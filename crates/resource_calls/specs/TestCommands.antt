@@ -11,7 +11,7 @@ use Rattle.data.specs.declared.object.Object.TheVariants as objects
 use Rattle.data.specs.declared.object.Program.{Program}
 use Rattle.data.specs.declared.object.Program.TheVariants as programs
 use Rattle.edge.specs.Texts.{Path, Text}
-use Rattle.operators.specs.Texts.{path_below}
+use Rattle.paths.specs.Below.{path_below}
 use Rattle.resources.specs.Testing.{environment}
 use Rattle.targets.specs.Data.{BuildData}
 use Rattle.targets.specs.Files.{file_path, is_library}

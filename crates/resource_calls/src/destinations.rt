@@ -11,8 +11,8 @@ ghost use Rattle.resource_calls.specs.Destinations.{usual_folder};
 ghost use Rattle.resource_calls.specs.DestinationsView.{folders_view, said_view};
 
 use arguments::Arguments;
-use named_sources::{NamedSource, plain_name, sources_of};
-use operators::path_below;
+use named_sources::{NamedSource, sources_of};
+use paths::{path_below, plain_name};
 use ports::{Outputs, Tree};
 use project::Install;
 use resources::{destination, headers_folder, man_folder};

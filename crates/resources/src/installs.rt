@@ -2,7 +2,7 @@
 ghost use Rattle.std.specs.Prelude.{◌≡◌, ◌<◌, option_map, IfOk, IfSome, string_bytes};
 ghost use Rattle.resources.specs.Installs.{destination, headers_folder, last_digit, man_folder};
 
-use operators::path_below;
+use paths::path_below;
 use std::alloc::{AllocError, Global};
 
 /// The absolute path at which a file of this name is installed, in a folder that is relative to `prefix` or absolute itself.

@@ -9,7 +9,7 @@ use Rattle.data.specs.declared.object.Program.TheVariants as programs
 use Rattle.edge.specs.Paths.{source_path}
 use Rattle.edge.specs.Texts.{Path, Text}
 use Rattle.named_sources.specs.Holes.{PlaceData, words_of}
-use Rattle.project.specs.Adding.{has_slash}
+use Rattle.paths.specs.Names.{has_slash}
 use Rattle.targets.specs.Data.{BuildData, SourceData, Tree, Built, Made}
 use Rattle.targets.specs.Files.{file_path}
 use Rattle.targets.specs.Libraries.{build_at}

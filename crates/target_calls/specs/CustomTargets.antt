@@ -6,12 +6,13 @@ use Rattle.arguments.specs.Given.{flag, text_at, text_given, texts}
 use Rattle.arguments.specs.Leaves.{leaves_named}
 use Rattle.arguments.specs.Maybe.{◌>>=◌}
 use Rattle.data.specs.Data.{Data}
+use Rattle.edge.specs.Folders.{build_folder, source_folder}
 use Rattle.edge.specs.Paths.{source_root}
 use Rattle.edge.specs.Texts.{Path, Text}
-use Rattle.named_sources.specs.Holes.{PlaceData, build_folder, source_folder, filled, first_of}
+use Rattle.named_sources.specs.Holes.{PlaceData, filled, first_of}
 use Rattle.named_sources.specs.declared.holes.Scope.TheVariants.{FileName}
 use Rattle.targets.specs.Data.{Custom, CustomData, SourceData}
-use Rattle.targets.specs.Files.{path_in}
+use Rattle.paths.specs.Paths.{path_in}
 use Rattle.targets.specs.Sources.{source_paths}
 use Rattle.data.specs.Flat.{opened}
 use Rattle.named_sources.specs.Each.{each_or_none}

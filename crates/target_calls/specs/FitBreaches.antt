@@ -3,7 +3,8 @@ use Rattle.std.specs.Prelude.{List, [], ◌∷◌, ◌++◌, Option, Some, None,
 use Rattle.std.specs.Option.{option_to_list, unwrap_or}
 use Rattle.arguments.specs.declared.rule.Rule.TheVariants as rules
 use Rattle.edge.specs.Texts.{Path, Text}
-use Rattle.project.specs.Adding.{is_file_name, is_target_name}
+use Rattle.paths.specs.Names.{is_file_name}
+use Rattle.project.specs.Adding.{is_target_name}
 use Rattle.project.specs.World.{WorldData}
 use Rattle.targets.specs.Data.{Build, BuildData, Built, Custom, CustomData, ListsData, Made, SourceData, TargetData, Tree}
 use Rattle.targets.specs.Files.{file_name, link_names}

@@ -15,7 +15,7 @@ use crate::sources::{made_of, one_made_of};
 use data::{Object, Program, Value};
 use edge::{push_copies, source_path};
 use named_sources::{Place, output_at, outputs_at, push_words, strings};
-use project::has_slash;
+use paths::has_slash;
 use std::alloc::{AllocError, Global};
 use targets::{BuildTarget, Kind, Source, build_target_at, file_path};
 

@@ -6,10 +6,11 @@ ghost use Rattle.arguments.specs.Arguments.{arguments_data, named_data};
 ghost use Rattle.arguments.specs.Given.{texts as texts_given};
 ghost use Rattle.data.specs.View.{data_of};
 ghost use Rattle.edge.specs.Texts.{texts};
+ghost use Rattle.edge.specs.Folders.{build_folder, source_folder};
 ghost use Rattle.edge.specs.Paths.{source_root};
-ghost use Rattle.named_sources.specs.Holes.{build_folder, source_folder, first_of};
+ghost use Rattle.named_sources.specs.Holes.{first_of};
 ghost use Rattle.named_sources.specs.HolesView.{place_view};
-ghost use Rattle.targets.specs.Files.{path_in as path_of_file};
+ghost use Rattle.paths.specs.Paths.{path_in as path_of_file};
 ghost use Rattle.targets.specs.View.{custom_view, source_view};
 ghost use Rattle.named_sources.specs.Sources.{sources_of as named_in};
 ghost use Rattle.named_sources.specs.SourcesView.{named_views};
@@ -29,8 +30,9 @@ use crate::sources::{files_among, sources_in};
 use arguments::{Arguments, Named};
 use data::{Value, flat, opened, opened_count};
 use named_sources::{NamedSource, Place, Scope, filled, sources_of};
+use paths::path_in;
 use std::alloc::{AllocError, Global};
-use targets::{CustomTarget, Source, Target, path_in, source_paths};
+use targets::{CustomTarget, Source, Target, paths_in, source_paths};
 
 /// Names of files of the folder.
 #[derive(Drop)]
@@ -327,16 +329,6 @@ pub(crate) fn names_of(
     };
     let depfile = first_of(depfile);
     Ok(Some(Names { outputs, depfile }))
-}
-
-fn paths_in(alloc: Global, folder: &str, names: &[String]) -> Result<Vec<String>, AllocError>
-    ensures { IfOk result (λ v. texts v.items ≡ map (path_of_file folder.now) (texts names.now)) }
-{
-    let mut paths = Vec::with_capacity(alloc, names.len())?;
-    for name in names {
-        paths.push(path_in(alloc, folder, name)?)?;
-    }
-    Ok(paths)
 }
 
 fn path_of(alloc: Global, folder: &str, name: &Option<String>) -> Result<Option<String>, AllocError>

@@ -13,11 +13,11 @@ ghost use Rattle.target_calls.specs.InstallsView.{folders_view};
 use crate::installs::{Folders, folders_in};
 use arguments::Arguments;
 use edge::{copies, is_some_list};
-use operators::path_below;
+use paths::{path_below, path_in};
 use ports::{Outputs, Tree};
 use project::Install;
 use std::alloc::{AllocError, Global};
-use targets::{CustomTarget, Target, path_in};
+use targets::{CustomTarget, Target};
 use world::{Caller, Stop};
 
 /// Which way outputs go.

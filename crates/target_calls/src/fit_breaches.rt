@@ -11,7 +11,8 @@ ghost use Rattle.target_calls.specs.FitBreaches.{foreign_of, foreign_path, sourc
 
 use arguments::Rule;
 use edge::copies;
-use project::{Project, has_slash, is_file_name};
+use paths::{has_slash, is_file_name};
+use project::Project;
 use std::alloc::{AllocError, Global};
 use std::rc::Rc;
 use targets::{

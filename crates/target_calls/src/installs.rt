@@ -9,7 +9,7 @@ ghost use Rattle.target_calls.specs.Installs.{asked_install, build_install, fold
 ghost use Rattle.target_calls.specs.InstallsView.{folders_view};
 
 use arguments::Arguments;
-use operators::path_below;
+use paths::path_below;
 use ports::{Outputs, Tree};
 use project::Install;
 use std::alloc::{AllocError, Global};

@@ -1,7 +1,7 @@
 -- The words of the commands that compile, link and archive.
 use Rattle.std.specs.Prelude.{ℕ, Bool, nat_le, List, [], ◌∷◌, ◌++◌, map, flat_map, bytes_eq, codes, Option, Some, None, if◌then◌else◌}
 use Rattle.edge.specs.Texts.{Path, Text, first_kept}
-use Rattle.edge.specs.Paths.{source_root, source_path}
+use Rattle.edge.specs.Folders.{build_folder, source_folder}
 use Rattle.targets.specs.Data.{FlagsData, SurroundingsData, BuildData}
 use Rattle.targets.specs.Sources.{brought, listed}
 use Rattle.targets.specs.Files.{is_static, is_shared, is_library, file_path, so_name}
@@ -15,16 +15,7 @@ word_if test word = if test then word ∷ [] else []
 
 -- ---- compiling
 
--- a folder of the tree as the build folder has it, and as it is itself
-abbrev pub build_folder : Path → Path
-build_folder [] = codes "."
-build_folder (b ∷ bs) = b ∷ bs
-
-abbrev pub source_folder : ℕ → Path → Path
-source_folder depth [] = source_root depth
-source_folder depth (b ∷ bs) = source_path depth (b ∷ bs)
-
--- headers are looked for in both
+-- headers are looked for in a folder of the build and in that of the tree
 abbrev pub include_words : ℕ → Path → List Text
 include_words depth folder = (codes "-I" ++ build_folder folder) ∷ (codes "-I" ++ source_folder depth folder) ∷ []
 

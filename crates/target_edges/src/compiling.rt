@@ -1,35 +1,18 @@
 //! The words of compile commands.
 ghost use Rattle.std.specs.Prelude.{◌≡◌, ◌++◌, flat_map, IfOk, string_bytes};
+ghost use Rattle.edge.specs.Folders.{build_folder, source_folder};
 ghost use Rattle.edge.specs.Texts.{texts};
 ghost use Rattle.targets.specs.View.{flags_view, surroundings_view, build_view};
-ghost use Rattle.target_edges.specs.Words.{build_folder, source_folder, include_words, includes, warning_words, standard_words};
+ghost use Rattle.target_edges.specs.Words.{include_words, includes, warning_words, standard_words};
 ghost use Rattle.target_edges.specs.Words.{optimization_words, option_words, argument_words, compile_words};
 ghost use Rattle.target_edges.specs.Parts.{front_words};
 
 use crate::words::{joined, push_brought_compile_args, push_if};
-use edge::{copies, first_kept, push_all, push_copies, source_path, source_root};
+use edge::{build_folder, copies, first_kept, push_all, push_copies, source_folder};
 use std::alloc::{AllocError, Global};
 use targets::{BuildTarget, Flags, Surroundings};
 
 // ---- where headers are looked for
-
-// A folder of the tree as the build folder has it.
-fn build_folder(folder: &str) -> &str
-    ensures { result.now ≡ build_folder folder.now }
-{
-    if folder.is_empty() { "." } else { folder }
-}
-
-// A folder of the tree, seen from the build folder.
-fn source_folder(alloc: Global, depth: usize, folder: &str) -> Result<String, AllocError>
-    ensures { IfOk result (λ s. string_bytes s ≡ source_folder depth folder.now) }
-{
-    if folder.is_empty() {
-        source_root(alloc, depth)
-    } else {
-        source_path(alloc, depth, folder)
-    }
-}
 
 // The words for a folder of the tree.
 fn push_include(

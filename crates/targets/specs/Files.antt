@@ -3,6 +3,7 @@ use Rattle.std.specs.Prelude.{ℕ, Bool, true, false, ◌==◌, List, [], ◌∷
 use Rattle.std.specs.Prelude.{if◌then◌else◌}
 use Rattle.edge.specs.Texts.{Path, Text}
 use Rattle.edge.specs.Paths.{object_path}
+use Rattle.paths.specs.Paths.{path_in}
 use Rattle.targets.specs.Data.{BuildData, CustomData, TargetData, Build, Custom}
 use Rattle.targets.specs.Sources.{compiled}
 use Rattle.targets.specs.declared.target.Kind.{Kind}
@@ -19,11 +20,6 @@ is_shared _ = false
 abbrev pub is_library : Kind → Bool
 is_library Executable = false
 is_library _ = true
-
--- the path of a file of the folder
-abbrev pub path_in : Path → Text → Path
-path_in [] name = name
-path_in (b ∷ bs) name = (b ∷ bs) ++ (codes "/" ++ name)
 
 -- `1` of `1.2.3`
 abbrev pub first_number : Text → Text

@@ -2,7 +2,8 @@
 ghost use Rattle.std.specs.Prelude.{◌≡◌, ◌++◌, map, IfOk, codes, string_bytes, option_map};
 ghost use Rattle.edge.specs.Texts.{texts};
 ghost use Rattle.edge.specs.Paths.{object_path};
-ghost use Rattle.targets.specs.Files.{path_in, first_number, so_number, file_number, numbered_so, so_name, file_name, file_path};
+ghost use Rattle.paths.specs.Paths.{path_in};
+ghost use Rattle.targets.specs.Files.{first_number, so_number, file_number, numbered_so, so_name, file_name, file_path};
 ghost use Rattle.targets.specs.Files.{numbered_names, link_names, link_paths, output_paths, depfile_path};
 ghost use Rattle.targets.specs.Inputs.{input_view};
 ghost use Rattle.targets.specs.View.{build_view, custom_view};
@@ -10,6 +11,7 @@ ghost use Rattle.targets.specs.View.{build_view, custom_view};
 use crate::sources::Input;
 use crate::target::{BuildTarget, CustomTarget, Kind};
 use edge::object_path;
+use paths::path_in;
 use std::alloc::{AllocError, Global};
 
 // A name with something before it and something behind it.
@@ -22,17 +24,6 @@ fn between(alloc: Global, front: &str, name: &str, end: &str) -> Result<String, 
     whole.push_str(name)?;
     whole.push_str(end)?;
     Ok(whole)
-}
-
-/// The path of a file of the folder.
-pub fn path_in(alloc: Global, folder: &str, name: &str) -> Result<String, AllocError>
-    ensures { IfOk result (λ s. string_bytes s ≡ path_in folder.now name.now) }
-{
-    if folder.is_empty() {
-        String::from_str(alloc, name)
-    } else {
-        between(alloc, folder, "/", name)
-    }
 }
 
 // `1` of `1.2.3`.
@@ -149,8 +140,8 @@ pub fn link_names(alloc: Global, target: &BuildTarget) -> Result<Vec<String>, Al
     }
 }
 
-// The paths of files of a folder.
-fn paths_in(alloc: Global, folder: &str, names: &[String]) -> Result<Vec<String>, AllocError>
+/// The paths of files of a folder.
+pub fn paths_in(alloc: Global, folder: &str, names: &[String]) -> Result<Vec<String>, AllocError>
     ensures { IfOk result (λ v. texts v.items ≡ map (path_in folder.now) (texts names.now)) }
 {
     let mut paths = Vec::with_capacity(alloc, names.len())?;

@@ -11,7 +11,7 @@ mod walk;
 
 pub use facts::{Facts, Flags, OptionEntry, OptionType, OptionValue, Surroundings};
 pub use files::{
-    depfile_path, file_name, file_path, link_names, link_paths, objects, output_paths, path_in,
+    depfile_path, file_name, file_path, link_names, link_paths, objects, output_paths, paths_in,
     so_name,
 };
 pub use linked_target::Linked;

@@ -11,7 +11,7 @@ use Rattle.project.specs.Laws.{all_held}
 use Rattle.project.specs.World.{WorldData}
 use Rattle.project.specs.Refused.{RefusedData}
 use Rattle.project.proofs.EdgeOrder.{holds_append, holds_left, holds_right, or_cases, or_left, or_right}
-use Rattle.targets.specs.Files.{path_in}
+use Rattle.paths.specs.Paths.{path_in}
 use Rattle.world.specs.Deed.{Files, Deed, give, refuse, tell, ask, consult, read, change, begin_project, make, then as follows, perform}
 use Rattle.world.specs.Made.{ClosesOutputs, closed_by}
 use Rattle.world.specs.Making.{given_up, taken_by, telling, written}

@@ -8,7 +8,7 @@ use Rattle.ports.specs.Outputs.{Step, closing, opening}
 use Rattle.ports.specs.Tree.{file_at}
 use Rattle.project.specs.Adding.{output_answer}
 use Rattle.project.specs.Refused.{RefusedData}
-use Rattle.targets.specs.Files.{path_in}
+use Rattle.paths.specs.Paths.{path_in}
 use Rattle.world.specs.Making.{Filling, after_output, given_up, taken, taken_by, telling, written}
 use Rattle.world.specs.Store.{changing}
 use Rattle.world.specs.Trace.{Mark, Told, Ended, ends_of}

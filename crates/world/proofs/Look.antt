@@ -7,7 +7,7 @@ use Rattle.machine_file.specs.Files.{Section}
 use Rattle.machine_file.specs.Questions.{Question, answer_to}
 use Rattle.project.specs.Adding.{output_answer}
 use Rattle.project.specs.Refused.{RefusedData}
-use Rattle.targets.specs.Files.{path_in}
+use Rattle.paths.specs.Paths.{path_in}
 use Rattle.world.specs.Making.{Filling, after_output, filled, given_up, taken, taken_by, telling, written}
 use Rattle.world.specs.Store.{changing}
 use Rattle.world.specs.Trace.{Mark}

@@ -7,7 +7,7 @@ use Rattle.ports.specs.Outputs.{Step, closing, opening}
 use Rattle.project.specs.Adding.{after_answer, output_answer, with_output}
 use Rattle.project.specs.World.{WorldData}
 use Rattle.project.specs.Refused.{RefusedData}
-use Rattle.targets.specs.Files.{path_in}
+use Rattle.paths.specs.Paths.{path_in}
 use Rattle.edge.specs.Texts.{Path, first_kept, holds, put_all_new, put_new}
 use Rattle.world.specs.Deed.{Files, Deed, give, refuse, tell, ask, consult, read, change, begin_project, make, then as follows, perform}
 use Rattle.world.specs.Making.{after_output, given_up, taken, telling, written}

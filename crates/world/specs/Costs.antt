@@ -1,15 +1,12 @@
 -- How many rules a run ends, where each folder is entered once and the file of each has a price.
-use Rattle.std.specs.Prelude.{ℕ, ◌+◌, ◌≤◌, Bool, true, false, List, [], ◌∷◌, ◌++◌, codes, if◌then◌else◌}
+use Rattle.std.specs.Prelude.{ℕ, ◌+◌, ◌≤◌, Bool, true, false, List, [], ◌∷◌, codes}
 use Rattle.std.specs.List.{list_any}
 use Rattle.std.specs.Str.{bytes_eq}
+use Rattle.paths.specs.Paths.{path_in}
 use Rattle.world.specs.Trace.{ends_of}
 use Rattle.world.specs.World.{World}
 use Rattle.world.specs.Run.{Run, Act, marks_of, world_after}
 use Rattle.world.specs.Deed.{Files}
-
--- a name in a folder; the root's is empty
-abbrev pub path_in : List ℕ → List ℕ → List ℕ
-path_in folder name = if bytes_eq folder [] then name else folder ++ (codes "/" ++ name)
 
 -- the definition file of a folder
 abbrev pub definition_file : List ℕ → List ℕ

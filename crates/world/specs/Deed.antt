@@ -7,7 +7,7 @@ use Rattle.ports.specs.Tree.{file_at}
 use Rattle.data.specs.declared.refusal.Refusal.{Refusal as OperationRefusal}
 use Rattle.machine_file.specs.Questions.{Answer, Question, answer_to}
 use Rattle.targets.specs.Data.{FactsData}
-use Rattle.targets.specs.Files.{path_in}
+use Rattle.paths.specs.Paths.{path_in}
 use Rattle.world.specs.Making.{Filling, taken, telling, written}
 use Rattle.world.specs.Operation.{of_operation}
 use Rattle.world.specs.World.{Facts, LeavesPaths, asking, begun, looking, with_facts, fault_here}

@@ -6,7 +6,7 @@ use Rattle.ports.specs.Outputs.{Step, closing, name_after, opening}
 use Rattle.project.specs.Adding.{after_answer, output_answer, with_output}
 use Rattle.project.specs.World.{WorldData}
 use Rattle.project.specs.Refused.{RefusedData}
-use Rattle.targets.specs.Files.{path_in}
+use Rattle.paths.specs.Paths.{path_in}
 use Rattle.world.specs.Operation.{of_project}
 use Rattle.world.specs.Run.{Act, ran, Done, fails, follow, pure}
 use Rattle.world.specs.Trace.{Told}

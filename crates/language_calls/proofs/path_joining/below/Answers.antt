@@ -1,7 +1,7 @@
 use Rattle.std.proofs.Common.{◌≡◌, IfOk, string_bytes, sym, ap, subst, ◌∙◌}
 use Rattle.data.specs.Limits.{within_bytes}
 use Rattle.data.specs.Tables.{string_in}
-use Rattle.operators.specs.Texts.{ends_with_slash}
+use Rattle.paths.specs.Below.{ends_with_slash}
 use Rattle.language_calls.proofs.Joining.{below_joined}
 use Rattle.language_calls.proofs.path_joining.below.Goals as goal
 

@@ -1,6 +1,6 @@
 use Rattle.std.proofs.Common.{sym, ◌∙◌}
 use Rattle.edge.proofs.TextLists.{texts-list_all}
-use Rattle.project.specs.Adding.{is_file_name}
+use Rattle.paths.specs.Names.{is_file_name}
 use Rattle.project.proofs.fitting.all_file_names.Goals as goal
 
 pub returns : goal.returns

@@ -1,6 +1,6 @@
 use Rattle.std.proofs.Common.{◌≡◌, ◌++◌, map, drop}
 use Rattle.edge.specs.Texts.{texts}
-use Rattle.operators.specs.Texts.{path_below}
+use Rattle.paths.specs.Below.{path_below}
 use Rattle.resource_calls.specs.PlaceView.{place_view}
 use Rattle.resource_calls.proofs.commands.built_words.Given as goal
 

@@ -3,7 +3,7 @@ use Rattle.std.specs.Prelude.{◌==◌, option_map}
 use Rattle.std.proofs.lemmas.Iterator.Adapters.{option_map_id}
 use Rattle.std.proofs.lemmas.List.{map-id}
 use Rattle.edge.specs.Texts.{Path, Text}
-use Rattle.targets.specs.Files.{path_in}
+use Rattle.paths.specs.Paths.{path_in}
 use Rattle.target_calls.specs.CustomTargets.{NamesData}
 use Rattle.target_calls.specs.CustomTargetsView.{names_view}
 use Rattle.target_calls.proofs.custom.files_below.Goals as goal

@@ -1,6 +1,6 @@
 use Rattle.std.proofs.Common.{◌≡◌, map, take}
 use Rattle.edge.specs.Texts.{texts}
-use Rattle.targets.specs.Files.{path_in}
+use Rattle.paths.specs.Paths.{path_in}
 use Rattle.targets.proofs.files.paths_in.Given as goal
 
 abbrev pub invariant-loop-name : goal.invariant-loop-name

@@ -2,7 +2,8 @@ use Rattle.std.proofs.Common.{sym, ap, ◌∙◌}
 use Rattle.std.specs.Prelude.{not}
 use Rattle.edge.specs.Texts.{Path}
 use Rattle.edge.specs.Paths.{is_upward}
-use Rattle.project.specs.Adding.{is_folder, is_file_name}
+use Rattle.paths.specs.Names.{is_file_name}
+use Rattle.project.specs.Adding.{is_folder}
 use Rattle.project.proofs.EdgeOrder.{split_and}
 use Rattle.project.proofs.NextInside.{named_inside}
 use Rattle.project.proofs.project.Project.add_output.Goals as goal

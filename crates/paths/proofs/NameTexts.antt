@@ -1,18 +1,14 @@
 -- Names, cut at their last `/` and dot.
 use Rattle.std.proofs.Common.{◌≡◌, ◌≢◌, ℕ, suc, ◌<◌, Bool, true, false, List, [], ◌∷◌, ◌++◌, length, get_or, refl, ap, ◌∙◌, arith, inl, inr, eqb}
 use Rattle.std.specs.Prelude.{◌||◌, if◌then◌else◌}
-use Rattle.std.proofs.lemmas.Bool.{cases_Bool, eqb-true}
-use Rattle.named_sources.specs.Names.{has, plain_name, before_dot}
+use Rattle.std.proofs.lemmas.Bool.{cases_Bool, eqb-true, or_parts}
+use Rattle.paths.specs.Names.{has, plain_name, before_dot}
 
 not_here : (b c : ℕ) → b ≢ c → eqb b c ≡ false
 not_here b c other = elim (cases_Bool (eqb b c)) [
   | inl e ↦ absurd (other (eqb-true b c e))
   | inr e ↦ e
 ]
-
-pub or_false : (a c : Bool) → (a || c) ≡ false → (a ≡ false) × (c ≡ false)
-or_false true c e = absurd cc
-or_false false c e = (refl, e)
 
 or_true : (b : Bool) → (b || true) ≡ true
 or_true true = refl
@@ -41,7 +37,7 @@ plain_name-behind (b ∷ bs) rest = ap (λ x. if x then plain_name (bs ++ 47 ∷
 pub before_dot-none : (bs : List ℕ) → has 46 bs ≡ false → before_dot bs ≡ bs
 before_dot-none [] h = refl
 before_dot-none (b ∷ bs) h =
-    let s = or_false (eqb b 46) (has 46 bs) h in
+    let s = or_parts (eqb b 46) (has 46 bs) h in
     ap (λ x. if x then b ∷ before_dot bs else (if eqb b 46 then [] else b ∷ bs)) s.1 ∙ ap (λ x. if x then [] else b ∷ bs) s.0
 
 pub before_dot-behind : (part rest : List ℕ) → before_dot (part ++ 46 ∷ rest) ≡ (if has 46 rest then part ++ 46 ∷ before_dot rest else part)

@@ -1,8 +1,8 @@
 use Rattle.std.proofs.Common.{sym, ap, ◌∙◌, lit<, rules}
 use Rattle.std.proofs.lemmas.Str.Pattern.{split_parts}
-use Rattle.named_sources.specs.Names.{plain_name}
-use Rattle.named_sources.proofs.NameTexts.{none_has, plain_name-none, plain_name-behind}
-use Rattle.named_sources.proofs.names.plain_name.Goals as goal
+use Rattle.paths.specs.Names.{plain_name}
+use Rattle.paths.proofs.NameTexts.{none_has, plain_name-none, plain_name-behind}
+use Rattle.paths.proofs.names.plain_name.Goals as goal
 
 pub loop-folder-preserved : goal.loop-folder-preserved
 loop-folder-preserved c =

@@ -1,9 +1,9 @@
 use Rattle.std.proofs.Common.{◌≡◌, Bool, ◌∷◌, ◌++◌, string_bytes, codes, sym, ap, ◌∙◌, append_assoc, lit<, rules}
 use Rattle.std.specs.Prelude.{if◌then◌else◌}
 use Rattle.std.proofs.lemmas.Str.Pattern.{split_parts}
-use Rattle.named_sources.specs.Names.{before_dot}
-use Rattle.named_sources.proofs.NameTexts.{none_has, before_dot-none, before_dot-behind}
-use Rattle.named_sources.proofs.names.before_dot.Goals as goal
+use Rattle.paths.specs.Names.{before_dot}
+use Rattle.paths.proofs.NameTexts.{none_has, before_dot-none, before_dot-behind}
+use Rattle.paths.proofs.names.before_dot.Goals as goal
 
 pub returns-then-not-has_dot : goal.returns-then-not-has_dot
 returns-then-not-has_dot c =

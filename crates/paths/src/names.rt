@@ -1,8 +1,22 @@
-//! The names of files, without folders and without endings.
+//! The names of files: what may be one, and a path's without folders and without endings.
 ghost use Rattle.std.specs.Prelude.{◌≡◌, IfOk, string_bytes};
-ghost use Rattle.named_sources.specs.Names.{has, plain_name, before_dot, are_dots, without_ending, base_name};
+ghost use Rattle.paths.specs.Names.{has, has_slash, is_file_name, plain_name, before_dot, are_dots, without_ending, base_name};
 
 use std::alloc::{AllocError, Global};
+
+/// Whether there is a `/` in the text.
+pub fn has_slash(text: &str) -> bool
+    ensures { result ≡ has_slash text.now }
+{
+    text.as_bytes().iter().any(|byte| *byte == b'/')
+}
+
+/// Whether a file may have the name: it is not empty, `.` or `..`, and has no `/`.
+pub fn is_file_name(name: &str) -> bool
+    ensures { result ≡ is_file_name name.now }
+{
+    !(name == "" || has_slash(name) || name == "." || name == "..")
+}
 
 /// What stands behind the last `/`.
 pub fn plain_name(path: &str) -> &str

@@ -1,4 +1,4 @@
--- Texts as lists of bytes.
+-- A path and one below it.
 use Rattle.std.specs.Prelude.{ℕ, ◌-◌, Bool, ◌||◌, ◌==◌, List, ◌∷◌, ◌++◌, length, slice_index, if◌then◌else◌}
 
 -- whether the first byte is `/`

@@ -1,7 +1,0 @@
-use Rattle.std.proofs.Common.{◌≡◌, map, take}
-use Rattle.edge.specs.Texts.{texts}
-use Rattle.targets.specs.Files.{path_in}
-use Rattle.target_calls.proofs.custom.paths_in.Given as goal
-
-abbrev pub invariant-loop-name : goal.invariant-loop-name
-invariant-loop-name l = texts l.paths.items ≡ map (path_in l.folder) (texts (take l.name-index l.names))
