@@ -1,11 +1,11 @@
 -- Names of keywords: put into a set, or held against those before them.
-use Rattle.std.proofs.Common.{◌≡◌, ℕ, ◌+◌, ◌<◌, Bool, true, false, List, [], ◌∷◌, ◌++◌, map, take, drop, get_or, length, String, string_bytes, Some, refl, sym, ap, ◌∙◌, arith}
+use Rattle.std.proofs.Common.{◌≡◌, ℕ, ◌+◌, ◌<◌, Bool, true, false, List, [], ◌∷◌, ◌++◌, map, take, drop, get_or, length, String, string_bytes, Some, refl, sym, ap, ◌∙◌}
 use Rattle.std.proofs.lemmas.List.{drop_more, map-append, take_more}
 use Rattle.std.specs.Prelude.{◌||◌, bytes_eq}
 use Rattle.std.specs.List.{list_any}
 use Rattle.std.specs.declared.alloc.Global.{Global}
 use Rattle.arguments.specs.Arguments.{named_data}
-use Rattle.arguments.specs.Misfits.{MisfitData, Twice, again}
+use Rattle.arguments.specs.Misfits.{Twice, again}
 use Rattle.arguments.specs.declared.arguments.Named.{Named}
 
 pub any_name : (name : List ℕ) (ns : List (String Global)) → list_any (λ n. bytes_eq name (string_bytes n)) ns ≡ list_any (bytes_eq name) (map string_bytes ns)

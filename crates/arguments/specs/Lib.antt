@@ -10,5 +10,6 @@ pub mod Pieces
 pub mod Refused
 pub mod Row
 pub mod RowView
+pub mod Rows
 pub mod Rules
 pub mod Words

@@ -1,5 +1,5 @@
 -- What is wrong with the arguments of a call, by its row, and the words that say so.
-use Rattle.std.specs.Prelude.{ℕ, ◌+◌, nat_le, Bool, ◌&&◌, ◌||◌, List, [], ◌∷◌, ◌++◌, length, codes, decimal}
+use Rattle.std.specs.Prelude.{ℕ, ◌+◌, nat_le, ◌&&◌, ◌||◌, List, [], ◌∷◌, ◌++◌, length, codes, decimal}
 use Rattle.std.specs.Prelude.{Option, Some, None, is_none, Result, Ok, Err, bytes_eq, if◌then◌else◌}
 use Rattle.std.specs.List.{list_any}
 use Rattle.basics.specs.Among.{is_among}

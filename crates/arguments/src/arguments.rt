@@ -1,6 +1,6 @@
 //! The evaluated arguments of a call.
 ghost use Rattle.std.specs.Prelude.{◌≡◌, OnOk};
-ghost use Rattle.data.specs.View.{data_of};
+ghost use Rattle.data.specs.Prelude.{data_of};
 ghost use Rattle.arguments.specs.Arguments.{arguments_data, no_arguments, with_argument};
 
 use data::{Text, Value};

@@ -1,7 +1,7 @@
 //! Dependencies in lists of any depth.
 ghost use Rattle.std.specs.Prelude.{◌≡◌};
 ghost use Rattle.arguments.specs.Dependencies.{all_dependencies, all_found, are_dependencies, are_found};
-ghost use Rattle.data.specs.View.{data_of, items_of};
+ghost use Rattle.data.specs.Prelude.{data_of, items_of};
 
 use data::{Object, Value};
 

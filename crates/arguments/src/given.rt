@@ -2,7 +2,7 @@
 //! another type counts as one that is not given.
 ghost use Rattle.std.specs.Prelude.{◌≡◌, IfOk, drop, map, option_map, string_bytes};
 ghost use Rattle.data.specs.Data.{text_in};
-ghost use Rattle.data.specs.View.{data_of};
+ghost use Rattle.data.specs.Prelude.{data_of};
 ghost use Rattle.arguments.specs.Arguments.{arguments_data, named_data};
 ghost use Rattle.arguments.specs.Given.{argument, flag, flag_at, integer_of, keyword, of_boolean};
 ghost use Rattle.arguments.specs.Given.{of_feature, requirement, requirement_in, text_at, text_given, text_of, text_or, texts};

@@ -11,6 +11,7 @@ mod pieces;
 mod reader;
 mod refused;
 mod row;
+mod rows;
 mod rule;
 mod words;
 
@@ -21,5 +22,6 @@ pub use given::Requirement;
 pub use reader::check;
 pub use refused::Refused;
 pub use row::{Keyword, Kind, Piece, Row};
+pub use rows::{any_values, some_texts, values};
 pub use rule::Rule;
 pub use words::values_words;

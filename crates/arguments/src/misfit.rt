@@ -1,7 +1,7 @@
 //! What is wrong with the arguments of a call, and the words that say so.
 ghost use Rattle.std.specs.Prelude.{◌≡◌, IfOk, string_bytes};
 ghost use Rattle.arguments.specs.Refused.{refused_data};
-ghost use Rattle.data.specs.View.{data_of};
+ghost use Rattle.data.specs.Prelude.{data_of};
 ghost use Rattle.arguments.specs.MisfitView.{misfit_data};
 ghost use Rattle.arguments.specs.Misfits.{Place, keyword_is, refusal_of, refused_as, takes, words_of};
 

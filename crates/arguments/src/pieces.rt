@@ -2,7 +2,7 @@
 ghost use Rattle.std.specs.Prelude.{◌≡◌, ◌||◌};
 ghost use Rattle.arguments.specs.Pieces.{all_pieces, are_pieces, is_built, is_command, is_configuration, is_custom, is_feature, is_file};
 ghost use Rattle.arguments.specs.Pieces.{is_folders, is_program, is_target, takes_object, takes_text};
-ghost use Rattle.data.specs.View.{data_of, items_of};
+ghost use Rattle.data.specs.Prelude.{data_of, items_of};
 
 use crate::row::Piece;
 use data::{Object, Value};

@@ -1,10 +1,10 @@
 //! Whether the arguments of a call are what its row says.
 ghost use Rattle.std.specs.Prelude.{◌≡◌, ◌&&◌, ◌||◌, ◌++◌, ◌∷◌, [], IfOk, IsTrue, bytes_eq, false, not};
-ghost use Rattle.std.specs.Prelude.{flat_map, is_some, map, option_map, string_bytes};
+ghost use Rattle.std.specs.Prelude.{flat_map, map, option_map, string_bytes};
 ghost use Rattle.std.specs.List.{list_any};
 ghost use Rattle.basics.specs.Among.{is_among};
 ghost use Rattle.arguments.specs.Refused.{answer_data};
-ghost use Rattle.data.specs.View.{data_of};
+ghost use Rattle.data.specs.Prelude.{data_of};
 ghost use Rattle.arguments.specs.Arguments.{arguments_data, named_data};
 ghost use Rattle.arguments.specs.MisfitView.{misfit_data};
 ghost use Rattle.arguments.specs.Misfits.{at_place, checked, left_out, misfit, misnamed, misplaced, missing};

@@ -11,7 +11,7 @@ use Rattle.targets.specs.Data.{SurroundingsData, TargetData, Build, Custom}
 use Rattle.targets.specs.Files.{default_paths, file_path, link_paths, object_paths, output_paths}
 use Rattle.targets.specs.Libraries.{LinkedData, linked}
 use Rattle.target_edges.specs.Edges.{edges_of, edges_after, all_edges}
-use Rattle.project.specs.Laws.{outputs_of, times, AtMostOnce, all_held, all_made, outputs_if}
+use Rattle.project.specs.Laws.{outputs_of, AtMostOnce, all_held, all_made, outputs_if}
 use Rattle.project.specs.Laws as laws
 use Rattle.project.specs.World.{WorldData, edges_in, known_in, reserved, taken_in}
 use Rattle.project.proofs.PathLists.{times-append}

@@ -1,6 +1,6 @@
 //! The end of a run, and its status.
 ghost use Rattle.std.specs.Prelude.{◌≡◌, ◌+◌};
-ghost use Rattle.ports.specs.Endings.{HasRoom, ended};
+ghost use Rattle.ports.specs.Endings.{HasRoom};
 ghost use Rattle.ports.specs.Outputs.{Makes};
 ghost use Rattle.basics.specs.View.{fault_view};
 ghost use Rattle.build_file.specs.BuildFile.{ending_of};

@@ -3,7 +3,8 @@ use Rattle.std.specs.Prelude.{ℕ, ◌+◌, Bool, true, false, ◌&&◌, nat_lt,
 use Rattle.std.specs.List.{list_all}
 use Rattle.std.specs.Option.{option_map}
 use Rattle.grammar.specs.ExpressionTree.{ExpressionTree}
-use Rattle.grammar.specs.Tree.{StatementTree, BranchTree, AssignTree, AppendTree, ValueTree, BreakTree, ContinueTree, IfTree, ForeachTree, statements, branches}
+use Rattle.grammar.specs.Tree.{StatementTree, BranchTree, AssignTree, AppendTree, ValueTree, BreakTree, ContinueTree, IfTree, ForeachTree}
+use Rattle.grammar.specs.Tree.{statements, branches}
 use Rattle.code.specs.declared.node.StatementNode.{StatementNode}
 use Rattle.code.specs.declared.node.StatementNode.TheVariants as flat
 use Rattle.code.specs.declared.node.BranchNode.{BranchNode}

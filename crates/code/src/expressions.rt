@@ -1,6 +1,9 @@
 //! Expressions, made flat.
 ghost use Rattle.std.specs.Prelude.{◌≡◌, IfOk, IsTrue, map, length, option_map};
-ghost use Rattle.grammar.specs.ExpressionTree.{NameTree, LiteralTree, ListTree, DictionaryTree, FunctionTree, PostfixTree, PrefixTree, ChainTree, TernaryTree, expressions, entries as entry_trees, argument_trees, links as link_trees, operands as operand_trees, expression_of, entry_of, argument_of, operand_of, link_of};
+ghost use Rattle.grammar.specs.ExpressionTree.{NameTree, LiteralTree, ListTree, DictionaryTree, FunctionTree, PostfixTree, PrefixTree};
+ghost use Rattle.grammar.specs.ExpressionTree.{ChainTree, TernaryTree, expressions, entries as entry_trees, argument_trees};
+ghost use Rattle.grammar.specs.ExpressionTree.{links as link_trees, operands as operand_trees, expression_of, entry_of, argument_of};
+ghost use Rattle.grammar.specs.ExpressionTree.{operand_of, link_of};
 ghost use Rattle.code.specs.Nodes.{argument_at, link_at, argument_within, link_within};
 
 use crate::draft::Draft;

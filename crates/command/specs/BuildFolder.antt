@@ -1,27 +1,21 @@
 -- The folder that a build goes to, as a command line names it.
-use Rattle.std.specs.Prelude.{ℕ, Bool, false, not, ◌==◌, ◌&&◌, ◌||◌, nat_le, List, [], ◌∷◌, length, filter, codes}
-use Rattle.std.specs.List.{slice_split, join_with_byte, list_any}
+use Rattle.std.specs.Prelude.{ℕ, Bool, not, ◌==◌, ◌&&◌, ◌||◌, nat_le, List, length, filter, codes}
+use Rattle.std.specs.List.{join_with_byte, list_any}
 use Rattle.std.specs.Str.{bytes_eq}
+use Rattle.paths.specs.Below.{is_absolute}
+use Rattle.paths.specs.Paths.{parts_of}
 
--- what stands between the slashes of a path
-abbrev pub pieces_of : List ℕ → List (List ℕ)
-pieces_of path = slice_split (λ b. b == 47) path
-
--- a piece that leads nowhere: an empty one or `.`
+-- a part that leads nowhere: an empty one or `.`
 abbrev pub is_idle : List ℕ → Bool
-is_idle piece = length piece == 0 || bytes_eq piece (codes ".")
+is_idle part = length part == 0 || bytes_eq part (codes ".")
 
--- the piece leads out of the folder
+-- the part leads out of the folder
 abbrev pub is_upward : List ℕ → Bool
-is_upward piece = bytes_eq piece (codes "..")
+is_upward part = bytes_eq part (codes "..")
 
--- the parts of a path: its pieces without those that lead nowhere
-abbrev pub parts_of : List ℕ → List (List ℕ)
-parts_of path = filter (λ piece. not (is_idle piece)) (pieces_of path)
-
-abbrev pub is_absolute : List ℕ → Bool
-is_absolute [] = false
-is_absolute (b ∷ rest) = b == 47
+-- the parts of a path that lead somewhere
+abbrev pub leading_parts : List ℕ → List (List ℕ)
+leading_parts path = filter (λ part. not (is_idle part)) (parts_of path)
 
 -- no part is `..`, and there are 1 to 64 of them
 abbrev pub are_below : List (List ℕ) → Bool
@@ -29,12 +23,12 @@ are_below parts = not (list_any is_upward parts) && (nat_le 1 (length parts) && 
 
 -- a path that may name the folder of a build: relative, and of 1 to 64 parts of which none is `..`
 abbrev pub names_build_folder : List ℕ → Bool
-names_build_folder path = not (is_absolute path) && are_below (parts_of path)
+names_build_folder path = not (is_absolute path) && are_below (leading_parts path)
 
--- a path of which only the parts are left
+-- a path of which only these are left
 abbrev pub tidy_path : List ℕ → List ℕ
-tidy_path path = join_with_byte 47 (parts_of path)
+tidy_path path = join_with_byte 47 (leading_parts path)
 
--- the path has 1 to 64 pieces, none of them empty, `.` or `..`
+-- the path has 1 to 64 parts, none of them empty, `.` or `..`
 abbrev pub is_tidy_folder : List ℕ → Bool
-is_tidy_folder path = are_below (pieces_of path) && not (list_any is_idle (pieces_of path))
+is_tidy_folder path = are_below (parts_of path) && not (list_any is_idle (parts_of path))

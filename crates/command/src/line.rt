@@ -1,6 +1,7 @@
 //! What a command line asks for.
 ghost use Rattle.std.specs.Prelude.{IsTrue, ◌≡◌, ◌≤◌, length, string_bytes};
-ghost use Rattle.command.specs.BuildFolder.{is_tidy_folder, pieces_of};
+ghost use Rattle.paths.specs.Paths.{parts_of};
+ghost use Rattle.command.specs.BuildFolder.{is_tidy_folder};
 
 /// What is done with a project.
 #[derive(Clone, Copy)]
@@ -31,7 +32,7 @@ pub struct Line {
 impl Line {
     /// How many folders deep the folder of the build lies below the source root.
     pub fn depth(&self) -> usize
-        ensures value { result ≡ length (pieces_of (string_bytes self.now.folder)) }
+        ensures value { result ≡ length (parts_of (string_bytes self.now.folder)) }
         ensures some { 1 ≤ result }
         ensures limit { result ≤ 64 }
     {

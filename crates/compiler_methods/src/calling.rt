@@ -1,15 +1,10 @@
 //! A method of the compiler on its arguments.
 ghost use Rattle.std.specs.Prelude.{◌≡◌, IfOk, OnOk, Some, map, option_map};
-ghost use Rattle.arguments.specs.Arguments.{arguments_data};
 ghost use Rattle.arguments.specs.Given.{text_or_none};
 ghost use Rattle.data.specs.Data.{integer, items_append, list, no_items, text};
-ghost use Rattle.data.specs.Limits.{within};
-ghost use Rattle.data.specs.Tables.{Answers};
-ghost use Rattle.data.specs.View.{data_of, items_of};
 ghost use Rattle.machine_file.specs.Questions.{answer_to, check_topic, plain};
 ghost use Rattle.machine_file.specs.View.{machine_in};
-ghost use Rattle.world.specs.Answering.{Carries};
-ghost use Rattle.world.specs.Caller.{state_of};
+ghost use Rattle.world.specs.Prelude.{Answers, Does, arguments_data, data_of, items_of, within};
 ghost use Rattle.world.specs.Deed.{consult};
 ghost use Rattle.world.specs.Fit.{fit};
 ghost use Rattle.compiler_methods.specs.Methods.{called, compiler_method, does, get_id, get_supported_arguments, kept, number};
@@ -30,7 +25,7 @@ use world::{Caller, Stop};
 
 // `get_id()`
 fn get_id<T: Tree, O: Outputs>(caller: &mut Caller<'_, T, O>) -> Result<Option<Value>, Stop>
-    ensures { Carries (option_map data_of) get_id (state_of T.seen O.seen caller.old) result (state_of T.seen O.seen caller.new) }
+    ensures { Does T.seen O.seen (option_map data_of) get_id caller.old result caller.new }
 {
     caller.ask_key("compiler", "id")?;
     let answer = Value::of_str(caller.alloc, id_of(caller.store.machine()))?;
@@ -40,7 +35,7 @@ fn get_id<T: Tree, O: Outputs>(caller: &mut Caller<'_, T, O>) -> Result<Option<V
 
 // `version()`
 fn version<T: Tree, O: Outputs>(caller: &mut Caller<'_, T, O>) -> Result<Option<Value>, Stop>
-    ensures { Carries (option_map data_of) version (state_of T.seen O.seen caller.old) result (state_of T.seen O.seen caller.new) }
+    ensures { Does T.seen O.seen (option_map data_of) version caller.old result caller.new }
 {
     caller.ask_key("compiler", "version")?;
     let answer = Value::of_str(caller.alloc, version_of(caller.store.machine()))?;
@@ -73,8 +68,7 @@ fn number<T: Tree, O: Outputs>(
     method: &str,
     arguments: &Arguments,
 ) -> Result<Option<Value>, Stop>
-    ensures { Carries (option_map data_of) (number method.now (arguments_data arguments.now)) (state_of T.seen O.seen caller.old) result
-        (state_of T.seen O.seen caller.new) }
+    ensures { Does T.seen O.seen (option_map data_of) (number method.now (arguments_data arguments.now)) caller.old result caller.new }
 {
     let texts = arguments.all_texts(caller.alloc)?;
     ask_check(caller, method, &texts, arguments)?;
@@ -98,9 +92,9 @@ fn ask_argument<T: Tree, O: Outputs>(
     caller: &mut Caller<'_, T, O>,
     value: &Value,
 ) -> Result<(), Stop>
-    ensures deed { Carries (λ u. answer_to caller.old.store.now.machine (argument_topic (text_or_none (Some (data_of value.now)))))
-        (consult (plain (argument_topic (text_or_none (Some (data_of value.now)))))) (state_of T.seen O.seen caller.old) result
-        (state_of T.seen O.seen caller.new) }
+    ensures deed { Does T.seen O.seen
+        (λ u. answer_to caller.old.store.now.machine (argument_topic (text_or_none (Some (data_of value.now)))))
+        (consult (plain (argument_topic (text_or_none (Some (data_of value.now)))))) caller.old result caller.new }
     ensures machine { caller.new.store.now.machine ≡ caller.old.store.now.machine }
 {
     let topic = Topic::check(caller.alloc, "has_argument", &[text_of(value)])?;
@@ -135,8 +129,8 @@ fn supported<T: Tree, O: Outputs>(
     caller: &mut Caller<'_, T, O>,
     values: &[&Value],
 ) -> Result<Vec<Value>, Stop>
-    ensures { Carries (λ vs. items_of vs.items) (supported no_items (map (λ v. data_of v.now) values.now))
-        (state_of T.seen O.seen caller.old) result (state_of T.seen O.seen caller.new) }
+    ensures { Does T.seen O.seen (λ vs. items_of vs.items) (supported no_items (map (λ v. data_of v.now) values.now))
+        caller.old result caller.new }
 {
     let mut taken = Vec::new(caller.alloc);
     for value in values {
@@ -161,8 +155,8 @@ fn get_supported_arguments<T: Tree, O: Outputs>(
     caller: &mut Caller<'_, T, O>,
     arguments: &Arguments,
 ) -> Result<Option<Value>, Stop>
-    ensures { Carries (option_map data_of) (get_supported_arguments (arguments_data arguments.now)) (state_of T.seen O.seen caller.old)
-        result (state_of T.seen O.seen caller.new) }
+    ensures { Does T.seen O.seen (option_map data_of) (get_supported_arguments (arguments_data arguments.now))
+        caller.old result caller.new }
 {
     let values = arguments.leaves_behind(caller.alloc, 0)?;
     let taken = supported(caller, &values)?;
@@ -179,8 +173,7 @@ fn fit<T: Tree, O: Outputs>(
     method: CompilerMethod,
     arguments: &Arguments,
 ) -> Result<(), Stop>
-    ensures { Carries (λ u. u) (fit (row_of method) (arguments_data arguments.now))
-        (state_of T.seen O.seen caller.now) result (state_of T.seen O.seen caller.now) }
+    ensures { Does T.seen O.seen (λ u. u) (fit (row_of method) (arguments_data arguments.now)) caller.now result caller.now }
 {
     caller.fit(&row(method), arguments)
 }
@@ -192,8 +185,7 @@ fn act<T: Tree, O: Outputs>(
     name: &str,
     arguments: &Arguments,
 ) -> Result<Option<Value>, Stop>
-    ensures { Carries (option_map data_of) (does method name.now (arguments_data arguments.now)) (state_of T.seen O.seen caller.old) result
-        (state_of T.seen O.seen caller.new) }
+    ensures { Does T.seen O.seen (option_map data_of) (does method name.now (arguments_data arguments.now)) caller.old result caller.new }
 {
     match method {
         CompilerMethod::Check => check(caller, name, arguments),
@@ -212,9 +204,7 @@ fn called<T: Tree, O: Outputs>(
     name: &str,
     arguments: &Arguments,
 ) -> Result<Option<Value>, Stop>
-    ensures { Carries (option_map data_of) (called method name.now (arguments_data arguments.now))
-        (state_of T.seen O.seen caller.old) result
-        (state_of T.seen O.seen caller.new) }
+    ensures { Does T.seen O.seen (option_map data_of) (called method name.now (arguments_data arguments.now)) caller.old result caller.new }
 {
     fit(caller, method, arguments)?;
     act(caller, method, name, arguments)
@@ -227,8 +217,8 @@ pub fn compiler_method<T: Tree, O: Outputs>(
     name: &MethodName,
     arguments: &Arguments,
 ) -> Result<Option<Value>, Stop>
-    ensures { Carries (option_map data_of) (compiler_method name.now (arguments_data arguments.now)) (state_of T.seen O.seen caller.old)
-        result (state_of T.seen O.seen caller.new) }
+    ensures { Does T.seen O.seen (option_map data_of) (compiler_method name.now (arguments_data arguments.now))
+        caller.old result caller.new }
 {
     match name.of_compiler() {
         Some(method) => called(caller, method, name.as_str(), arguments),

@@ -1,14 +1,10 @@
 //! The checks of the compiler, and `find_library`.
 ghost use Rattle.std.specs.Prelude.{◌≡◌, IfOk, Some, map, option_and_then, option_map, string_bytes};
-ghost use Rattle.arguments.specs.Arguments.{arguments_data};
 ghost use Rattle.arguments.specs.Given.{argument};
 ghost use Rattle.data.specs.Data.{text_in};
-ghost use Rattle.data.specs.Tables.{Answers};
-ghost use Rattle.data.specs.View.{data_of};
 ghost use Rattle.machine_file.specs.Questions.{answer_to, check_topic};
 ghost use Rattle.resources.specs.Beside.{call_question};
-ghost use Rattle.world.specs.Answering.{Carries};
-ghost use Rattle.world.specs.Caller.{state_of};
+ghost use Rattle.world.specs.Prelude.{Answers, Does, arguments_data, data_of};
 ghost use Rattle.world.specs.Deed.{consult};
 ghost use Rattle.compiler_methods.specs.Checks.{check, checked_for, dependency_data, find_library, is_checked, library};
 ghost use Rattle.compiler_methods.specs.Checks.{library_argument, library_named, required_as};
@@ -29,8 +25,7 @@ fn required_as<T: Tree, O: Outputs>(
     is_so: bool,
     name: &str,
 ) -> Result<bool, Stop>
-    ensures { Carries (λ b. b) (required_as requirement is_so name.now) (state_of T.seen O.seen caller.now) result
-        (state_of T.seen O.seen caller.now) }
+    ensures { Does T.seen O.seen (λ b. b) (required_as requirement is_so name.now) caller.now result caller.now }
 {
     match requirement {
         Requirement::Required => {
@@ -49,9 +44,9 @@ pub fn ask_check<T: Tree, O: Outputs>(
     texts: &[&str],
     arguments: &Arguments,
 ) -> Result<(), Stop>
-    ensures deed { Carries (λ u. answer_to caller.old.store.now.machine (check_topic method.now (map (λ t. t.now) texts.now)))
+    ensures deed { Does T.seen O.seen (λ u. answer_to caller.old.store.now.machine (check_topic method.now (map (λ t. t.now) texts.now)))
         (consult (call_question (check_topic method.now (map (λ t. t.now) texts.now)) (arguments_data arguments.now)))
-        (state_of T.seen O.seen caller.old) result (state_of T.seen O.seen caller.new) }
+        caller.old result caller.new }
     ensures machine { caller.new.store.now.machine ≡ caller.old.store.now.machine }
 {
     let topic = Topic::check(caller.alloc, method, texts)?;
@@ -65,8 +60,7 @@ fn is_checked<T: Tree, O: Outputs>(
     method: &str,
     arguments: &Arguments,
 ) -> Result<bool, Stop>
-    ensures { Carries (λ b. b) (is_checked method.now (arguments_data arguments.now)) (state_of T.seen O.seen caller.old) result
-        (state_of T.seen O.seen caller.new) }
+    ensures { Does T.seen O.seen (λ b. b) (is_checked method.now (arguments_data arguments.now)) caller.old result caller.new }
 {
     let texts = arguments.all_texts(caller.alloc)?;
     ask_check(caller, method, &texts, arguments)?;
@@ -81,8 +75,7 @@ fn checked_for<T: Tree, O: Outputs>(
     method: &str,
     arguments: &Arguments,
 ) -> Result<bool, Stop>
-    ensures { Carries (λ b. b) (checked_for default method.now (arguments_data arguments.now)) (state_of T.seen O.seen caller.old) result
-        (state_of T.seen O.seen caller.new) }
+    ensures { Does T.seen O.seen (λ b. b) (checked_for default method.now (arguments_data arguments.now)) caller.old result caller.new }
 {
     let is_so = is_checked(caller, method, arguments)?;
     let requirement = arguments.requirement(default);
@@ -95,8 +88,7 @@ pub fn check<T: Tree, O: Outputs>(
     method: &str,
     arguments: &Arguments,
 ) -> Result<Option<Value>, Stop>
-    ensures { Carries (option_map data_of) (check method.now (arguments_data arguments.now)) (state_of T.seen O.seen caller.old) result
-        (state_of T.seen O.seen caller.new) }
+    ensures { Does T.seen O.seen (option_map data_of) (check method.now (arguments_data arguments.now)) caller.old result caller.new }
 {
     let is_so = checked_for(caller, Requirement::Optional, method, arguments)?;
     Ok(Some(Value::Boolean(is_so)))
@@ -169,8 +161,7 @@ pub fn find_library<T: Tree, O: Outputs>(
     caller: &mut Caller<'_, T, O>,
     arguments: &Arguments,
 ) -> Result<Option<Value>, Stop>
-    ensures { Carries (option_map data_of) (find_library (arguments_data arguments.now)) (state_of T.seen O.seen caller.old) result
-        (state_of T.seen O.seen caller.new) }
+    ensures { Does T.seen O.seen (option_map data_of) (find_library (arguments_data arguments.now)) caller.old result caller.new }
 {
     let is_so = checked_for(caller, Requirement::Required, "find_library", arguments)?;
     let answer = library_named(caller.alloc, is_so, first_text(arguments))?;

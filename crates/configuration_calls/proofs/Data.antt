@@ -1,23 +1,15 @@
--- Configuration data by their numbers, and what tests answer.
-use Rattle.std.proofs.Common.{◌≡◌, ℕ, Bool, true, false, Ok, Err, List, Option, Some, None, option_map, is_some, unwrap_or, Result, IfOk, refl, sym, ap, subst, ◌∙◌}
-use Rattle.std.specs.Prelude.{slice_get, if◌then◌else◌}
+-- Merged configuration data, and what tests answer.
+use Rattle.std.proofs.Common.{◌≡◌, ℕ, Bool, true, false, Ok, Err, List, Option, Some, None, option_map, is_some, Result, IfOk, refl, sym, subst, ◌∙◌}
+use Rattle.std.specs.Prelude.{if◌then◌else◌}
 use Rattle.std.specs.declared.alloc.AllocError.{AllocError}
-use Rattle.std.proofs.lemmas.Option.{get_or_from_slice_get, unwrap_or-slice_get}
 use Rattle.basics.specs.Limits.{is_short}
 use Rattle.data.specs.Limits.{within_bytes}
 use Rattle.data.specs.declared.refusal.Refusal.{Refusal as OperationRefusal}
 use Rattle.data.specs.declared.refusal.Refusal.TheVariants as refusal
-use Rattle.template.specs.Config.{Configuration}
+use Rattle.template.specs.Config.{Configuration, unfrozen}
 use Rattle.world.specs.Answering.{IsAnswered}
 use Rattle.world.specs.World.{World}
-use Rattle.world.specs.Configuring.{configuration_at, merge_configured, no_values}
-use Rattle.configuration_calls.specs.Contents.{unfrozen}
-
-pub found_at : (n : ℕ) (cs : List Configuration) (c : Configuration) → slice_get cs n ≡ Some c → configuration_at n cs ≡ c
-found_at n cs c is = get_or_from_slice_get cs n c no_values is
-
-pub none_at : (n : ℕ) (cs : List Configuration) → slice_get cs n ≡ None → configuration_at n cs ≡ no_values
-none_at n cs is = sym (unwrap_or-slice_get cs n no_values) ∙ ap (λ o. unwrap_or o no_values) is
+use Rattle.world.specs.Configuring.{merge_configured}
 
 pub is_some-map : {A B : Type 0} (f : A → B) (o : Option A) → is_some o ≡ is_some (option_map f o)
 is_some-map f None = refl

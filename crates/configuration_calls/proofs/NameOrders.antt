@@ -5,13 +5,13 @@ use Rattle.std.specs.Ordering.{nat_cmp, match_ordering, ordering_reverse, is_eq}
 use Rattle.std.specs.declared.cmp.Ordering.{Ordering}
 use Rattle.std.specs.declared.cmp.Ordering.TheVariants as ordering
 use Rattle.std.specs.Cmp.Lexicographic.{slice_cmp}
-use Rattle.std.specs.List.{AllByRecursion, list_any}
+use Rattle.std.specs.List.{AllByRecursion}
 use Rattle.std.specs.BTreeSet.{insert_key}
 use Rattle.std.specs.BTreeMap.{insert_entry}
 use Rattle.std.proofs.lemmas.Cmp.{nat_list_cmp_total}
 use Rattle.std.proofs.lemmas.Map.Text.{is_eq-slice_cmp}
 use Rattle.std.proofs.lemmas.Slice.Eq.{bytes_eq-Decides}
-use Rattle.data.specs.Data.{Data, Entries as DictionaryEntries, no_entries, entry, keys_in, entry_values}
+use Rattle.data.specs.Data.{Entries as DictionaryEntries, no_entries, entry, keys_in, entry_values}
 use Rattle.template.specs.Config.{Content, Entries, names, with_value}
 use Rattle.configuration_calls.specs.Contents.{content_at, set_then, all_set}
 use Rattle.basics.specs.Among.{is_among}

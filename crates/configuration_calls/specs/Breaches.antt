@@ -4,7 +4,7 @@ use Rattle.arguments.specs.Arguments.{ArgumentsData}
 use Rattle.arguments.specs.Leaves.{leaves_named}
 use Rattle.arguments.specs.declared.rule.Rule.{Rule}
 use Rattle.arguments.specs.declared.rule.Rule.TheVariants as rules
-use Rattle.data.specs.Data.{Data, dictionary, text, Items, no_items, item, Entries as DictionaryEntries, entry_values, keys_in}
+use Rattle.data.specs.Data.{Data, dictionary, text, Items, no_items, item, entry_values, keys_in}
 use Rattle.template.specs.Line.{is_name}
 use Rattle.configuration_calls.specs.Contents.{content_in}
 

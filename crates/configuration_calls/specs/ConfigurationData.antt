@@ -1,15 +1,14 @@
--- `configuration_data`, and copies of what it gives.
-use Rattle.std.specs.Prelude.{ℕ, Option, Some}
+-- `configuration_data`.
+use Rattle.std.specs.Prelude.{Option, Some}
 use Rattle.arguments.specs.Arguments.{ArgumentsData}
 use Rattle.arguments.specs.Given.{argument}
 use Rattle.data.specs.Data.{Data, object}
 use Rattle.data.specs.declared.object.Object.TheVariants as objects
 use Rattle.template.specs.Config.{Configuration}
-use Rattle.world.specs.Configuring.{add_configuration, configuration_at}
-use Rattle.world.specs.Deed.{Deed, give, read, ◌>>=◌}
+use Rattle.world.specs.Configuring.{add_configuration}
+use Rattle.world.specs.Deed.{Deed, give, ◌>>=◌}
 use Rattle.world.specs.Ruled.{ruled}
 use Rattle.configuration_calls.specs.Breaches.{values_breach}
-use Rattle.configuration_calls.specs.Contents.{unfrozen}
 use Rattle.configuration_calls.specs.Given.{data_given}
 
 -- the data that the arguments describe: E9 where a key is no name, or a value no text, integer or truth value
@@ -22,9 +21,3 @@ configuration_data a = do
   c ← said_data a
   number ← add_configuration c
   give (Some (object (objects.ConfigurationData number)))
-
--- an assignment of data makes a copy, which may be changed; its number is given
-unfoldable pub copy_configuration : ℕ → Deed ℕ
-copy_configuration number = do
-  facts ← read
-  add_configuration (unfrozen (configuration_at number facts.configurations).entries)

@@ -1,11 +1,11 @@
 -- Values of the language in configuration data.
-use Rattle.std.specs.Prelude.{ℕ, false, ◌==◌, List, [], ◌∷◌, Option, Some, None, option_map, unwrap_or, Result, Ok, Err, if◌then◌else◌}
+use Rattle.std.specs.Prelude.{ℕ, ◌==◌, List, [], ◌∷◌, Option, Some, None, option_map, unwrap_or, Result, Ok, Err, if◌then◌else◌}
 use Rattle.data.specs.Data.{Data, boolean, integer, text, Entries as DictionaryEntries, Items, no_items, item}
 use Rattle.data.specs.Data.{entry_values, keys_in}
 use Rattle.data.specs.Limits.{within}
 use Rattle.data.specs.declared.refusal.Refusal.{Refusal}
 use Rattle.data.specs.declared.refusal.Refusal.TheVariants as refusal
-use Rattle.template.specs.Config.{Bytes, Configuration, Content, Entries, Flag, Number, with_value}
+use Rattle.template.specs.Config.{Bytes, Content, Entries, Flag, Number, with_value}
 use Rattle.template.specs.Line.{is_name}
 
 -- configuration data hold texts, integers and truth values
@@ -19,9 +19,6 @@ abbrev pub data_in : Content → Data
 data_in (Flag b) = boolean b
 data_in (Number z) = integer z
 data_in (Bytes t) = text t
-
-abbrev pub unfrozen : Entries → Configuration
-unfrozen entries = record { entries = entries; frozen = false }
 
 -- ---- a dictionary as configuration data
 

@@ -1,11 +1,11 @@
 -- Configuration data among arguments.
-use Rattle.std.specs.Prelude.{ℕ, List, Option, Some, None, option_map}
+use Rattle.std.specs.Prelude.{ℕ, Option, Some, None, option_map}
 use Rattle.data.specs.Data.{Data, dictionary, object}
 use Rattle.data.specs.declared.object.Object.TheVariants as objects
-use Rattle.template.specs.Config.{Configuration, Entries}
+use Rattle.template.specs.Config.{Configuration, Entries, unfrozen}
 use Rattle.world.specs.Configuring.{configuration_at, no_values}
 use Rattle.world.specs.World.{Facts}
-use Rattle.configuration_calls.specs.Contents.{entries_in, unfrozen}
+use Rattle.configuration_calls.specs.Contents.{entries_in}
 
 -- the number of the configuration data that a value is
 abbrev pub number_in : Data → Option ℕ

@@ -1,5 +1,5 @@
 -- The methods of configuration data: the type `cfg_data` of the page "Reference manual".
-use Rattle.std.specs.Prelude.{ℕ, pos, Bool, false, List, [], Option, Some, None, codes, is_some, ok_or, option_and_then, bytes_eq}
+use Rattle.std.specs.Prelude.{ℕ, pos, Bool, false, List, [], Option, Some, None, is_some, ok_or, option_and_then}
 use Rattle.std.specs.Prelude.{if◌then◌else◌}
 use Rattle.arguments.specs.Arguments.{ArgumentsData}
 use Rattle.arguments.specs.Given.{argument, flag_at, text_at}

@@ -1,7 +1,6 @@
 //! Which rule is broken by arguments that say no configuration data or no template: it is looked for only where a call is refused.
 ghost use Rattle.std.specs.Prelude.{◌≡◌, IfOk, is_some, map, option_map};
-ghost use Rattle.arguments.specs.Arguments.{arguments_data};
-ghost use Rattle.data.specs.View.{data_of, items_of};
+ghost use Rattle.world.specs.Prelude.{arguments_data, data_of, items_of};
 ghost use Rattle.configuration_calls.specs.Breaches.{dictionary_breach, file_breach, input_breach, key_breach, one_breach, values_breach};
 ghost use Rattle.configuration_calls.specs.Contents.{content_in};
 

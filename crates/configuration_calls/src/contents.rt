@@ -2,14 +2,12 @@
 ghost use Rattle.std.specs.Prelude.{◌≡◌, [], IfOk, OnOk, option_map};
 ghost use Rattle.std.specs.List.{list_all};
 ghost use Rattle.data.specs.Data.{text as text_data};
-ghost use Rattle.data.specs.Tables.{Answers};
-ghost use Rattle.data.specs.Limits.{within};
-ghost use Rattle.data.specs.View.{data_of, items_of};
-ghost use Rattle.template.specs.Config.{with_value};
+ghost use Rattle.template.specs.Config.{unfrozen, with_value};
 ghost use Rattle.template.specs.ConfigData.{content_of};
 ghost use Rattle.template.specs.Line.{is_name, is_name_byte};
+ghost use Rattle.world.specs.Prelude.{Answers, data_of, items_of, within};
 ghost use Rattle.configuration_calls.specs.Contents.{all_set, content_at, content_in, data_in, entries_in, fallback_or_none, found_or};
-ghost use Rattle.configuration_calls.specs.Contents.{found_unquoted, unfrozen, unquoted, unquoted_fallback, unquoted_text};
+ghost use Rattle.configuration_calls.specs.Contents.{found_unquoted, unquoted, unquoted_fallback, unquoted_text};
 
 use data::{Dictionary, Refusal, Text, Value};
 use std::alloc::{AllocError, Global};

@@ -1,13 +1,7 @@
-//! `configuration_data`, and copies of what it gives.
+//! `configuration_data`.
 ghost use Rattle.std.specs.Prelude.{◌≡◌, IfOk, option_map};
-ghost use Rattle.arguments.specs.Arguments.{arguments_data};
-ghost use Rattle.data.specs.View.{data_of};
-ghost use Rattle.world.specs.Answering.{Carries};
-ghost use Rattle.world.specs.Caller.{state_of};
-ghost use Rattle.world.specs.Configuring.{configuration_at};
-ghost use Rattle.world.specs.Store.{world_of};
-ghost use Rattle.configuration_calls.specs.ConfigurationData.{configuration_data, copy_configuration, said_data};
-ghost use Rattle.configuration_calls.specs.Contents.{unfrozen};
+ghost use Rattle.world.specs.Prelude.{Does, arguments_data, data_of};
+ghost use Rattle.configuration_calls.specs.ConfigurationData.{configuration_data, said_data};
 ghost use Rattle.configuration_calls.specs.Given.{data_given, data_with};
 
 use crate::breaches::values_breach;
@@ -17,7 +11,7 @@ use data::{Object, Value};
 use ports::{Outputs, Tree};
 use std::alloc::{AllocError, Global};
 use template::ConfigData;
-use world::{Caller, Stop, Store};
+use world::{Caller, Stop};
 
 fn data_with(alloc: Global, value: &Value) -> Result<Option<ConfigData>, AllocError>
     ensures { IfOk result (λ c. c ≡ data_with (data_of value.now)) }
@@ -42,8 +36,7 @@ fn said_data<T: Tree, O: Outputs>(
     caller: &Caller<'_, T, O>,
     arguments: &Arguments,
 ) -> Result<ConfigData, Stop>
-    ensures { Carries (λ c. c) (said_data (arguments_data arguments.now))
-        (state_of T.seen O.seen caller.now) result (state_of T.seen O.seen caller.now) }
+    ensures { Does T.seen O.seen (λ c. c) (said_data (arguments_data arguments.now)) caller.now result caller.now }
 {
     let value = arguments.argument(0);
     let found = data_given(caller.alloc, value)?;
@@ -61,33 +54,10 @@ pub fn configuration_data<T: Tree, O: Outputs>(
     caller: &mut Caller<'_, T, O>,
     arguments: &Arguments,
 ) -> Result<Option<Value>, Stop>
-    ensures { Carries (option_map data_of) (configuration_data (arguments_data arguments.now))
-        (state_of T.seen O.seen caller.old) result (state_of T.seen O.seen caller.new) }
+    ensures { Does T.seen O.seen (option_map data_of) (configuration_data (arguments_data arguments.now)) caller.old result caller.new }
 {
     let values = said_data(caller, arguments)?;
     let number = caller.add_configuration(values)?;
     let value = Value::of_object(caller.alloc, Object::ConfigurationData(number))?;
     Ok(Some(value))
-}
-
-/// An unfrozen copy of the configuration data with a number.
-pub fn copy_of(alloc: Global, store: &Store, number: usize) -> Result<ConfigData, AllocError>
-    ensures { IfOk result (λ c. c ≡ unfrozen (configuration_at number (world_of store.now).facts.configurations).entries) }
-{
-    match store.configuration(number) {
-        Some(values) => values.copy(),
-        None => Ok(ConfigData::new(alloc)),
-    }
-}
-
-/// An unfrozen copy of the configuration data with a number, as an assignment makes it, by its own number.
-pub fn copied<T: Tree, O: Outputs>(
-    caller: &mut Caller<'_, T, O>,
-    number: usize,
-) -> Result<usize, Stop>
-    ensures { Carries (λ n. n) (copy_configuration number)
-        (state_of T.seen O.seen caller.old) result (state_of T.seen O.seen caller.new) }
-{
-    let copy = copy_of(caller.alloc, caller.store, number)?;
-    caller.add_configuration(copy)
 }

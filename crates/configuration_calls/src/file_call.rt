@@ -1,12 +1,8 @@
 //! `configure_file`: a file that is made while the definition files are read.
 ghost use Rattle.std.specs.Prelude.{◌≡◌, IfOk, Some, option_map, string_bytes};
-ghost use Rattle.arguments.specs.Arguments.{arguments_data};
-ghost use Rattle.data.specs.View.{data_of};
-ghost use Rattle.project.specs.View.{install_view};
 ghost use Rattle.paths.specs.Paths.{path_in};
-ghost use Rattle.world.specs.Answering.{Carries, HasRoom};
-ghost use Rattle.world.specs.Caller.{state_of};
-ghost use Rattle.world.specs.Store.{world_of};
+ghost use Rattle.project.specs.View.{install_view};
+ghost use Rattle.world.specs.Prelude.{Does, MayFail, arguments_data, data_of, state_of, world_of};
 ghost use Rattle.configuration_calls.specs.ConfigureFile.{configure_file, configured, frozen_by, install_at, installed, made, output_made};
 ghost use Rattle.configuration_calls.specs.ConfigureFile.{prepared};
 ghost use Rattle.configuration_calls.specs.GivenView.{given_view};
@@ -47,8 +43,7 @@ fn install<T: Tree, O: Outputs>(
     path: &str,
     arguments: &Arguments,
 ) -> Result<(), Stop>
-    ensures { Carries (λ u. u) (installed path.now (arguments_data arguments.now))
-        (state_of T.seen O.seen caller.old) result (state_of T.seen O.seen caller.new) }
+    ensures { Does T.seen O.seen (λ u. u) (installed path.now (arguments_data arguments.now)) caller.old result caller.new }
 {
     match arguments.text_given("install_dir") {
         Some(folder) => {
@@ -65,8 +60,7 @@ fn freeze<T: Tree, O: Outputs>(
     caller: &mut Caller<'_, T, O>,
     number: Option<usize>,
 ) -> Result<(), Stop>
-    ensures { Carries (λ u. u) (frozen_by number)
-        (state_of T.seen O.seen caller.old) result (state_of T.seen O.seen caller.new) }
+    ensures { Does T.seen O.seen (λ u. u) (frozen_by number) caller.old result caller.new }
 {
     match number {
         Some(number) => caller.freeze_configured(number),
@@ -81,8 +75,7 @@ fn prepared<T: Tree, O: Outputs>(
     name: &str,
     number: Option<usize>,
 ) -> Result<Text, Stop>
-    ensures carries { Carries (λ t. t) (prepared (path_in folder.now name.now) number)
-        (state_of T.seen O.seen caller.old) result (state_of T.seen O.seen caller.new) }
+    ensures carries { Does T.seen O.seen (λ t. t) (prepared (path_in folder.now name.now) number) caller.old result caller.new }
     ensures path { IfOk result (λ t. t ≡ path_in folder.now name.now) }
 {
     let path = path_in(caller.alloc, folder, name)?;
@@ -99,7 +92,7 @@ fn output_made<T: Tree, O: Outputs>(
     given: &Given,
     template: Option<&str>,
 ) -> Result<Text, Stop>
-    requires { HasRoom (state_of T.seen O.seen caller.old) }
+    requires { MayFail T.seen O.seen caller.old }
     ensures { CarriesOf (λ t. t) (λ files. output_made (arguments_data arguments.now) (given_view given.now)
         (filling_in (given_view given.now).entries (option_map (λ t. t.now) template.entry) files))
         (state_of T.seen O.seen caller.old) result (state_of T.seen O.seen caller.new) }
@@ -119,7 +112,7 @@ fn make<T: Tree, O: Outputs>(
     given: &Given,
     template: Option<&str>,
 ) -> Result<Option<Value>, Stop>
-    requires { HasRoom (state_of T.seen O.seen caller.old) }
+    requires { MayFail T.seen O.seen caller.old }
     ensures { CarriesOf (option_map data_of) (λ files. made (arguments_data arguments.now) (given_view given.now)
         (filling_in (given_view given.now).entries (option_map (λ t. t.now) template.entry) files))
         (state_of T.seen O.seen caller.old) result (state_of T.seen O.seen caller.new) }
@@ -138,9 +131,9 @@ fn make_from<T: Tree, O: Outputs>(
     given: &Given,
     template: &str,
 ) -> Result<Option<Value>, Stop>
-    requires { HasRoom (state_of T.seen O.seen caller.old) }
-    ensures { Carries (option_map data_of) (configured (arguments_data arguments.now) (Some template.now) (given_view given.now))
-        (state_of T.seen O.seen caller.old) result (state_of T.seen O.seen caller.new) }
+    requires { MayFail T.seen O.seen caller.old }
+    ensures { Does T.seen O.seen (option_map data_of)
+        (configured (arguments_data arguments.now) (Some template.now) (given_view given.now)) caller.old result caller.new }
 {
     caller.require_file(template)?;
     make(caller, arguments, given, Some(template))
@@ -152,10 +145,10 @@ fn configure<T: Tree, O: Outputs>(
     given: &Given,
     input: &Option<String>,
 ) -> Result<Option<Value>, Stop>
-    requires { HasRoom (state_of T.seen O.seen caller.old) }
-    ensures { Carries (option_map data_of)
+    requires { MayFail T.seen O.seen caller.old }
+    ensures { Does T.seen O.seen (option_map data_of)
         (configured (arguments_data arguments.now) (option_map string_bytes input.now) (given_view given.now))
-        (state_of T.seen O.seen caller.old) result (state_of T.seen O.seen caller.new) }
+        caller.old result caller.new }
 {
     match input {
         Some(template) => make_from(caller, arguments, given, template.as_str()),
@@ -169,9 +162,8 @@ pub fn configure_file<T: Tree, O: Outputs>(
     caller: &mut Caller<'_, T, O>,
     arguments: &Arguments,
 ) -> Result<Option<Value>, Stop>
-    requires { HasRoom (state_of T.seen O.seen caller.old) }
-    ensures { Carries (option_map data_of) (configure_file (arguments_data arguments.now))
-        (state_of T.seen O.seen caller.old) result (state_of T.seen O.seen caller.new) }
+    requires { MayFail T.seen O.seen caller.old }
+    ensures { Does T.seen O.seen (option_map data_of) (configure_file (arguments_data arguments.now)) caller.old result caller.new }
 {
     caller.need(has_meson_format(arguments), Refusal::LeftOut, "")?;
     let output = arguments.text("output");

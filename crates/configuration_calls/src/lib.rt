@@ -12,7 +12,7 @@ mod rows;
 mod said;
 mod written;
 
-pub use data_call::{configuration_data, copied};
+pub use data_call::configuration_data;
 pub use file_call::configure_file;
 pub use laws::names_ascend;
 pub use methods::{configuration_method, has_configuration_method};

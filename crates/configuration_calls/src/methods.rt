@@ -1,14 +1,10 @@
 //! The methods of configuration data: the type `cfg_data` of the page "Reference manual".
 ghost use Rattle.std.specs.Prelude.{◌≡◌, IfOk, map, option_and_then, option_map};
-ghost use Rattle.arguments.specs.Arguments.{arguments_data};
 ghost use Rattle.arguments.specs.Given.{argument};
-ghost use Rattle.data.specs.View.{data_of};
 ghost use Rattle.template.specs.Config.{names, value_of};
 ghost use Rattle.template.specs.ConfigData.{content_of};
-ghost use Rattle.world.specs.Answering.{Carries};
-ghost use Rattle.world.specs.Caller.{state_of};
+ghost use Rattle.world.specs.Prelude.{Does, arguments_data, data_of, world_of};
 ghost use Rattle.world.specs.Fit.{fit};
-ghost use Rattle.world.specs.Store.{world_of};
 ghost use Rattle.configuration_calls.specs.Contents.{content_in};
 ghost use Rattle.configuration_calls.specs.Given.{entries_of, number_in};
 ghost use Rattle.configuration_calls.specs.Methods.{configuration_method, content_given, does, fitting_does, get, get_unquoted, has};
@@ -18,7 +14,6 @@ ghost use Rattle.configuration_calls.specs.Methods.{set_text_quoted};
 ghost use Rattle.configuration_calls.specs.Rows.{row_of};
 
 use crate::contents::{content_in, found_or, found_unquoted, is_name};
-use crate::data_call::copy_of;
 use crate::rows::row_of;
 use arguments::{Arguments, Rule};
 use basics::faults::Refusal;
@@ -42,8 +37,7 @@ fn name_given<'a, T: Tree, O: Outputs>(
     caller: &Caller<'_, T, O>,
     arguments: &'a Arguments,
 ) -> Result<&'a str, Stop>
-    ensures { Carries (λ n. n.now) (name_given (arguments_data arguments.now))
-        (state_of T.seen O.seen caller.now) result (state_of T.seen O.seen caller.now) }
+    ensures { Does T.seen O.seen (λ n. n.now) (name_given (arguments_data arguments.now)) caller.now result caller.now }
 {
     let name = arguments.text_at(0);
     caller.obey(is_name(name), Rule::IsValueName, name)?;
@@ -75,8 +69,7 @@ fn get<T: Tree, O: Outputs>(
     number: usize,
     arguments: &Arguments,
 ) -> Result<Option<Value>, Stop>
-    ensures { Carries (option_map data_of) (get number (arguments_data arguments.now))
-        (state_of T.seen O.seen caller.now) result (state_of T.seen O.seen caller.now) }
+    ensures { Does T.seen O.seen (option_map data_of) (get number (arguments_data arguments.now)) caller.now result caller.now }
 {
     let name = name_given(caller, arguments)?;
     let content = content_at(caller.store, number, name);
@@ -90,8 +83,7 @@ fn get_unquoted<T: Tree, O: Outputs>(
     number: usize,
     arguments: &Arguments,
 ) -> Result<Option<Value>, Stop>
-    ensures { Carries (option_map data_of) (get_unquoted number (arguments_data arguments.now))
-        (state_of T.seen O.seen caller.now) result (state_of T.seen O.seen caller.now) }
+    ensures { Does T.seen O.seen (option_map data_of) (get_unquoted number (arguments_data arguments.now)) caller.now result caller.now }
 {
     let name = name_given(caller, arguments)?;
     let content = content_at(caller.store, number, name);
@@ -105,8 +97,7 @@ fn has<T: Tree, O: Outputs>(
     number: usize,
     arguments: &Arguments,
 ) -> Result<Option<Value>, Stop>
-    ensures { Carries (option_map data_of) (has number (arguments_data arguments.now))
-        (state_of T.seen O.seen caller.now) result (state_of T.seen O.seen caller.now) }
+    ensures { Does T.seen O.seen (option_map data_of) (has number (arguments_data arguments.now)) caller.now result caller.now }
 {
     let name = name_given(caller, arguments)?;
     let content = content_at(caller.store, number, name);
@@ -117,8 +108,7 @@ fn keys<T: Tree, O: Outputs>(
     caller: &Caller<'_, T, O>,
     number: usize,
 ) -> Result<Option<Value>, Stop>
-    ensures { Carries (option_map data_of) (keys number)
-        (state_of T.seen O.seen caller.now) result (state_of T.seen O.seen caller.now) }
+    ensures { Does T.seen O.seen (option_map data_of) (keys number) caller.now result caller.now }
 {
     let names = names_at(caller.alloc, caller.store, number)?;
     let answer = text_list(caller.alloc, &names)?;
@@ -153,8 +143,7 @@ fn other_given<T: Tree, O: Outputs>(
     caller: &Caller<'_, T, O>,
     arguments: &Arguments,
 ) -> Result<usize, Stop>
-    ensures { Carries (λ n. n) (other_given (arguments_data arguments.now))
-        (state_of T.seen O.seen caller.now) result (state_of T.seen O.seen caller.now) }
+    ensures { Does T.seen O.seen (λ n. n) (other_given (arguments_data arguments.now)) caller.now result caller.now }
 {
     caller.fitting(first_number(arguments).ok_or(Refusal::Arguments))
 }
@@ -164,11 +153,10 @@ fn merge_from<T: Tree, O: Outputs>(
     number: usize,
     arguments: &Arguments,
 ) -> Result<Option<Value>, Stop>
-    ensures { Carries (option_map data_of) (merge_from number (arguments_data arguments.now))
-        (state_of T.seen O.seen caller.old) result (state_of T.seen O.seen caller.new) }
+    ensures { Does T.seen O.seen (option_map data_of) (merge_from number (arguments_data arguments.now)) caller.old result caller.new }
 {
     let other = other_given(caller, arguments)?;
-    let others = copy_of(caller.alloc, caller.store, other)?;
+    let others = caller.store.copy_configuration(caller.alloc, other)?;
     caller.merge_configured(number, &others)?;
     Ok(None)
 }
@@ -187,8 +175,7 @@ fn content_given<T: Tree, O: Outputs>(
     caller: &Caller<'_, T, O>,
     arguments: &Arguments,
 ) -> Result<ConfigValue, Stop>
-    ensures { Carries content_of (content_given (arguments_data arguments.now))
-        (state_of T.seen O.seen caller.now) result (state_of T.seen O.seen caller.now) }
+    ensures { Does T.seen O.seen content_of (content_given (arguments_data arguments.now)) caller.now result caller.now }
 {
     let found = content_or_none(caller.alloc, arguments.argument(1))?;
     caller.fitting(found.ok_or(Refusal::Arguments))
@@ -199,8 +186,7 @@ fn set<T: Tree, O: Outputs>(
     number: usize,
     arguments: &Arguments,
 ) -> Result<Option<Value>, Stop>
-    ensures { Carries (option_map data_of) (set number (arguments_data arguments.now))
-        (state_of T.seen O.seen caller.old) result (state_of T.seen O.seen caller.new) }
+    ensures { Does T.seen O.seen (option_map data_of) (set number (arguments_data arguments.now)) caller.old result caller.new }
 {
     let name = name_given(caller, arguments)?;
     let content = content_given(caller, arguments)?;
@@ -219,8 +205,7 @@ fn set10<T: Tree, O: Outputs>(
     number: usize,
     arguments: &Arguments,
 ) -> Result<Option<Value>, Stop>
-    ensures { Carries (option_map data_of) (set10 number (arguments_data arguments.now))
-        (state_of T.seen O.seen caller.old) result (state_of T.seen O.seen caller.new) }
+    ensures { Does T.seen O.seen (option_map data_of) (set10 number (arguments_data arguments.now)) caller.old result caller.new }
 {
     let name = name_given(caller, arguments)?;
     let content = one_or_zero(arguments.flag_at(1, false));
@@ -233,8 +218,7 @@ fn set_text_quoted<T: Tree, O: Outputs>(
     number: usize,
     arguments: &Arguments,
 ) -> Result<Option<Value>, Stop>
-    ensures { Carries (option_map data_of) (set_text_quoted number (arguments_data arguments.now))
-        (state_of T.seen O.seen caller.old) result (state_of T.seen O.seen caller.new) }
+    ensures { Does T.seen O.seen (option_map data_of) (set_text_quoted number (arguments_data arguments.now)) caller.old result caller.new }
 {
     let name = name_given(caller, arguments)?;
     caller.set_quoted(number, name, arguments.text_at(1))?;
@@ -248,8 +232,7 @@ fn act<T: Tree, O: Outputs>(
     number: usize,
     arguments: &Arguments,
 ) -> Result<Option<Value>, Stop>
-    ensures { Carries (option_map data_of) (does method number (arguments_data arguments.now))
-        (state_of T.seen O.seen caller.old) result (state_of T.seen O.seen caller.new) }
+    ensures { Does T.seen O.seen (option_map data_of) (does method number (arguments_data arguments.now)) caller.old result caller.new }
 {
     match method {
         ConfigurationMethod::Get => get(caller, number, arguments),
@@ -269,8 +252,7 @@ fn fit<T: Tree, O: Outputs>(
     method: ConfigurationMethod,
     arguments: &Arguments,
 ) -> Result<(), Stop>
-    ensures { Carries (λ u. u) (fit (row_of method) (arguments_data arguments.now))
-        (state_of T.seen O.seen caller.now) result (state_of T.seen O.seen caller.now) }
+    ensures { Does T.seen O.seen (λ u. u) (fit (row_of method) (arguments_data arguments.now)) caller.now result caller.now }
 {
     caller.fit(&row_of(method), arguments)
 }
@@ -281,8 +263,8 @@ fn fitting_act<T: Tree, O: Outputs>(
     number: usize,
     arguments: &Arguments,
 ) -> Result<Option<Value>, Stop>
-    ensures { Carries (option_map data_of) (fitting_does method number (arguments_data arguments.now))
-        (state_of T.seen O.seen caller.old) result (state_of T.seen O.seen caller.new) }
+    ensures { Does T.seen O.seen (option_map data_of) (fitting_does method number (arguments_data arguments.now))
+        caller.old result caller.new }
 {
     fit(caller, method, arguments)?;
     act(caller, method, number, arguments)
@@ -296,8 +278,8 @@ pub fn configuration_method<T: Tree, O: Outputs>(
     name: &MethodName,
     arguments: &Arguments,
 ) -> Result<Option<Value>, Stop>
-    ensures { Carries (option_map data_of) (configuration_method number name.now (arguments_data arguments.now))
-        (state_of T.seen O.seen caller.old) result (state_of T.seen O.seen caller.new) }
+    ensures { Does T.seen O.seen (option_map data_of) (configuration_method number name.now (arguments_data arguments.now))
+        caller.old result caller.new }
 {
     match name.of_configuration() {
         Some(method) => fitting_act(caller, method, number, arguments),

@@ -1,11 +1,6 @@
 //! What the arguments of `configure_file` say.
 ghost use Rattle.std.specs.Prelude.{◌≡◌, IfOk, map, option_and_then, option_map, string_bytes};
-ghost use Rattle.arguments.specs.Arguments.{arguments_data};
-ghost use Rattle.arguments.specs.Given.{keyword};
-ghost use Rattle.data.specs.View.{data_of};
-ghost use Rattle.world.specs.Answering.{Carries};
-ghost use Rattle.world.specs.Caller.{state_of};
-ghost use Rattle.world.specs.Store.{world_of};
+ghost use Rattle.world.specs.Prelude.{Does, arguments_data, data_of, world_of};
 ghost use Rattle.configuration_calls.specs.ConfigureFile.{file_named, has_meson_format, input_given, input_named, one_file, tree_file};
 ghost use Rattle.configuration_calls.specs.ConfigureFile.{values_given};
 ghost use Rattle.configuration_calls.specs.Given.{dictionary_given, given_by};
@@ -13,7 +8,6 @@ ghost use Rattle.configuration_calls.specs.GivenView.{given_view};
 
 use crate::breaches::{input_breach, values_breach};
 use crate::contents::entries_in;
-use crate::data_call::copy_of;
 use crate::methods::number_in;
 use arguments::Arguments;
 use data::{Object, Value};
@@ -114,8 +108,7 @@ pub fn input_given<T: Tree, O: Outputs>(
     caller: &Caller<'_, T, O>,
     arguments: &Arguments,
 ) -> Result<Option<String>, Stop>
-    ensures { Carries (option_map string_bytes) (input_given (arguments_data arguments.now))
-        (state_of T.seen O.seen caller.now) result (state_of T.seen O.seen caller.now) }
+    ensures { Does T.seen O.seen (option_map string_bytes) (input_given (arguments_data arguments.now)) caller.now result caller.now }
 {
     let source_root = caller.store.settings().source_root.as_str();
     let input = input_named(caller.alloc, source_root, caller.store.folder(), arguments)?;
@@ -150,7 +143,7 @@ fn given_by(alloc: Global, store: &Store, value: &Value) -> Result<Option<Given>
 {
     match number_in(value) {
         Some(number) => Ok(Some(Given {
-            values: copy_of(alloc, store, number)?,
+            values: store.copy_configuration(alloc, number)?,
             number: Some(number),
         })),
         None => dictionary_given(alloc, value),
@@ -176,8 +169,7 @@ pub fn values_given<T: Tree, O: Outputs>(
     caller: &Caller<'_, T, O>,
     arguments: &Arguments,
 ) -> Result<Given, Stop>
-    ensures { Carries given_view (values_given (arguments_data arguments.now))
-        (state_of T.seen O.seen caller.now) result (state_of T.seen O.seen caller.now) }
+    ensures { Does T.seen O.seen given_view (values_given (arguments_data arguments.now)) caller.now result caller.now }
 {
     let value = arguments.keyword("configuration");
     let found = values_of(caller.alloc, caller.store, value)?;

@@ -3,8 +3,8 @@ ghost use Rattle.std.specs.Prelude.{◌≡◌, IfOk, OnOk, length, option_map};
 ghost use Rattle.basics.specs.Faults.{plain_fault};
 ghost use Rattle.ports.specs.Outputs.{IsOpen, closing, opening};
 ghost use Rattle.ports.specs.Tree.{bytes_at};
-ghost use Rattle.world.specs.Answering.{Acts, HasRoom};
-ghost use Rattle.world.specs.Caller.{state_of};
+ghost use Rattle.world.specs.Answering.{Acts};
+ghost use Rattle.world.specs.Prelude.{MayFail, state_of};
 ghost use Rattle.world.specs.Gives.{IsRefusal};
 ghost use Rattle.world.specs.Making.{filled, telling, written};
 ghost use Rattle.configuration_calls.specs.Written.{StopsSo, filling_in, header_filling, template_filling};
@@ -17,7 +17,7 @@ use world::{Caller, Stop};
 
 // Opens an output.
 fn open<T: Tree, O: Outputs>(caller: &mut Caller<'_, T, O>, path: &str) -> Result<(), Stop>
-    requires { HasRoom (state_of T.seen O.seen caller.old) }
+    requires { MayFail T.seen O.seen caller.old }
     ensures acts { Acts (λ u. u) (λ files. telling (opening path.now))
         (state_of T.seen O.seen caller.old) result (state_of T.seen O.seen caller.new) }
     ensures open { OnOk result (IsOpen (state_of T.seen O.seen caller.new).out) }
@@ -78,7 +78,7 @@ fn fill_template<T: Tree, O: Outputs>(
     template: &str,
     line: &mut [u8],
 ) -> Result<(), Stop>
-    requires room { HasRoom (state_of T.seen O.seen caller.old) }
+    requires room { MayFail T.seen O.seen caller.old }
     requires open { IsOpen (state_of T.seen O.seen caller.old).out }
     requires line { length line.old ≡ LINE_LIMIT }
     ensures acts { Acts (λ u. u) (λ files. filled (template_filling values.now.entries template.now (bytes_at files template.now)))
@@ -97,7 +97,7 @@ fn write_header<T: Tree, O: Outputs>(
     path: &str,
     values: &ConfigData,
 ) -> Result<(), Stop>
-    requires { HasRoom (state_of T.seen O.seen caller.old) }
+    requires { MayFail T.seen O.seen caller.old }
     ensures { Acts (λ u. u) (λ files. written path.now (header_filling values.now.entries))
         (state_of T.seen O.seen caller.old) result (state_of T.seen O.seen caller.new) }
 {
@@ -120,7 +120,7 @@ fn write_template<T: Tree, O: Outputs>(
     values: &ConfigData,
     template: &str,
 ) -> Result<(), Stop>
-    requires { HasRoom (state_of T.seen O.seen caller.old) }
+    requires { MayFail T.seen O.seen caller.old }
     ensures { Acts (λ u. u) (λ files. written path.now (template_filling values.now.entries template.now (bytes_at files template.now)))
         (state_of T.seen O.seen caller.old) result (state_of T.seen O.seen caller.new) }
 {
@@ -137,7 +137,7 @@ pub fn write_output<T: Tree, O: Outputs>(
     values: &ConfigData,
     template: Option<&str>,
 ) -> Result<(), Stop>
-    requires { HasRoom (state_of T.seen O.seen caller.old) }
+    requires { MayFail T.seen O.seen caller.old }
     ensures { Acts (λ u. u) (λ files. written path.now (filling_in values.now.entries (option_map (λ t. t.now) template.entry) files))
         (state_of T.seen O.seen caller.old) result (state_of T.seen O.seen caller.new) }
 {

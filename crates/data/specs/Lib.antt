@@ -1,5 +1,6 @@
 pub mod Data
 pub mod Coding
+pub mod Prelude
 pub mod Weight
 pub mod Limits
 pub mod View

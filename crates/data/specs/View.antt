@@ -1,6 +1,7 @@
 -- The plain data that values stand for.
 use Rattle.std.specs.Prelude.{◌≡◌, ◌≤◌, ◌+◌, ℕ, List, [], ◌∷◌, length}
-use Rattle.data.specs.Data.{Data, boolean, integer, text, list, dictionary, object, Items, no_items, item, Entries, no_entries, entry, AreDistinct}
+use Rattle.data.specs.Data.{Data, boolean, integer, text, list, dictionary, object, Items, no_items, item, Entries, no_entries, entry}
+use Rattle.data.specs.Data.{AreDistinct}
 use Rattle.data.specs.Data.{have_disabler}
 use Rattle.data.specs.Weight.{items_weight, items_depth, entries_weight, entries_depth}
 use Rattle.data.specs.declared.value.Value.{Value}

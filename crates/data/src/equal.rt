@@ -1,7 +1,7 @@
 //! Equality by structure.
 
 ghost use Rattle.std.specs.Prelude.{◌≡◌, ◌↔◌, IsTrue};
-ghost use Rattle.data.specs.Data.{keys_in, entry_values};
+ghost use Rattle.data.specs.Data.{keys_in};
 ghost use Rattle.data.specs.Same.{same};
 ghost use Rattle.data.specs.View.{data_of, items_of};
 ghost use Rattle.data.specs.declared.object.Object.TheVariants.{CustomTarget, CustomOutput, File};

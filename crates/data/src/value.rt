@@ -4,7 +4,8 @@ ghost use Rattle.std.specs.Prelude.{◌≡◌, ◌<◌, ◌≤◌, ◌+◌, ◌*
 ghost use Rattle.std.specs.Prelude.{option_map, string_bytes, slice_get, Some, Ok, Err, MatchResult, if◌then◌else◌};
 ghost use Rattle.data.specs.Data.{no_items, item, items_append, count, no_entries, entry_count, entry_values, AreDistinct, keys_in, find};
 ghost use Rattle.data.specs.Data.{merged};
-ghost use Rattle.data.specs.Data.{boolean_in, integer_in, text_in, items_in, entries_in, object_in, is_disabler, has_disabler, have_disabler};
+ghost use Rattle.data.specs.Data.{boolean_in, integer_in, text_in, items_in, entries_in, object_in, is_disabler, has_disabler};
+ghost use Rattle.data.specs.Data.{have_disabler};
 ghost use Rattle.data.specs.Data.{text, list as list_data, dictionary as dictionary_data, object as object_data};
 ghost use Rattle.data.specs.declared.refusal.Refusal.TheVariants as refusal;
 ghost use Rattle.data.specs.Tables.{Answers};

@@ -2,9 +2,7 @@
 ghost use Rattle.std.specs.Prelude.{◌≡◌, ℕ, List, nat_le, length, IfOk};
 ghost use Rattle.ports.specs.Endings.{HasRoom as HasRoomOf};
 ghost use Rattle.ports.specs.Tree.{bytes_at, Stays};
-ghost use Rattle.world.specs.Answering.{Carries, HasRoom};
-ghost use Rattle.world.specs.Caller.{state_of};
-ghost use Rattle.world.specs.Gives.{Holds, failures_after};
+ghost use Rattle.world.specs.Prelude.{Does, Holds, MayFail, failures_after};
 ghost use Rattle.definition_files.specs.Files.{most_bytes};
 ghost use Rattle.definition_files.specs.Finding.{find, found_by};
 ghost use Rattle.definition_files.specs.FindingView.{found_in};
@@ -47,8 +45,8 @@ fn content<T: Tree>(alloc: Global, tree: &mut T, path: &str, size: u64) -> Resul
 
 /// Looks at the path of a definition file, which counts as looked at. No more bytes are read than such a file may have.
 pub fn find<T: Tree, O: Outputs>(caller: &mut Caller<'_, T, O>, path: &str) -> Result<Found, Stop>
-    requires { HasRoom (state_of T.seen O.seen caller.old) }
-    ensures { Carries found_in (find path.now) (state_of T.seen O.seen caller.old) result (state_of T.seen O.seen caller.new) }
+    requires { MayFail T.seen O.seen caller.old }
+    ensures { Does T.seen O.seen found_in (find path.now) caller.old result caller.new }
 {
     let size = caller.tree.size(path)?;
     caller.store.note_look(caller.alloc, path, size.is_some())?;

@@ -3,7 +3,7 @@ ghost use Rattle.std.specs.Prelude.{◌≡◌, ℕ, ◌≤◌, List, length, tak
 ghost use Rattle.ports.specs.Endings.{HasRoom, ended};
 ghost use Rattle.ports.specs.Reading.{GivenWhole};
 ghost use Rattle.ports.specs.Tree.{bytes_at, Asks, Stays};
-ghost use Rattle.world.specs.Gives.{Holds, failures_after};
+ghost use Rattle.world.specs.Prelude.{Holds, failures_after};
 ghost use Rattle.definition_files.specs.Files.{line_at, refusal_of};
 ghost use Rattle.definition_files.specs.Reading.{IsNoFault};
 

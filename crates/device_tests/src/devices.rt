@@ -1,9 +1,7 @@
 //! Devices, in memory and on a disk: what they answer, and what they are told.
 ghost use Rattle.ports.specs.Endings.{HasRoom};
-ghost use Rattle.std.specs.Prelude.{◌≡◌, ◌+◌, ◌^◌, ◌<◌, ◌≤◌, IfOk};
+ghost use Rattle.std.specs.Prelude.{◌≡◌, ◌+◌, ◌<◌, ◌≤◌, IfOk};
 ghost use Rattle.ports.specs.MemTree.{mem_tree_seen};
-ghost use Rattle.ports.specs.Outputs.{OutputState};
-ghost use Rattle.ports.specs.Tree.{TreeState};
 
 use basics::text_lists::strings;
 use ports::{

@@ -2,9 +2,7 @@
 //! or shorter than they say.
 ghost use Rattle.ports.specs.Endings.{HasRoom};
 ghost use Rattle.ports.specs.MemTree.{mem_tree_seen};
-ghost use Rattle.ports.specs.Outputs.{OutputState};
-ghost use Rattle.ports.specs.Tree.{TreeState};
-ghost use Rattle.std.specs.Prelude.{◌≡◌, ◌+◌, ◌^◌, ◌<◌, [], length, false, IfOk};
+ghost use Rattle.std.specs.Prelude.{◌≡◌, ◌<◌, [], length, false, IfOk};
 
 use ports::{DeviceFault, Event, MemOutputs, MemTree, OutputCall, Outputs, Tree, TreeCall};
 use std::alloc::{AllocError, Global};

@@ -18,7 +18,7 @@ use Rattle.basics.specs.Faults.{FaultData}
 use Rattle.basics.specs.declared.faults.refusal.Refusal.TheVariants as refusals
 use Rattle.operators.specs.declared.operator.Binary.TheVariants.{Add}
 use Rattle.operators.specs.Operations.{binary_answer}
-use Rattle.language_calls.specs.Names.{is_predefined}
+use Rattle.language_names.specs.Names.{is_predefined}
 use Rattle.world.specs.World.{World, with_facts, with_line, with_variable, with_variables, variables_with}
 use Rattle.world.specs.declared.stop.Stop.{Stop}
 use Rattle.world.specs.declared.stop.Stop.TheVariants as stops

@@ -9,8 +9,8 @@ use Rattle.arguments.specs.declared.rule.Rule.TheVariants as rules
 use Rattle.basics.specs.declared.faults.refusal.Refusal.TheVariants as refusals
 use Rattle.operators.specs.declared.operator.Binary.TheVariants.{Add}
 use Rattle.operators.specs.Operations.{binary_answer}
-use Rattle.language_calls.specs.Names.{is_predefined}
-use Rattle.configuration_calls.specs.ConfigurationData.{copy_configuration}
+use Rattle.language_names.specs.Names.{is_predefined}
+use Rattle.world.specs.Configuring.{copy_configuration}
 use Rattle.world.specs.World.{with_variable}
 use Rattle.world.specs.Deed.{change}
 use Rattle.world.specs.Plan.{Plan, deed, ◌>>=◌, give, refuse, answered}

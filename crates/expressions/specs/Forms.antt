@@ -34,8 +34,8 @@ use Rattle.methods.specs.Methods.{answer as method_answer}
 use Rattle.arguments.specs.Arguments.{ArgumentsData}
 use Rattle.arguments.specs.Misfits.{checked}
 use Rattle.language_names.specs.Functions.{function_named}
-use Rattle.language_calls.specs.Names.{is_left_out, is_predefined, predefined}
-use Rattle.language_calls.specs.Rows.{any_values}
+use Rattle.language_names.specs.Names.{is_left_out, is_predefined, predefined}
+use Rattle.arguments.specs.Rows.{any_values}
 use Rattle.language_names.specs.declared.functions.Function.{Function}
 use Rattle.language_names.specs.declared.functions.Function.TheVariants as functions
 use Rattle.world.specs.Deed.{read}

@@ -2,10 +2,8 @@
 ghost use Rattle.std.specs.Prelude.{◌≡◌, ◌<◌, ℕ, IsTrue, Some, length, nat_lt, option_map};
 ghost use Rattle.arguments.specs.Rules.{broken};
 ghost use Rattle.code.specs.Statements.{name_at, second_within};
-ghost use Rattle.data.specs.View.{data_of};
-ghost use Rattle.configuration_calls.specs.ConfigurationData.{copy_configuration};
-ghost use Rattle.world.specs.Answering.{Refuses};
-ghost use Rattle.world.specs.Gives.{failures_after};
+ghost use Rattle.world.specs.Prelude.{Refuses, data_of, failures_after};
+ghost use Rattle.world.specs.Configuring.{copy_configuration};
 ghost use Rattle.world.specs.Plan.{deed, next};
 ghost use Rattle.expressions.specs.Forms.{thing};
 ghost use Rattle.expressions.specs.Rounds.{round_data};
@@ -15,9 +13,8 @@ use crate::context::Context;
 use crate::loops::Round;
 use arguments::Rule;
 use basics::faults::Refusal;
-use configuration_calls::copied;
 use data::{Object, Value};
-use language_calls::is_predefined;
+use language_names::is_predefined;
 use operators::{Binary, binary};
 use ports::{Outputs, Tree};
 use std::sync::ledger::Ledger;
@@ -56,7 +53,7 @@ impl<'a, T: Tree, O: Outputs, L: Ledger> Context<'a, T, O, L> {
             tree: self.tree,
             out: self.out,
         };
-        copied(&mut caller, number)
+        caller.copy_configuration(number)
     }
 
     // A copy of configuration data.

@@ -1,8 +1,7 @@
 //! Conditions.
 ghost use Rattle.std.specs.Prelude.{◌≡◌, ℕ};
 ghost use Rattle.data.specs.Data.{boolean_in, is_disabler};
-ghost use Rattle.data.specs.View.{data_of};
-ghost use Rattle.world.specs.Gives.{failures_after};
+ghost use Rattle.world.specs.Prelude.{data_of, failures_after};
 ghost use Rattle.expressions.specs.Conditions.{choice_of};
 
 use crate::context::Context;

@@ -1,13 +1,10 @@
 //! What an evaluation works on, and the small answers that it gives.
-ghost use Rattle.std.specs.Prelude.{◌≡◌, ◌<◌, ℕ, IfOk, Result, None, length, option_map, slice_index_or};
+ghost use Rattle.std.specs.Prelude.{◌≡◌, ◌<◌, ℕ, IfOk, Result, None, option_map};
 ghost use Rattle.data.specs.Data.{Data, is_disabler};
-ghost use Rattle.data.specs.Tables.{Answers as AnswersSo};
-ghost use Rattle.data.specs.View.{data_of};
 ghost use Rattle.data.specs.declared.refusal.Refusal.{Refusal as OperationRefusal};
 ghost use Rattle.arguments.specs.Refused.{answer_data};
 ghost use Rattle.basics.specs.View.{fault_view};
-ghost use Rattle.world.specs.Answering.{Refuses};
-ghost use Rattle.world.specs.Gives.{failures_after};
+ghost use Rattle.world.specs.Prelude.{Answers as AnswersSo, Refuses, data_of, failures_after};
 ghost use Rattle.world.specs.Plan.{answered};
 ghost use Rattle.expressions.specs.Forms.{fitted, needed, unchosen};
 

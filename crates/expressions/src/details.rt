@@ -1,6 +1,6 @@
 //! What the refusals of operations on values are about. The words are made only where a run ends.
 ghost use Rattle.std.specs.Prelude.{◌≡◌, IfOk, map, string_bytes};
-ghost use Rattle.data.specs.View.{data_of};
+ghost use Rattle.world.specs.Prelude.{data_of};
 ghost use Rattle.expressions.specs.Details.{key_twice, method_detail, method_words};
 
 use arguments::values_words;

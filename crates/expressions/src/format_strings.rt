@@ -2,10 +2,7 @@
 ghost use Rattle.std.specs.Prelude.{◌≡◌, ◌++◌, ℕ, List, IfOk, [], map};
 ghost use Rattle.code.specs.FormatStrings.{part_data};
 ghost use Rattle.data.specs.Data.{text};
-ghost use Rattle.data.specs.Limits.{within, within_bytes};
-ghost use Rattle.data.specs.Tables.{Answers as AnswersSo};
-ghost use Rattle.data.specs.View.{data_of};
-ghost use Rattle.world.specs.Gives.{failures_after};
+ghost use Rattle.world.specs.Prelude.{Answers as AnswersSo, data_of, failures_after, within, within_bytes};
 ghost use Rattle.expressions.specs.Filling.{Puts};
 ghost use Rattle.expressions.specs.Forms.{filled};
 

@@ -1,9 +1,7 @@
 //! What forms of nodes give for the values of their parts.
 ghost use Rattle.std.specs.Prelude.{◌≡◌, ℕ, option_map};
-ghost use Rattle.data.specs.View.{data_of, items_of};
 ghost use Rattle.operators.specs.Literal.{pairs_of};
-ghost use Rattle.world.specs.Answering.{Refuses};
-ghost use Rattle.world.specs.Gives.{failures_after};
+ghost use Rattle.world.specs.Prelude.{Refuses, data_of, failures_after, items_of};
 ghost use Rattle.expressions.specs.Details.{key_twice};
 ghost use Rattle.expressions.specs.Forms.{listed, paired, part_at, prefixed};
 

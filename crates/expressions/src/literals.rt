@@ -2,12 +2,9 @@
 ghost use Rattle.std.specs.Prelude.{◌≡◌, false, ℕ, IfOk, Ok};
 ghost use Rattle.code.specs.Literals.{is_format, spelled};
 ghost use Rattle.data.specs.Data.{text};
-ghost use Rattle.data.specs.Limits.{within};
-ghost use Rattle.data.specs.Tables.{Answers as AnswersSo};
-ghost use Rattle.data.specs.View.{data_of};
 ghost use Rattle.lexer.specs.Numerals.{magnitude};
 ghost use Rattle.lexer.specs.Texts.{text_of};
-ghost use Rattle.world.specs.Gives.{failures_after};
+ghost use Rattle.world.specs.Prelude.{Answers as AnswersSo, data_of, failures_after, within};
 ghost use Rattle.world.specs.Plan.{answered};
 ghost use Rattle.expressions.specs.Forms.{literal_value, number};
 

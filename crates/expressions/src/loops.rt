@@ -1,7 +1,6 @@
 //! The rounds of a loop.
-ghost use Rattle.std.specs.Prelude.{◌≡◌, IfOk, false, true};
-ghost use Rattle.data.specs.Data.{Data};
-ghost use Rattle.data.specs.View.{data_of, items_of};
+ghost use Rattle.std.specs.Prelude.{IfOk, false, true};
+ghost use Rattle.world.specs.Prelude.{data_of, items_of};
 ghost use Rattle.expressions.specs.Rounds.{HasFewRounds, Loops, RoundAt, entry_rounds, item_rounds, rounds_in};
 
 use basics::faults::Refusal;

@@ -1,15 +1,13 @@
 //! Folders that are entered, and their definition files.
-ghost use Rattle.std.specs.Prelude.{◌≡◌, ℕ, List, IfOk, Some, [], false, length, string_bytes, bytes_eq};
+ghost use Rattle.std.specs.Prelude.{◌≡◌, ℕ, List, IfOk, Some, false, length, string_bytes, bytes_eq};
 ghost use Rattle.std.specs.List.{list_any};
 ghost use Rattle.std.specs.Str.{is_utf8};
 ghost use Rattle.arguments.specs.Rules.{broken};
 ghost use Rattle.grammar.specs.Parsed.{parsed};
 ghost use Rattle.grammar.specs.Tree.{file_of, statements};
 ghost use Rattle.ports.specs.Tree.{file_at};
-ghost use Rattle.world.specs.Answering.{Refuses};
+ghost use Rattle.world.specs.Prelude.{Files, Holds, Refuses, failures_after};
 ghost use Rattle.world.specs.Costs.{definition_file};
-ghost use Rattle.world.specs.Deed.{Files};
-ghost use Rattle.world.specs.Gives.{Holds, failures_after};
 ghost use Rattle.world.specs.Plan.{deed, give};
 ghost use Rattle.expressions.specs.Codes.{file_by};
 ghost use Rattle.definition_files.specs.Files.{spelled, spelled_by, tree_or_fault};

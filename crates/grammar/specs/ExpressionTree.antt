@@ -2,7 +2,9 @@
 use Rattle.std.specs.Prelude.{ℕ, List, [], ◌∷◌, map, Option}
 use Rattle.std.specs.Option.{option_map}
 use Rattle.grammar.specs.declared.tree.Expression.{Expression}
-use Rattle.grammar.specs.declared.tree.Expression.TheOpen.{Expression-F, Operand-F, Link-F, Argument-F, Entry-F, Name, Literal as LiteralOpen, List as ListOpen, Dictionary, Call, Postfix, Prefix as PrefixOpen, Chain, Ternary, Method, Index}
+use Rattle.grammar.specs.declared.tree.Expression.TheOpen.{Expression-F, Operand-F, Link-F, Argument-F, Entry-F, Name}
+use Rattle.grammar.specs.declared.tree.Expression.TheOpen.{Literal as LiteralOpen, List as ListOpen, Dictionary, Call, Postfix}
+use Rattle.grammar.specs.declared.tree.Expression.TheOpen.{Prefix as PrefixOpen, Chain, Ternary, Method, Index}
 use Rattle.grammar.specs.declared.tree.Expression.TheFolds.{fold-Expression, fold-Operand, fold-Link, fold-Argument, fold-Entry}
 use Rattle.grammar.specs.declared.tree.Argument.{Argument}
 use Rattle.grammar.specs.declared.tree.Entry.{Entry}

@@ -11,7 +11,9 @@ use Rattle.grammar.specs.declared.tree.Operator.{Operator}
 use Rattle.grammar.specs.declared.tree.Operator.TheVariants as operators
 use Rattle.grammar.specs.declared.tree.Prefix.{Prefix}
 use Rattle.grammar.specs.declared.tree.Prefix.TheVariants as prefixes
-use Rattle.grammar.specs.ExpressionTree.{ExpressionTree, NameTree, LiteralTree, ListTree, DictionaryTree, FunctionTree, PostfixTree, PrefixTree, ChainTree, TernaryTree, ArgumentTree, EntryTree, LinkTree, MethodTree, IndexTree, OperandTree, arguments, entries, expressions, links, operands}
+use Rattle.grammar.specs.ExpressionTree.{ExpressionTree, NameTree, LiteralTree, ListTree, DictionaryTree, FunctionTree, PostfixTree}
+use Rattle.grammar.specs.ExpressionTree.{PrefixTree, ChainTree, TernaryTree, ArgumentTree, EntryTree, LinkTree, MethodTree, IndexTree}
+use Rattle.grammar.specs.ExpressionTree.{OperandTree, arguments, entries, expressions, links, operands}
 use Rattle.grammar.specs.Form.{Form, token, give, ◌>>=◌, ◌or◌, many, optional, listed, listed_by}
 use Rattle.grammar.specs.Parts.{Inner, Closed, Inside, here, opened, token_as}
 

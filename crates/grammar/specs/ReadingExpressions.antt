@@ -9,10 +9,13 @@ use Rattle.grammar.specs.declared.tree.Operator.{Operator}
 use Rattle.grammar.specs.declared.tree.Operator.TheVariants as operators
 use Rattle.grammar.specs.declared.parser.expression.Rank.{Rank}
 use Rattle.grammar.specs.declared.parser.expression.Rank.TheVariants as ranks
-use Rattle.grammar.specs.ExpressionTree.{ExpressionTree, NameTree, LiteralTree, ListTree, DictionaryTree, FunctionTree, PrefixTree, ArgumentTree, EntryTree, LinkTree, MethodTree, IndexTree, OperandTree, arguments, entries, expressions}
+use Rattle.grammar.specs.ExpressionTree.{ExpressionTree, NameTree, LiteralTree, ListTree, DictionaryTree, FunctionTree, PrefixTree}
+use Rattle.grammar.specs.ExpressionTree.{ArgumentTree, EntryTree, LinkTree, MethodTree, IndexTree, OperandTree, arguments, entries}
+use Rattle.grammar.specs.ExpressionTree.{expressions}
 use Rattle.grammar.specs.declared.tree.Prefix.{Prefix}
 use Rattle.grammar.specs.declared.tree.Prefix.TheVariants as prefixes
-use Rattle.grammar.specs.Expressions.{additive, chain_tree, ternary_tree, comparative, conjunctive, disjunctive, is_named, literal_of, multiplicative, postfix_tree}
+use Rattle.grammar.specs.Expressions.{additive, chain_tree, ternary_tree, comparative, conjunctive, disjunctive, is_named, literal_of}
+use Rattle.grammar.specs.Expressions.{multiplicative, postfix_tree}
 use Rattle.grammar.specs.Parts.{here_at, opened_at, stands_for, token_as_at}
 use Rattle.grammar.specs.Reading.{Reader, ◌>>=◌, begins, deep_at, head_is, listed_at, many_at, optional_at, token_at, or_at, two_begin}
 use Rattle.grammar.specs.Form.{same_state}

@@ -1,5 +1,6 @@
 -- Reading statements by their grammar, as functions: a value and the tokens after it, or where reading stops.
-use Rattle.std.specs.Prelude.{◌≡◌, ℕ, zero, suc, Bool, true, false, not, ◌||◌, List, [], ◌∷◌, ◌++◌, length, Result, Ok, Err, Option, unwrap_or}
+use Rattle.std.specs.Prelude.{◌≡◌, ℕ, zero, suc, Bool, true, false, not, ◌||◌, List, [], ◌∷◌, ◌++◌, length, Result, Ok, Err, Option}
+use Rattle.std.specs.Prelude.{unwrap_or}
 use Rattle.lexer.specs.Lexeme.{Lexeme}
 use Rattle.lexer.specs.Kinds.{is}
 use Rattle.lexer.specs.declared.token.Kind.{Kind}
@@ -9,7 +10,8 @@ use Rattle.grammar.specs.declared.stop.Stop.{Stop}
 use Rattle.grammar.specs.declared.stop.Stop.TheVariants.{Unexpected}
 use Rattle.grammar.specs.Parts.{here_at}
 use Rattle.grammar.specs.ExpressionTree.{ExpressionTree}
-use Rattle.grammar.specs.Tree.{StatementTree, AssignTree, AppendTree, ValueTree, BreakTree, ContinueTree, IfTree, ForeachTree, FileTree, statements, BranchTree, branches}
+use Rattle.grammar.specs.Tree.{StatementTree, AssignTree, AppendTree, ValueTree, BreakTree, ContinueTree, IfTree, ForeachTree, FileTree}
+use Rattle.grammar.specs.Tree.{statements, BranchTree, branches}
 use Rattle.grammar.specs.Statements.{given}
 use Rattle.grammar.specs.Reading.{Reader, ◌>>=◌, Fails, begins, token_at, many_at, or_at, optional_at, deep_at, two_begin}
 use Rattle.grammar.specs.ReadingExpressions.{expr_at}

@@ -2,9 +2,11 @@
 -- number is that of the levels that may still be opened.
 use Rattle.std.specs.Prelude.{ℕ, zero, suc, Bool, true, false, List, [], ◌∷◌, Option, Some, None, unwrap_or}
 use Rattle.lexer.specs.declared.token.Kind.{Kind}
-use Rattle.lexer.specs.declared.token.Kind.TheVariants.{Name, Assign, PlusAssign, Newline, Comma, Colon, Break, Continue, If, Elif, Else, EndIf, Foreach, EndForeach}
+use Rattle.lexer.specs.declared.token.Kind.TheVariants.{Name, Assign, PlusAssign, Newline, Comma, Colon, Break, Continue, If, Elif, Else}
+use Rattle.lexer.specs.declared.token.Kind.TheVariants.{EndIf, Foreach, EndForeach}
 use Rattle.grammar.specs.ExpressionTree.{ExpressionTree}
-use Rattle.grammar.specs.Tree.{StatementTree, AssignTree, AppendTree, ValueTree, BreakTree, ContinueTree, IfTree, ForeachTree, FileTree, statements, BranchTree, branches}
+use Rattle.grammar.specs.Tree.{StatementTree, AssignTree, AppendTree, ValueTree, BreakTree, ContinueTree, IfTree, ForeachTree, FileTree}
+use Rattle.grammar.specs.Tree.{statements, BranchTree, branches}
 use Rattle.grammar.specs.Form.{Form, token, give, ◌>>=◌, ◌or◌, never, many, optional}
 use Rattle.grammar.specs.Parts.{here}
 use Rattle.grammar.specs.Expressions.{expr}

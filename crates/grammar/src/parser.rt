@@ -1,9 +1,7 @@
 //! Reads the file that tokens spell, with one token in hand.
 
-ghost use Rattle.std.specs.Prelude.{◌≡◌, ℕ, ◌+◌, ◌++◌, ◌-◌, ◌<◌, ◌≤◌, length, map, OnOk, [], ◌∷◌, List, IfOk, MatchResult, ◌⊎◌};
-ghost use Rattle.grammar.specs.Grammar.{most_levels};
-ghost use Rattle.lexer.specs.Kinds.{is};
-ghost use Rattle.lexer.specs.Lexeme.{Lexeme, lexeme_of, lexemes};
+ghost use Rattle.std.specs.Prelude.{◌≡◌, ℕ, ◌+◌, ◌++◌, ◌-◌, ◌<◌, ◌≤◌, length, map, OnOk, [], ◌∷◌, IfOk, MatchResult, ◌⊎◌};
+ghost use Rattle.lexer.specs.Lexeme.{lexeme_of, lexemes};
 ghost use Rattle.lexer.specs.Answers.{Answers};
 ghost use Rattle.grammar.specs.Parsed.{FrontsAreShorter, HasFault, Spells, line_of, located, parsed};
 ghost use Rattle.grammar.specs.Reading.{Gives, GivesAll, all_of, begins, first_of, tokens_left, token_at};

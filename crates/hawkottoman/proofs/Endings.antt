@@ -1,14 +1,12 @@
 -- How the fault of a run is told, and what it is about.
-use Rattle.std.proofs.Common.{◌≡◌, ◌≢◌, ℕ, ◌+◌, true, false, List, [], ◌++◌, Some, None, Result, Ok, Err, refl, sym, ap, subst, ◌∙◌, arith}
-use Rattle.std.specs.Prelude.{codes, option_map}
+use Rattle.std.proofs.Common.{◌≡◌, ◌≢◌, ℕ, ◌+◌, true, false, List, None, Result, Ok, Err, refl, sym, ap, subst, arith}
 use Rattle.std.proofs.lemmas.Bool.{false≢true}
 use Rattle.ports.specs.Endings.{HasRoom, ended}
-use Rattle.ports.specs.Outputs.{OutputState, Step, Writes, logs}
+use Rattle.ports.specs.Outputs.{OutputState, Writes}
 use Rattle.ports.specs.declared.fault.DeviceFault.{DeviceFault}
 use Rattle.ports.proofs.Sending.{sends_none, sends_nothing, sends_stop, sends_then}
 use Rattle.basics.specs.Faults.{FaultData}
-use Rattle.basics.specs.View.{fault_view}
-use Rattle.build_file.specs.Concluding.{Agrees, Whole, failed_devices, faulted_with}
+use Rattle.build_file.specs.Concluding.{Agrees, failed_devices, faulted_with}
 use Rattle.build_file.specs.declared.concluding.Status.{Status}
 use Rattle.build_file.specs.declared.concluding.Status.TheVariants as statuses
 use Rattle.world.specs.Gives.{failures_after}

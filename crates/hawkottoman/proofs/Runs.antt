@@ -7,7 +7,7 @@ use Rattle.ports.proofs.Sending.{sends_part, sends_stop, sends_then}
 use Rattle.basics.specs.Faults.{FaultData, fault_line}
 use Rattle.basics.specs.View.{fault_view}
 use Rattle.build_file.specs.Means.{Means}
-use Rattle.build_file.specs.Concluding.{Agrees, Whole, done_with, failed_devices, faulted_with, is_finished, outputs_steps, told_before}
+use Rattle.build_file.specs.Concluding.{Agrees, Whole, failed_devices, faulted_with, is_finished, outputs_steps, told_before}
 use Rattle.build_file.specs.declared.concluding.Status.{Status}
 use Rattle.build_file.specs.declared.concluding.Status.TheVariants as statuses
 use Rattle.world.specs.Gives.{failures_after}

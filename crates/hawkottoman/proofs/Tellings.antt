@@ -1,5 +1,5 @@
 -- How what a run asks is told.
-use Rattle.std.proofs.Common.{◌≡◌, ℕ, ◌+◌, ◌≤◌, true, false, List, [], ◌∷◌, ◌++◌, Some, None, Result, Ok, Err, refl, sym, ap, subst, ◌∙◌, arith}
+use Rattle.std.proofs.Common.{◌≡◌, ℕ, ◌+◌, true, false, List, [], Some, None, Result, Ok, Err, refl, sym, ap, subst, ◌∙◌, arith}
 use Rattle.std.specs.Prelude.{option_map}
 use Rattle.std.proofs.lemmas.Bool.{false≢true}
 use Rattle.ports.specs.Endings.{HasRoom, ended}
@@ -11,9 +11,8 @@ use Rattle.basics.specs.View.{fault_view}
 use Rattle.build_file.specs.Concluding.{Agrees, Whole, failed_devices, faulted_with, told_before}
 use Rattle.build_file.specs.declared.concluding.Status.{Status}
 use Rattle.build_file.specs.declared.concluding.Status.TheVariants as statuses
-use Rattle.machine_file.specs.Fault.{told}
 use Rattle.world.specs.Gives.{failures_after}
-use Rattle.world.specs.Run.{Run, Done, outcome_of}
+use Rattle.world.specs.Run.{Run, outcome_of}
 use Rattle.world.specs.declared.stop.Stop.{Stop}
 use Rattle.world.specs.declared.stop.Stop.TheVariants as stops
 use Rattle.hawkottoman.specs.Questions.{ending_with, fault_of, lines_then}

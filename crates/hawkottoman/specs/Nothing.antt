@@ -1,5 +1,5 @@
 -- What outputs that keep nothing are seen as: they tell nothing.
-use Rattle.std.specs.Prelude.{ℕ, false, List, [], Option, String, option_map, string_bytes}
+use Rattle.std.specs.Prelude.{ℕ, false, [], Option, String, option_map, string_bytes}
 use Rattle.std.specs.Global.{Global}
 use Rattle.ports.specs.Outputs.{OutputState}
 

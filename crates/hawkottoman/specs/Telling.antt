@@ -1,5 +1,5 @@
 -- How lines are told one after another.
-use Rattle.std.specs.Prelude.{◌≡◌, ◌≢◌, ℕ, List, [], ◌++◌, Option, Some, None, option_map, string_bytes, Result, Ok, Err}
+use Rattle.std.specs.Prelude.{◌≡◌, ◌≢◌, ℕ, List, [], ◌++◌, Some, None, option_map, string_bytes, Result, Ok, Err}
 use Rattle.basics.specs.View.{fault_view}
 use Rattle.ports.specs.Outputs.{OutputState}
 use Rattle.build_file.specs.declared.concluding.Status.{Status}

@@ -1,13 +1,11 @@
 //! The fault in which a run ends and what it is about, told in place of what the run writes.
-ghost use Rattle.std.specs.Prelude.{◌≡◌, ◌++◌, ◌<◌, codes, option_map};
+ghost use Rattle.std.specs.Prelude.{◌++◌, ◌<◌, codes, option_map};
 ghost use Rattle.ports.specs.Endings.{HasRoom, ended};
 ghost use Rattle.ports.specs.Outputs.{Writes, logs};
 ghost use Rattle.basics.specs.View.{fault_view};
 ghost use Rattle.build_file.specs.Concluding.{Agrees};
 ghost use Rattle.interp.specs.Evaluation.{IsSaid, MachineSaid};
-ghost use Rattle.world.specs.Deed.{Files};
-ghost use Rattle.world.specs.Gives.{Holds};
-ghost use Rattle.world.specs.SettingsView.{settings_view};
+ghost use Rattle.world.specs.Prelude.{Files, Holds, settings_view};
 ghost use Rattle.hawkottoman.specs.Ending.{TellsFault, TellsStop, detail_told, ending_told, fault_told, told_whole};
 ghost use Rattle.hawkottoman.specs.Setup.{Concludes, FailsOnce};
 

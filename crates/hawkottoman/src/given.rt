@@ -2,8 +2,6 @@
 ghost use Rattle.ports.specs.Endings.{HasRoom};
 ghost use Rattle.std.specs.Prelude.{◌≡◌, IfOk};
 ghost use Rattle.ports.specs.MemTree.{mem_tree_seen};
-ghost use Rattle.ports.specs.Outputs.{OutputState};
-ghost use Rattle.ports.specs.Tree.{TreeState};
 
 use crate::expected::Expected;
 use crate::running::setup;

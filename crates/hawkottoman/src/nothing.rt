@@ -1,5 +1,5 @@
 //! Outputs that keep nothing.
-ghost use Rattle.std.specs.Prelude.{◌≡◌, None, option_map, string_bytes};
+ghost use Rattle.std.specs.Prelude.{◌≡◌, None};
 ghost use Rattle.hawkottoman.specs.Nothing.{untold};
 
 use ports::{DeviceFault, Outputs};

@@ -1,9 +1,10 @@
 //! A run of the program, over a folder of a disk.
 ghost use Rattle.std.specs.Prelude.{◌≡◌, ◌≢◌, ◌<◌, ◌≤◌, IfOk, length, map, string_bytes};
 ghost use Rattle.std.specs.IoError.{error_kind};
-ghost use Rattle.command.specs.BuildFolder.{pieces_of};
 ghost use Rattle.command.specs.CommandLine.{IsRefused, IsTaken};
 ghost use Rattle.paths.specs.Below.{path_below};
+ghost use Rattle.paths.specs.Paths.{parts_of};
+ghost use Rattle.ports.specs.Endings.{HasRoom};
 ghost use Rattle.build_file.specs.Concluding.{exit_status};
 
 use crate::asking::questions;
@@ -12,7 +13,7 @@ use crate::running::setup;
 use build_file::Status;
 use command::{Line, LineFault, Task, command_line};
 use paths::path_below;
-use ports::{DiskOutputs, DiskTree, OutputPlace};
+use ports::{DiskOutputs, DiskTree, OutputPlace, Outputs};
 use std::alloc::{AllocError, Global};
 use std::fs::File;
 use std::io::{ErrorKind, Read, Write};
@@ -71,33 +72,47 @@ fn perform<R: Files<File = File> + AllocGlobal, L: Write + Drop, F: Write + Drop
     rt: &R,
     line: Line,
     root: &str,
-    log: L,
-    mut faults: F,
+    log: &mut L,
+    faults: &mut F,
 ) -> io::Result<Status> {
     if holds_sources(rt, root, line.folder.as_str())? {
-        tell_of_sources(line.folder.as_str(), &mut faults)?;
+        tell_of_sources(line.folder.as_str(), faults)?;
         return Ok(Status::Device);
     }
     let machine = machine_bytes(rt, root, &line.machine_file)?;
-    let place = OutputPlace {
-        root: String::from_str(rt.alloc(), root)?,
-        folder: line.folder.clone()?,
-    };
+    let place = place_below(rt.alloc(), root, line.folder.as_str())?;
     let mut out = DiskOutputs::new(rt, rt.alloc(), place, log, faults)?;
+    if matches!(line.task, Task::Setup) {
+        out.claim()?;
+    }
+    perform_over(rt, line, root, &machine, &mut out)
+}
+
+fn place_below(alloc: Global, root: &str, folder: &str) -> Result<OutputPlace, AllocError> {
+    Ok(OutputPlace {
+        root: String::from_str(alloc, root)?,
+        folder: String::from_str(alloc, folder)?,
+    })
+}
+
+// Does what the line says over the sources in this folder, with these bytes of a machine file and these outputs.
+fn perform_over<R: Files<File = File> + AllocGlobal, O: Outputs>(
+    rt: &R,
+    line: Line,
+    root: &str,
+    machine: &[u8],
+    out: &mut O,
+) -> io::Result<Status>
+    requires { HasRoom (O.seen out.old).failures }
+{
     let task = line.task;
     let settings = settings_of(rt.alloc(), line, root)?;
-    let mut tree = DiskTree::new(
-        rt,
-        rt.alloc(),
-        String::from_str(rt.alloc(), CURRENT_FOLDER)?,
-    );
+    let current = String::from_str(rt.alloc(), CURRENT_FOLDER)?;
+    let mut tree = DiskTree::new(rt, rt.alloc(), current);
     let status = match task {
-        Task::Setup => {
-            out.claim()?;
-            setup(rt.alloc(), &mut tree, &settings, &machine, &mut out)
-        }
-        Task::Questions => questions(rt.alloc(), &mut tree, &settings, &machine, &mut out),
-        Task::Fault => fault(rt.alloc(), &mut tree, &settings, &machine, &mut out),
+        Task::Setup => setup(rt.alloc(), &mut tree, &settings, machine, out),
+        Task::Questions => questions(rt.alloc(), &mut tree, &settings, machine, out),
+        Task::Fault => fault(rt.alloc(), &mut tree, &settings, machine, out),
     };
     Ok(status)
 }
@@ -126,7 +141,7 @@ fn settings_of(alloc: Global, line: Line, root: &str) -> Result<Settings, AllocE
     ensures words { IfOk result (λ s. map string_bytes s.words.items ≡ map string_bytes line.words.items) }
     ensures root { IfOk result (λ s. string_bytes s.source_root ≡ root.now) }
     ensures build { IfOk result (λ s. string_bytes s.build_root ≡ path_below root.now (string_bytes line.folder)) }
-    ensures depth { IfOk result (λ s. s.depth ≡ length (pieces_of (string_bytes line.folder))) }
+    ensures depth { IfOk result (λ s. s.depth ≡ length (parts_of (string_bytes line.folder))) }
 {
     let depth = line.depth();
     let build_root = path_below(alloc, root, line.folder.as_str())?;

@@ -4,9 +4,7 @@ ghost use Rattle.ports.specs.Endings.{HasRoom};
 ghost use Rattle.build_file.specs.Means.{Means};
 ghost use Rattle.build_file.specs.Concluding.{Agrees};
 ghost use Rattle.interp.specs.Evaluation.{IsSaid, MachineSaid};
-ghost use Rattle.world.specs.Deed.{Files};
-ghost use Rattle.world.specs.Gives.{Holds};
-ghost use Rattle.world.specs.SettingsView.{settings_view};
+ghost use Rattle.world.specs.Prelude.{Files, Holds, settings_view};
 ghost use Rattle.hawkottoman.specs.Laws.{AreThere};
 ghost use Rattle.hawkottoman.specs.Setup.{FailsOnce, OnDone, OnEnd, OnFault, OnProject, Settles, Stops, project_of, run_of};
 

@@ -34,7 +34,7 @@ use Rattle.arguments.specs.Arguments.{ArgumentsData, no_arguments, with_argument
 use Rattle.arguments.specs.Disablers.{gives_disabler}
 use Rattle.language_calls.specs.Turning.{is_turned_off}
 use Rattle.language_names.specs.Functions.{function_named}
-use Rattle.language_calls.specs.Names.{is_left_out, is_predefined}
+use Rattle.language_names.specs.Names.{is_left_out, is_predefined}
 use Rattle.paths.specs.Paths.{folder_below}
 use Rattle.language_names.specs.declared.functions.Function.{Function}
 use Rattle.ports.specs.Tree.{file_at}

@@ -1,5 +1,6 @@
 -- Lists of statements in the code of a file.
-use Rattle.std.specs.Prelude.{ℕ, zero, suc, ◌<◌, Bool, true, false, List, [], ◌∷◌, length, slice_index_or, Option, Some, None, Result, Ok, Err}
+use Rattle.std.specs.Prelude.{ℕ, zero, suc, ◌<◌, Bool, true, false, List, [], ◌∷◌, length, slice_index_or, Option, Some, None, Result, Ok}
+use Rattle.std.specs.Prelude.{Err}
 use Rattle.code.specs.declared.code.Code.{Code}
 use Rattle.code.specs.declared.node.BranchNode.{BranchNode}
 use Rattle.code.specs.declared.node.StatementNode.{StatementNode}

@@ -1,7 +1,8 @@
 -- A whole evaluation, from the root file on.
 use Rattle.std.specs.Prelude.{ℕ, Bool, true, false, List, [], codes, bytes_eq, Ok, Err}
 use Rattle.grammar.specs.ExpressionTree.{ExpressionTree, FunctionTree}
-use Rattle.grammar.specs.Tree.{StatementTree, AssignTree, AppendTree, ValueTree, BreakTree, ContinueTree, IfTree, ForeachTree, Statements, NoStatement, MoreStatements}
+use Rattle.grammar.specs.Tree.{StatementTree, AssignTree, AppendTree, ValueTree, BreakTree, ContinueTree, IfTree, ForeachTree, Statements}
+use Rattle.grammar.specs.Tree.{NoStatement, MoreStatements}
 use Rattle.basics.specs.declared.faults.refusal.Refusal.TheVariants as refusals
 use Rattle.definition_files.specs.Details.{refuse_about}
 pub use Rattle.machine_file.specs.Answers.{IsSaid, MachineSaid}

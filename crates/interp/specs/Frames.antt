@@ -1,5 +1,6 @@
 -- What is left to do of statements that have begun, frame by frame.
-use Rattle.std.specs.Prelude.{◌≡◌, Bool, ℕ, zero, suc, ◌+◌, ◌≤◌, List, [], ◌∷◌, ◌++◌, drop, length, map, option_map, Option, Some, None, Result}
+use Rattle.std.specs.Prelude.{◌≡◌, Bool, ℕ, zero, suc, ◌+◌, ◌≤◌, List, [], ◌∷◌, ◌++◌, drop, length, map, option_map, Option, Some, None}
+use Rattle.std.specs.Prelude.{Result}
 use Rattle.std.specs.Prelude.{Ok, Err, string_bytes, refl}
 use Rattle.code.specs.Draft.{IsFront}
 use Rattle.code.specs.Statements.{branch_at, name_at, statement_at}

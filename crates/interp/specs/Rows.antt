@@ -2,9 +2,10 @@
 use Rattle.std.specs.Prelude.{[], ◌∷◌}
 use Rattle.arguments.specs.declared.row.Kind.TheVariants.{Any, Boolean, Integer, Text}
 use Rattle.arguments.specs.Row.{RowData}
+use Rattle.arguments.specs.Rows.{any_values, some_texts, values}
 use Rattle.interp.specs.ProjectFunctions.{project_function_row}
 use Rattle.project_calls.specs.Rows.{project_row}
-use Rattle.language_calls.specs.Rows.{any_values, some_texts, subdir_row, values}
+use Rattle.language_calls.specs.Rows.{subdir_row}
 use Rattle.language_names.specs.declared.functions.Function.{Function}
 use Rattle.language_names.specs.declared.functions.Function.TheVariants as functions
 

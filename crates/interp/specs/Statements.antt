@@ -1,7 +1,8 @@
 -- What statements do: one paragraph for each form of node.
 use Rattle.std.specs.Prelude.{ℕ, Bool, true, false, List, [], ◌∷◌, length, nat_le, Result, Ok, Err}
 use Rattle.grammar.specs.ExpressionTree.{ExpressionTree, FunctionTree}
-use Rattle.grammar.specs.Tree.{StatementTree, AssignTree, AppendTree, ValueTree, BreakTree, ContinueTree, IfTree, ForeachTree, Statements, NoStatement, MoreStatements, Branches, NoBranch, MoreBranches}
+use Rattle.grammar.specs.Tree.{StatementTree, AssignTree, AppendTree, ValueTree, BreakTree, ContinueTree, IfTree, ForeachTree, Statements}
+use Rattle.grammar.specs.Tree.{NoStatement, MoreStatements, Branches, NoBranch, MoreBranches}
 use Rattle.data.specs.Data.{boolean_in, is_disabler}
 use Rattle.basics.specs.declared.faults.refusal.Refusal.{Refusal}
 use Rattle.basics.specs.declared.faults.refusal.Refusal.TheVariants as refusals

@@ -1,9 +1,8 @@
 //! Calls that are statements.
 ghost use Rattle.std.specs.Prelude.{◌≡◌, ◌≤◌, ℕ, IfOk, length, map};
-ghost use Rattle.arguments.specs.Arguments.{arguments_data};
 ghost use Rattle.code.specs.Nodes.{argument_at};
 ghost use Rattle.grammar.specs.ExpressionTree.{arguments as argument_trees};
-ghost use Rattle.world.specs.Gives.{failures_after};
+ghost use Rattle.world.specs.Prelude.{arguments_data, failures_after};
 ghost use Rattle.interp.specs.Acting.{acted, leaving, performed, way_view};
 ghost use Rattle.interp.specs.Entering.{action_of, entered_by, entering, is_wanted};
 ghost use Rattle.interp.specs.declared.acting.Action.TheVariants.{Call};

@@ -1,9 +1,7 @@
 //! Calls: of functions, and of methods.
 ghost use Rattle.std.specs.Prelude.{◌≡◌, ℕ, false, option_map};
-ghost use Rattle.arguments.specs.Arguments.{arguments_data};
-ghost use Rattle.data.specs.View.{data_of};
-ghost use Rattle.world.specs.Gives.{failures_after};
 ghost use Rattle.expressions.specs.Contexts.{Answers, Fails, HasRoom, Same};
+ghost use Rattle.world.specs.Prelude.{arguments_data, data_of, failures_after};
 ghost use Rattle.interp.specs.Expressions.{called, called_by, method_at, method_called, object_method_at, object_method_called};
 
 use crate::evaluator::Evaluator;

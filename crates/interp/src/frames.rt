@@ -1,8 +1,8 @@
 //! What is still to be done, on a stack of frames.
 ghost use Rattle.std.specs.Prelude.{◌≤◌, IsTrue, length, nat_lt};
 ghost use Rattle.code.specs.Statements.{second_within};
-ghost use Rattle.data.specs.View.{data_of};
 ghost use Rattle.expressions.specs.Rounds.{rounds_in};
+ghost use Rattle.world.specs.Prelude.{data_of};
 
 use crate::block::Block;
 use code::Code;

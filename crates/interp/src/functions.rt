@@ -1,10 +1,7 @@
 //! A function on its arguments.
 ghost use Rattle.std.specs.Prelude.{◌≡◌, ◌&&◌, option_map};
-ghost use Rattle.data.specs.View.{data_of};
-ghost use Rattle.arguments.specs.Arguments.{arguments_data};
 ghost use Rattle.arguments.specs.RowView.{row_data};
-ghost use Rattle.world.specs.Answering.{Carries, HasRoom};
-ghost use Rattle.world.specs.Caller.{state_of};
+ghost use Rattle.world.specs.Prelude.{Does, MayFail, arguments_data, data_of};
 ghost use Rattle.world.specs.Fit.{fit};
 ghost use Rattle.interp.specs.Functions.{call, does, has_unwanted_disabler, row_for, without_disabler};
 
@@ -50,9 +47,7 @@ fn refuse_disabler<T: Tree, O: Outputs>(
     function: Function,
     arguments: &Arguments,
 ) -> Result<(), Stop>
-    ensures { Carries (λ u. u) (without_disabler function (arguments_data arguments.now))
-        (state_of T.seen O.seen caller.now)
-        result (state_of T.seen O.seen caller.now) }
+    ensures { Does T.seen O.seen (λ u. u) (without_disabler function (arguments_data arguments.now)) caller.now result caller.now }
 {
     let unwanted = has_unwanted_disabler(function, arguments);
     caller.need(
@@ -68,9 +63,8 @@ fn fit<T: Tree, O: Outputs>(
     function: Function,
     arguments: &Arguments,
 ) -> Result<(), Stop>
-    ensures { Carries (λ u. u) (fit (row_for function (arguments_data arguments.now)) (arguments_data arguments.now))
-        (state_of T.seen O.seen caller.now)
-        result (state_of T.seen O.seen caller.now) }
+    ensures { Does T.seen O.seen (λ u. u) (fit (row_for function (arguments_data arguments.now)) (arguments_data arguments.now))
+        caller.now result caller.now }
 {
     caller.fit(&row_for(function, arguments), arguments)
 }
@@ -81,9 +75,8 @@ fn act<T: Tree, O: Outputs>(
     function: Function,
     arguments: &Arguments,
 ) -> Result<Option<Value>, Stop>
-    requires { HasRoom (state_of T.seen O.seen caller.old) }
-    ensures { Carries (option_map data_of) (does function (arguments_data arguments.now)) (state_of T.seen O.seen caller.old) result
-        (state_of T.seen O.seen caller.new) }
+    requires { MayFail T.seen O.seen caller.old }
+    ensures { Does T.seen O.seen (option_map data_of) (does function (arguments_data arguments.now)) caller.old result caller.new }
 {
     match function {
         Function::Assert => assert(caller, arguments),
@@ -112,9 +105,8 @@ pub fn call<T: Tree, O: Outputs>(
     function: Function,
     arguments: &Arguments,
 ) -> Result<Option<Value>, Stop>
-    requires { HasRoom (state_of T.seen O.seen caller.old) }
-    ensures { Carries (option_map data_of) (call function (arguments_data arguments.now)) (state_of T.seen O.seen caller.old) result
-        (state_of T.seen O.seen caller.new) }
+    requires { MayFail T.seen O.seen caller.old }
+    ensures { Does T.seen O.seen (option_map data_of) (call function (arguments_data arguments.now)) caller.old result caller.new }
 {
     fit(caller, function, arguments)?;
     refuse_disabler(caller, function, arguments)?;

@@ -1,8 +1,7 @@
 //! Calls inside of expressions, which have to give a value.
 ghost use Rattle.std.specs.Prelude.{Bool};
-ghost use Rattle.arguments.specs.Arguments.{arguments_data};
 ghost use Rattle.arguments.specs.Disablers.{gives_disabler};
-ghost use Rattle.data.specs.View.{data_of};
+ghost use Rattle.world.specs.Prelude.{arguments_data, data_of};
 ghost use Rattle.world.specs.Plan.{next};
 ghost use Rattle.interp.specs.Bounds.{bounds};
 ghost use Rattle.interp.specs.Expressions.{called, called_inside, entered_inside};

@@ -1,5 +1,5 @@
 //! What holds of every evaluation.
-ghost use Rattle.data.specs.View.{data_of};
+ghost use Rattle.world.specs.Prelude.{data_of};
 ghost use Rattle.interp.specs.Laws.{ClosesWhatItMakes, DependsOnLooked, MachineFilesSay, NotesWhatItLooksAt, StepsWithinCost};
 ghost use Rattle.expressions.specs.Rounds.{HasFewRounds};
 

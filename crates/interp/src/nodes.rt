@@ -1,9 +1,10 @@
 //! Expressions: one function for each form of node.
-ghost use Rattle.std.specs.Prelude.{◌≡◌, ◌<◌, ◌≤◌, ◌+◌, ℕ, suc, max, Some, true, length, map, option_map};
-ghost use Rattle.grammar.specs.ExpressionTree.{ListTree, DictionaryTree, FunctionTree, ChainTree, expressions, entries as entry_trees, arguments as argument_trees, links as link_trees, operands as operand_trees};
+ghost use Rattle.std.specs.Prelude.{◌≡◌, ◌<◌, ◌≤◌, suc, max, Some, true, length, map, option_map};
+ghost use Rattle.grammar.specs.ExpressionTree.{ListTree, DictionaryTree, ChainTree, expressions, entries as entry_trees};
+ghost use Rattle.grammar.specs.ExpressionTree.{arguments as argument_trees, links as link_trees, operands as operand_trees};
 ghost use Rattle.code.specs.Nodes.{tree_at, entry_at, argument_at, operand_at, link_at};
-ghost use Rattle.data.specs.View.{data_of};
-ghost use Rattle.arguments.specs.Arguments.{arguments_data, no_arguments};
+ghost use Rattle.arguments.specs.Arguments.{no_arguments};
+ghost use Rattle.world.specs.Prelude.{arguments_data, data_of};
 ghost use Rattle.world.specs.Plan.{next, ruled};
 ghost use Rattle.interp.specs.Expressions.{value_of, arguments_of, link_of, links_of};
 ghost use Rattle.interp.specs.Parts.{above, above_number, above_entry, above_argument, above_operand, above_link, has_parts_at, is_rare_at};

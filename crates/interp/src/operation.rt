@@ -1,9 +1,8 @@
 //! The operators of a chain.
 ghost use Rattle.std.specs.Prelude.{◌≡◌, ℕ};
-ghost use Rattle.data.specs.View.{data_of};
 ghost use Rattle.operators.specs.Logic.{left_answer};
 ghost use Rattle.operators.specs.Operations.{binary_answer};
-ghost use Rattle.world.specs.Gives.{failures_after};
+ghost use Rattle.world.specs.Prelude.{data_of, failures_after};
 ghost use Rattle.world.specs.Plan.{answered};
 ghost use Rattle.interp.specs.Operations.{left_view};
 

@@ -1,10 +1,7 @@
 //! The functions that say something of the project.
 ghost use Rattle.std.specs.Prelude.{◌≡◌, option_map};
-ghost use Rattle.data.specs.View.{data_of};
-ghost use Rattle.arguments.specs.Arguments.{arguments_data};
 ghost use Rattle.arguments.specs.RowView.{row_data};
-ghost use Rattle.world.specs.Answering.{Carries, HasRoom};
-ghost use Rattle.world.specs.Caller.{state_of};
+ghost use Rattle.world.specs.Prelude.{Does, MayFail, arguments_data, data_of};
 ghost use Rattle.interp.specs.ProjectFunctions.{project_function, project_function_row};
 
 use arguments::{Arguments, Row};
@@ -60,9 +57,9 @@ pub fn project_function<T: Tree, O: Outputs>(
     function: ProjectFunction,
     arguments: &Arguments,
 ) -> Result<Option<Value>, Stop>
-    requires { HasRoom (state_of T.seen O.seen caller.old) }
-    ensures { Carries (option_map data_of) (project_function function (arguments_data arguments.now)) (state_of T.seen O.seen caller.old)
-        result (state_of T.seen O.seen caller.new) }
+    requires { MayFail T.seen O.seen caller.old }
+    ensures { Does T.seen O.seen (option_map data_of) (project_function function (arguments_data arguments.now))
+        caller.old result caller.new }
 {
     match function {
         ProjectFunction::AddProjectArguments => add_project_arguments(caller, arguments),

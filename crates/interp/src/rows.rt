@@ -4,8 +4,8 @@ ghost use Rattle.arguments.specs.RowView.{row_data};
 ghost use Rattle.interp.specs.Rows.{row_of};
 
 use crate::project_functions::project_function_row;
-use arguments::{Kind, Row};
-use language_calls::{any_values, some_texts, subdir_row, values};
+use arguments::{Kind, Row, any_values, some_texts, values};
+use language_calls::subdir_row;
 use language_names::Function;
 use project_calls::project_row;
 

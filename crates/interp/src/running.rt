@@ -1,6 +1,6 @@
 //! The statements of a file and of those that it enters, on one stack of frames.
 ghost use Rattle.std.specs.Prelude.{Bool, ◌≡◌, ℕ, Ok, length};
-ghost use Rattle.world.specs.Gives.{failures_after};
+ghost use Rattle.world.specs.Prelude.{failures_after};
 ghost use Rattle.interp.specs.Bounds.{bounds};
 ghost use Rattle.expressions.specs.Codes.{file_by};
 ghost use Rattle.interp.specs.Blocks.{BeginsDeep};

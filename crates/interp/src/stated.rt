@@ -3,7 +3,7 @@ ghost use Rattle.std.specs.Prelude.{Bool, ◌≡◌, ◌<◌, ◌≤◌, ℕ, Is
 ghost use Rattle.code.specs.Nodes.{tree_at};
 ghost use Rattle.code.specs.Statements.{branch_at, name_at, second_within, statement_at};
 ghost use Rattle.grammar.specs.Tree.{branches};
-ghost use Rattle.world.specs.Plan.{give, next, ruled};
+ghost use Rattle.world.specs.Plan.{next, ruled};
 ghost use Rattle.interp.specs.Bounds.{bounds};
 ghost use Rattle.expressions.specs.Codes.{block_by, expressions_by, statements_by};
 ghost use Rattle.interp.specs.Blocks.{IsDeep, branch_or, node_at, statements_of};
@@ -31,8 +31,8 @@ use std::sync::ledger::Ledger;
 use world::Stop;
 
 impl<'a, T: Tree, O: Outputs, L: Ledger> Evaluator<'a, T, O, L> {
-    ghost use Rattle.expressions.specs.Contexts.{Answers, Fails, HasRoom, Same};
-    ghost use Rattle.interp.specs.Evaluates.{Evaluates, FailsInside};
+    ghost use Rattle.expressions.specs.Contexts.{Fails, HasRoom, Same};
+    ghost use Rattle.interp.specs.Evaluates.{FailsInside};
 
     /// Begins the statement with this number, whose end is on the stack, and puts its parts on it; so many more folders may stand inside
     /// one another.

@@ -1,11 +1,10 @@
 //! Rounds of a loop that are done where they stand.
-ghost use Rattle.std.specs.Prelude.{◌≤◌, IsTrue, drop, length, nat_lt};
+ghost use Rattle.std.specs.Prelude.{◌≤◌, IsTrue, length, nat_lt};
 ghost use Rattle.code.specs.Statements.{second_within};
-ghost use Rattle.data.specs.View.{data_of};
 ghost use Rattle.expressions.specs.Rounds.{round_data, rounds_in};
+ghost use Rattle.world.specs.Prelude.{data_of};
 ghost use Rattle.interp.specs.Blocks.{BeginsDeep, ToursDeep};
 ghost use Rattle.interp.specs.Frames.{Tours, Walks, round_by};
-ghost use Rattle.interp.specs.Statements.{rounds_of};
 
 use crate::evaluator::Evaluator;
 use crate::flow::Flow;

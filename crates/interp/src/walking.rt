@@ -1,9 +1,9 @@
 //! Statements that are done where they stand: nothing of them comes on the stack of frames.
-ghost use Rattle.std.specs.Prelude.{Bool, true, ◌≡◌, ◌<◌, ◌≤◌, ℕ, List, drop, length, map, option_map};
+ghost use Rattle.std.specs.Prelude.{true, ◌≡◌, ◌<◌, ◌≤◌, ℕ, List, drop, length, map, option_map};
 ghost use Rattle.std.specs.List.{list_all};
 ghost use Rattle.code.specs.Nodes.{tree_at};
 ghost use Rattle.code.specs.Statements.{branch_at, name_at, statement_at};
-ghost use Rattle.data.specs.View.{data_of};
+ghost use Rattle.world.specs.Prelude.{data_of};
 ghost use Rattle.world.specs.Plan.{give, next, ruled};
 ghost use Rattle.expressions.specs.Assignments.{appended, assigned, own};
 ghost use Rattle.expressions.specs.Codes.{block_by, expressions_by, statements_by};

@@ -3,7 +3,7 @@ use Rattle.std.proofs.Common.{◌≡◌, ℕ, ◌+◌, ◌<◌, ◌==◌, Bool, 
 use Rattle.std.specs.Prelude.{◌||◌, if◌then◌else◌}
 use Rattle.std.proofs.lemmas.Bool.Decides.{nat_tests}
 use Rattle.std.proofs.lemmas.List.{get_or-map, length-map, take_more}
-use Rattle.paths.specs.Below.{begins_with_slash, ends_with_slash, path_below}
+use Rattle.paths.specs.Below.{ends_with_slash, is_absolute, path_below}
 use Rattle.language_calls.specs.JoinPaths.{path_of}
 
 -- a path that is not empty, and a relative one below it
@@ -14,12 +14,12 @@ apart s t false true ends e b f = absurd cc
 apart s t false false true e b f = absurd cc
 apart s t false false false e b f = refl
 
-pub below_joined : (s t joined : List ℕ) → 0 < length s → begins_with_slash t ≡ false → ends_with_slash s ≡ false
+pub below_joined : (s t joined : List ℕ) → 0 < length s → is_absolute t ≡ false → ends_with_slash s ≡ false
     → joined ≡ s ++ 47 ∷ [] → joined ++ t ≡ path_below s t
 below_joined s t joined some relative bare is =
     let full : (length s == 0) ≡ false = grind (arith, nat_tests) in
     ap (λ j. j ++ t) is ∙ append_assoc s (47 ∷ []) t
-    ∙ sym (apart s t (length s == 0) (begins_with_slash t) (ends_with_slash s) full relative bare)
+    ∙ sym (apart s t (length s == 0) (is_absolute t) (ends_with_slash s) full relative bare)
 
 path_of-push : (path : List ℕ) (ts : List (List ℕ)) (t : List ℕ) → path_of path (ts ++ t ∷ []) ≡ path_below (path_of path ts) t
 path_of-push path [] t = refl

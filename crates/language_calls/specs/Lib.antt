@@ -1,7 +1,6 @@
 pub mod Disablers
 pub mod JoinPaths
 pub mod Messages
-pub mod Names
 pub mod Range
 pub mod Rows
 pub mod Saying

@@ -8,7 +8,7 @@ use Rattle.arguments.specs.Given.{argument, text_at}
 use Rattle.world.specs.World.{with_variable}
 use Rattle.world.specs.Deed.{Deed, give, refuse, read, change, ◌>>=◌, need}
 use Rattle.world.specs.Ruled.{obeyed}
-use Rattle.language_calls.specs.Names.{is_name, is_predefined, predefined}
+use Rattle.language_names.specs.Names.{is_name, is_predefined, predefined}
 
 -- a name that definition files may set
 abbrev pub is_settable : List ℕ → Bool

@@ -1,9 +1,6 @@
 //! `disabler` and `is_disabler`.
-ghost use Rattle.std.specs.Prelude.{◌≡◌, option_map};
-ghost use Rattle.data.specs.View.{data_of};
-ghost use Rattle.arguments.specs.Arguments.{arguments_data};
-ghost use Rattle.world.specs.Answering.{Carries};
-ghost use Rattle.world.specs.Caller.{state_of};
+ghost use Rattle.std.specs.Prelude.{option_map};
+ghost use Rattle.world.specs.Prelude.{Does, arguments_data, data_of};
 ghost use Rattle.language_calls.specs.Disablers.{give_disabler, tell_disabler};
 
 use arguments::Arguments;
@@ -13,7 +10,7 @@ use world::{Caller, Stop};
 
 /// `disabler()`
 pub fn disabler<T: Tree, O: Outputs>(caller: &Caller<'_, T, O>) -> Result<Option<Value>, Stop>
-    ensures { Carries (option_map data_of) give_disabler (state_of T.seen O.seen caller.now) result (state_of T.seen O.seen caller.now) }
+    ensures { Does T.seen O.seen (option_map data_of) give_disabler caller.now result caller.now }
 {
     Ok(Some(Value::of_object(caller.alloc, Object::Disabler)?))
 }
@@ -23,8 +20,7 @@ pub fn is_disabler<T: Tree, O: Outputs>(
     caller: &Caller<'_, T, O>,
     arguments: &Arguments,
 ) -> Result<Option<Value>, Stop>
-    ensures { Carries (option_map data_of) (tell_disabler (arguments_data arguments.now)) (state_of T.seen O.seen caller.now) result
-        (state_of T.seen O.seen caller.now) }
+    ensures { Does T.seen O.seen (option_map data_of) (tell_disabler (arguments_data arguments.now)) caller.now result caller.now }
 {
     let _ = caller.alloc;
     match arguments.argument(0) {

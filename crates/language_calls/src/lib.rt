@@ -1,5 +1,4 @@
-//! The functions of the page "Reference manual" that say nothing of the project, and the names that have a meaning of
-//! their own.
+//! The functions of the page "Reference manual" that say nothing of the project.
 //!
 //! What a function does is a deed of `specs/`, and its code carries it out on a [`world::Caller`].
 #![tactic(auto)]
@@ -7,7 +6,6 @@
 mod disablers;
 mod laws;
 mod messages;
-mod names;
 mod path_joining;
 mod ranges;
 mod rows;
@@ -17,9 +15,8 @@ mod variables;
 pub use disablers::{disabler, is_disabler};
 pub use laws::range_is_below;
 pub use messages::{assert, error, message, warning};
-pub use names::{is_left_out, is_name, is_predefined, predefined};
 pub use path_joining::join_paths;
 pub use ranges::range;
-pub use rows::{any_values, some_texts, subdir_row, values};
+pub use rows::subdir_row;
 pub use turning::{is_turned_off, makes_file};
 pub use variables::{get_variable, is_variable, set_variable, unset_variable};

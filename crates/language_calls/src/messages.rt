@@ -1,13 +1,10 @@
 //! `message`, `warning`, `error` and `assert`: what is told to the user.
 ghost use Rattle.std.specs.Prelude.{◌≡◌, ◌++◌, IfOk, OnOk, map, option_map, string_bytes, codes};
 ghost use Rattle.std.specs.List.{list_all};
-ghost use Rattle.data.specs.View.{data_of};
-ghost use Rattle.arguments.specs.Arguments.{arguments_data};
 ghost use Rattle.printing.specs.Parts.{piece_bytes};
 ghost use Rattle.printing.specs.Pieces.{whole};
 ghost use Rattle.printing.specs.Printed.{is_printable, shown};
-ghost use Rattle.world.specs.Answering.{Carries, HasRoom};
-ghost use Rattle.world.specs.Caller.{state_of};
+ghost use Rattle.world.specs.Prelude.{Does, MayFail, arguments_data, data_of};
 ghost use Rattle.world.specs.Deed.{say};
 ghost use Rattle.language_calls.specs.Messages.{assert, error, line_of, logged, message, need_printable, warning};
 ghost use Rattle.language_calls.specs.Saying.{behind_spaces, say_each};
@@ -33,8 +30,7 @@ fn need_printable<T: Tree, O: Outputs>(
     caller: &Caller<'_, T, O>,
     values: &[Value],
 ) -> Result<(), Stop>
-    ensures { Carries (λ u. u) (need_printable (map data_of values.now)) (state_of T.seen O.seen caller.now) result
-        (state_of T.seen O.seen caller.now) }
+    ensures { Does T.seen O.seen (λ u. u) (need_printable (map data_of values.now)) caller.now result caller.now }
 {
     caller.need(
         are_printable(values),
@@ -58,9 +54,8 @@ fn say_piece<T: Tree, O: Outputs>(
     caller: &mut Caller<'_, T, O>,
     piece: Piece<'_>,
 ) -> Result<(), Stop>
-    requires { HasRoom (state_of T.seen O.seen caller.old) }
-    ensures { Carries (λ u. u) (say (piece_bytes piece.entry)) (state_of T.seen O.seen caller.old) result
-        (state_of T.seen O.seen caller.new) }
+    requires { MayFail T.seen O.seen caller.old }
+    ensures { Does T.seen O.seen (λ u. u) (say (piece_bytes piece.entry)) caller.old result caller.new }
 {
     let mut buffer = Buffer::new();
     caller.say(text_of(piece, &mut buffer))
@@ -68,9 +63,8 @@ fn say_piece<T: Tree, O: Outputs>(
 
 // Logs what a value is printed as, piece by piece: the whole may be longer than a text can be.
 fn say_value<T: Tree, O: Outputs>(caller: &mut Caller<'_, T, O>, value: &Value) -> Result<(), Stop>
-    requires { HasRoom (state_of T.seen O.seen caller.old) }
-    ensures { Carries (λ u. u) (say (shown (data_of value.now))) (state_of T.seen O.seen caller.old) result
-        (state_of T.seen O.seen caller.new) }
+    requires { MayFail T.seen O.seen caller.old }
+    ensures { Does T.seen O.seen (λ u. u) (say (shown (data_of value.now))) caller.old result caller.new }
 {
     let mut printer = Printer::new(caller.alloc, value)?;
     while let Some(piece) = printer.next()? {
@@ -84,9 +78,8 @@ fn say_others<T: Tree, O: Outputs>(
     caller: &mut Caller<'_, T, O>,
     values: &[Value],
 ) -> Result<(), Stop>
-    requires { HasRoom (state_of T.seen O.seen caller.old) }
-    ensures { Carries (λ u. u) (say_each (behind_spaces (map data_of values.now))) (state_of T.seen O.seen caller.old) result
-        (state_of T.seen O.seen caller.new) }
+    requires { MayFail T.seen O.seen caller.old }
+    ensures { Does T.seen O.seen (λ u. u) (say_each (behind_spaces (map data_of values.now))) caller.old result caller.new }
 {
     for value in values {
         caller.say(" ")?;
@@ -100,9 +93,8 @@ fn say_values<T: Tree, O: Outputs>(
     caller: &mut Caller<'_, T, O>,
     values: &[Value],
 ) -> Result<(), Stop>
-    requires { HasRoom (state_of T.seen O.seen caller.old) }
-    ensures { Carries (λ u. u) (say (line_of (map data_of values.now))) (state_of T.seen O.seen caller.old) result
-        (state_of T.seen O.seen caller.new) }
+    requires { MayFail T.seen O.seen caller.old }
+    ensures { Does T.seen O.seen (λ u. u) (say (line_of (map data_of values.now))) caller.old result caller.new }
 {
     let Some((first, others)) = values.split_first() else {
         return Ok(());
@@ -117,9 +109,9 @@ fn say_line<T: Tree, O: Outputs>(
     start: &str,
     values: &[Value],
 ) -> Result<(), Stop>
-    requires { HasRoom (state_of T.seen O.seen caller.old) }
-    ensures { Carries (λ u. u) (say (start.now ++ (line_of (map data_of values.now) ++ codes "\n"))) (state_of T.seen O.seen caller.old)
-        result (state_of T.seen O.seen caller.new) }
+    requires { MayFail T.seen O.seen caller.old }
+    ensures { Does T.seen O.seen (λ u. u) (say (start.now ++ (line_of (map data_of values.now) ++ codes "\n")))
+        caller.old result caller.new }
 {
     caller.say(start)?;
     say_values(caller, values)?;
@@ -132,9 +124,8 @@ fn logged<T: Tree, O: Outputs>(
     start: &str,
     arguments: &Arguments,
 ) -> Result<Option<Value>, Stop>
-    requires { HasRoom (state_of T.seen O.seen caller.old) }
-    ensures { Carries (option_map data_of) (logged start.now (arguments_data arguments.now)) (state_of T.seen O.seen caller.old) result
-        (state_of T.seen O.seen caller.new) }
+    requires { MayFail T.seen O.seen caller.old }
+    ensures { Does T.seen O.seen (option_map data_of) (logged start.now (arguments_data arguments.now)) caller.old result caller.new }
 {
     need_printable(caller, &arguments.positional)?;
     say_line(caller, start, &arguments.positional)?;
@@ -190,9 +181,8 @@ pub fn message<T: Tree, O: Outputs>(
     caller: &mut Caller<'_, T, O>,
     arguments: &Arguments,
 ) -> Result<Option<Value>, Stop>
-    requires { HasRoom (state_of T.seen O.seen caller.old) }
-    ensures { Carries (option_map data_of) (message (arguments_data arguments.now)) (state_of T.seen O.seen caller.old) result
-        (state_of T.seen O.seen caller.new) }
+    requires { MayFail T.seen O.seen caller.old }
+    ensures { Does T.seen O.seen (option_map data_of) (message (arguments_data arguments.now)) caller.old result caller.new }
 {
     logged(caller, "Message: ", arguments)
 }
@@ -202,9 +192,8 @@ pub fn warning<T: Tree, O: Outputs>(
     caller: &mut Caller<'_, T, O>,
     arguments: &Arguments,
 ) -> Result<Option<Value>, Stop>
-    requires { HasRoom (state_of T.seen O.seen caller.old) }
-    ensures { Carries (option_map data_of) (warning (arguments_data arguments.now)) (state_of T.seen O.seen caller.old) result
-        (state_of T.seen O.seen caller.new) }
+    requires { MayFail T.seen O.seen caller.old }
+    ensures { Does T.seen O.seen (option_map data_of) (warning (arguments_data arguments.now)) caller.old result caller.new }
 {
     logged(caller, "WARNING: ", arguments)
 }
@@ -214,8 +203,7 @@ pub fn error<T: Tree, O: Outputs>(
     caller: &Caller<'_, T, O>,
     arguments: &Arguments,
 ) -> Result<Option<Value>, Stop>
-    ensures { Carries (option_map data_of) (error (arguments_data arguments.now)) (state_of T.seen O.seen caller.now) result
-        (state_of T.seen O.seen caller.now) }
+    ensures { Does T.seen O.seen (option_map data_of) (error (arguments_data arguments.now)) caller.now result caller.now }
 {
     need_printable(caller, &arguments.positional)?;
     let text = line_of(caller.alloc, &arguments.positional)?;
@@ -227,8 +215,7 @@ pub fn assert<T: Tree, O: Outputs>(
     caller: &Caller<'_, T, O>,
     arguments: &Arguments,
 ) -> Result<Option<Value>, Stop>
-    ensures { Carries (option_map data_of) (assert (arguments_data arguments.now)) (state_of T.seen O.seen caller.now) result
-        (state_of T.seen O.seen caller.now) }
+    ensures { Does T.seen O.seen (option_map data_of) (assert (arguments_data arguments.now)) caller.now result caller.now }
 {
     let is_so = arguments.flag_at(0, true);
     caller.need(is_so, Refusal::Message, arguments.text_or(1, "assert"))?;

@@ -1,19 +1,14 @@
 //! `join_paths`: one path of many.
 ghost use Rattle.std.specs.Prelude.{◌≡◌, ◌++◌, ◌<◌, IfOk, [], ℕ, List, false, length, map, option_map, string_bytes};
-ghost use Rattle.arguments.specs.Arguments.{arguments_data};
 ghost use Rattle.data.specs.Data.{text as text_data};
-ghost use Rattle.data.specs.Limits.{within, within_bytes};
-ghost use Rattle.data.specs.Tables.{Answers, string_in};
-ghost use Rattle.data.specs.View.{data_of};
-ghost use Rattle.paths.specs.Below.{begins_with_slash, path_below};
-ghost use Rattle.world.specs.Answering.{Carries};
-ghost use Rattle.world.specs.Caller.{state_of};
+ghost use Rattle.paths.specs.Below.{is_absolute, path_below};
+ghost use Rattle.world.specs.Prelude.{Answers, Does, arguments_data, data_of, string_in, within, within_bytes};
 ghost use Rattle.language_calls.specs.JoinPaths.{join_paths, path_of};
 
 use arguments::Arguments;
 use basics::limits::TEXT_BYTES;
 use data::{Refusal, Value};
-use paths::{begins_with_slash, ends_with_slash};
+use paths::{ends_with_slash, is_absolute};
 use ports::{Outputs, Tree};
 use std::alloc::{AllocError, Global};
 use world::{Caller, Stop};
@@ -32,7 +27,7 @@ fn lengthened(mut path: String, piece: &str) -> Result<Result<String, Refusal>, 
 // A path that is not empty and a relative one below it.
 fn below(mut path: String, text: &str) -> Result<Result<String, Refusal>, AllocError>
     requires some { 0 < length (string_bytes path) }
-    requires relative { begins_with_slash text.now ≡ false }
+    requires relative { is_absolute text.now ≡ false }
     ensures { IfOk result (λ r. string_in r ≡ within_bytes (path_below (string_bytes path) text.now)) }
 {
     if ends_with_slash(path.as_str()) {
@@ -51,7 +46,7 @@ fn joined(
     ensures { (before : List ℕ) → string_in path ≡ within_bytes before
         → IfOk result (λ r. string_in r ≡ within_bytes (path_below before text.now)) }
 {
-    if begins_with_slash(text) {
+    if is_absolute(text) {
         return lengthened(String::new(alloc), text);
     }
     match path {
@@ -92,8 +87,7 @@ pub fn join_paths<T: Tree, O: Outputs>(
     caller: &Caller<'_, T, O>,
     arguments: &Arguments,
 ) -> Result<Option<Value>, Stop>
-    ensures { Carries (option_map data_of) (join_paths (arguments_data arguments.now)) (state_of T.seen O.seen caller.now) result
-        (state_of T.seen O.seen caller.now) }
+    ensures { Does T.seen O.seen (option_map data_of) (join_paths (arguments_data arguments.now)) caller.now result caller.now }
 {
     let texts = arguments.all_texts(caller.alloc)?;
     let value = caller.answered(path_value(caller.alloc, &texts)?)?;

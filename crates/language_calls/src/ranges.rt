@@ -1,11 +1,7 @@
 //! `range`: a list of integers.
 ghost use Rattle.std.specs.Prelude.{◌≡◌, ◌<◌, ◌≤◌, ◌-◌, ◌^◌, IfOk, option_map, pos};
-ghost use Rattle.arguments.specs.Arguments.{arguments_data};
 ghost use Rattle.data.specs.Data.{integer as integer_data};
-ghost use Rattle.data.specs.Tables.{Answers};
-ghost use Rattle.data.specs.View.{data_of, items_of};
-ghost use Rattle.world.specs.Answering.{Carries};
-ghost use Rattle.world.specs.Caller.{state_of};
+ghost use Rattle.world.specs.Prelude.{Answers, Does, arguments_data, data_of, items_of};
 ghost use Rattle.language_calls.specs.Range.{how_many, integer_at, integers_from, range, range_answer, range_of, stepped};
 
 use arguments::{Arguments, Rule};
@@ -124,8 +120,7 @@ pub fn range<T: Tree, O: Outputs>(
     caller: &Caller<'_, T, O>,
     arguments: &Arguments,
 ) -> Result<Option<Value>, Stop>
-    ensures { Carries (option_map data_of) (range (arguments_data arguments.now)) (state_of T.seen O.seen caller.now) result
-        (state_of T.seen O.seen caller.now) }
+    ensures { Does T.seen O.seen (option_map data_of) (range (arguments_data arguments.now)) caller.now result caller.now }
 {
     let answer = range_of(caller.alloc, arguments)?;
     let value = caller.answered_by(Rule::GoesUp, "range", answer)?;

@@ -1,6 +1,6 @@
 //! What a disabler among the arguments does to a call.
-ghost use Rattle.std.specs.Prelude.{◌≡◌, not, ◌&&◌};
-ghost use Rattle.arguments.specs.Arguments.{arguments_data};
+ghost use Rattle.std.specs.Prelude.{◌≡◌, ◌&&◌};
+ghost use Rattle.world.specs.Prelude.{arguments_data};
 ghost use Rattle.language_calls.specs.Turning.{is_turned_off, makes_file, takes_disablers};
 
 use arguments::{Arguments, gives_disabler};

@@ -1,17 +1,14 @@
 //! The functions that name a variable by a text.
 ghost use Rattle.std.specs.Prelude.{◌≡◌, ◌&&◌, ◌||◌, is_some, option_map};
-ghost use Rattle.data.specs.View.{data_of};
-ghost use Rattle.arguments.specs.Arguments.{arguments_data};
-ghost use Rattle.world.specs.Answering.{Carries};
-ghost use Rattle.world.specs.Caller.{state_of};
-ghost use Rattle.language_calls.specs.Names.{is_predefined};
+ghost use Rattle.language_names.specs.Names.{is_predefined};
+ghost use Rattle.world.specs.Prelude.{Does, arguments_data, data_of};
 ghost use Rattle.language_calls.specs.Variables.{get_variable, is_settable, is_variable, set_or, set_to, set_variable, unset_variable};
 ghost use Rattle.language_calls.specs.Variables.{thing, value_or, variable_or};
 
-use crate::names::{is_name, is_predefined, predefined};
 use arguments::{Arguments, Rule};
 use basics::faults::Refusal;
 use data::Value;
+use language_names::{is_name, is_predefined, predefined};
 use ports::{Outputs, Tree};
 use world::{Caller, Stop};
 
@@ -42,8 +39,7 @@ fn set_to<T: Tree, O: Outputs>(
     name: &str,
     value: Option<&Value>,
 ) -> Result<(), Stop>
-    ensures { Carries (λ u. u) (set_to name.now (option_map (λ v. data_of v.now) value.entry)) (state_of T.seen O.seen caller.old) result
-        (state_of T.seen O.seen caller.new) }
+    ensures { Does T.seen O.seen (λ u. u) (set_to name.now (option_map (λ v. data_of v.now) value.entry)) caller.old result caller.new }
 {
     match value {
         Some(value) => {
@@ -60,8 +56,7 @@ pub fn set_variable<T: Tree, O: Outputs>(
     caller: &mut Caller<'_, T, O>,
     arguments: &Arguments,
 ) -> Result<Option<Value>, Stop>
-    ensures { Carries (option_map data_of) (set_variable (arguments_data arguments.now)) (state_of T.seen O.seen caller.old) result
-        (state_of T.seen O.seen caller.new) }
+    ensures { Does T.seen O.seen (option_map data_of) (set_variable (arguments_data arguments.now)) caller.old result caller.new }
 {
     let name = arguments.text_at(0);
     caller.obey(is_settable(name), Rule::IsSettable, name)?;
@@ -76,8 +71,8 @@ fn value_or<T: Tree, O: Outputs>(
     value: Option<Value>,
     fallback: Option<&Value>,
 ) -> Result<Option<Value>, Stop>
-    ensures { Carries (option_map data_of) (value_or name.now (option_map data_of value) (option_map (λ v. data_of v.now) fallback.entry))
-        (state_of T.seen O.seen caller.now) result (state_of T.seen O.seen caller.now) }
+    ensures { Does T.seen O.seen (option_map data_of)
+        (value_or name.now (option_map data_of value) (option_map (λ v. data_of v.now) fallback.entry)) caller.now result caller.now }
 {
     match value {
         Some(value) => Ok(Some(value)),
@@ -94,8 +89,8 @@ fn set_or<T: Tree, O: Outputs>(
     name: &str,
     fallback: Option<&Value>,
 ) -> Result<Option<Value>, Stop>
-    ensures { Carries (option_map data_of) (set_or name.now (option_map (λ v. data_of v.now) fallback.entry))
-        (state_of T.seen O.seen caller.now) result (state_of T.seen O.seen caller.now) }
+    ensures { Does T.seen O.seen (option_map data_of) (set_or name.now (option_map (λ v. data_of v.now) fallback.entry))
+        caller.now result caller.now }
 {
     let value = caller.store.find(name)?;
     value_or(caller, name, value, fallback)
@@ -103,8 +98,7 @@ fn set_or<T: Tree, O: Outputs>(
 
 // What a name stands for that every run has.
 fn thing<T: Tree, O: Outputs>(caller: &Caller<'_, T, O>, name: &str) -> Result<Option<Value>, Stop>
-    ensures { Carries (option_map data_of) (thing name.now) (state_of T.seen O.seen caller.now) result
-        (state_of T.seen O.seen caller.now) }
+    ensures { Does T.seen O.seen (option_map data_of) (thing name.now) caller.now result caller.now }
 {
     let value = predefined(caller.alloc, name)?;
     Ok(Some(value))
@@ -116,8 +110,8 @@ fn variable_or<T: Tree, O: Outputs>(
     name: &str,
     fallback: Option<&Value>,
 ) -> Result<Option<Value>, Stop>
-    ensures { Carries (option_map data_of) (variable_or (is_predefined name.now) name.now (option_map (λ v. data_of v.now) fallback.entry))
-        (state_of T.seen O.seen caller.now) result (state_of T.seen O.seen caller.now) }
+    ensures { Does T.seen O.seen (option_map data_of)
+        (variable_or (is_predefined name.now) name.now (option_map (λ v. data_of v.now) fallback.entry)) caller.now result caller.now }
 {
     if is_predefined(name) {
         thing(caller, name)
@@ -131,8 +125,7 @@ pub fn get_variable<T: Tree, O: Outputs>(
     caller: &Caller<'_, T, O>,
     arguments: &Arguments,
 ) -> Result<Option<Value>, Stop>
-    ensures { Carries (option_map data_of) (get_variable (arguments_data arguments.now)) (state_of T.seen O.seen caller.now) result
-        (state_of T.seen O.seen caller.now) }
+    ensures { Does T.seen O.seen (option_map data_of) (get_variable (arguments_data arguments.now)) caller.now result caller.now }
 {
     let name = arguments.text_at(0);
     caller.obey(is_name(name), Rule::IsVariableName, name)?;
@@ -144,8 +137,7 @@ pub fn is_variable<T: Tree, O: Outputs>(
     caller: &Caller<'_, T, O>,
     arguments: &Arguments,
 ) -> Result<Option<Value>, Stop>
-    ensures { Carries (option_map data_of) (is_variable (arguments_data arguments.now)) (state_of T.seen O.seen caller.now) result
-        (state_of T.seen O.seen caller.now) }
+    ensures { Does T.seen O.seen (option_map data_of) (is_variable (arguments_data arguments.now)) caller.now result caller.now }
 {
     let name = arguments.text_at(0);
     caller.obey(is_name(name), Rule::IsVariableName, name)?;
@@ -158,8 +150,7 @@ pub fn unset_variable<T: Tree, O: Outputs>(
     caller: &mut Caller<'_, T, O>,
     arguments: &Arguments,
 ) -> Result<Option<Value>, Stop>
-    ensures { Carries (option_map data_of) (unset_variable (arguments_data arguments.now)) (state_of T.seen O.seen caller.old) result
-        (state_of T.seen O.seen caller.new) }
+    ensures { Does T.seen O.seen (option_map data_of) (unset_variable (arguments_data arguments.now)) caller.old result caller.new }
 {
     let name = arguments.text_at(0);
     caller.obey(is_settable(name), Rule::IsSettable, name)?;

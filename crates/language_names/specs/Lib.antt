@@ -1,4 +1,5 @@
 pub mod Functions
 pub mod MethodNames
+pub mod Names
 pub mod ObjectMethods
 pub mod ValueMethods

@@ -1,5 +1,6 @@
 -- Cutting a source into tokens, as a function.
-use Rattle.std.specs.Prelude.{ℕ, zero, suc, ◌+◌, Bool, true, false, not, ◌&&◌, ◌||◌, ◌==◌, nat_lt, if◌then◌else◌, List, [], ◌∷◌, length, take, drop, Option, Some, None, Result, Ok, Err}
+use Rattle.std.specs.Prelude.{ℕ, zero, suc, ◌+◌, Bool, true, false, not, ◌&&◌, ◌||◌, ◌==◌, nat_lt, if◌then◌else◌, List, [], ◌∷◌, length}
+use Rattle.std.specs.Prelude.{take, drop, Option, Some, None, Result, Ok, Err}
 use Rattle.lexer.specs.declared.token.Kind.{Kind}
 use Rattle.lexer.specs.declared.token.Kind.TheVariants as Kinds
 use Rattle.lexer.specs.declared.gap.GapPart.{GapPart}
@@ -7,7 +8,8 @@ use Rattle.lexer.specs.declared.gap.GapPart.TheVariants as parts
 use Rattle.lexer.specs.declared.fault.SyntaxFault.{SyntaxFault}
 use Rattle.lexer.specs.declared.fault.FaultKind.TheVariants as Faults
 use Rattle.std.specs.Char.{is_ascii_digit}
-use Rattle.lexer.specs.Bytes.{quote, hash, backslash, newline, equals, is_letter, continues_word, is_blank, newlines, opens_raw, opens_format}
+use Rattle.lexer.specs.Bytes.{quote, hash, backslash, newline, equals, is_letter, continues_word, is_blank, newlines, opens_raw}
+use Rattle.lexer.specs.Bytes.{opens_format}
 use Rattle.lexer.specs.Escapes.{is_bad_escape}
 use Rattle.lexer.specs.Kinds.{word_kind, format_kind, single_kind, with_equals_kind, depth_after}
 use Rattle.lexer.specs.Lexeme.{Lexeme}

@@ -1,9 +1,11 @@
 -- The tokens of a source.
-use Rattle.std.specs.Prelude.{◌≡◌, ◌≢◌, ℕ, ◌+◌, ◌≤◌, if◌then◌else◌, Bool, true, false, ◌==◌, List, [], ◌∷◌, ◌++◌, length, drop, EachIndex, Some}
+use Rattle.std.specs.Prelude.{◌≡◌, ◌≢◌, ℕ, ◌+◌, ◌≤◌, if◌then◌else◌, Bool, true, false, ◌==◌, List, [], ◌∷◌, ◌++◌, length, drop, EachIndex}
+use Rattle.std.specs.Prelude.{Some}
 use Rattle.std.specs.List.{list_all}
 use Rattle.lexer.specs.declared.token.Kind.{Kind}
 use Rattle.lexer.specs.declared.token.Kind.TheVariants as Kinds
-use Rattle.lexer.specs.Bytes.{quote, hash, backslash, newline, lower_f, is_letter, continues_word, ends_word, is_plain, is_blank, in_line, is_line_rest, newlines, three_quotes, opens_raw, opens_format}
+use Rattle.lexer.specs.Bytes.{quote, hash, backslash, newline, lower_f, is_letter, continues_word, ends_word, is_plain, is_blank, in_line}
+use Rattle.lexer.specs.Bytes.{is_line_rest, newlines, three_quotes, opens_raw, opens_format}
 use Rattle.lexer.specs.Escapes.{NamesCharacters}
 use Rattle.lexer.specs.Kinds.{word_kind, format_kind, symbol_kind, depth_after}
 use Rattle.lexer.specs.Lexeme.{Lexeme}

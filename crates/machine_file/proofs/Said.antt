@@ -13,8 +13,8 @@ use Rattle.machine_file.specs.declared.state.OpenSection.{OpenSection}
 use Rattle.machine_file.specs.declared.state.Reading.{Reading}
 use Rattle.machine_file.specs.Files as file
 use Rattle.machine_file.specs.Fault.{MachineFaultData, bad_line}
-use Rattle.machine_file.specs.Files.{Said, has_name, default_entries, closed, sections_said, with_section, with_pair, in_section, after}
-use Rattle.machine_file.specs.Files.{go_on, said_from, machine_of, nothing_said, with_entries}
+use Rattle.machine_file.specs.Files.{Said, has_name, default_entries, closed, sections_said, after}
+use Rattle.machine_file.specs.Files.{go_on, said_from, machine_of, nothing_said}
 use Rattle.machine_file.specs.declared.text.Blanks.TheVariants as blanks
 use Rattle.machine_file.specs.Texts.{trimmed}
 use Rattle.machine_file.specs.View.{entries_in, sections_in, open_in, said_in}

@@ -1,7 +1,7 @@
 //! The methods of booleans: the type `bool` of the page "Reference manual".
 
-ghost use Rattle.std.specs.Prelude.{◌≡◌, map};
-ghost use Rattle.data.specs.View.{data_of};
+ghost use Rattle.std.specs.Prelude.{map};
+ghost use Rattle.data.specs.Prelude.{data_of};
 ghost use Rattle.methods.specs.Steps.{Gives};
 ghost use Rattle.methods.specs.Booleans.{to_int, to_string, answer};
 

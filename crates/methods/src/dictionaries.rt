@@ -2,7 +2,7 @@
 
 ghost use Rattle.std.specs.Prelude.{◌≡◌, [], map, IfOk};
 ghost use Rattle.data.specs.Data.{keys_in};
-ghost use Rattle.data.specs.View.{data_of, items_of};
+ghost use Rattle.data.specs.Prelude.{data_of, items_of};
 ghost use Rattle.methods.specs.Steps.{Gives};
 ghost use Rattle.methods.specs.TextLists.{texts};
 ghost use Rattle.methods.specs.Dictionaries.{get, has_key, keys, sorted_with, answer};

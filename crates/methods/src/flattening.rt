@@ -1,7 +1,7 @@
 //! Texts in lists of any depth, as arguments.
 
 ghost use Rattle.std.specs.Prelude.{◌≡◌, map, IfOk};
-ghost use Rattle.data.specs.View.{data_of};
+ghost use Rattle.data.specs.Prelude.{data_of};
 ghost use Rattle.methods.specs.FlatTexts.{flat_texts};
 ghost use Rattle.texts.specs.Answers.{pieces_in};
 

@@ -2,8 +2,7 @@
 
 ghost use Rattle.std.specs.Prelude.{◌≡◌, map, option_map, IfOk};
 ghost use Rattle.std.specs.List.{list_all, flat_map};
-ghost use Rattle.data.specs.View.{data_of};
-ghost use Rattle.data.specs.Limits.{Appends};
+ghost use Rattle.data.specs.Prelude.{Appends, data_of};
 ghost use Rattle.printing.specs.Printed.{is_printable};
 ghost use Rattle.texts.specs.Segments.{segment_data};
 ghost use Rattle.methods.specs.Formatted.{formatted_text, has_value, value_at, filled};

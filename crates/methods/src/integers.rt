@@ -1,7 +1,7 @@
 //! The methods of integers: the type `int` of the page "Reference manual".
 
-ghost use Rattle.std.specs.Prelude.{◌≡◌, map};
-ghost use Rattle.data.specs.View.{data_of};
+ghost use Rattle.std.specs.Prelude.{map};
+ghost use Rattle.data.specs.Prelude.{data_of};
 ghost use Rattle.methods.specs.Steps.{Gives};
 ghost use Rattle.methods.specs.Integers.{is_even, is_odd, to_string, answer};
 

@@ -1,7 +1,7 @@
 //! The methods of lists: the type `list` of the page "Reference manual".
 
 ghost use Rattle.std.specs.Prelude.{◌≡◌, map, option_map};
-ghost use Rattle.data.specs.View.{data_of, items_of};
+ghost use Rattle.data.specs.Prelude.{data_of, items_of};
 ghost use Rattle.methods.specs.Steps.{Gives};
 ghost use Rattle.methods.specs.Lists.{stands_in, stands_inside, contains, get, found_or, len, answer};
 

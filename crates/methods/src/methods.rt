@@ -1,8 +1,7 @@
 //! The methods, by the type of the receiver.
 
-ghost use Rattle.std.specs.Prelude.{◌≡◌, ◌↔◌, IfOk, IsTrue, map};
-ghost use Rattle.data.specs.View.{data_of};
-ghost use Rattle.data.specs.Tables.{Answers};
+ghost use Rattle.std.specs.Prelude.{◌≡◌, IfOk, map};
+ghost use Rattle.data.specs.Prelude.{Answers, data_of};
 ghost use Rattle.methods.specs.Methods.{answer, has_name};
 
 use crate::booleans::boolean_method;

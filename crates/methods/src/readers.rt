@@ -1,7 +1,7 @@
 //! What the arguments of a call are, where they have the count and the types that it asks for; else `Refusal::Arguments`.
 
 ghost use Rattle.std.specs.Prelude.{◌≡◌, MatchResult, Ok, Err, Some, None, option_map, map};
-ghost use Rattle.data.specs.View.{data_of};
+ghost use Rattle.data.specs.Prelude.{data_of};
 ghost use Rattle.methods.specs.Arguments.{no_arguments, one_argument, key_and_fallback, text_argument, integer_argument};
 ghost use Rattle.methods.specs.Arguments.{one_text, two_texts, bounds};
 

@@ -1,6 +1,6 @@
 //! What each method takes, in words, and of which values.
 ghost use Rattle.std.specs.Prelude.{◌≡◌};
-ghost use Rattle.data.specs.View.{data_of};
+ghost use Rattle.data.specs.Prelude.{data_of};
 ghost use Rattle.methods.specs.Takes.{boolean_takes, dictionary_takes, integer_takes, list_takes, takes_words, text_takes};
 
 use data::Value;

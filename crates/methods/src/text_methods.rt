@@ -1,9 +1,8 @@
 //! The methods of texts: the type `str` of the page "Reference manual".
 
-ghost use Rattle.std.specs.Prelude.{◌≡◌, map, string_bytes};
+ghost use Rattle.std.specs.Prelude.{map, string_bytes};
 ghost use Rattle.data.specs.Data.{text as text_data};
-ghost use Rattle.data.specs.Limits.{within};
-ghost use Rattle.data.specs.View.{data_of};
+ghost use Rattle.data.specs.Prelude.{data_of, within};
 ghost use Rattle.methods.specs.Steps.{Gives};
 ghost use Rattle.methods.specs.TextMethods.{answer, contains, starts_with, ends_with, format, join, replace, split};
 ghost use Rattle.methods.specs.TextMethods.{split_lines, strip, substring, to_int, to_lower, to_upper, underscorify, version_compare};

@@ -1,6 +1,6 @@
 //! The folders that the keyword `include_directories` names.
 ghost use Rattle.std.specs.Prelude.{◌≡◌, ◌++◌, IfOk, map, option_map, string_bytes};
-ghost use Rattle.data.specs.View.{data_of};
+ghost use Rattle.data.specs.Prelude.{data_of};
 ghost use Rattle.paths.specs.Folder.{strings_of};
 ghost use Rattle.paths.specs.Paths.{folder_path};
 ghost use Rattle.named_sources.specs.Folders.{folders_in, folders_of, of_object, one_path};

@@ -1,6 +1,6 @@
 //! The build targets that `link_with` names.
 ghost use Rattle.std.specs.Prelude.{◌≡◌, IfOk, map, option_map};
-ghost use Rattle.data.specs.View.{data_of};
+ghost use Rattle.data.specs.Prelude.{data_of};
 ghost use Rattle.named_sources.specs.Libraries.{build_target_in, numbers_of, of_object};
 
 use data::{Object, Value};

@@ -1,7 +1,7 @@
 //! The sources that a call names.
 ghost use Rattle.std.specs.Prelude.{◌≡◌, ◌++◌, IfOk, None, codes, nat_eq, map, option_map, if◌then◌else◌};
 ghost use Rattle.std.specs.List.{ends_with};
-ghost use Rattle.data.specs.View.{data_of};
+ghost use Rattle.data.specs.Prelude.{data_of};
 ghost use Rattle.named_sources.specs.Sources.{ends_in, ends_in_name, of_object, source_of, sources_of, tree};
 ghost use Rattle.paths.specs.Paths.{tree_path};
 ghost use Rattle.named_sources.specs.SourcesView.{named_view, named_views};

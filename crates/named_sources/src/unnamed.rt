@@ -1,6 +1,6 @@
 //! The first text that names nothing, for which a call is refused: it is looked for only then.
 ghost use Rattle.std.specs.Prelude.{◌≡◌, IfOk, map};
-ghost use Rattle.data.specs.View.{data_of};
+ghost use Rattle.data.specs.Prelude.{data_of};
 ghost use Rattle.named_sources.specs.Folders.{folders_in};
 ghost use Rattle.named_sources.specs.Sources.{source_of};
 ghost use Rattle.named_sources.specs.Unnamed.{first_unnamed, text_said};

@@ -1,6 +1,6 @@
 //! What `files` and `include_directories` give.
 ghost use Rattle.std.specs.Prelude.{◌≡◌, [], IfOk, map, string_bytes};
-ghost use Rattle.data.specs.Tables.{Answers};
+ghost use Rattle.data.specs.Prelude.{Answers};
 ghost use Rattle.data.specs.Data.{no_items};
 ghost use Rattle.named_sources.specs.ValuesView.{items_in};
 ghost use Rattle.named_sources.specs.Values.{directories_at, files_at, files_behind, texts_behind};

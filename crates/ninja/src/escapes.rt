@@ -1,7 +1,8 @@
 //! Paths and values, with a `$` before what Ninja would read otherwise.
 ghost use Rattle.std.specs.Prelude.{◌≡◌, [], ◌∷◌, ◌++◌, IfOk, MatchOption};
 ghost use Rattle.std.specs.List.{flat_map, list_all};
-ghost use Rattle.ninja.specs.Escapes.{path_byte_text, value_byte_text, value_rest_text, starts_with_space, leading_dollar, path_text, value_text};
+ghost use Rattle.ninja.specs.Escapes.{path_byte_text, value_byte_text, value_rest_text, starts_with_space, leading_dollar, path_text};
+ghost use Rattle.ninja.specs.Escapes.{value_text};
 ghost use Rattle.ninja.specs.Words.{quoted_byte};
 ghost use Rattle.ninja.specs.Places.{byte_text, stays};
 

@@ -1,5 +1,5 @@
 -- The methods of a dependency: the type `dep` of the page "Reference manual".
-use Rattle.std.specs.Prelude.{ℕ, List, Option, Some, None, Result, Ok, Err, codes, bytes_eq, if◌then◌else◌}
+use Rattle.std.specs.Prelude.{ℕ, List, Option, Some, None, Result, Ok, Err, codes, if◌then◌else◌}
 use Rattle.data.specs.Data.{Data, boolean, text}
 use Rattle.data.specs.Limits.{within}
 use Rattle.data.specs.declared.object.Dependency.{Dependency}

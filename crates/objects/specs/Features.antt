@@ -1,5 +1,5 @@
 -- The methods of a feature: the type `feature` of the page "Reference manual".
-use Rattle.std.specs.Prelude.{ℕ, Bool, true, false, not, List, Option, Some, None, Result, Ok, Err, codes, bytes_eq, if◌then◌else◌}
+use Rattle.std.specs.Prelude.{ℕ, Bool, true, false, not, List, Option, Some, None, Result, Ok, Err}
 use Rattle.data.specs.Data.{Data, boolean}
 use Rattle.data.specs.declared.object.Feature.{Feature}
 use Rattle.data.specs.declared.object.Feature.TheVariants as features

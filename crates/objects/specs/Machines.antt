@@ -1,5 +1,5 @@
 -- The methods of a machine: the type `build_machine` of the page "Reference manual".
-use Rattle.std.specs.Prelude.{ℕ, List, [], Option, Some, None, codes, bytes_eq, if◌then◌else◌}
+use Rattle.std.specs.Prelude.{ℕ, List, [], Option, Some, None, codes}
 use Rattle.arguments.specs.Arguments.{ArgumentsData}
 use Rattle.arguments.specs.Row.{row}
 use Rattle.basics.specs.declared.faults.refusal.Refusal.TheVariants as refusals

@@ -1,5 +1,5 @@
 -- The methods of the object `meson`: the page of its type in the manual.
-use Rattle.std.specs.Prelude.{ℕ, false, ◌==◌, List, [], length, Option, Some, None, Result, Ok, Err, codes, bytes_eq, if◌then◌else◌}
+use Rattle.std.specs.Prelude.{ℕ, false, ◌==◌, List, length, Option, Some, None, Result, Ok, Err, codes, bytes_eq, if◌then◌else◌}
 use Rattle.arguments.specs.Arguments.{ArgumentsData}
 use Rattle.arguments.specs.Given.{text_at}
 use Rattle.data.specs.Data.{Data, boolean, object, text}

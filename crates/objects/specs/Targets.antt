@@ -1,7 +1,7 @@
 -- The methods of targets, and of the outputs of custom targets: the types `build_tgt`, `custom_tgt` and `custom_idx` of the page
 -- "Reference manual".
-use Rattle.std.specs.Prelude.{ℕ, zero, suc, ◌+◌, List, [], ◌∷◌, Option, Some, None, Result, Ok, Err, codes, bytes_eq, slice_get, option_map}
-use Rattle.std.specs.Prelude.{option_and_then, if◌then◌else◌}
+use Rattle.std.specs.Prelude.{ℕ, zero, suc, ◌+◌, List, [], ◌∷◌, Option, Some, None, Result, Err, slice_get, option_map}
+use Rattle.std.specs.Prelude.{option_and_then}
 use Rattle.data.specs.Data.{Data, list, object, text, Items, no_items, item}
 use Rattle.data.specs.Limits.{within}
 use Rattle.data.specs.declared.object.Object.TheVariants as objects

@@ -1,15 +1,10 @@
 //! A method of an object on its arguments.
 ghost use Rattle.std.specs.Prelude.{◌≡◌, IfOk, option_map};
-ghost use Rattle.arguments.specs.Arguments.{arguments_data};
 ghost use Rattle.arguments.specs.RowView.{row_data};
-ghost use Rattle.data.specs.Tables.{Answers};
-ghost use Rattle.data.specs.View.{data_of};
-ghost use Rattle.world.specs.Answering.{Carries, HasRoom};
-ghost use Rattle.world.specs.Caller.{state_of};
+ghost use Rattle.world.specs.Prelude.{Answers, Does, MayFail, arguments_data, data_of, world_of};
 ghost use Rattle.objects.specs.Machines.{machine_method};
 ghost use Rattle.objects.specs.Methods.{breaking, has_method, object_method, rule_of, tell, told_of};
 ghost use Rattle.objects.specs.Rows.{row_of};
-ghost use Rattle.world.specs.Store.{world_of};
 
 use crate::dependencies::dependency_answer;
 use crate::features::feature_answer;
@@ -120,8 +115,8 @@ fn tell<T: Tree, O: Outputs>(
     name: &MethodName,
     arguments: &Arguments,
 ) -> Result<Option<Value>, Stop>
-    ensures { Carries (option_map data_of) (tell object.now name.now (arguments_data arguments.now))
-        (state_of T.seen O.seen caller.now) result (state_of T.seen O.seen caller.now) }
+    ensures { Does T.seen O.seen (option_map data_of) (tell object.now name.now (arguments_data arguments.now))
+        caller.now result caller.now }
 {
     let row = row_of(object, name);
     caller.fit(&row, arguments)?;
@@ -137,8 +132,8 @@ fn machine_method<T: Tree, O: Outputs>(
     name: &MethodName,
     arguments: &Arguments,
 ) -> Result<Option<Value>, Stop>
-    ensures { Carries (option_map data_of) (machine_method name.now (arguments_data arguments.now))
-        (state_of T.seen O.seen caller.old) result (state_of T.seen O.seen caller.new) }
+    ensures { Does T.seen O.seen (option_map data_of) (machine_method name.now (arguments_data arguments.now))
+        caller.old result caller.new }
 {
     caller.fit(&Row::of(&[], 0, &[]), arguments)?;
     machine_answer(caller, name)
@@ -152,9 +147,9 @@ pub fn object_method<T: Tree, O: Outputs>(
     name: &MethodName,
     arguments: &Arguments,
 ) -> Result<Option<Value>, Stop>
-    requires { HasRoom (state_of T.seen O.seen caller.old) }
-    ensures { Carries (option_map data_of) (object_method object.now name.now (arguments_data arguments.now))
-        (state_of T.seen O.seen caller.old) result (state_of T.seen O.seen caller.new) }
+    requires { MayFail T.seen O.seen caller.old }
+    ensures { Does T.seen O.seen (option_map data_of) (object_method object.now name.now (arguments_data arguments.now))
+        caller.old result caller.new }
 {
     match object {
         Object::Compiler => compiler_method(caller, name, arguments),

@@ -1,6 +1,6 @@
 //! The methods of a dependency: the type `dep` of the page "Reference manual".
-ghost use Rattle.std.specs.Prelude.{◌≡◌, IfOk};
-ghost use Rattle.data.specs.Tables.{Answers};
+ghost use Rattle.std.specs.Prelude.{IfOk};
+ghost use Rattle.world.specs.Prelude.{Answers};
 ghost use Rattle.objects.specs.Dependencies.{answer, version_of};
 
 use data::{Dependency, Refusal, Value};

@@ -1,6 +1,6 @@
 //! The methods of a feature: the type `feature` of the page "Reference manual".
 ghost use Rattle.std.specs.Prelude.{◌≡◌};
-ghost use Rattle.data.specs.Tables.{Answers};
+ghost use Rattle.world.specs.Prelude.{Answers};
 ghost use Rattle.objects.specs.Features.{answer, tells};
 
 use data::{Feature, Refusal, Value};

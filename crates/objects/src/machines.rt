@@ -1,13 +1,11 @@
 //! The methods of a machine: the type `build_machine` of the page "Reference manual".
 ghost use Rattle.std.specs.Prelude.{◌≡◌, option_map};
 ghost use Rattle.compiler_methods.specs.Said.{said_or};
-ghost use Rattle.data.specs.View.{data_of};
 ghost use Rattle.machine_file.specs.Questions.{answer_to};
 ghost use Rattle.machine_file.specs.View.{machine_in};
 ghost use Rattle.language_names.specs.ObjectMethods.{machine_method_named};
+ghost use Rattle.world.specs.Prelude.{Does, data_of};
 ghost use Rattle.objects.specs.Machines.{default_of, key_of, told, told_by, topic_of};
-ghost use Rattle.world.specs.Answering.{Carries};
-ghost use Rattle.world.specs.Caller.{state_of};
 
 use basics::faults::Refusal;
 use data::Value;
@@ -52,7 +50,7 @@ fn told<T: Tree, O: Outputs>(
     caller: &mut Caller<'_, T, O>,
     method: MachineMethod,
 ) -> Result<Option<Value>, Stop>
-    ensures { Carries (option_map data_of) (told method) (state_of T.seen O.seen caller.old) result (state_of T.seen O.seen caller.new) }
+    ensures { Does T.seen O.seen (option_map data_of) (told method) caller.old result caller.new }
 {
     caller.ask_key("host_machine", key_of(method))?;
     let answer = Value::of_str(caller.alloc, text_of(method, caller.store.machine()))?;
@@ -66,8 +64,7 @@ pub fn machine_answer<T: Tree, O: Outputs>(
     caller: &mut Caller<'_, T, O>,
     name: &MethodName,
 ) -> Result<Option<Value>, Stop>
-    ensures { Carries (option_map data_of) (told_by (machine_method_named name.now)) (state_of T.seen O.seen caller.old) result
-        (state_of T.seen O.seen caller.new) }
+    ensures { Does T.seen O.seen (option_map data_of) (told_by (machine_method_named name.now)) caller.old result caller.new }
 {
     match name.of_machine() {
         Some(method) => told(caller, method),

@@ -1,11 +1,8 @@
 //! The methods of the object `meson`: the page of its type in the manual.
 ghost use Rattle.std.specs.Prelude.{◌≡◌, IfOk, string_bytes};
-ghost use Rattle.arguments.specs.Arguments.{arguments_data};
 ghost use Rattle.data.specs.Data.{text};
-ghost use Rattle.data.specs.Limits.{within};
-ghost use Rattle.data.specs.Tables.{Answers};
+ghost use Rattle.world.specs.Prelude.{Answers, arguments_data, within, world_of};
 ghost use Rattle.objects.specs.Meson.{answer, compiler_of, folder_below};
-ghost use Rattle.world.specs.Store.{world_of};
 
 use arguments::Arguments;
 use data::{Object, Refusal, Value};

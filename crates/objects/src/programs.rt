@@ -1,8 +1,7 @@
 //! The methods of a program: the type `external_program` of the page "Reference manual".
 ghost use Rattle.std.specs.Prelude.{◌≡◌, IfOk};
-ghost use Rattle.data.specs.Tables.{Answers};
+ghost use Rattle.world.specs.Prelude.{Answers, world_of};
 ghost use Rattle.objects.specs.Programs.{answer, first_word, full_path, is_found};
-ghost use Rattle.world.specs.Store.{world_of};
 
 use crate::meson_object::source_root;
 use data::{Program, Refusal, Text, Value};

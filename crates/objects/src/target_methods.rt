@@ -1,12 +1,10 @@
 //! The methods of targets, and of the outputs of custom targets: the types `build_tgt`, `custom_tgt` and `custom_idx` of the page
 //! "Reference manual".
 ghost use Rattle.std.specs.Prelude.{◌≡◌, IfOk, Some, option_map, string_bytes};
-ghost use Rattle.data.specs.Tables.{Answers};
-ghost use Rattle.data.specs.View.{items_of};
 ghost use Rattle.edge.specs.Texts.{texts};
 ghost use Rattle.targets.specs.LinkedViews.{linked_views};
 ghost use Rattle.targets.specs.View.{target_view};
-ghost use Rattle.world.specs.Store.{world_of};
+ghost use Rattle.world.specs.Prelude.{Answers, items_of, world_of};
 ghost use Rattle.objects.specs.Targets.{answer_by, at, build_answer, custom_answer, name_of, name_value};
 ghost use Rattle.objects.specs.Targets.{only_path, output_answer, output_list, output_of, outputs_from, path_of, path_value};
 ghost use Rattle.objects.specs.Targets.{told_of};

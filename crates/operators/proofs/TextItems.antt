@@ -1,12 +1,12 @@
 -- Texts as items, one after another.
-use Rattle.std.proofs.Common.{◌≡◌, ℕ, ◌+◌, ◌<◌, ◌≤◌, List, [], ◌∷◌, ◌++◌, map, drop, length, get_or, Result, Ok, Err, refl, sym, ap, subst}
+use Rattle.std.proofs.Common.{◌≡◌, ℕ, ◌+◌, ◌<◌, ◌≤◌, List, [], ◌∷◌, ◌++◌, map, drop, length, get_or, Result, Ok, Err, refl, sym, ap}
 use Rattle.std.proofs.Common.{◌∙◌, Bor, arith, rules, tests}
 use Rattle.std.proofs.Math.ListN.{set}
 use Rattle.std.proofs.Math.Seq.{get_or-append_seam, set-append_seam}
 use Rattle.std.proofs.lemmas.Bool.{cond-true, cond-false}
 use Rattle.std.proofs.lemmas.List.{at_drop_more}
 use Rattle.std.specs.Prelude.{nat_le}
-use Rattle.data.specs.Data.{Data, text, Items, no_items, item, items_append}
+use Rattle.data.specs.Data.{text, Items, no_items, item, items_append}
 use Rattle.data.specs.Limits.{Appends, within}
 use Rattle.data.specs.View.{data_of, items_of}
 use Rattle.data.specs.declared.refusal.Refusal.{Refusal}

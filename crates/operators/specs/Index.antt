@@ -1,5 +1,6 @@
 -- `whole[index]`: a part of a list, a text, a dictionary or a custom target.
-use Rattle.std.specs.Prelude.{ℕ, zero, suc, ℤ, pos, negsuc, ◌-◌, nat_lt, ◌||◌, List, length, Option, Some, None, option_map, option_and_then, ok_or, slice_get, Result, Ok, Err, if◌then◌else◌}
+use Rattle.std.specs.Prelude.{ℕ, zero, suc, ℤ, pos, negsuc, ◌-◌, nat_lt, ◌||◌, List, length, Option, Some, None, option_map}
+use Rattle.std.specs.Prelude.{option_and_then, ok_or, slice_get, Result, Ok, Err, if◌then◌else◌}
 use Rattle.std.specs.Str.{chars}
 use Rattle.std.specs.Char.{encode_utf8}
 use Rattle.data.specs.declared.object.Object.{Object}

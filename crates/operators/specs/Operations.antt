@@ -9,7 +9,8 @@ use Rattle.data.specs.Limits.{within}
 use Rattle.operators.specs.declared.operator.Unary.{Unary}
 use Rattle.operators.specs.declared.operator.Unary.TheVariants.{Not, Negate}
 use Rattle.operators.specs.declared.operator.Binary.{Binary}
-use Rattle.operators.specs.declared.operator.Binary.TheVariants.{Add, Subtract, Multiply, Divide, Remainder, Equal, NotEqual, Less, LessOrEqual, Greater, GreaterOrEqual, In, NotIn}
+use Rattle.operators.specs.declared.operator.Binary.TheVariants.{Add, Subtract, Multiply, Divide, Remainder, Equal, NotEqual, Less}
+use Rattle.operators.specs.declared.operator.Binary.TheVariants.{LessOrEqual, Greater, GreaterOrEqual, In, NotIn}
 use Rattle.operators.specs.Rows as rows
 
 abbrev pub unary_value : Unary → Data → Option Data

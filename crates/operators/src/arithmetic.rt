@@ -2,8 +2,7 @@
 
 ghost use Rattle.std.specs.Prelude.{◌≡◌, ◌-ℤ◌, ◌*ℤ◌, IfSome, option_map};
 ghost use Rattle.data.specs.Data.{integer as integer_data};
-ghost use Rattle.data.specs.View.{data_of};
-ghost use Rattle.data.specs.Tables.{Answers};
+ghost use Rattle.data.specs.Prelude.{Answers, data_of};
 ghost use Rattle.data.specs.declared.refusal.Refusal.TheVariants as refusal;
 ghost use Rattle.operators.specs.Integers.{IsRest, quotient, remainder};
 ghost use Rattle.operators.specs.Operations.{answer, binary_outcome, unary_outcome};

@@ -1,10 +1,8 @@
 //! Sums of lists and of dictionaries. What nobody else holds is changed in place.
 
-ghost use Rattle.std.specs.Prelude.{◌≡◌, IfOk};
+ghost use Rattle.std.specs.Prelude.{IfOk};
 ghost use Rattle.data.specs.Data.{list as list_data, dictionary as dictionary_data, items_append, item, no_items, merged};
-ghost use Rattle.data.specs.Limits.{within};
-ghost use Rattle.data.specs.View.{data_of};
-ghost use Rattle.data.specs.Tables.{Answers};
+ghost use Rattle.data.specs.Prelude.{Answers, data_of, within};
 
 use data::{Dictionary, DictionaryBuilder, List, Refusal, Value};
 use std::alloc::{AllocError, Global};

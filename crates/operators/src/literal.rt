@@ -2,10 +2,8 @@
 
 ghost use Rattle.std.specs.Prelude.{◌≡◌, ◌+◌, ◌<◌, ◌≤◌, ◌^◌, IfOk, MatchResult, Ok, Err, map};
 ghost use Rattle.data.specs.Data.{no_entries, no_items, list as list_data};
-ghost use Rattle.data.specs.Limits.{within};
+ghost use Rattle.data.specs.Prelude.{Answers, data_of, items_of, within};
 ghost use Rattle.data.specs.Weight.{entries_weight};
-ghost use Rattle.data.specs.View.{data_of, items_of};
-ghost use Rattle.data.specs.Tables.{Answers};
 ghost use Rattle.operators.specs.TextLists.{PutsText, items_in, text_list, texts_behind};
 ghost use Rattle.operators.specs.Literal.{with_entry, with_entries, literal_answer, pairs_of, Makes};
 

@@ -1,8 +1,6 @@
 //! `and`, `or` and `not`.
 
-ghost use Rattle.std.specs.Prelude.{◌≡◌};
-ghost use Rattle.data.specs.View.{data_of};
-ghost use Rattle.data.specs.Tables.{Answers};
+ghost use Rattle.data.specs.Prelude.{Answers, data_of};
 ghost use Rattle.operators.specs.Operations.{unary_outcome};
 ghost use Rattle.operators.specs.Logic.{LeftAnswers, right_answer};
 ghost use Rattle.operators.specs.declared.operator.Unary.TheVariants.{Not};

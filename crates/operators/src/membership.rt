@@ -1,7 +1,7 @@
 //! What is in a list, a dictionary or a text.
 
 ghost use Rattle.std.specs.Prelude.{◌≡◌, not, option_map};
-ghost use Rattle.data.specs.View.{data_of};
+ghost use Rattle.data.specs.Prelude.{data_of};
 ghost use Rattle.operators.specs.Rows.{is_item, membership as membership_row};
 
 use data::{List, Value, is_equal};

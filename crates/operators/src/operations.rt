@@ -3,8 +3,7 @@
 ghost use Rattle.std.specs.Prelude.{◌≡◌, ◌≢◌, IfOk, false, option_map};
 ghost use Rattle.data.specs.Data.{boolean as boolean_data};
 ghost use Rattle.data.specs.declared.refusal.Refusal.TheVariants as refusal;
-ghost use Rattle.data.specs.View.{data_of};
-ghost use Rattle.data.specs.Tables.{Answers};
+ghost use Rattle.data.specs.Prelude.{Answers, data_of};
 ghost use Rattle.operators.specs.Operations.{answer, are_integers, binary_outcome, unary_answer, binary_answer};
 ghost use Rattle.operators.specs.declared.operator.Binary.TheVariants.{Add, Divide};
 

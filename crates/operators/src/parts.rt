@@ -3,10 +3,7 @@
 ghost use Rattle.std.specs.Prelude.{◌≡◌, IfOk, length, option_map, ok_or, slice_get};
 ghost use Rattle.std.specs.Str.{chars};
 ghost use Rattle.data.specs.declared.refusal.Refusal.TheVariants as refusal;
-ghost use Rattle.data.specs.Data.{integer, object as object_data};
-ghost use Rattle.data.specs.View.{data_of};
-ghost use Rattle.data.specs.Tables.{Answers};
-ghost use Rattle.data.specs.Limits.{within};
+ghost use Rattle.data.specs.Prelude.{Answers, data_of};
 ghost use Rattle.operators.specs.Index.{place, indexed_item, indexed_char, index_answer, char_text, output_outcome};
 
 use data::{List, Object, Refusal, Value};

@@ -2,7 +2,7 @@
 
 ghost use Rattle.std.specs.Prelude.{◌≡◌, false, not, option_map};
 ghost use Rattle.std.specs.Ordering.{is_lt, is_le, is_gt, is_ge};
-ghost use Rattle.data.specs.View.{data_of};
+ghost use Rattle.data.specs.Prelude.{data_of};
 ghost use Rattle.operators.specs.Operations.{are_integers};
 ghost use Rattle.operators.specs.Types.{is_one_kind, is_one_type};
 ghost use Rattle.operators.specs.Rows.{equality as equality_row, order as order_row};

@@ -2,8 +2,7 @@
 
 ghost use Rattle.std.specs.Prelude.{◌≡◌, ◌++◌, IfOk};
 ghost use Rattle.data.specs.Data.{text as text_data};
-ghost use Rattle.data.specs.Limits.{within, within_bytes};
-ghost use Rattle.data.specs.Tables.{Answers};
+ghost use Rattle.data.specs.Prelude.{Answers, within, within_bytes};
 ghost use Rattle.paths.specs.Below.{path_below};
 
 use data::{Refusal, Text, Value};

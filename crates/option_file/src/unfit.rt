@@ -1,12 +1,11 @@
 //! Why a call of `option` declares none: it is looked for only where the call is refused.
 
-ghost use Rattle.std.specs.Prelude.{◌≡◌, IfOk, map, string_bytes};
+ghost use Rattle.std.specs.Prelude.{◌≡◌, IfOk, map};
 ghost use Rattle.std.specs.Option.{option_map};
-ghost use Rattle.grammar.specs.ExpressionTree.{argument_of, argument_trees};
+ghost use Rattle.grammar.specs.ExpressionTree.{argument_of};
 ghost use Rattle.option_file.specs.Calls.{keywords_from, others_unfit, unfit};
-ghost use Rattle.option_file.specs.Keywords.{nothing_given};
 ghost use Rattle.option_file.specs.MisfitView.{misfit_in, refused_in};
-ghost use Rattle.option_file.specs.Unfit.{argument_refused, first_refused, given_refused, keyword_refused, lacking};
+ghost use Rattle.option_file.specs.Unfit.{argument_refused, first_refused, given_refused, lacking};
 ghost use Rattle.option_file.specs.Unfit.{name_refused, needed_by, noted_refused, plain_refused, unless};
 ghost use Rattle.option_file.specs.KeywordsView.{keywords_in};
 ghost use Rattle.option_file.specs.View.{given_in};

@@ -1,5 +1,5 @@
 -- The table of options that every project has, and maps that are made of it.
-use Rattle.std.proofs.Common.{◌≡◌, ℕ, ◌+◌, ◌<◌, Bool, true, false, List, [], ◌∷◌, take, get_or, String, string_bytes, refl, sym, ap, ◌∙◌}
+use Rattle.std.proofs.Common.{◌≡◌, ℕ, ◌+◌, ◌<◌, Bool, true, false, List, [], ◌∷◌, take, get_or, String, refl, sym, ap, ◌∙◌}
 use Rattle.std.proofs.Common.{map, length, if◌then◌else◌}
 use Rattle.std.specs.Prelude.{◌||◌, bytes_eq}
 use Rattle.std.specs.List.{fold, list_any}

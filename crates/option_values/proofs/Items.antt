@@ -1,8 +1,8 @@
 -- Lists of texts, item by item.
 use Rattle.std.proofs.Common.{◌≡◌, ℕ, ◌+◌, ◌<◌, List, [], ◌∷◌, ◌++◌, length, drop, take, get_or, map, String, string_bytes, refl, sym, ap}
 use Rattle.std.proofs.Common.{◌∙◌, arith, append_assoc}
-use Rattle.std.specs.Prelude.{◌||◌, ◌&&◌, ◌==◌, bytes_eq, codes}
-use Rattle.std.specs.List.{list_any, list_all, slice_split}
+use Rattle.std.specs.Prelude.{◌&&◌, ◌==◌, codes}
+use Rattle.std.specs.List.{list_all, slice_split}
 use Rattle.std.specs.declared.alloc.Global.{Global}
 use Rattle.std.proofs.lemmas.List.{at_drop_more, map-append, take_more}
 use Rattle.lexer.specs.Bytes.{comma}

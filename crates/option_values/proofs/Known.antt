@@ -1,6 +1,6 @@
 -- Texts that are put into a set.
 use Rattle.std.proofs.Common.{◌≡◌, ℕ, ◌+◌, ◌<◌, Bool, true, false, List, [], ◌∷◌, ◌++◌, length, take, get_or, String, string_bytes, refl}
-use Rattle.std.proofs.Common.{sym, ap, ◌∙◌, map, if◌then◌else◌}
+use Rattle.std.proofs.Common.{sym, ap, ◌∙◌, if◌then◌else◌}
 use Rattle.std.specs.Prelude.{◌||◌, bytes_eq}
 use Rattle.std.specs.List.{list_any}
 use Rattle.std.specs.declared.alloc.Global.{Global}

@@ -1,6 +1,6 @@
 //! A text cut into words, as a shell cuts it.
 
-ghost use Rattle.std.specs.Prelude.{◌≡◌, ◌↔◌, ℕ, List, IfOk, string_bytes};
+ghost use Rattle.std.specs.Prelude.{◌≡◌, ◌↔◌, ℕ, List, IfOk};
 ghost use Rattle.std.specs.Str.{chars};
 ghost use Rattle.option_values.specs.Shell.{AreWords};
 ghost use Rattle.std.specs.Option.{option_map};

@@ -2,15 +2,15 @@
 use Rattle.std.proofs.Common.{◌≡◌, ℕ, ◌+◌, Bool, true, false, List, [], ◌∷◌, ◌++◌, map, Option, Some, None, Ok, refl, sym, ap, ◌∙◌}
 use Rattle.std.proofs.Common.{append_assoc}
 use Rattle.std.specs.Prelude.{◌||◌, ◌&&◌, bytes_eq, codes, if◌then◌else◌}
-use Rattle.std.specs.List.{list_all, list_any, fold, flat_map}
-use Rattle.std.specs.Option.{option_map, option_and_then}
+use Rattle.std.specs.List.{list_all, fold, flat_map}
+use Rattle.std.specs.Option.{option_and_then}
 use Rattle.std.proofs.lemmas.List.{append-nil}
 use Rattle.std.proofs.lemmas.List.Sums.{fold-append}
 use Rattle.machine_file.specs.Files as machine
 use Rattle.basics.specs.Among.{is_among}
 use Rattle.option_values.specs.declared.kind.FeatureState.{FeatureState}
 use Rattle.option_values.specs.declared.kind.FeatureState.TheVariants as feature
-use Rattle.option_values.specs.BuiltIns.{BuiltIn, built_ins, built_in_kinds, built_in_kind, levels}
+use Rattle.option_values.specs.BuiltIns.{built_ins, built_in_kinds, built_in_kind, levels}
 use Rattle.option_values.specs.Kinds as kind
 use Rattle.option_values.specs.Values as value
 use Rattle.option_file.specs.Declarations.{Declaration}
@@ -20,12 +20,11 @@ use Rattle.options.specs.Defaults.{default_of}
 use Rattle.options.specs.FillIns as filling
 use Rattle.options.specs.FillIns.{build_types, type_among, with_type, by_buildtype, by_prefix, by_auto_features, decided, decided_value}
 use Rattle.options.specs.FillIns.{with_state, state_at, text_at, is_usr, filled_in}
-use Rattle.options.specs.Laws.{fits, fits_known, has_fitting, all_fit, names_in, built_in_names, declared_names, set_by, or_later}
-use Rattle.options.specs.Laws.{last_setting, is_auto}
-use Rattle.options.specs.Resolves.{State, after_verdict, unless_fault, next, verdicts, at_first, outcome_of, resolved, value_named}
-use Rattle.options.specs.Settings.{Setting, put, setting_named, or_given, fill, first_setting, built_in_settings}
+use Rattle.options.specs.Laws.{fits, fits_known, has_fitting, all_fit, names_in, built_in_names, declared_names}
+use Rattle.options.specs.Resolves.{State, after_verdict, unless_fault, next, verdicts, at_first, outcome_of, resolved}
+use Rattle.options.specs.Settings.{Setting, put, or_given, fill, built_in_settings}
 use Rattle.options.specs.Verdicts.{Verdict, Sets, Warns, Refuses, Default, of_declaration, of_default, of_project_default, of_section}
-use Rattle.options.specs.Verdicts.{of_words, kind_named, or_declared}
+use Rattle.options.specs.Verdicts.{of_words, kind_named}
 use Rattle.options.proofs.Bools.{both, first, second}
 use Rattle.options.proofs.Folds.{stays_at}
 use Rattle.options.proofs.KnownKinds.{is_named, same_name, fitting_named, new_is_none}

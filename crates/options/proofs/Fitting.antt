@@ -1,17 +1,17 @@
 -- What is a value of an option is one of its type.
 use Rattle.std.proofs.Common.{◌≡◌, ℕ, ℤ, Bool, true, false, List, [], ◌∷◌, ◌++◌, Option, Some, None, refl, sym, ap, ◌∙◌, append_assoc}
-use Rattle.std.specs.Prelude.{◌||◌, ◌&&◌, bytes_eq, if◌then◌else◌}
+use Rattle.std.specs.Prelude.{◌||◌, bytes_eq, if◌then◌else◌}
 use Rattle.std.specs.List.{list_any, list_all}
 use Rattle.std.specs.Option.{option_map, option_and_then, unwrap_or}
 use Rattle.std.proofs.lemmas.Slice.Eq.{bytes_eq-Decides}
 use Rattle.basics.specs.Among.{is_among}
 use Rattle.machine_file.specs.Values as written
 use Rattle.option_values.specs.Given.{value_of_items, value_of_given, printed, boolean_text}
-use Rattle.option_values.specs.Integers.{is_within, bounded, integer_of, integer_within}
+use Rattle.option_values.specs.Integers.{is_within, bounded, integer_of}
 use Rattle.option_values.specs.declared.kind.FeatureState.{FeatureState}
 use Rattle.option_values.specs.Kinds as kind
 use Rattle.option_values.specs.Lists.{are_among, items_of, word_items_of}
-use Rattle.option_values.specs.Texts.{boolean_of, state_of, choice_of, array_of, value_of}
+use Rattle.option_values.specs.Texts.{boolean_of, state_of, array_of, value_of}
 use Rattle.option_values.specs.Values as value
 use Rattle.option_file.specs.Declarations.{Declaration}
 use Rattle.option_file.specs.Given as given

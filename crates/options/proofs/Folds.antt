@@ -1,5 +1,5 @@
 -- Values that are taken one after another.
-use Rattle.std.proofs.Common.{◌≡◌, ℕ, ◌+◌, ◌<◌, List, [], ◌∷◌, ◌++◌, length, take, drop, get_or, Bool, true, Option, Some, None, is_some}
+use Rattle.std.proofs.Common.{◌≡◌, ℕ, ◌+◌, ◌<◌, List, [], ◌∷◌, ◌++◌, length, take, drop, get_or, true, Option, Some, None, is_some}
 use Rattle.std.proofs.Common.{refl, sym, ap, ◌∙◌, map, arith, String, string_bytes}
 use Rattle.std.specs.List.{fold, flat_map, slice_get}
 use Rattle.std.proofs.lemmas.List.{take_more, take-append-drop, map-append, append-nil, length-map, length-take-le}

@@ -1,8 +1,8 @@
 -- What options take, by their names.
-use Rattle.std.proofs.Common.{◌≡◌, ℕ, Bool, true, false, List, [], ◌∷◌, ◌++◌, map, Option, Some, None, refl, sym, ap, ◌∙◌, cond}
-use Rattle.std.proofs.Common.{append_assoc, is_some}
-use Rattle.std.specs.Prelude.{◌||◌, ◌&&◌, not, bytes_eq, if◌then◌else◌}
-use Rattle.std.specs.List.{list_any, list_all}
+use Rattle.std.proofs.Common.{◌≡◌, ℕ, Bool, true, false, List, [], ◌∷◌, ◌++◌, map, Option, Some, None, refl, sym, ap, ◌∙◌}
+use Rattle.std.proofs.Common.{is_some}
+use Rattle.std.specs.Prelude.{◌||◌, not, bytes_eq, if◌then◌else◌}
+use Rattle.std.specs.List.{list_any}
 use Rattle.std.specs.Option.{option_map}
 use Rattle.std.proofs.lemmas.Slice.Eq.{bytes_eq-Decides}
 use Rattle.option_values.specs.BuiltIns.{BuiltIn, NamedKind, built_ins, built_in_kinds, built_in_kind, is_built_in, kind_among}
@@ -10,7 +10,7 @@ use Rattle.option_values.specs.Kinds.{Kind}
 use Rattle.option_values.specs.Values.{Value}
 use Rattle.option_file.specs.Declarations.{Declaration}
 use Rattle.option_file.specs.Lookups.{is_used, is_new, are_new_after, are_new, option_named}
-use Rattle.options.specs.Laws.{fits, fits_known, built_in_names, declared_names}
+use Rattle.options.specs.Laws.{fits_known, built_in_names, declared_names}
 use Rattle.options.specs.Verdicts.{declared_kind, kind_named, or_declared}
 use Rattle.options.proofs.Bools.{first, second}
 

@@ -1,13 +1,11 @@
 -- Each value that a place sets is one of its option's type.
-use Rattle.std.proofs.Common.{◌≡◌, ℕ, ◌+◌, Bool, true, false, List, [], ◌∷◌, ◌++◌, map, Option, Some, None, refl, sym, ap, ◌∙◌}
+use Rattle.std.proofs.Common.{◌≡◌, ℕ, ◌+◌, Bool, true, List, [], ◌∷◌, ◌++◌, map, Option, Some, None, refl, sym, ap, ◌∙◌}
 use Rattle.std.proofs.Common.{append_assoc}
-use Rattle.std.specs.Prelude.{◌&&◌}
 use Rattle.std.specs.List.{list_all, flat_map}
 use Rattle.lexer.specs.Bytes.{equals}
 use Rattle.machine_file.specs.Files as machine
 use Rattle.machine_file.specs.Texts.{Parts, cut_first}
 use Rattle.machine_file.specs.Values as written
-use Rattle.option_values.specs.BuiltIns.{built_in_kind}
 use Rattle.option_values.specs.Given.{value_of_given}
 use Rattle.option_values.specs.Kinds.{Kind}
 use Rattle.option_values.specs.Values.{Value}
@@ -19,11 +17,11 @@ use Rattle.options.specs.declared.known.Scope.{Scope}
 use Rattle.options.specs.declared.known.Scope.TheVariants.{BuiltIn, OfProject}
 use Rattle.options.specs.Defaults.{default_of}
 use Rattle.options.specs.Misfits.{MisfitData}
-use Rattle.options.specs.Laws.{fits, fits_known, has_fitting}
+use Rattle.options.specs.Laws.{fits_known, has_fitting}
 use Rattle.options.specs.Resolves.{verdicts}
 use Rattle.options.specs.Verdicts.{Verdict, Sets, Warns, Refuses, Default, Assignment, Entry, of_declaration, of_default, of_named, of_kind}
 use Rattle.options.specs.Verdicts.{of_value, misfit_of, unknown_at, of_parts, of_assignment, of_project_default, of_words, kind_in_scope}
-use Rattle.options.specs.Verdicts.{scope_of, of_entry, of_entries, of_section, kind_named, declared_kind}
+use Rattle.options.specs.Verdicts.{scope_of, of_entry, of_entries, of_section, kind_named}
 use Rattle.options.proofs.Bools.{both, first, second, all_append, all_map, all_flat_map}
 use Rattle.options.proofs.Fitting.{maybe_fits, given_fits, default_fits}
 use Rattle.options.proofs.KnownKinds.{declared_known, built_in_is_known, declared_is_known}

@@ -1,9 +1,10 @@
 -- A path and one below it.
-use Rattle.std.specs.Prelude.{ℕ, ◌-◌, Bool, ◌||◌, ◌==◌, List, ◌∷◌, ◌++◌, length, slice_index, if◌then◌else◌}
+use Rattle.std.specs.Prelude.{ℕ, ◌-◌, Bool, false, ◌||◌, ◌==◌, List, [], ◌∷◌, ◌++◌, length, slice_index, if◌then◌else◌}
 
--- whether the first byte is `/`
-abbrev pub begins_with_slash : List ℕ → Bool
-begins_with_slash s = slice_index s 0 == 47
+-- a path that begins with `/`
+abbrev pub is_absolute : List ℕ → Bool
+is_absolute [] = false
+is_absolute (b ∷ rest) = b == 47
 
 -- whether the last byte is `/`
 abbrev pub ends_with_slash : List ℕ → Bool
@@ -11,4 +12,4 @@ ends_with_slash s = slice_index s (length s - 1) == 47
 
 -- a path and one below it, with a `/` between them; the second alone where it is absolute or the first is empty
 abbrev pub path_below : List ℕ → List ℕ → List ℕ
-path_below s t = if length s == 0 || begins_with_slash t then t else (if ends_with_slash s then s ++ t else s ++ (47 ∷ t))
+path_below s t = if length s == 0 || is_absolute t then t else (if ends_with_slash s then s ++ t else s ++ (47 ∷ t))

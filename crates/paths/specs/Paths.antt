@@ -3,6 +3,7 @@ use Rattle.std.specs.Prelude.{ℕ, Bool, not, ◌&&◌, List, [], ◌∷◌, ◌
 use Rattle.std.specs.Prelude.{nat_eq, Option, Some, None, if◌then◌else◌, codes, length, drop, reverse}
 use Rattle.std.specs.List.{list_any, starts_with, slice_split, join_with_byte}
 use Rattle.std.specs.Str.{bytes_eq}
+use Rattle.paths.specs.Below.{is_absolute}
 
 -- a name in a folder; the root's is empty
 abbrev pub path_in : List ℕ → List ℕ → List ℕ
@@ -46,9 +47,6 @@ folder_named (Some folder) = Some (join_with_byte 47 (reverse folder))
 -- what stands behind a beginning
 abbrev pub rest_after : List ℕ → List ℕ → Option (List ℕ)
 rest_after front text = if starts_with nat_eq text front then Some (drop (length front) text) else None
-
-abbrev pub is_absolute : List ℕ → Bool
-is_absolute text = starts_with nat_eq text (codes "/")
 
 -- A text in a definition file of a folder as one that is relative to the root: what is absolute has to begin with the source root and a
 -- slash.

@@ -1,6 +1,6 @@
 //! A path and one below it, as the operator `/` and `join_paths()` put them together (the Reference manual's `join_paths`).
 ghost use Rattle.std.specs.Prelude.{◌≡◌, ◌++◌, ◌≤◌, IfOk, length, string_bytes};
-ghost use Rattle.paths.specs.Below.{begins_with_slash, ends_with_slash, path_below};
+ghost use Rattle.paths.specs.Below.{ends_with_slash, is_absolute, path_below};
 
 use std::alloc::{AllocError, Global};
 
@@ -10,7 +10,7 @@ pub fn before_path<'f>(folder: &'f str, path: &str) -> (&'f str, &'static str)
     ensures path { path_below folder.now path.now ≡ result.0.now ++ (result.1.now ++ path.now) }
     ensures slash { length result.1.now ≤ 1 }
 {
-    if folder.is_empty() || begins_with_slash(path) {
+    if folder.is_empty() || is_absolute(path) {
         ("", "")
     } else if ends_with_slash(folder) {
         (folder, "")
@@ -31,11 +31,11 @@ pub fn path_below(alloc: Global, folder: &str, path: &str) -> Result<String, All
     Ok(text)
 }
 
-/// Whether the text begins with `/`, as an absolute path does.
-pub fn begins_with_slash(text: &str) -> bool
-    ensures { result ≡ begins_with_slash text.now }
+/// Whether the path begins with `/`.
+pub fn is_absolute(path: &str) -> bool
+    ensures { result ≡ is_absolute path.now }
 {
-    matches!(text.as_bytes(), [b'/', ..])
+    matches!(path.as_bytes(), [b'/', ..])
 }
 
 /// Whether the text ends with `/`.

@@ -5,8 +5,9 @@ ghost use Rattle.std.specs.List.{join_with_byte, list_all};
 ghost use Rattle.std.specs.Str.{bytes_eq};
 ghost use Rattle.paths.specs.Folder.{folder_of, strings_of};
 ghost use Rattle.paths.specs.Paths.{follow_part, follow_parts, folder_below, folder_named, folder_path, folder_paths, from_root};
-ghost use Rattle.paths.specs.Paths.{is_below, leads_down, named, parts_of, path_in, paths_behind, rest_after, tree_path, tree_paths};
+ghost use Rattle.paths.specs.Paths.{is_below, leads_down, named, parts_of, path_in, rest_after, tree_path, tree_paths};
 
+use crate::below::is_absolute;
 use std::alloc::{AllocError, Global};
 
 // What stands behind the source root and a slash.
@@ -40,7 +41,6 @@ pub fn path_in(alloc: Global, folder: &str, name: &str) -> Result<String, AllocE
 }
 
 // A text of the folder as one that is relative to the root.
-#[tactic(auto, using(std::proofs::lemmas::Str::Pattern::starts_text))]
 fn from_root(
     alloc: Global,
     source_root: &str,
@@ -49,7 +49,7 @@ fn from_root(
 ) -> Result<Option<String>, AllocError>
     ensures { IfOk result (λ path. option_map string_bytes path ≡ from_root source_root.now folder.now text.now) }
 {
-    if text.starts_with("/") {
+    if is_absolute(text) {
         match below_root(source_root, text) {
             Some(rest) => Ok(Some(String::from_str(alloc, rest)?)),
             None => Ok(None),
@@ -86,8 +86,8 @@ fn followed(alloc: Global, text: &str) -> Result<Option<Vec<&str>>, AllocError>
     Ok(Some(folder))
 }
 
-// The parts with slashes between them.
-fn joined(alloc: Global, parts: &[&str]) -> Result<String, AllocError>
+/// The parts with slashes between them.
+pub fn join_parts(alloc: Global, parts: &[&str]) -> Result<String, AllocError>
     ensures { IfOk result (λ path. string_bytes path ≡ join_with_byte 47 (map (λ part. part.now) parts.now)) }
 {
     let mut path = String::new(alloc);
@@ -105,7 +105,7 @@ fn cleaned(alloc: Global, text: &str) -> Result<Option<String>, AllocError>
     ensures { IfOk result (λ path. option_map string_bytes path ≡ folder_named (follow_parts [] (parts_of text.now))) }
 {
     match followed(alloc, text)? {
-        Some(parts) => Ok(Some(joined(alloc, &parts)?)),
+        Some(parts) => Ok(Some(join_parts(alloc, &parts)?)),
         None => Ok(None),
     }
 }
@@ -115,7 +115,7 @@ fn cleaned_name(alloc: Global, text: &str) -> Result<Option<String>, AllocError>
     ensures { IfOk result (λ path. option_map string_bytes path ≡ named (follow_parts [] (parts_of text.now))) }
 {
     match followed(alloc, text)? {
-        Some(parts) if !parts.is_empty() => Ok(Some(joined(alloc, &parts)?)),
+        Some(parts) if !parts.is_empty() => Ok(Some(join_parts(alloc, &parts)?)),
         _ => Ok(None),
     }
 }
@@ -173,7 +173,7 @@ fn leads_down(text: &str) -> bool
 fn is_below(text: &str) -> bool
     ensures { result ≡ is_below text.now }
 {
-    text != "" && !text.starts_with("/") && leads_down(text)
+    text != "" && !is_absolute(text) && leads_down(text)
 }
 
 /// The path of the folder below a folder that a text names. None where the text is empty, absolute or has a part `..`.

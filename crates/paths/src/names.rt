@@ -4,11 +4,18 @@ ghost use Rattle.paths.specs.Names.{has, has_slash, is_file_name, plain_name, be
 
 use std::alloc::{AllocError, Global};
 
+// Whether a byte of the text is this one.
+fn has(text: &str, byte: u8) -> bool
+    ensures { result ≡ has byte text.now }
+{
+    text.as_bytes().iter().any(|b| *b == byte)
+}
+
 /// Whether there is a `/` in the text.
 pub fn has_slash(text: &str) -> bool
     ensures { result ≡ has_slash text.now }
 {
-    text.as_bytes().iter().any(|byte| *byte == b'/')
+    has(text, b'/')
 }
 
 /// Whether a file may have the name: it is not empty, `.` or `..`, and has no `/`.
@@ -29,12 +36,6 @@ pub fn plain_name(path: &str) -> &str
     name
 }
 
-fn has_dot(text: &str) -> bool
-    ensures { result ≡ has 46 text.now }
-{
-    text.as_bytes().iter().any(|byte| *byte == b'.')
-}
-
 // What stands before the last dot, or all where there is none.
 fn before_dot(alloc: Global, name: &str) -> Result<String, AllocError>
     ensures { IfOk result (λ s. string_bytes s ≡ before_dot name.now) }
@@ -43,7 +44,7 @@ fn before_dot(alloc: Global, name: &str) -> Result<String, AllocError>
     let mut rest = name;
     while let Some((part, behind)) = rest.split_once('.') {
         front.push_str(part)?;
-        if !has_dot(behind) {
+        if !has(behind, b'.') {
             return Ok(front);
         }
         front.push_str(".")?;

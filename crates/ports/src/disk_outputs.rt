@@ -1,7 +1,6 @@
-ghost use Rattle.std.specs.Prelude.{◌≡◌, ◌≤◌, ◌<◌, [], Some, false, length, is_ok, IfOk, OnOk, string_bytes, if◌then◌else◌};
+ghost use Rattle.std.specs.Prelude.{◌≡◌, ◌≤◌, ◌<◌, Some, length, IfOk, string_bytes, if◌then◌else◌};
 ghost use Rattle.std.specs.Option.{option_map};
 ghost use Rattle.ports.specs.DiskOutputs.{disk_state, name_of};
-ghost use Rattle.ports.specs.Outputs.{OutputState};
 
 use crate::disk_file::{DiskOutput, begin_output, finish_output};
 use crate::disk_folder::DiskFolder;

@@ -1,5 +1,7 @@
-ghost use Rattle.std.specs.Prelude.{◌≡◌, ◌+◌, ◌-◌, ◌^◌, ◌≤◌, ◌<◌, ◌++◌, ◌∷◌, [], ◌||◌, ◌&&◌, IsTrue, true, IfOk, MatchResult, is_err, is_ok, if◌then◌else◌, length, map, min, nat_lt, vec_len, vec_capacity};
-ghost use Rattle.ports.specs.Slots.{events_at, open_at, are_within, is_open_within, is_within, name_at, event_at, event_now, is_full, room_of, slot_of};
+ghost use Rattle.std.specs.Prelude.{◌≡◌, ◌+◌, ◌-◌, ◌^◌, ◌≤◌, ◌<◌, ◌++◌, ◌∷◌, [], ◌||◌, ◌&&◌, IsTrue, true, IfOk, MatchResult, is_err};
+ghost use Rattle.std.specs.Prelude.{is_ok, if◌then◌else◌, length, map, min, nat_lt, vec_len, vec_capacity};
+ghost use Rattle.ports.specs.Slots.{events_at, open_at, are_within, is_open_within, is_within, name_at, event_at, event_now, is_full};
+ghost use Rattle.ports.specs.Slots.{room_of, slot_of};
 ghost use Rattle.ports.specs.Outputs.{taken};
 ghost use Rattle.ports.specs.Plan.{is_due, is_output_call};
 
@@ -137,7 +139,6 @@ pub struct MemOutputs {
 
 impl MemOutputs {
     ghost use Rattle.ports.specs.MemOutputs.{mem_outputs_plan, mem_outputs_room, mem_outputs_seen};
-    ghost use Rattle.ports.specs.Outputs.{OutputState};
     ghost use Rattle.ports.specs.Plan.{planned};
     ghost use Rattle.ports.specs.declared.plan.OutputCall.TheVariants.{Any};
     ghost use Rattle.std.specs.Prelude.{slice_get};

@@ -3,7 +3,7 @@ ghost use Rattle.std.specs.List.{list_any};
 ghost use Rattle.std.specs.Option.{option_map};
 ghost use Rattle.std.specs.Str.{bytes_eq};
 ghost use Rattle.indexmap.specs.IndexSet.{contains_text};
-ghost use Rattle.ports.specs.Tree.{TreeState, Reads, SameFiles, file_at, bytes_at};
+ghost use Rattle.ports.specs.Tree.{Reads, SameFiles, file_at};
 ghost use Rattle.ports.specs.MemTree.{contents, mem_tree_knows, mem_tree_plan, mem_tree_seen};
 ghost use Rattle.ports.specs.Plan.{is_due, is_tree_call, number_after, planned};
 ghost use Rattle.ports.specs.declared.plan.TreeCall.TheVariants.{Any};

@@ -1,7 +1,7 @@
 #![tactic(auto, unfolding(crate::specs::Outputs::name_after, crate::specs::Outputs::told, crate::specs::Outputs::puts, crate::specs::Outputs::logs, crate::specs::Outputs::faults))]
 
 ghost use Rattle.ports.specs.Endings.{HasRoom, ended};
-ghost use Rattle.ports.specs.Outputs.{OutputState, IsOpen, Writes, puts, logs, faults};
+ghost use Rattle.ports.specs.Outputs.{IsOpen, Writes, puts, logs, faults};
 
 use crate::{DeviceFault, Outputs};
 

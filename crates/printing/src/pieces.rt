@@ -1,7 +1,7 @@
 //! What a value is printed as, piece by piece.
 
 ghost use Rattle.std.specs.Prelude.{◌≡◌, ◌++◌, ◌∷◌, [], OnOk, IfOk, MatchOption};
-ghost use Rattle.data.specs.View.{data_of, items_of, entries_of};
+ghost use Rattle.data.specs.Prelude.{data_of, entries_of, items_of};
 ghost use Rattle.printing.specs.Printed.{shown};
 ghost use Rattle.printing.specs.Pieces.{pieces, inside_pieces, item_pieces, entry_pieces, whole};
 ghost use Rattle.printing.specs.Parts.{part_pieces, piece_bytes};

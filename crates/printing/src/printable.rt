@@ -1,7 +1,7 @@
 //! Which values have a printed text.
 
 ghost use Rattle.std.specs.Prelude.{◌≡◌};
-ghost use Rattle.data.specs.View.{data_of, items_of};
+ghost use Rattle.data.specs.Prelude.{data_of, items_of};
 ghost use Rattle.printing.specs.Printed.{is_printable, are_printable};
 
 use data::Value;

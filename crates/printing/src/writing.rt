@@ -1,8 +1,7 @@
 //! Values printed into texts.
 
 ghost use Rattle.std.specs.Prelude.{◌≡◌, true, false, IfOk, MatchOption, Ok};
-ghost use Rattle.data.specs.Limits.{Appends};
-ghost use Rattle.data.specs.View.{data_of};
+ghost use Rattle.data.specs.Prelude.{Appends, data_of};
 ghost use Rattle.printing.specs.Printed.{is_plain, printed, shown};
 ghost use Rattle.printing.specs.Parts.{piece_bytes};
 

@@ -1,14 +1,13 @@
 //! What a target may be.
-ghost use Rattle.std.specs.Prelude.{◌≡◌, ◌+◌, min, IfOk, not, ◌&&◌, ◌||◌, string_bytes, option_map};
+ghost use Rattle.std.specs.Prelude.{◌≡◌, ◌+◌, min, IfOk, ◌&&◌, ◌||◌, string_bytes, option_map};
 ghost use Rattle.std.specs.List.{list_any, list_all};
 ghost use Rattle.basics.specs.Limits.{items};
 ghost use Rattle.edge.specs.Texts.{texts, holds as is_held};
+ghost use Rattle.paths.specs.Names.{has_slash, is_file_name};
 ghost use Rattle.targets.specs.LinkedViews.{linked_views};
 ghost use Rattle.targets.specs.View.{source_view, lists_view, build_view, custom_view, target_view};
-ghost use Rattle.targets.specs.Libraries.{links_libraries as links_all};
-ghost use Rattle.targets.specs.Sources.{is_c as is_c_path, has_foreign};
+ghost use Rattle.targets.specs.Sources.{is_c as is_c_path};
 ghost use Rattle.project.specs.World.{reserved, is_made_in};
-ghost use Rattle.paths.specs.Names.{has_slash, is_file_name};
 ghost use Rattle.project.specs.Adding.{begins_with_dash, is_folder, sources_of, is_made_source, is_present};
 ghost use Rattle.project.specs.Adding.{is_target_name};
 ghost use Rattle.project.specs.Adding.{has_c_in, has_c, names_fit, optional_file_name, build_fits, custom_fits, length_in, length_of};

@@ -1,5 +1,5 @@
-ghost use Rattle.std.specs.Prelude.{◌≡◌, ℕ, ◌<◌, [], ◌++◌, ◌&&◌, not, true, map, length, IfOk, OnOk, OnErr, Result, Ok, string_bytes};
-ghost use Rattle.std.specs.Prelude.{slice_get, if◌then◌else◌};
+ghost use Rattle.std.specs.Prelude.{◌≡◌, ℕ, ◌<◌, [], ◌++◌, ◌&&◌, not, true, map, IfOk, OnOk, OnErr, Result, Ok, string_bytes};
+ghost use Rattle.std.specs.Prelude.{if◌then◌else◌};
 ghost use Rattle.edge.specs.Texts.{texts};
 ghost use Rattle.targets.specs.LinkedViews.{linked_views};
 ghost use Rattle.targets.specs.View.{facts_view, surroundings_view, target_view};

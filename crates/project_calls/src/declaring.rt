@@ -1,13 +1,9 @@
 //! The option file of a project.
-ghost use Rattle.std.specs.Prelude.{◌≡◌};
-ghost use Rattle.std.specs.Str.{is_utf8};
-ghost use Rattle.grammar.specs.Parsed.{parsed};
 ghost use Rattle.grammar.specs.Tree.{file_of};
 ghost use Rattle.option_file.specs.Declares.{file_declares};
 ghost use Rattle.option_file.specs.View.{options_in};
-ghost use Rattle.world.specs.Answering.{Carries, HasRoom};
-ghost use Rattle.world.specs.Caller.{state_of};
 ghost use Rattle.definition_files.specs.FindingView.{found_in};
+ghost use Rattle.world.specs.Prelude.{Does, MayFail};
 ghost use Rattle.project_calls.specs.OptionFile.{declared_at, declared_in, declared_or_fault, option_file, option_file_by, text_declares};
 ghost use Rattle.project_calls.specs.OptionFile.{bytes_declare};
 ghost use Rattle.project_calls.specs.OptionFileView.{file_in};
@@ -34,8 +30,7 @@ fn declared_in_file<T: Tree, O: Outputs>(
     caller: &mut Caller<'_, T, O>,
     file: &File<'_>,
 ) -> Result<Declared, Stop>
-    ensures { Carries options_in (declared_or_fault (file_declares (file_of file.now))) (state_of T.seen O.seen caller.old) result
-        (state_of T.seen O.seen caller.new) }
+    ensures { Does T.seen O.seen options_in (declared_or_fault (file_declares (file_of file.now))) caller.old result caller.new }
 {
     match declare(caller.alloc, file)? {
         Ok(declared) => Ok(declared),
@@ -51,8 +46,7 @@ fn declared_in_text<T: Tree, O: Outputs>(
     caller: &mut Caller<'_, T, O>,
     text: &str,
 ) -> Result<Declared, Stop>
-    ensures { Carries options_in (text_declares text.now) (state_of T.seen O.seen caller.old) result
-        (state_of T.seen O.seen caller.new) }
+    ensures { Does T.seen O.seen options_in (text_declares text.now) caller.old result caller.new }
 {
     match parse(caller.alloc, text) {
         Ok(file) => declared_in_file(caller, &file),
@@ -69,8 +63,7 @@ fn declared_in_bytes<T: Tree, O: Outputs>(
     caller: &mut Caller<'_, T, O>,
     bytes: &[u8],
 ) -> Result<Declared, Stop>
-    ensures { Carries options_in (bytes_declare bytes.now) (state_of T.seen O.seen caller.old) result
-        (state_of T.seen O.seen caller.new) }
+    ensures { Does T.seen O.seen options_in (bytes_declare bytes.now) caller.old result caller.new }
 {
     match str::from_utf8(bytes) {
         Ok(text) => declared_in_text(caller, text),
@@ -86,8 +79,7 @@ fn declared_in<T: Tree, O: Outputs>(
     caller: &mut Caller<'_, T, O>,
     found: &Found,
 ) -> Result<Declared, Stop>
-    ensures { Carries options_in (declared_in (found_in found.now)) (state_of T.seen O.seen caller.old) result
-        (state_of T.seen O.seen caller.new) }
+    ensures { Does T.seen O.seen options_in (declared_in (found_in found.now)) caller.old result caller.new }
 {
     match found {
         Found::Nothing => Ok(Declared::empty(caller.alloc)),
@@ -102,8 +94,7 @@ fn declared_at<T: Tree, O: Outputs>(
     path: &'static str,
     found: &Found,
 ) -> Result<OptionFile, Stop>
-    ensures { Carries file_in (declared_at path.entry.now (found_in found.now)) (state_of T.seen O.seen caller.old) result
-        (state_of T.seen O.seen caller.new) }
+    ensures { Does T.seen O.seen file_in (declared_at path.entry.now (found_in found.now)) caller.old result caller.new }
 {
     let place = Place {
         file: String::from_str(caller.alloc, path)?,
@@ -121,9 +112,8 @@ fn option_file_by<T: Tree, O: Outputs>(
     caller: &mut Caller<'_, T, O>,
     found: &Found,
 ) -> Result<OptionFile, Stop>
-    requires { HasRoom (state_of T.seen O.seen caller.old) }
-    ensures { Carries file_in (option_file_by (found_in found.now)) (state_of T.seen O.seen caller.old) result
-        (state_of T.seen O.seen caller.new) }
+    requires { MayFail T.seen O.seen caller.old }
+    ensures { Does T.seen O.seen file_in (option_file_by (found_in found.now)) caller.old result caller.new }
 {
     match found {
         Found::Nothing => {
@@ -137,8 +127,8 @@ fn option_file_by<T: Tree, O: Outputs>(
 
 /// The option file: `meson.options` and, where that is absent, `meson_options.txt`. E22 at its first line, E1 to E4, E15 and E23.
 pub fn option_file<T: Tree, O: Outputs>(caller: &mut Caller<'_, T, O>) -> Result<OptionFile, Stop>
-    requires { HasRoom (state_of T.seen O.seen caller.old) }
-    ensures { Carries file_in option_file (state_of T.seen O.seen caller.old) result (state_of T.seen O.seen caller.new) }
+    requires { MayFail T.seen O.seen caller.old }
+    ensures { Does T.seen O.seen file_in option_file caller.old result caller.new }
 {
     let found = find(caller, "meson.options")?;
     option_file_by(caller, &found)

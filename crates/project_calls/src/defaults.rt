@@ -1,11 +1,10 @@
 //! The keyword `default_options` of `project`.
 ghost use Rattle.std.specs.Prelude.{◌≡◌, ◌++◌, IfOk, map, option_map};
-ghost use Rattle.arguments.specs.Arguments.{arguments_data};
 ghost use Rattle.data.specs.Data.{entry_values, keys_in};
-ghost use Rattle.data.specs.View.{data_of, items_of};
 ghost use Rattle.option_values.specs.View.{strings_in};
 ghost use Rattle.options.specs.Verdicts.{Assignment};
 ghost use Rattle.options.specs.View.{defaults_in};
+ghost use Rattle.world.specs.Prelude.{arguments_data, items_of};
 ghost use Rattle.project_calls.specs.Defaults.{dictionary_given, entries_given, entry_defaults, first_unprinted};
 ghost use Rattle.project_calls.specs.Defaults.{printed_all};
 ghost use Rattle.project_calls.specs.DefaultsView.{answer_in};

@@ -1,5 +1,5 @@
 //! What edges take from the options.
-ghost use Rattle.std.specs.Prelude.{◌≡◌, IfOk, map, string_bytes};
+ghost use Rattle.std.specs.Prelude.{◌≡◌, IfOk};
 ghost use Rattle.edge.specs.Texts.{texts};
 ghost use Rattle.options.specs.Resolves.{value_named};
 ghost use Rattle.options.specs.View.{options_in};

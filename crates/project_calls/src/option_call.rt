@@ -1,9 +1,6 @@
 //! `get_option`.
 ghost use Rattle.std.specs.Prelude.{option_map};
-ghost use Rattle.arguments.specs.Arguments.{arguments_data};
-ghost use Rattle.data.specs.View.{data_of};
-ghost use Rattle.world.specs.Answering.{Carries};
-ghost use Rattle.world.specs.Caller.{state_of};
+ghost use Rattle.world.specs.Prelude.{Does, arguments_data, data_of};
 ghost use Rattle.project_calls.specs.GetOption.{get_option};
 
 use crate::values::as_data;
@@ -18,8 +15,7 @@ pub fn get_option<T: Tree, O: Outputs>(
     caller: &Caller<'_, T, O>,
     arguments: &Arguments,
 ) -> Result<Option<Value>, Stop>
-    ensures { Carries (option_map data_of) (get_option (arguments_data arguments.now)) (state_of T.seen O.seen caller.now) result
-        (state_of T.seen O.seen caller.now) }
+    ensures { Does T.seen O.seen (option_map data_of) (get_option (arguments_data arguments.now)) caller.now result caller.now }
 {
     let name = arguments.text_at(0);
     match caller.store.option(name) {

@@ -4,8 +4,7 @@ ghost use Rattle.edge.specs.Texts.{texts};
 ghost use Rattle.machine_file.specs.Questions.{Key, answer_to};
 ghost use Rattle.machine_file.specs.Readers.{words_said};
 ghost use Rattle.machine_file.specs.View.{machine_in, value_in};
-ghost use Rattle.world.specs.Answering.{Carries};
-ghost use Rattle.world.specs.Caller.{state_of};
+ghost use Rattle.world.specs.Prelude.{Does};
 ghost use Rattle.project_calls.specs.Programs.{program, program_by, programs};
 ghost use Rattle.project_calls.specs.ProgramsView.{programs_in};
 
@@ -54,8 +53,7 @@ fn program<T: Tree, O: Outputs>(
     name: &str,
     default: &str,
 ) -> Result<Vec<String>, Stop>
-    ensures { Carries (λ v. texts v.items) (program name.now default.now) (state_of T.seen O.seen caller.old) result
-        (state_of T.seen O.seen caller.new) }
+    ensures { Does T.seen O.seen (λ v. texts v.items) (program name.now default.now) caller.old result caller.new }
 {
     caller.ask_key("binaries", name)?;
     let words = words_or(caller.alloc, caller.store.machine(), name, default)?;
@@ -64,7 +62,7 @@ fn program<T: Tree, O: Outputs>(
 
 /// The compiler and the archiver, for which the machine file is asked one after the other.
 pub fn ask_programs<T: Tree, O: Outputs>(caller: &mut Caller<'_, T, O>) -> Result<Programs, Stop>
-    ensures { Carries programs_in programs (state_of T.seen O.seen caller.old) result (state_of T.seen O.seen caller.new) }
+    ensures { Does T.seen O.seen programs_in programs caller.old result caller.new }
 {
     let compiler = program(caller, "c", "cc")?;
     let archiver = program(caller, "ar", "ar")?;

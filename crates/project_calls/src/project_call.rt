@@ -1,14 +1,10 @@
 //! `project`.
 ghost use Rattle.std.specs.Prelude.{◌≡◌, ◌++◌, codes, map, option_map, string_bytes, unwrap_or, IfOk};
 ghost use Rattle.data.specs.Data.{text_in};
-ghost use Rattle.data.specs.View.{data_of};
-ghost use Rattle.arguments.specs.Arguments.{arguments_data};
 ghost use Rattle.option_values.specs.View.{strings_in};
 ghost use Rattle.options.specs.View.{options_in, outcome_in, resolved_in};
 ghost use Rattle.targets.specs.View.{facts_view};
-ghost use Rattle.world.specs.Answering.{Carries, HasRoom};
-ghost use Rattle.world.specs.Caller.{state_of};
-ghost use Rattle.world.specs.Store.{world_of};
+ghost use Rattle.world.specs.Prelude.{Does, MayFail, arguments_data, data_of, world_of};
 ghost use Rattle.project_calls.specs.DefaultsView.{strings_of};
 ghost use Rattle.project_calls.specs.Project.{begin, c_alone, defaults_printed, facts_of, first_project, languages_taken, other_language};
 ghost use Rattle.project_calls.specs.Project.{project, settled, texts_behind, version_of, warned};
@@ -46,8 +42,7 @@ fn refuse_other<T: Tree, O: Outputs>(
     caller: &Caller<'_, T, O>,
     language: Option<&str>,
 ) -> Result<(), Stop>
-    ensures { Carries (λ u. u) (c_alone (option_map (λ l. l.now) language.entry)) (state_of T.seen O.seen caller.now) result
-        (state_of T.seen O.seen caller.now) }
+    ensures { Does T.seen O.seen (λ u. u) (c_alone (option_map (λ l. l.now) language.entry)) caller.now result caller.now }
 {
     match language {
         None => Ok(()),
@@ -57,9 +52,8 @@ fn refuse_other<T: Tree, O: Outputs>(
 
 // Warns the user of names that no option has.
 fn warn<T: Tree, O: Outputs>(caller: &mut Caller<'_, T, O>, names: &[String]) -> Result<(), Stop>
-    requires { HasRoom (state_of T.seen O.seen caller.old) }
-    ensures { Carries (λ u. u) (warned (strings_in names.now)) (state_of T.seen O.seen caller.old) result
-        (state_of T.seen O.seen caller.new) }
+    requires { MayFail T.seen O.seen caller.old }
+    ensures { Does T.seen O.seen (λ u. u) (warned (strings_in names.now)) caller.old result caller.new }
 {
     for name in names {
         let line = warning_of(caller.alloc, name.as_str())?;
@@ -84,8 +78,7 @@ fn settle<T: Tree, O: Outputs>(
     path: &str,
     outcome: Result<Options, OptionFault>,
 ) -> Result<Options, Stop>
-    ensures { Carries options_in (settled path.now (outcome_in outcome) caller.now.store.now.line) (state_of T.seen O.seen caller.now)
-        result (state_of T.seen O.seen caller.now) }
+    ensures { Does T.seen O.seen options_in (settled path.now (outcome_in outcome) caller.now.store.now.line) caller.now result caller.now }
 {
     match outcome {
         Ok(options) => Ok(options),
@@ -148,9 +141,9 @@ fn begin<T: Tree, O: Outputs>(
     path: &str,
     resolved: Resolved,
 ) -> Result<(), Stop>
-    requires { HasRoom (state_of T.seen O.seen caller.old) }
-    ensures { Carries (λ u. u) (begin (arguments_data arguments.now) path.now (resolved_in resolved)) (state_of T.seen O.seen caller.old)
-        result (state_of T.seen O.seen caller.new) }
+    requires { MayFail T.seen O.seen caller.old }
+    ensures { Does T.seen O.seen (λ u. u) (begin (arguments_data arguments.now) path.now (resolved_in resolved))
+        caller.old result caller.new }
 {
     let Resolved { unknown, outcome } = resolved;
     warn(caller, &unknown)?;
@@ -166,8 +159,7 @@ fn printed_defaults<T: Tree, O: Outputs>(
     caller: &Caller<'_, T, O>,
     arguments: &Arguments,
 ) -> Result<Vec<String>, Stop>
-    ensures { Carries strings_of (defaults_printed (arguments_data arguments.now)) (state_of T.seen O.seen caller.now) result
-        (state_of T.seen O.seen caller.now) }
+    ensures { Does T.seen O.seen strings_of (defaults_printed (arguments_data arguments.now)) caller.now result caller.now }
 {
     let (keys, values) = (keys_given(arguments), values_given(arguments));
     let answer = printed_all(caller.alloc, values)?;
@@ -185,8 +177,7 @@ fn require_c<T: Tree, O: Outputs>(
     caller: &Caller<'_, T, O>,
     arguments: &Arguments,
 ) -> Result<(), Stop>
-    ensures { Carries (λ u. u) (languages_taken (texts_behind (arguments_data arguments.now))) (state_of T.seen O.seen caller.now)
-        result (state_of T.seen O.seen caller.now) }
+    ensures { Does T.seen O.seen (λ u. u) (languages_taken (texts_behind (arguments_data arguments.now))) caller.now result caller.now }
 {
     let languages = arguments.texts_behind(caller.alloc, 1)?;
     check_languages(caller, &languages)
@@ -196,8 +187,7 @@ fn check_languages<T: Tree, O: Outputs>(
     caller: &Caller<'_, T, O>,
     languages: &[&str],
 ) -> Result<(), Stop>
-    ensures { Carries (λ u. u) (languages_taken (map (λ l. l.now) languages.now)) (state_of T.seen O.seen caller.now) result
-        (state_of T.seen O.seen caller.now) }
+    ensures { Does T.seen O.seen (λ u. u) (languages_taken (map (λ l. l.now) languages.now)) caller.now result caller.now }
 {
     match languages {
         [] => caller.refuse(Refusal::ProjectCall, "'project': names no language"),
@@ -210,9 +200,8 @@ fn first_project<T: Tree, O: Outputs>(
     caller: &mut Caller<'_, T, O>,
     arguments: &Arguments,
 ) -> Result<Option<Value>, Stop>
-    requires { HasRoom (state_of T.seen O.seen caller.old) }
-    ensures { Carries (option_map data_of) (first_project (arguments_data arguments.now)) (state_of T.seen O.seen caller.old) result
-        (state_of T.seen O.seen caller.new) }
+    requires { MayFail T.seen O.seen caller.old }
+    ensures { Does T.seen O.seen (option_map data_of) (first_project (arguments_data arguments.now)) caller.old result caller.new }
 {
     let printed = printed_defaults(caller, arguments)?;
     require_c(caller, arguments)?;
@@ -227,9 +216,8 @@ pub fn project<T: Tree, O: Outputs>(
     caller: &mut Caller<'_, T, O>,
     arguments: &Arguments,
 ) -> Result<Option<Value>, Stop>
-    requires { HasRoom (state_of T.seen O.seen caller.old) }
-    ensures { Carries (option_map data_of) (project (arguments_data arguments.now)) (state_of T.seen O.seen caller.old) result
-        (state_of T.seen O.seen caller.new) }
+    requires { MayFail T.seen O.seen caller.old }
+    ensures { Does T.seen O.seen (option_map data_of) (project (arguments_data arguments.now)) caller.old result caller.new }
 {
     let is_begun = caller.store.is_begun();
     caller.need(

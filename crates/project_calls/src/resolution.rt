@@ -1,16 +1,13 @@
 //! What the options of a project come to.
 ghost use Rattle.std.specs.Prelude.{◌≡◌, IfOk, map};
-ghost use Rattle.arguments.specs.Arguments.{arguments_data};
 ghost use Rattle.edge.specs.Texts.{texts};
 ghost use Rattle.machine_file.specs.Questions.{answer_to, plain};
 ghost use Rattle.machine_file.specs.QuestionsView.{topic_in};
 ghost use Rattle.option_file.specs.View.{options_in as declared_in};
 ghost use Rattle.option_values.specs.View.{strings_in};
 ghost use Rattle.options.specs.View.{resolved_in};
-ghost use Rattle.world.specs.Answering.{Carries};
-ghost use Rattle.world.specs.Caller.{state_of};
+ghost use Rattle.world.specs.Prelude.{Does, arguments_data, world_of};
 ghost use Rattle.world.specs.Deed.{consult};
-ghost use Rattle.world.specs.Store.{world_of};
 ghost use Rattle.project_calls.specs.Resolution.{built_in_names, declared_names, options_topic, resolution, resolution_by};
 
 use crate::defaults::{defaults, keys_given};
@@ -67,9 +64,8 @@ fn ask_options<T: Tree, O: Outputs>(
     caller: &mut Caller<'_, T, O>,
     declared: &Declared,
 ) -> Result<(), Stop>
-    ensures deed { Carries (λ u. answer_to caller.old.store.now.machine (options_topic (declared_in declared.now)))
-        (consult (plain (options_topic (declared_in declared.now))))
-        (state_of T.seen O.seen caller.old) result (state_of T.seen O.seen caller.new) }
+    ensures deed { Does T.seen O.seen (λ u. answer_to caller.old.store.now.machine (options_topic (declared_in declared.now)))
+        (consult (plain (options_topic (declared_in declared.now)))) caller.old result caller.new }
     ensures machine { caller.new.store.now.machine ≡ caller.old.store.now.machine }
 {
     let topic = options_topic(caller.alloc, declared)?;
@@ -102,8 +98,8 @@ pub fn resolution<T: Tree, O: Outputs>(
     printed: &[String],
     declared: &Declared,
 ) -> Result<Resolved, Stop>
-    ensures { Carries resolved_in (resolution (arguments_data arguments.now) (strings_in printed.now) (declared_in declared.now))
-        (state_of T.seen O.seen caller.old) result (state_of T.seen O.seen caller.new) }
+    ensures { Does T.seen O.seen resolved_in
+        (resolution (arguments_data arguments.now) (strings_in printed.now) (declared_in declared.now)) caller.old result caller.new }
 {
     ask_options(caller, declared)?;
     let resolved = resolved_by(caller.alloc, arguments, printed, declared, caller.store)?;

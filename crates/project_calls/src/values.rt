@@ -1,7 +1,7 @@
 //! The values of options as values of the language.
 ghost use Rattle.std.specs.Prelude.{◌≡◌, IfOk, map, string_bytes};
-ghost use Rattle.data.specs.Tables.{Answers};
 ghost use Rattle.option_values.specs.View.{value_in};
+ghost use Rattle.world.specs.Prelude.{Answers};
 ghost use Rattle.project_calls.specs.GetOption.{as_data, feature_of};
 ghost use Rattle.operators.specs.TextLists.{text_list};
 

@@ -15,7 +15,7 @@ use Rattle.named_sources.specs.Unnamed.{first_unnamed, unless_named}
 use Rattle.resources.specs.Testing.{environment_breach}
 use Rattle.resource_calls.specs.Destinations.{FoldersData, install_of}
 use Rattle.resource_calls.specs.OwnLists.{libraries_of}
-use Rattle.resource_calls.specs.Place.{PlaceData}
+use Rattle.world.specs.Here.{HereData}
 use Rattle.resource_calls.specs.TestCommands.{command_given}
 use Rattle.resource_calls.specs.declared.destinations.Sort.{Sort}
 
@@ -45,20 +45,20 @@ install_breach folders sort a = named_breach folders sort a (sources_of folders.
 
 -- ---- lists of a dependency
 
-abbrev pub library_breach : PlaceData → ArgumentsData → Option (List ℕ) → Breach
-library_breach place a None = (rules.TakesLibraries, codes "link_with")
-library_breach place a (Some libraries) =
-    (rules.NamesFile, first_unnamed (source_of place.source_root place.folder) (leaves_named (codes "sources") a))
+abbrev pub library_breach : HereData → ArgumentsData → Option (List ℕ) → Breach
+library_breach here a None = (rules.TakesLibraries, codes "link_with")
+library_breach here a (Some libraries) =
+    (rules.NamesFile, first_unnamed (source_of here.source_root here.folder) (leaves_named (codes "sources") a))
 
-abbrev pub folder_breach : PlaceData → ArgumentsData → Option (List Path) → Breach
-folder_breach place a None =
-    (rules.NamesFolder, first_unnamed (folders_in place.source_root place.folder) (leaves_named (codes "include_directories") a))
-folder_breach place a (Some folders) = library_breach place a (libraries_of place.earlier (leaves_named (codes "link_with") a))
+abbrev pub folder_breach : HereData → ArgumentsData → Option (List Path) → Breach
+folder_breach here a None =
+    (rules.NamesFolder, first_unnamed (folders_in here.source_root here.folder) (leaves_named (codes "include_directories") a))
+folder_breach here a (Some folders) = library_breach here a (libraries_of here.earlier (leaves_named (codes "link_with") a))
 
 -- a text that names no folder, what is no library, or else a text that names no file
-abbrev pub lists_breach : PlaceData → ArgumentsData → Breach
-lists_breach place a =
-    folder_breach place a (folders_of place.source_root place.folder (leaves_named (codes "include_directories") a))
+abbrev pub lists_breach : HereData → ArgumentsData → Breach
+lists_breach here a =
+    folder_breach here a (folders_of here.source_root here.folder (leaves_named (codes "include_directories") a))
 
 -- ---- what a test runs
 
@@ -76,5 +76,5 @@ command_breach a None = (program_rule (argument 1 a), text_at 0 a)
 command_breach a (Some command) = environment_breach a
 
 -- the name of a test that can't run, or else what says no variable
-abbrev pub run_breach : PlaceData → ArgumentsData → Breach
-run_breach place a = command_breach a (command_given place a)
+abbrev pub run_breach : HereData → ArgumentsData → Breach
+run_breach here a = command_breach a (command_given here a)

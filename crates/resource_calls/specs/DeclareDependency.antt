@@ -11,13 +11,13 @@ use Rattle.resource_calls.specs.Breaches.{lists_breach}
 use Rattle.resource_calls.specs.JoinedLists.{joined_dependency}
 use Rattle.resource_calls.specs.NamedFiles.{files_required}
 use Rattle.resource_calls.specs.OwnLists.{OwnData, own_lists}
-use Rattle.resource_calls.specs.Place.{place_of}
+use Rattle.world.specs.Here.{here_of}
 
 -- what the call lists of its own: E9 where it says none
 unfoldable pub said_lists : ArgumentsData → Deed OwnData
 said_lists a = do
   facts ← read
-  ruled (own_lists (place_of facts) a) (lists_breach (place_of facts) a).0 (lists_breach (place_of facts) a).1
+  ruled (own_lists (here_of facts) a) (lists_breach (here_of facts) a).0 (lists_breach (here_of facts) a).1
 
 -- the dependency of these lists and those of its dependencies: E22 where one of them is too long
 unfoldable pub joined_given : ArgumentsData → OwnData → Deed Dependency

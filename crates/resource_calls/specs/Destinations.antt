@@ -1,5 +1,5 @@
 -- Where files go when they are installed.
-use Rattle.std.specs.Prelude.{List, [], ◌∷◌, ◌++◌, Option, Some, None, option_map, codes}
+use Rattle.std.specs.Prelude.{List, Option, Some, None, option_map, codes}
 use Rattle.arguments.specs.Arguments.{ArgumentsData}
 use Rattle.arguments.specs.Given.{text_given, text_of}
 use Rattle.arguments.specs.Leaves.{leaves_from}

@@ -8,8 +8,6 @@ pub mod JoinedLists
 pub mod NamedFiles
 pub mod OwnLists
 pub mod OwnListsView
-pub mod Place
-pub mod PlaceView
 pub mod Programs
 pub mod Required
 pub mod Rows

@@ -10,7 +10,7 @@ use Rattle.named_sources.specs.Folders.{folders_of}
 use Rattle.named_sources.specs.Libraries.{numbers_of}
 use Rattle.named_sources.specs.Sources.{NamedData, sources_of}
 use Rattle.targets.specs.Libraries.{LinkedData, is_library_at}
-use Rattle.resource_calls.specs.Place.{PlaceData}
+use Rattle.world.specs.Here.{HereData}
 
 -- the numbers where each is that of a library
 abbrev pub if_libraries : List LinkedData → List ℕ → Option (List ℕ)
@@ -28,9 +28,9 @@ pub record OwnData : Type 0 where
   pub sources : List NamedData
 
 -- what the call lists of its own; none where a path leads out of the tree, or something to link with is no library
-abbrev pub own_lists : PlaceData → ArgumentsData → Option OwnData
-own_lists place a = do
-  folders ← folders_of place.source_root place.folder (leaves_named (codes "include_directories") a)
-  libraries ← libraries_of place.earlier (leaves_named (codes "link_with") a)
-  sources ← sources_of place.source_root place.folder (leaves_named (codes "sources") a)
+abbrev pub own_lists : HereData → ArgumentsData → Option OwnData
+own_lists here a = do
+  folders ← folders_of here.source_root here.folder (leaves_named (codes "include_directories") a)
+  libraries ← libraries_of here.earlier (leaves_named (codes "link_with") a)
+  sources ← sources_of here.source_root here.folder (leaves_named (codes "sources") a)
   Some (record { folders = folders; libraries = libraries; sources = sources })

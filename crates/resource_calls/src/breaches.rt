@@ -1,25 +1,23 @@
 //! Which rule is broken by arguments that say nothing to install, no dependency or nothing to run: it is looked for only where a call is
 //! refused.
 ghost use Rattle.std.specs.Prelude.{◌≡◌, IfOk, codes, map, option_map, string_bytes};
-ghost use Rattle.arguments.specs.Arguments.{arguments_data};
 ghost use Rattle.arguments.specs.Leaves.{leaves_named};
-ghost use Rattle.data.specs.View.{data_of};
 ghost use Rattle.named_sources.specs.SourcesView.{named_view};
+ghost use Rattle.world.specs.Prelude.{arguments_data, data_of, here_view};
 ghost use Rattle.resource_calls.specs.Breaches.{first_homeless, install_breach, library_breach, lists_breach, object_rule};
 ghost use Rattle.resource_calls.specs.Breaches.{path_said, program_rule, run_breach};
 ghost use Rattle.resource_calls.specs.DestinationsView.{folders_view};
 ghost use Rattle.resource_calls.specs.OwnLists.{libraries_of};
-ghost use Rattle.resource_calls.specs.PlaceView.{place_view};
 
 use crate::commands::command_given;
 use crate::destinations::{Folders, Sort, install_of};
 use crate::own_lists::libraries_of;
-use crate::place::Place;
 use arguments::{Arguments, Rule};
 use data::{Object, Value};
 use named_sources::{NamedSource, folders_of, sources_of, unnamed_folder, unnamed_source};
 use resources::environment_breach;
 use std::alloc::{AllocError, Global};
+use world::Here;
 
 fn path_said(alloc: Global, named: &NamedSource) -> Result<String, AllocError>
     ensures { IfOk result (λ path. string_bytes path ≡ path_said (named_view named.now)) }
@@ -76,18 +74,18 @@ pub fn install_breach(
 
 // What is no library, or else a text that names no file.
 fn library_breach<'v>(
-    place: &Place<'_>,
+    here: &Here<'_>,
     arguments: &'v Arguments,
 ) -> Result<(Rule, &'v str), AllocError>
-    ensures { IfOk result (λ b. (b.0, b.1.now) ≡ library_breach (place_view place.now) (arguments_data arguments.now)
-        (libraries_of (place_view place.now).earlier (leaves_named (codes "link_with") (arguments_data arguments.now)))) }
+    ensures { IfOk result (λ b. (b.0, b.1.now) ≡ library_breach (here_view here.now) (arguments_data arguments.now)
+        (libraries_of (here_view here.now).earlier (leaves_named (codes "link_with") (arguments_data arguments.now)))) }
 {
-    let values = arguments.leaves(place.alloc, "link_with")?;
-    match libraries_of(place.alloc, place.earlier, &values)? {
+    let values = arguments.leaves(here.alloc, "link_with")?;
+    match libraries_of(here.alloc, here.earlier, &values)? {
         None => Ok((Rule::TakesLibraries, "link_with")),
         Some(_) => {
-            let values = arguments.leaves(place.alloc, "sources")?;
-            let text = unnamed_source(place.alloc, place.source_root, place.folder, &values)?;
+            let values = arguments.leaves(here.alloc, "sources")?;
+            let text = unnamed_source(here.alloc, here.source_root, here.folder, &values)?;
             Ok((Rule::NamesFile, text))
         }
     }
@@ -95,18 +93,18 @@ fn library_breach<'v>(
 
 /// Of a call of `declare_dependency`: the rule, and the text or the keyword that breaks it.
 pub fn lists_breach<'v>(
-    place: &Place<'_>,
+    here: &Here<'_>,
     arguments: &'v Arguments,
 ) -> Result<(Rule, &'v str), AllocError>
-    ensures { IfOk result (λ b. (b.0, b.1.now) ≡ lists_breach (place_view place.now) (arguments_data arguments.now)) }
+    ensures { IfOk result (λ b. (b.0, b.1.now) ≡ lists_breach (here_view here.now) (arguments_data arguments.now)) }
 {
-    let values = arguments.leaves(place.alloc, "include_directories")?;
-    match folders_of(place.alloc, place.source_root, place.folder, &values)? {
+    let values = arguments.leaves(here.alloc, "include_directories")?;
+    match folders_of(here.alloc, here.source_root, here.folder, &values)? {
         None => {
-            let text = unnamed_folder(place.alloc, place.source_root, place.folder, &values)?;
+            let text = unnamed_folder(here.alloc, here.source_root, here.folder, &values)?;
             Ok((Rule::NamesFolder, text))
         }
-        Some(_) => library_breach(place, arguments),
+        Some(_) => library_breach(here, arguments),
     }
 }
 
@@ -130,14 +128,14 @@ fn program_rule(program: Option<&Value>) -> Rule
 }
 
 /// Of a call of `test`: the rule, and the text that breaks it.
-pub fn run_breach(place: &Place<'_>, arguments: &Arguments) -> Result<(Rule, String), AllocError>
-    ensures { IfOk result (λ b. (b.0, string_bytes b.1) ≡ run_breach (place_view place.now) (arguments_data arguments.now)) }
+pub fn run_breach(here: &Here<'_>, arguments: &Arguments) -> Result<(Rule, String), AllocError>
+    ensures { IfOk result (λ b. (b.0, string_bytes b.1) ≡ run_breach (here_view here.now) (arguments_data arguments.now)) }
 {
-    match command_given(place, arguments)? {
+    match command_given(here, arguments)? {
         None => {
-            let name = String::from_str(place.alloc, arguments.text_at(0))?;
+            let name = String::from_str(here.alloc, arguments.text_at(0))?;
             Ok((program_rule(arguments.argument(1)), name))
         }
-        Some(_) => environment_breach(place.alloc, arguments),
+        Some(_) => environment_breach(here.alloc, arguments),
     }
 }

@@ -1,18 +1,15 @@
 //! The command and the environment of a test. Files and targets are absolute paths.
-ghost use Rattle.std.specs.Prelude.{◌≡◌, [], IfOk, map, option_map, string_bytes};
-ghost use Rattle.arguments.specs.Arguments.{arguments_data};
-ghost use Rattle.data.specs.View.{data_of};
+ghost use Rattle.std.specs.Prelude.{◌≡◌, IfOk, map, option_map, string_bytes};
 ghost use Rattle.edge.specs.Texts.{texts};
 ghost use Rattle.named_sources.specs.Each.{all_behind};
 ghost use Rattle.paths.specs.Below.{path_below};
 ghost use Rattle.targets.specs.View.{build_view};
-ghost use Rattle.resource_calls.specs.PlaceView.{place_view};
+ghost use Rattle.world.specs.Prelude.{arguments_data, data_of, here_view};
 ghost use Rattle.resource_calls.specs.TestCommands.{argument_words, command_given, command_of, command_of_object, file_word, one_word};
 ghost use Rattle.resource_calls.specs.TestCommands.{output_words, outputs_words, run_of, target_word, target_words, executable_words};
 ghost use Rattle.resource_calls.specs.TestCommands.{word_if_executable, words_of_object, words_of_program};
 ghost use Rattle.resource_calls.specs.TestCommandsView.{run_view};
 
-use crate::place::Place;
 use arguments::Arguments;
 use data::{Object, Program, Value};
 use named_sources::{output_at, outputs_at, strings};
@@ -20,6 +17,7 @@ use paths::path_below;
 use resources::environment;
 use std::alloc::{AllocError, Global};
 use targets::{BuildTarget, build_target_at, file_path};
+use world::Here;
 
 /// What a test runs.
 #[derive(Drop)]
@@ -40,80 +38,80 @@ fn one_word(alloc: Global, word: String) -> Result<Vec<String>, AllocError>
     Ok(words)
 }
 
-fn file_word(place: &Place<'_>, path: &str, is_built: bool) -> Result<String, AllocError>
-    ensures { IfOk result (λ s. string_bytes s ≡ file_word (place_view place.now) path.now is_built) }
+fn file_word(here: &Here<'_>, path: &str, is_built: bool) -> Result<String, AllocError>
+    ensures { IfOk result (λ s. string_bytes s ≡ file_word (here_view here.now) path.now is_built) }
 {
     if is_built {
-        path_below(place.alloc, place.build_root, path)
+        path_below(here.alloc, here.build_root, path)
     } else {
-        path_below(place.alloc, place.source_root, path)
+        path_below(here.alloc, here.source_root, path)
     }
 }
 
-fn target_word(place: &Place<'_>, target: &BuildTarget) -> Result<String, AllocError>
-    ensures { IfOk result (λ s. string_bytes s ≡ target_word (place_view place.now) (build_view target.now)) }
+fn target_word(here: &Here<'_>, target: &BuildTarget) -> Result<String, AllocError>
+    ensures { IfOk result (λ s. string_bytes s ≡ target_word (here_view here.now) (build_view target.now)) }
 {
-    let path = file_path(place.alloc, target)?;
-    path_below(place.alloc, place.build_root, path.as_str())
+    let path = file_path(here.alloc, target)?;
+    path_below(here.alloc, here.build_root, path.as_str())
 }
 
-fn target_words(place: &Place<'_>, number: usize) -> Result<Option<Vec<String>>, AllocError>
-    ensures { IfOk result (λ ws. option_map (λ v. texts v.items) ws ≡ target_words (place_view place.now) number) }
+fn target_words(here: &Here<'_>, number: usize) -> Result<Option<Vec<String>>, AllocError>
+    ensures { IfOk result (λ ws. option_map (λ v. texts v.items) ws ≡ target_words (here_view here.now) number) }
 {
-    match build_target_at(place.earlier, number) {
-        Some(target) => Ok(Some(one_word(place.alloc, target_word(place, target)?)?)),
+    match build_target_at(here.earlier, number) {
+        Some(target) => Ok(Some(one_word(here.alloc, target_word(here, target)?)?)),
         None => Ok(None),
     }
 }
 
 // Each path below the build root.
-fn built_words(place: &Place<'_>, paths: &[String]) -> Result<Vec<String>, AllocError>
-    ensures { IfOk result (λ v. texts v.items ≡ map (path_below (place_view place.now).build_root) (texts paths.now)) }
+fn built_words(here: &Here<'_>, paths: &[String]) -> Result<Vec<String>, AllocError>
+    ensures { IfOk result (λ v. texts v.items ≡ map (path_below (here_view here.now).build_root) (texts paths.now)) }
 {
-    let mut words = Vec::new(place.alloc);
+    let mut words = Vec::new(here.alloc);
     for path in paths {
-        words.push(path_below(place.alloc, place.build_root, path.as_str())?)?;
+        words.push(path_below(here.alloc, here.build_root, path.as_str())?)?;
     }
     Ok(words)
 }
 
-fn outputs_words(place: &Place<'_>, number: usize) -> Result<Option<Vec<String>>, AllocError>
-    ensures { IfOk result (λ ws. option_map (λ v. texts v.items) ws ≡ outputs_words (place_view place.now) number) }
+fn outputs_words(here: &Here<'_>, number: usize) -> Result<Option<Vec<String>>, AllocError>
+    ensures { IfOk result (λ ws. option_map (λ v. texts v.items) ws ≡ outputs_words (here_view here.now) number) }
 {
-    match outputs_at(place.earlier, number) {
-        Some(paths) => Ok(Some(built_words(place, paths)?)),
+    match outputs_at(here.earlier, number) {
+        Some(paths) => Ok(Some(built_words(here, paths)?)),
         None => Ok(None),
     }
 }
 
 fn output_words(
-    place: &Place<'_>,
+    here: &Here<'_>,
     target: usize,
     output: usize,
 ) -> Result<Option<Vec<String>>, AllocError>
-    ensures { IfOk result (λ ws. option_map (λ v. texts v.items) ws ≡ output_words (place_view place.now) target output) }
+    ensures { IfOk result (λ ws. option_map (λ v. texts v.items) ws ≡ output_words (here_view here.now) target output) }
 {
-    match output_at(place.earlier, target, output) {
+    match output_at(here.earlier, target, output) {
         Some(path) => {
-            let word = path_below(place.alloc, place.build_root, path)?;
-            Ok(Some(one_word(place.alloc, word)?))
+            let word = path_below(here.alloc, here.build_root, path)?;
+            Ok(Some(one_word(here.alloc, word)?))
         }
         None => Ok(None),
     }
 }
 
 // The words of a file, a target or an output of one; none of anything else.
-fn words_of_object(place: &Place<'_>, object: &Object) -> Result<Option<Vec<String>>, AllocError>
-    ensures { IfOk result (λ ws. option_map (λ v. texts v.items) ws ≡ words_of_object (place_view place.now) object.now) }
+fn words_of_object(here: &Here<'_>, object: &Object) -> Result<Option<Vec<String>>, AllocError>
+    ensures { IfOk result (λ ws. option_map (λ v. texts v.items) ws ≡ words_of_object (here_view here.now) object.now) }
 {
     match object {
         Object::File { path, is_built } => {
-            let word = file_word(place, path.as_str(), *is_built)?;
-            Ok(Some(one_word(place.alloc, word)?))
+            let word = file_word(here, path.as_str(), *is_built)?;
+            Ok(Some(one_word(here.alloc, word)?))
         }
-        Object::BuildTarget(number) => target_words(place, *number),
-        Object::CustomTarget { number, .. } => outputs_words(place, *number),
-        Object::CustomOutput { target, output } => output_words(place, *target, *output),
+        Object::BuildTarget(number) => target_words(here, *number),
+        Object::CustomTarget { number, .. } => outputs_words(here, *number),
+        Object::CustomOutput { target, output } => output_words(here, *target, *output),
         _ => Ok(None),
     }
 }
@@ -121,59 +119,59 @@ fn words_of_object(place: &Place<'_>, object: &Object) -> Result<Option<Vec<Stri
 // ---- the program
 
 // A program that was not found can't run.
-fn words_of_program(place: &Place<'_>, program: &Program) -> Result<Option<Vec<String>>, AllocError>
-    ensures { IfOk result (λ ws. option_map (λ v. texts v.items) ws ≡ words_of_program (place_view place.now) program.now) }
+fn words_of_program(here: &Here<'_>, program: &Program) -> Result<Option<Vec<String>>, AllocError>
+    ensures { IfOk result (λ ws. option_map (λ v. texts v.items) ws ≡ words_of_program (here_view here.now) program.now) }
 {
     match program {
         Program::NotFound => Ok(None),
-        Program::Words(words) => Ok(Some(strings(place.alloc, words.as_slice())?)),
+        Program::Words(words) => Ok(Some(strings(here.alloc, words.as_slice())?)),
         Program::File(path) => {
-            let word = path_below(place.alloc, place.source_root, path.as_str())?;
-            Ok(Some(one_word(place.alloc, word)?))
+            let word = path_below(here.alloc, here.source_root, path.as_str())?;
+            Ok(Some(one_word(here.alloc, word)?))
         }
     }
 }
 
 // Nor can a library.
 fn word_if_executable(
-    place: &Place<'_>,
+    here: &Here<'_>,
     target: &BuildTarget,
 ) -> Result<Option<Vec<String>>, AllocError>
     ensures { IfOk result (λ ws. option_map (λ v. texts v.items) ws
-        ≡ word_if_executable (place_view place.now) (build_view target.now)) }
+        ≡ word_if_executable (here_view here.now) (build_view target.now)) }
 {
     if target.kind.is_library() {
         Ok(None)
     } else {
-        Ok(Some(one_word(place.alloc, target_word(place, target)?)?))
+        Ok(Some(one_word(here.alloc, target_word(here, target)?)?))
     }
 }
 
-fn executable_words(place: &Place<'_>, number: usize) -> Result<Option<Vec<String>>, AllocError>
-    ensures { IfOk result (λ ws. option_map (λ v. texts v.items) ws ≡ executable_words (place_view place.now) number) }
+fn executable_words(here: &Here<'_>, number: usize) -> Result<Option<Vec<String>>, AllocError>
+    ensures { IfOk result (λ ws. option_map (λ v. texts v.items) ws ≡ executable_words (here_view here.now) number) }
 {
-    match build_target_at(place.earlier, number) {
-        Some(target) => word_if_executable(place, target),
+    match build_target_at(here.earlier, number) {
+        Some(target) => word_if_executable(here, target),
         None => Ok(None),
     }
 }
 
-fn command_of_object(place: &Place<'_>, object: &Object) -> Result<Option<Vec<String>>, AllocError>
-    ensures { IfOk result (λ ws. option_map (λ v. texts v.items) ws ≡ command_of_object (place_view place.now) object.now) }
+fn command_of_object(here: &Here<'_>, object: &Object) -> Result<Option<Vec<String>>, AllocError>
+    ensures { IfOk result (λ ws. option_map (λ v. texts v.items) ws ≡ command_of_object (here_view here.now) object.now) }
 {
     match object {
-        Object::Program(program) => words_of_program(place, program),
-        Object::BuildTarget(number) => executable_words(place, *number),
-        _ => words_of_object(place, object),
+        Object::Program(program) => words_of_program(here, program),
+        Object::BuildTarget(number) => executable_words(here, *number),
+        _ => words_of_object(here, object),
     }
 }
 
 // The words that call the program that a value is; none where it can't run.
-fn command_of(place: &Place<'_>, value: &Value) -> Result<Option<Vec<String>>, AllocError>
-    ensures { IfOk result (λ ws. option_map (λ v. texts v.items) ws ≡ command_of (place_view place.now) (data_of value.now)) }
+fn command_of(here: &Here<'_>, value: &Value) -> Result<Option<Vec<String>>, AllocError>
+    ensures { IfOk result (λ ws. option_map (λ v. texts v.items) ws ≡ command_of (here_view here.now) (data_of value.now)) }
 {
     match value {
-        Value::Object(object) => command_of_object(place, object),
+        Value::Object(object) => command_of_object(here, object),
         _ => Ok(None),
     }
 }
@@ -181,31 +179,31 @@ fn command_of(place: &Place<'_>, value: &Value) -> Result<Option<Vec<String>>, A
 // ---- arguments
 
 // The words of an argument of the program: a text, a file, a target or an output of one.
-fn argument_words(place: &Place<'_>, value: &Value) -> Result<Option<Vec<String>>, AllocError>
-    ensures { IfOk result (λ ws. option_map (λ v. texts v.items) ws ≡ argument_words (place_view place.now) (data_of value.now)) }
+fn argument_words(here: &Here<'_>, value: &Value) -> Result<Option<Vec<String>>, AllocError>
+    ensures { IfOk result (λ ws. option_map (λ v. texts v.items) ws ≡ argument_words (here_view here.now) (data_of value.now)) }
 {
     match value {
         Value::Text(text) => {
-            let word = String::from_str(place.alloc, text.as_str())?;
-            Ok(Some(one_word(place.alloc, word)?))
+            let word = String::from_str(here.alloc, text.as_str())?;
+            Ok(Some(one_word(here.alloc, word)?))
         }
-        Value::Object(object) => words_of_object(place, object),
+        Value::Object(object) => words_of_object(here, object),
         _ => Ok(None),
     }
 }
 
 // Words, and behind them those of values, or none where one of them has none.
 fn words_behind(
-    place: &Place<'_>,
+    here: &Here<'_>,
     words: Vec<String>,
     values: &[&Value],
 ) -> Result<Option<Vec<String>>, AllocError>
     ensures { IfOk result (λ ws. option_map (λ v. texts v.items) ws
-        ≡ all_behind (argument_words (place_view place.now)) (texts words.items) (map (λ v. data_of v.now) values.now)) }
+        ≡ all_behind (argument_words (here_view here.now)) (texts words.items) (map (λ v. data_of v.now) values.now)) }
 {
     let mut all = words;
     for value in values {
-        match argument_words(place, value)? {
+        match argument_words(here, value)? {
             Some(mut more) => all.append(&mut more)?,
             None => return Ok(None),
         }
@@ -217,29 +215,29 @@ fn words_behind(
 
 /// The program and its arguments. None where it can't run.
 pub fn command_given(
-    place: &Place<'_>,
+    here: &Here<'_>,
     arguments: &Arguments,
 ) -> Result<Option<Vec<String>>, AllocError>
-    ensures { IfOk result (λ ws. option_map (λ v. texts v.items) ws ≡ command_given (place_view place.now) (arguments_data arguments.now)) }
+    ensures { IfOk result (λ ws. option_map (λ v. texts v.items) ws ≡ command_given (here_view here.now) (arguments_data arguments.now)) }
 {
     let Some(program) = arguments.argument(1) else {
         return Ok(None);
     };
-    let Some(words) = command_of(place, program)? else {
+    let Some(words) = command_of(here, program)? else {
         return Ok(None);
     };
-    let values = arguments.leaves(place.alloc, "args")?;
-    words_behind(place, words, &values)
+    let values = arguments.leaves(here.alloc, "args")?;
+    words_behind(here, words, &values)
 }
 
 /// The command and the variables that a call says. None where it says no command, or no variables.
-pub fn run_of(place: &Place<'_>, arguments: &Arguments) -> Result<Option<Run>, AllocError>
-    ensures { IfOk result (λ run. option_map run_view run ≡ run_of (place_view place.now) (arguments_data arguments.now)) }
+pub fn run_of(here: &Here<'_>, arguments: &Arguments) -> Result<Option<Run>, AllocError>
+    ensures { IfOk result (λ run. option_map run_view run ≡ run_of (here_view here.now) (arguments_data arguments.now)) }
 {
-    let Some(command) = command_given(place, arguments)? else {
+    let Some(command) = command_given(here, arguments)? else {
         return Ok(None);
     };
-    match environment(place.alloc, arguments)? {
+    match environment(here.alloc, arguments)? {
         Some(environment) => Ok(Some(Run {
             command,
             environment,

@@ -1,9 +1,6 @@
 //! `declare_dependency`: <https://mesonbuild.com/Reference-manual_functions.html#declare_dependency>.
-ghost use Rattle.std.specs.Prelude.{◌≡◌, option_map};
-ghost use Rattle.arguments.specs.Arguments.{arguments_data};
-ghost use Rattle.data.specs.View.{data_of};
-ghost use Rattle.world.specs.Answering.{Carries, HasRoom};
-ghost use Rattle.world.specs.Caller.{state_of};
+ghost use Rattle.std.specs.Prelude.{option_map};
+ghost use Rattle.world.specs.Prelude.{Does, MayFail, arguments_data, data_of};
 ghost use Rattle.resource_calls.specs.DeclareDependency.{declare_dependency, joined_given, said_lists};
 ghost use Rattle.resource_calls.specs.OwnListsView.{own_view};
 
@@ -11,7 +8,6 @@ use crate::breaches::lists_breach;
 use crate::joined_lists::joined_dependency;
 use crate::named_files::require_files;
 use crate::own_lists::{Own, own_lists};
-use crate::place::place_of;
 use arguments::Arguments;
 use data::{Dependency, Object, Value};
 use ports::{Outputs, Tree};
@@ -22,15 +18,14 @@ fn said_lists<T: Tree, O: Outputs>(
     caller: &Caller<'_, T, O>,
     arguments: &Arguments,
 ) -> Result<Own, Stop>
-    ensures { Carries own_view (said_lists (arguments_data arguments.now))
-        (state_of T.seen O.seen caller.now) result (state_of T.seen O.seen caller.now) }
+    ensures { Does T.seen O.seen own_view (said_lists (arguments_data arguments.now)) caller.now result caller.now }
 {
-    let place = place_of(caller);
-    let found = own_lists(&place, arguments)?;
+    let here = caller.here();
+    let found = own_lists(&here, arguments)?;
     match found {
         Some(own) => Ok(own),
         None => {
-            let breach = lists_breach(&place, arguments)?;
+            let breach = lists_breach(&here, arguments)?;
             caller.refuse_by(breach.0, breach.1)
         }
     }
@@ -42,12 +37,11 @@ fn joined_given<T: Tree, O: Outputs>(
     arguments: &Arguments,
     own: &Own,
 ) -> Result<Dependency, Stop>
-    ensures { Carries (λ d. d) (joined_given (arguments_data arguments.now) (own_view own.now))
-        (state_of T.seen O.seen caller.now) result (state_of T.seen O.seen caller.now) }
+    ensures { Does T.seen O.seen (λ d. d) (joined_given (arguments_data arguments.now) (own_view own.now)) caller.now result caller.now }
 {
-    let place = place_of(caller);
+    let here = caller.here();
     let version = caller.store.project().facts().version.as_str();
-    let answer = joined_dependency(&place, version, arguments, own)?;
+    let answer = joined_dependency(&here, version, arguments, own)?;
     caller.answered(answer)
 }
 
@@ -56,9 +50,8 @@ pub fn declare_dependency<T: Tree, O: Outputs>(
     caller: &mut Caller<'_, T, O>,
     arguments: &Arguments,
 ) -> Result<Option<Value>, Stop>
-    requires { HasRoom (state_of T.seen O.seen caller.old) }
-    ensures { Carries (option_map data_of) (declare_dependency (arguments_data arguments.now))
-        (state_of T.seen O.seen caller.old) result (state_of T.seen O.seen caller.new) }
+    requires { MayFail T.seen O.seen caller.old }
+    ensures { Does T.seen O.seen (option_map data_of) (declare_dependency (arguments_data arguments.now)) caller.old result caller.new }
 {
     let own = said_lists(caller, arguments)?;
     require_files(caller, &own.sources)?;

@@ -1,13 +1,10 @@
 //! `dependency`: <https://mesonbuild.com/Reference-manual_functions.html#dependency>.
 ghost use Rattle.std.specs.Prelude.{◌≡◌, IfOk, map, option_map};
-ghost use Rattle.arguments.specs.Arguments.{arguments_data};
 ghost use Rattle.data.specs.Flat.{flat_all};
-ghost use Rattle.data.specs.View.{data_of};
 ghost use Rattle.machine_file.specs.Questions.{answer_to, dependency_topic};
 ghost use Rattle.project.specs.View.{answer_view};
 ghost use Rattle.resources.specs.Beside.{call_question};
-ghost use Rattle.world.specs.Answering.{Carries, HasRoom};
-ghost use Rattle.world.specs.Caller.{state_of};
+ghost use Rattle.world.specs.Prelude.{Does, MayFail, arguments_data, data_of};
 ghost use Rattle.world.specs.Declaring.{add_dependency};
 ghost use Rattle.world.specs.Deed.{consult};
 ghost use Rattle.resource_calls.specs.Dependency.{answer_of, ask_dependency, dependency, dependency_named, first_said, fitting_dependency};
@@ -31,9 +28,8 @@ fn ask_for<T: Tree, O: Outputs>(
     name: &str,
     arguments: &Arguments,
 ) -> Result<(), Stop>
-    ensures deed { Carries (λ u. answer_to caller.old.store.now.machine (dependency_topic name.now))
-        (consult (call_question (dependency_topic name.now) (arguments_data arguments.now)))
-        (state_of T.seen O.seen caller.old) result (state_of T.seen O.seen caller.new) }
+    ensures deed { Does T.seen O.seen (λ u. answer_to caller.old.store.now.machine (dependency_topic name.now))
+        (consult (call_question (dependency_topic name.now) (arguments_data arguments.now))) caller.old result caller.new }
     ensures machine { caller.new.store.now.machine ≡ caller.old.store.now.machine }
 {
     let topic = Topic::dependency(caller.alloc, name)?;
@@ -47,8 +43,7 @@ fn ask_dependency<T: Tree, O: Outputs>(
     name: &str,
     arguments: &Arguments,
 ) -> Result<Option<Result<Dependency, data::Refusal>>, Stop>
-    ensures { Carries (λ d. d) (ask_dependency name.now (arguments_data arguments.now))
-        (state_of T.seen O.seen caller.old) result (state_of T.seen O.seen caller.new) }
+    ensures { Does T.seen O.seen (λ d. d) (ask_dependency name.now (arguments_data arguments.now)) caller.old result caller.new }
 {
     ask_for(caller, name, arguments)?;
     let conditions = arguments.texts(caller.alloc, "version")?;
@@ -62,8 +57,7 @@ fn dependency_named<T: Tree, O: Outputs>(
     name: &str,
     arguments: &Arguments,
 ) -> Result<Option<Result<Dependency, data::Refusal>>, Stop>
-    ensures { Carries (λ d. d) (dependency_named name.now (arguments_data arguments.now))
-        (state_of T.seen O.seen caller.old) result (state_of T.seen O.seen caller.new) }
+    ensures { Does T.seen O.seen (λ d. d) (dependency_named name.now (arguments_data arguments.now)) caller.old result caller.new }
 {
     if name.is_empty() {
         Ok(None)
@@ -78,8 +72,8 @@ fn first_said<T: Tree, O: Outputs>(
     names: &[&str],
     arguments: &Arguments,
 ) -> Result<Option<Result<Dependency, data::Refusal>>, Stop>
-    ensures { Carries (λ d. d) (first_said (arguments_data arguments.now) (map (λ n. n.now) names.now))
-        (state_of T.seen O.seen caller.old) result (state_of T.seen O.seen caller.new) }
+    ensures { Does T.seen O.seen (λ d. d) (first_said (arguments_data arguments.now) (map (λ n. n.now) names.now))
+        caller.old result caller.new }
 {
     for name in names {
         let said = dependency_named(caller, name, arguments)?;
@@ -94,8 +88,8 @@ fn first_given<T: Tree, O: Outputs>(
     caller: &mut Caller<'_, T, O>,
     arguments: &Arguments,
 ) -> Result<Option<Result<Dependency, data::Refusal>>, Stop>
-    ensures { Carries (λ d. d) (let a = arguments_data arguments.now in first_said a (flat_all a.positional))
-        (state_of T.seen O.seen caller.old) result (state_of T.seen O.seen caller.new) }
+    ensures { Does T.seen O.seen (λ d. d) (let a = arguments_data arguments.now in first_said a (flat_all a.positional))
+        caller.old result caller.new }
 {
     let names = arguments.all_texts(caller.alloc)?;
     first_said(caller, &names, arguments)
@@ -106,8 +100,8 @@ fn fitting_dependency<T: Tree, O: Outputs>(
     caller: &mut Caller<'_, T, O>,
     arguments: &Arguments,
 ) -> Result<Option<Result<Dependency, data::Refusal>>, Stop>
-    ensures { let a = arguments_data arguments.now in Carries (λ d. d) (fitting_dependency (required_by a) a)
-        (state_of T.seen O.seen caller.old) result (state_of T.seen O.seen caller.new) }
+    ensures { let a = arguments_data arguments.now in Does T.seen O.seen (λ d. d) (fitting_dependency (required_by a) a)
+        caller.old result caller.new }
 {
     match required_by(arguments) {
         Requirement::Disabled => Ok(None),
@@ -130,8 +124,7 @@ fn note<T: Tree, O: Outputs>(
     caller: &mut Caller<'_, T, O>,
     dependency: &Dependency,
 ) -> Result<(), Stop>
-    ensures { Carries (λ u. u) (add_dependency (answer_of dependency.now))
-        (state_of T.seen O.seen caller.old) result (state_of T.seen O.seen caller.new) }
+    ensures { Does T.seen O.seen (λ u. u) (add_dependency (answer_of dependency.now)) caller.old result caller.new }
 {
     let answer = answer_of(caller.alloc, dependency)?;
     caller.add_dependency(answer)
@@ -142,8 +135,7 @@ fn give_found<T: Tree, O: Outputs>(
     caller: &mut Caller<'_, T, O>,
     said: Result<Dependency, data::Refusal>,
 ) -> Result<Option<Value>, Stop>
-    ensures { Carries (option_map data_of) (give_found said)
-        (state_of T.seen O.seen caller.old) result (state_of T.seen O.seen caller.new) }
+    ensures { Does T.seen O.seen (option_map data_of) (give_found said) caller.old result caller.new }
 {
     let dependency = caller.answered(said)?;
     note(caller, &dependency)?;
@@ -156,8 +148,7 @@ fn give_missing<T: Tree, O: Outputs>(
     caller: &mut Caller<'_, T, O>,
     arguments: &Arguments,
 ) -> Result<Option<Value>, Stop>
-    ensures { Carries (option_map data_of) (give_missing (arguments_data arguments.now))
-        (state_of T.seen O.seen caller.old) result (state_of T.seen O.seen caller.new) }
+    ensures { Does T.seen O.seen (option_map data_of) (give_missing (arguments_data arguments.now)) caller.old result caller.new }
 {
     let missing = missing_dependency(caller.alloc, arguments.text_at(0))?;
     let dependency = caller.answered(missing)?;
@@ -172,8 +163,8 @@ fn none_fits<T: Tree, O: Outputs>(
     caller: &mut Caller<'_, T, O>,
     arguments: &Arguments,
 ) -> Result<Option<Value>, Stop>
-    ensures { Carries (option_map data_of) (none_fits (required_by (arguments_data arguments.now)) (arguments_data arguments.now))
-        (state_of T.seen O.seen caller.old) result (state_of T.seen O.seen caller.new) }
+    ensures { Does T.seen O.seen (option_map data_of)
+        (none_fits (required_by (arguments_data arguments.now)) (arguments_data arguments.now)) caller.old result caller.new }
 {
     match required_by(arguments) {
         Requirement::Required => caller.refuse(Refusal::NotFound, arguments.text_at(0)),
@@ -187,9 +178,8 @@ pub fn dependency<T: Tree, O: Outputs>(
     caller: &mut Caller<'_, T, O>,
     arguments: &Arguments,
 ) -> Result<Option<Value>, Stop>
-    requires { HasRoom (state_of T.seen O.seen caller.old) }
-    ensures { Carries (option_map data_of) (dependency (arguments_data arguments.now))
-        (state_of T.seen O.seen caller.old) result (state_of T.seen O.seen caller.new) }
+    requires { MayFail T.seen O.seen caller.old }
+    ensures { Does T.seen O.seen (option_map data_of) (dependency (arguments_data arguments.now)) caller.old result caller.new }
 {
     let found = fitting_dependency(caller, arguments)?;
     match found {

@@ -1,11 +1,10 @@
 //! Where files go when they are installed.
-ghost use Rattle.std.specs.Prelude.{◌≡◌, [], IfOk, codes, map, option_map, string_bytes};
-ghost use Rattle.arguments.specs.Arguments.{arguments_data};
+ghost use Rattle.std.specs.Prelude.{◌≡◌, IfOk, codes, map, option_map, string_bytes};
 ghost use Rattle.arguments.specs.Given.{text_given};
 ghost use Rattle.project.specs.View.{install_view};
 ghost use Rattle.named_sources.specs.Each.{each_or_none};
 ghost use Rattle.named_sources.specs.SourcesView.{named_view};
-ghost use Rattle.world.specs.Caller.{state_of};
+ghost use Rattle.world.specs.Prelude.{arguments_data, state_of};
 ghost use Rattle.resource_calls.specs.Destinations.{folders_in, given_or, install_at, install_folder, install_of, said_of};
 ghost use Rattle.resource_calls.specs.Destinations.{usual_folder};
 ghost use Rattle.resource_calls.specs.DestinationsView.{folders_view, said_view};

@@ -1,11 +1,8 @@
 //! `install_headers`, `install_data` and `install_man`: <https://mesonbuild.com/Reference-manual_functions.html#install_headers> and its
 //! like.
 ghost use Rattle.std.specs.Prelude.{◌≡◌, map, option_map, IfOk};
-ghost use Rattle.arguments.specs.Arguments.{arguments_data};
-ghost use Rattle.data.specs.View.{data_of};
 ghost use Rattle.project.specs.View.{install_view};
-ghost use Rattle.world.specs.Answering.{Carries, HasRoom};
-ghost use Rattle.world.specs.Caller.{state_of};
+ghost use Rattle.world.specs.Prelude.{Does, MayFail, arguments_data, data_of};
 ghost use Rattle.resource_calls.specs.DestinationsView.{said_view};
 ghost use Rattle.resource_calls.specs.Installs.{all_installed, install, said_installs};
 
@@ -25,8 +22,7 @@ fn said_installs<T: Tree, O: Outputs>(
     sort: Sort,
     arguments: &Arguments,
 ) -> Result<Said, Stop>
-    ensures { Carries said_view (said_installs sort (arguments_data arguments.now))
-        (state_of T.seen O.seen caller.now) result (state_of T.seen O.seen caller.now) }
+    ensures { Does T.seen O.seen said_view (said_installs sort (arguments_data arguments.now)) caller.now result caller.now }
 {
     let folders = folders_in(caller);
     let found = said_of(&folders, sort, arguments)?;
@@ -53,8 +49,7 @@ fn install_all<T: Tree, O: Outputs>(
     caller: &mut Caller<'_, T, O>,
     installs: &[Install],
 ) -> Result<(), Stop>
-    ensures { Carries (λ u. u) (all_installed (map install_view installs.now))
-        (state_of T.seen O.seen caller.old) result (state_of T.seen O.seen caller.new) }
+    ensures { Does T.seen O.seen (λ u. u) (all_installed (map install_view installs.now)) caller.old result caller.new }
 {
     for one in installs {
         let install = copy_of(caller.alloc, one)?;
@@ -70,9 +65,8 @@ pub fn install<T: Tree, O: Outputs>(
     sort: Sort,
     arguments: &Arguments,
 ) -> Result<Option<Value>, Stop>
-    requires { HasRoom (state_of T.seen O.seen caller.old) }
-    ensures { Carries (option_map data_of) (install sort (arguments_data arguments.now))
-        (state_of T.seen O.seen caller.old) result (state_of T.seen O.seen caller.new) }
+    requires { MayFail T.seen O.seen caller.old }
+    ensures { Does T.seen O.seen (option_map data_of) (install sort (arguments_data arguments.now)) caller.old result caller.new }
 {
     let said = said_installs(caller, sort, arguments)?;
     require_files(caller, &said.named)?;

@@ -1,22 +1,21 @@
 //! The dependency that `declare_dependency` gives: its own lists, then those of its dependencies, all within the limits.
 ghost use Rattle.std.specs.Prelude.{◌≡◌, codes, IfOk, map};
-ghost use Rattle.arguments.specs.Arguments.{arguments_data};
 ghost use Rattle.arguments.specs.Given.{keyword};
 ghost use Rattle.named_sources.specs.SourcesView.{named_view};
 ghost use Rattle.targets.specs.LinkedViews.{linked_views};
+ghost use Rattle.world.specs.Prelude.{arguments_data, here_view};
 ghost use Rattle.resource_calls.specs.JoinedLists.{count_at, dependencies_given, joined_dependency, own_dependency, source_of};
 ghost use Rattle.resource_calls.specs.JoinedLists.{sources_within, tree_source, version_or, with_arguments, with_own};
 ghost use Rattle.resource_calls.specs.OwnListsView.{own_view};
-ghost use Rattle.resource_calls.specs.PlaceView.{place_view};
 
 use crate::own_lists::Own;
-use crate::place::Place;
 use arguments::Arguments;
 use data::{Dependency, Refusal, Source, Sources, Text, Texts};
 use named_sources::{NamedSource, outputs_at};
 use resources::{dependencies_in, found_dependency, joined, within_texts};
 use std::alloc::{AllocError, Global};
 use targets::Linked;
+use world::Here;
 
 // ---- sources
 
@@ -128,23 +127,23 @@ fn with_arguments(
 
 // The dependency with the lists of its own.
 fn own_dependency(
-    place: &Place<'_>,
+    here: &Here<'_>,
     project: &str,
     arguments: &Arguments,
     own: &Own,
 ) -> Result<Result<Dependency, Refusal>, AllocError>
     ensures { IfOk result (λ r. r
-        ≡ own_dependency project.now (place_view place.now).earlier (arguments_data arguments.now) (own_view own.now)) }
+        ≡ own_dependency project.now (here_view here.now).earlier (arguments_data arguments.now) (own_view own.now)) }
 {
-    let dependency = match with_arguments(place.alloc, project, arguments)? {
+    let dependency = match with_arguments(here.alloc, project, arguments)? {
         Ok(dependency) => dependency,
         Err(refusal) => return Ok(Err(refusal)),
     };
-    let folders = match within_texts(place.alloc, &own.folders)? {
+    let folders = match within_texts(here.alloc, &own.folders)? {
         Ok(folders) => folders,
         Err(refusal) => return Ok(Err(refusal)),
     };
-    let sources = match sources_within(place.alloc, place.earlier, &own.sources)? {
+    let sources = match sources_within(here.alloc, here.earlier, &own.sources)? {
         Ok(sources) => sources,
         Err(refusal) => return Ok(Err(refusal)),
     };
@@ -165,18 +164,18 @@ fn dependencies_given(alloc: Global, arguments: &Arguments) -> Result<Vec<&Depen
 /// The dependency of a call that lists this of its own, in a project of this version; or `Refusal::Limit` where one of its lists is too
 /// long.
 pub fn joined_dependency(
-    place: &Place<'_>,
+    here: &Here<'_>,
     project: &str,
     arguments: &Arguments,
     own: &Own,
 ) -> Result<Result<Dependency, Refusal>, AllocError>
     ensures { IfOk result (λ r. r
-        ≡ joined_dependency project.now (place_view place.now).earlier (arguments_data arguments.now) (own_view own.now)) }
+        ≡ joined_dependency project.now (here_view here.now).earlier (arguments_data arguments.now) (own_view own.now)) }
 {
-    let dependency = match own_dependency(place, project, arguments, own)? {
+    let dependency = match own_dependency(here, project, arguments, own)? {
         Ok(dependency) => dependency,
         Err(refusal) => return Ok(Err(refusal)),
     };
-    let others = dependencies_given(place.alloc, arguments)?;
+    let others = dependencies_given(here.alloc, arguments)?;
     joined(dependency, &others)
 }

@@ -13,7 +13,6 @@ mod installs;
 mod joined_lists;
 mod named_files;
 mod own_lists;
-mod place;
 mod programs;
 mod required;
 mod rows;

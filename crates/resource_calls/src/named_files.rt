@@ -1,8 +1,7 @@
 //! The files of the tree among sources.
 ghost use Rattle.std.specs.Prelude.{map};
 ghost use Rattle.named_sources.specs.SourcesView.{named_view};
-ghost use Rattle.world.specs.Answering.{Carries, HasRoom};
-ghost use Rattle.world.specs.Caller.{state_of};
+ghost use Rattle.world.specs.Prelude.{Does, MayFail};
 ghost use Rattle.resource_calls.specs.NamedFiles.{file_required, files_required};
 
 use named_sources::NamedSource;
@@ -13,9 +12,8 @@ fn require_file<T: Tree, O: Outputs>(
     caller: &mut Caller<'_, T, O>,
     named: &NamedSource,
 ) -> Result<(), Stop>
-    requires { HasRoom (state_of T.seen O.seen caller.old) }
-    ensures { Carries (λ u. u) (file_required (named_view named.now))
-        (state_of T.seen O.seen caller.old) result (state_of T.seen O.seen caller.new) }
+    requires { MayFail T.seen O.seen caller.old }
+    ensures { Does T.seen O.seen (λ u. u) (file_required (named_view named.now)) caller.old result caller.new }
 {
     match named {
         NamedSource::Tree(path) => caller.require_file(path.as_str()),
@@ -30,9 +28,8 @@ pub fn require_files<T: Tree, O: Outputs>(
     caller: &mut Caller<'_, T, O>,
     named: &[NamedSource],
 ) -> Result<(), Stop>
-    requires { HasRoom (state_of T.seen O.seen caller.old) }
-    ensures { Carries (λ u. u) (files_required (map named_view named.now))
-        (state_of T.seen O.seen caller.old) result (state_of T.seen O.seen caller.new) }
+    requires { MayFail T.seen O.seen caller.old }
+    ensures { Does T.seen O.seen (λ u. u) (files_required (map named_view named.now)) caller.old result caller.new }
 {
     for one in named {
         require_file(caller, one)?;

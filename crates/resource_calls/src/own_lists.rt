@@ -1,18 +1,16 @@
 //! What `declare_dependency` lists of its own, as its arguments name it.
 ghost use Rattle.std.specs.Prelude.{◌≡◌, IfOk, map, option_map};
-ghost use Rattle.arguments.specs.Arguments.{arguments_data};
-ghost use Rattle.data.specs.View.{data_of};
 ghost use Rattle.targets.specs.LinkedViews.{linked_views};
+ghost use Rattle.world.specs.Prelude.{arguments_data, data_of, here_view};
 ghost use Rattle.resource_calls.specs.OwnLists.{if_libraries, libraries_of, own_lists};
 ghost use Rattle.resource_calls.specs.OwnListsView.{own_view};
-ghost use Rattle.resource_calls.specs.PlaceView.{place_view};
 
-use crate::place::Place;
 use arguments::Arguments;
 use data::Value;
 use named_sources::{NamedSource, folders_of, numbers_of, sources_of};
 use std::alloc::{AllocError, Global};
 use targets::{Linked, are_libraries};
+use world::Here;
 
 /// What a call lists of its own.
 #[derive(Drop)]
@@ -50,19 +48,19 @@ pub(crate) fn libraries_of(
 }
 
 /// What the call lists of its own. None where a path leads out of the tree, or something to link with is no library.
-pub fn own_lists(place: &Place<'_>, arguments: &Arguments) -> Result<Option<Own>, AllocError>
-    ensures { IfOk result (λ own. option_map own_view own ≡ own_lists (place_view place.now) (arguments_data arguments.now)) }
+pub fn own_lists(here: &Here<'_>, arguments: &Arguments) -> Result<Option<Own>, AllocError>
+    ensures { IfOk result (λ own. option_map own_view own ≡ own_lists (here_view here.now) (arguments_data arguments.now)) }
 {
-    let values = arguments.leaves(place.alloc, "include_directories")?;
-    let Some(folders) = folders_of(place.alloc, place.source_root, place.folder, &values)? else {
+    let values = arguments.leaves(here.alloc, "include_directories")?;
+    let Some(folders) = folders_of(here.alloc, here.source_root, here.folder, &values)? else {
         return Ok(None);
     };
-    let values = arguments.leaves(place.alloc, "link_with")?;
-    let Some(libraries) = libraries_of(place.alloc, place.earlier, &values)? else {
+    let values = arguments.leaves(here.alloc, "link_with")?;
+    let Some(libraries) = libraries_of(here.alloc, here.earlier, &values)? else {
         return Ok(None);
     };
-    let values = arguments.leaves(place.alloc, "sources")?;
-    let Some(sources) = sources_of(place.alloc, place.source_root, place.folder, &values)? else {
+    let values = arguments.leaves(here.alloc, "sources")?;
+    let Some(sources) = sources_of(here.alloc, here.source_root, here.folder, &values)? else {
         return Ok(None);
     };
     Ok(Some(Own {

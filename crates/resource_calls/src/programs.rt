@@ -1,10 +1,7 @@
 //! `find_program`: <https://mesonbuild.com/Reference-manual_functions.html#find_program>.
-ghost use Rattle.std.specs.Prelude.{◌≡◌, map, option_map, string_bytes};
-ghost use Rattle.arguments.specs.Arguments.{arguments_data};
+ghost use Rattle.std.specs.Prelude.{map, option_map, string_bytes};
 ghost use Rattle.data.specs.Flat.{flat_all};
-ghost use Rattle.data.specs.View.{data_of};
-ghost use Rattle.world.specs.Answering.{Carries, HasRoom};
-ghost use Rattle.world.specs.Caller.{state_of};
+ghost use Rattle.world.specs.Prelude.{Does, MayFail, arguments_data, data_of};
 ghost use Rattle.resource_calls.specs.Programs.{file_named, file_program, find_program, first_program, found_program};
 ghost use Rattle.resource_calls.specs.Programs.{give_program, missing_program, named_path, no_program};
 ghost use Rattle.resource_calls.specs.Programs.{program_at, program_named, program_of_words, program_wanted};
@@ -26,8 +23,7 @@ fn program_of_words<T: Tree, O: Outputs>(
     caller: &Caller<'_, T, O>,
     said: Result<Texts, data::Refusal>,
 ) -> Result<Option<Program>, Stop>
-    ensures { Carries (λ p. p) (program_of_words said)
-        (state_of T.seen O.seen caller.now) result (state_of T.seen O.seen caller.now) }
+    ensures { Does T.seen O.seen (λ p. p) (program_of_words said) caller.now result caller.now }
 {
     let words = caller.answered(said)?;
     Ok(Some(Program::Words(words)))
@@ -37,8 +33,7 @@ fn file_program<T: Tree, O: Outputs>(
     caller: &Caller<'_, T, O>,
     path: String,
 ) -> Result<Option<Program>, Stop>
-    ensures { Carries (λ p. p) (file_program (string_bytes path))
-        (state_of T.seen O.seen caller.now) result (state_of T.seen O.seen caller.now) }
+    ensures { Does T.seen O.seen (λ p. p) (file_program (string_bytes path)) caller.now result caller.now }
 {
     let answer = Text::new(caller.alloc, path)?;
     let text = caller.answered(answer)?;
@@ -51,8 +46,7 @@ fn program_at<T: Tree, O: Outputs>(
     path: String,
     is_there: bool,
 ) -> Result<Option<Program>, Stop>
-    ensures { Carries (λ p. p) (program_at (string_bytes path) is_there)
-        (state_of T.seen O.seen caller.now) result (state_of T.seen O.seen caller.now) }
+    ensures { Does T.seen O.seen (λ p. p) (program_at (string_bytes path) is_there) caller.now result caller.now }
 {
     if is_there {
         file_program(caller, path)
@@ -63,8 +57,7 @@ fn program_at<T: Tree, O: Outputs>(
 
 // The path of the file of the tree that a name means, or the refusal of one that means none.
 fn named_path<T: Tree, O: Outputs>(caller: &Caller<'_, T, O>, name: &str) -> Result<String, Stop>
-    ensures { Carries string_bytes (named_path name.now)
-        (state_of T.seen O.seen caller.now) result (state_of T.seen O.seen caller.now) }
+    ensures { Does T.seen O.seen string_bytes (named_path name.now) caller.now result caller.now }
 {
     let source_root = caller.store.settings().source_root.as_str();
     let path = tree_path(caller.alloc, source_root, caller.store.folder(), name)?;
@@ -79,9 +72,8 @@ fn file_named<T: Tree, O: Outputs>(
     caller: &mut Caller<'_, T, O>,
     name: &str,
 ) -> Result<Option<Program>, Stop>
-    requires { HasRoom (state_of T.seen O.seen caller.old) }
-    ensures { Carries (λ p. p) (file_named name.now)
-        (state_of T.seen O.seen caller.old) result (state_of T.seen O.seen caller.new) }
+    requires { MayFail T.seen O.seen caller.old }
+    ensures { Does T.seen O.seen (λ p. p) (file_named name.now) caller.old result caller.new }
 {
     let path = named_path(caller, name)?;
     let found = caller.is_there(path.as_str())?;
@@ -93,9 +85,8 @@ fn program_named<T: Tree, O: Outputs>(
     caller: &mut Caller<'_, T, O>,
     name: &str,
 ) -> Result<Option<Program>, Stop>
-    requires { HasRoom (state_of T.seen O.seen caller.old) }
-    ensures { Carries (λ p. p) (program_named name.now)
-        (state_of T.seen O.seen caller.old) result (state_of T.seen O.seen caller.new) }
+    requires { MayFail T.seen O.seen caller.old }
+    ensures { Does T.seen O.seen (λ p. p) (program_named name.now) caller.old result caller.new }
 {
     caller.ask_key("binaries", name)?;
     let said = program_words(caller.alloc, caller.store.machine(), name)?;
@@ -112,9 +103,8 @@ fn first_program<T: Tree, O: Outputs>(
     caller: &mut Caller<'_, T, O>,
     names: &[&str],
 ) -> Result<Option<Program>, Stop>
-    requires { HasRoom (state_of T.seen O.seen caller.old) }
-    ensures { Carries (λ p. p) (first_program (map (λ n. n.now) names.now))
-        (state_of T.seen O.seen caller.old) result (state_of T.seen O.seen caller.new) }
+    requires { MayFail T.seen O.seen caller.old }
+    ensures { Does T.seen O.seen (λ p. p) (first_program (map (λ n. n.now) names.now)) caller.old result caller.new }
 {
     for name in names {
         let found = program_named(caller, name)?;
@@ -129,9 +119,9 @@ fn first_given<T: Tree, O: Outputs>(
     caller: &mut Caller<'_, T, O>,
     arguments: &Arguments,
 ) -> Result<Option<Program>, Stop>
-    requires { HasRoom (state_of T.seen O.seen caller.old) }
-    ensures { Carries (λ p. p) (first_program (flat_all (map data_of arguments.now.positional.items)))
-        (state_of T.seen O.seen caller.old) result (state_of T.seen O.seen caller.new) }
+    requires { MayFail T.seen O.seen caller.old }
+    ensures { Does T.seen O.seen (λ p. p) (first_program (flat_all (map data_of arguments.now.positional.items)))
+        caller.old result caller.new }
 {
     let names = arguments.all_texts(caller.alloc)?;
     first_program(caller, &names)
@@ -142,9 +132,9 @@ fn program_wanted<T: Tree, O: Outputs>(
     caller: &mut Caller<'_, T, O>,
     arguments: &Arguments,
 ) -> Result<Option<Program>, Stop>
-    requires { HasRoom (state_of T.seen O.seen caller.old) }
-    ensures { let a = arguments_data arguments.now in Carries (λ p. p) (program_wanted (required_by a) a)
-        (state_of T.seen O.seen caller.old) result (state_of T.seen O.seen caller.new) }
+    requires { MayFail T.seen O.seen caller.old }
+    ensures { let a = arguments_data arguments.now in Does T.seen O.seen (λ p. p) (program_wanted (required_by a) a)
+        caller.old result caller.new }
 {
     match required_by(arguments) {
         Requirement::Disabled => Ok(None),
@@ -158,8 +148,7 @@ fn missing_program<T: Tree, O: Outputs>(
     caller: &Caller<'_, T, O>,
     arguments: &Arguments,
 ) -> Result<Option<Value>, Stop>
-    ensures { Carries (option_map data_of) (missing_program (arguments_data arguments.now))
-        (state_of T.seen O.seen caller.now) result (state_of T.seen O.seen caller.now) }
+    ensures { Does T.seen O.seen (option_map data_of) (missing_program (arguments_data arguments.now)) caller.now result caller.now }
 {
     let object = missing_object(arguments, Object::Program(Program::NotFound));
     let value = Value::of_object(caller.alloc, object)?;
@@ -171,8 +160,8 @@ fn no_program<T: Tree, O: Outputs>(
     caller: &Caller<'_, T, O>,
     arguments: &Arguments,
 ) -> Result<Option<Value>, Stop>
-    ensures { let a = arguments_data arguments.now in Carries (option_map data_of) (no_program (required_by a) a)
-        (state_of T.seen O.seen caller.now) result (state_of T.seen O.seen caller.now) }
+    ensures { let a = arguments_data arguments.now in Does T.seen O.seen (option_map data_of) (no_program (required_by a) a)
+        caller.now result caller.now }
 {
     match required_by(arguments) {
         Requirement::Required => caller.refuse(Refusal::NotFound, arguments.text_at(0)),
@@ -184,8 +173,7 @@ fn found_program<T: Tree, O: Outputs>(
     caller: &Caller<'_, T, O>,
     program: Program,
 ) -> Result<Option<Value>, Stop>
-    ensures { Carries (option_map data_of) (found_program program)
-        (state_of T.seen O.seen caller.now) result (state_of T.seen O.seen caller.now) }
+    ensures { Does T.seen O.seen (option_map data_of) (found_program program) caller.now result caller.now }
 {
     let value = Value::of_object(caller.alloc, Object::Program(program))?;
     Ok(Some(value))
@@ -196,8 +184,7 @@ fn give_program<T: Tree, O: Outputs>(
     arguments: &Arguments,
     found: Option<Program>,
 ) -> Result<Option<Value>, Stop>
-    ensures { Carries (option_map data_of) (give_program (arguments_data arguments.now) found)
-        (state_of T.seen O.seen caller.now) result (state_of T.seen O.seen caller.now) }
+    ensures { Does T.seen O.seen (option_map data_of) (give_program (arguments_data arguments.now) found) caller.now result caller.now }
 {
     match found {
         Some(program) => found_program(caller, program),
@@ -211,9 +198,8 @@ pub fn find_program<T: Tree, O: Outputs>(
     caller: &mut Caller<'_, T, O>,
     arguments: &Arguments,
 ) -> Result<Option<Value>, Stop>
-    requires { HasRoom (state_of T.seen O.seen caller.old) }
-    ensures { Carries (option_map data_of) (find_program (arguments_data arguments.now))
-        (state_of T.seen O.seen caller.old) result (state_of T.seen O.seen caller.new) }
+    requires { MayFail T.seen O.seen caller.old }
+    ensures { Does T.seen O.seen (option_map data_of) (find_program (arguments_data arguments.now)) caller.old result caller.new }
 {
     let found = program_wanted(caller, arguments)?;
     give_program(caller, arguments, found)

@@ -1,6 +1,6 @@
 //! What a call requires, and what it gives where that isn't there.
 ghost use Rattle.std.specs.Prelude.{◌≡◌};
-ghost use Rattle.arguments.specs.Arguments.{arguments_data};
+ghost use Rattle.world.specs.Prelude.{arguments_data};
 ghost use Rattle.resource_calls.specs.Required.{missing_object, required_by};
 
 use arguments::{Arguments, Requirement};

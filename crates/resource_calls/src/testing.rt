@@ -1,16 +1,13 @@
 //! `test`: <https://mesonbuild.com/Reference-manual_functions.html#test>.
 ghost use Rattle.std.specs.Prelude.{◌≡◌, IfOk, option_map};
-ghost use Rattle.arguments.specs.Arguments.{arguments_data};
-ghost use Rattle.data.specs.View.{data_of};
 ghost use Rattle.project.specs.View.{test_view};
-ghost use Rattle.world.specs.Answering.{Carries, HasRoom, Views};
-ghost use Rattle.world.specs.Caller.{state_of};
+ghost use Rattle.world.specs.Prelude.{Does, MayFail, arguments_data, data_of};
+ghost use Rattle.world.specs.Answering.{Views};
 ghost use Rattle.resource_calls.specs.TestCommandsView.{run_view};
 ghost use Rattle.resource_calls.specs.Tests.{said_run, seconds_given, test, test_given};
 
 use crate::breaches::run_breach;
 use crate::commands::{Run, run_of};
-use crate::place::place_of;
 use arguments::Arguments;
 use data::Value;
 use ports::{Outputs, Tree};
@@ -24,15 +21,14 @@ fn said_run<T: Tree, O: Outputs>(
     caller: &Caller<'_, T, O>,
     arguments: &Arguments,
 ) -> Result<Run, Stop>
-    ensures { Carries run_view (said_run (arguments_data arguments.now))
-        (state_of T.seen O.seen caller.now) result (state_of T.seen O.seen caller.now) }
+    ensures { Does T.seen O.seen run_view (said_run (arguments_data arguments.now)) caller.now result caller.now }
 {
-    let place = place_of(caller);
-    let found = run_of(&place, arguments)?;
+    let here = caller.here();
+    let found = run_of(&here, arguments)?;
     match found {
         Some(run) => Ok(run),
         None => {
-            let breach = run_breach(&place, arguments)?;
+            let breach = run_breach(&here, arguments)?;
             caller.refuse_by(breach.0, breach.1.as_str())
         }
     }
@@ -74,9 +70,8 @@ pub fn test<T: Tree, O: Outputs>(
     caller: &mut Caller<'_, T, O>,
     arguments: &Arguments,
 ) -> Result<Option<Value>, Stop>
-    requires { HasRoom (state_of T.seen O.seen caller.old) }
-    ensures { Carries (option_map data_of) (test (arguments_data arguments.now))
-        (state_of T.seen O.seen caller.old) result (state_of T.seen O.seen caller.new) }
+    requires { MayFail T.seen O.seen caller.old }
+    ensures { Does T.seen O.seen (option_map data_of) (test (arguments_data arguments.now)) caller.old result caller.new }
 {
     let run = said_run(caller, arguments)?;
     let made = test_given(caller.alloc, arguments, run)?;

@@ -4,7 +4,7 @@ ghost use Rattle.std.specs.Prelude.{◌≡◌, ◌++◌, ◌∷◌, [], IfOk, On
 ghost use Rattle.arguments.specs.Arguments.{arguments_data};
 ghost use Rattle.arguments.specs.Given.{keyword};
 ghost use Rattle.data.specs.Data.{object};
-ghost use Rattle.data.specs.View.{data_of};
+ghost use Rattle.data.specs.Prelude.{data_of};
 ghost use Rattle.machine_file.specs.QuestionsView.{asides_in, question_in, topic_in};
 ghost use Rattle.machine_file.specs.View.{strings_in};
 ghost use Rattle.resources.specs.Beside.{aside_of, asides_named, call_question, state_word, words_in, words_of};

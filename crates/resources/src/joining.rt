@@ -1,6 +1,6 @@
 //! `declare_dependency`: <https://mesonbuild.com/Reference-manual_functions.html#declare_dependency>.
-ghost use Rattle.std.specs.Prelude.{◌≡◌, ◌++◌, ◌&&◌, length, map, nat_le, IfOk, OnOk};
-ghost use Rattle.data.specs.View.{data_of, items_of};
+ghost use Rattle.std.specs.Prelude.{◌≡◌, ◌++◌, ◌&&◌, map, IfOk, OnOk};
+ghost use Rattle.data.specs.Prelude.{data_of, items_of};
 ghost use Rattle.resources.specs.Joined.{dependencies_in, dependencies_of, is_within, joined, with_lists};
 
 use data::{Dependency, Object, Refusal, Value};

@@ -2,7 +2,7 @@
 ghost use Rattle.std.specs.Prelude.{◌≡◌, IfOk, [], map, option_map, string_bytes};
 ghost use Rattle.std.specs.List.{list_all};
 ghost use Rattle.arguments.specs.Arguments.{arguments_data};
-ghost use Rattle.data.specs.View.{items_of};
+ghost use Rattle.data.specs.Prelude.{items_of};
 ghost use Rattle.resources.specs.TestingView.{strings_of};
 ghost use Rattle.resources.specs.Testing.{assigned_behind, assignment, assignments, environment, environment_breach, first_textless};
 ghost use Rattle.resources.specs.Testing.{first_unassigned, is_assignment, seconds_of};

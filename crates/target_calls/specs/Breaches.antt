@@ -15,7 +15,7 @@ use Rattle.targets.specs.Sources.{source_paths}
 use Rattle.target_calls.specs.BuildTargets.{named_sources, source_values, version_fits}
 use Rattle.target_calls.specs.CustomTargets.{NamesData, captures_one, count_named, has_place, names_of, place_with, sources_by, written}
 use Rattle.target_calls.specs.CustomTargets.{written_files}
-use Rattle.target_calls.specs.Here.{HereData}
+use Rattle.world.specs.Here.{HereData}
 
 -- a rule, and the text or the keyword that breaks it
 abbrev pub Breach : Type 0

@@ -14,7 +14,7 @@ use Rattle.named_sources.specs.Libraries.{numbers_of}
 use Rattle.named_sources.specs.Sources.{NamedData, sources_of}
 use Rattle.named_sources.specs.Versions.{is_library_version}
 use Rattle.target_calls.specs.Dependencies.{dependencies_of}
-use Rattle.target_calls.specs.Here.{HereData}
+use Rattle.world.specs.Here.{HereData}
 use Rattle.target_calls.specs.Sources.{file_in, sources_in}
 
 -- ---- the keywords of a shared library

@@ -9,14 +9,12 @@ use Rattle.data.specs.declared.object.Program.TheVariants as programs
 use Rattle.edge.specs.Paths.{source_path}
 use Rattle.edge.specs.Texts.{Path, Text}
 use Rattle.named_sources.specs.Holes.{PlaceData, words_of}
+use Rattle.named_sources.specs.Outputs.{output_at, outputs_at}
 use Rattle.paths.specs.Names.{has_slash}
 use Rattle.targets.specs.Data.{BuildData, SourceData, Tree, Built, Made}
-use Rattle.targets.specs.Files.{file_path}
+use Rattle.targets.specs.Files.{file_path, is_library}
 use Rattle.targets.specs.Libraries.{build_at}
-use Rattle.targets.specs.declared.target.Kind.{Kind}
-use Rattle.targets.specs.declared.target.Kind.TheVariants as kinds
-use Rattle.named_sources.specs.Outputs.{output_at, outputs_at}
-use Rattle.target_calls.specs.Here.{HereData}
+use Rattle.world.specs.Here.{HereData}
 use Rattle.target_calls.specs.Sources.{one_made}
 
 -- the words of a part of the command, and what has to be there for it
@@ -36,13 +34,9 @@ of_program depth programs.NotFound = None
 of_program depth (programs.Words words) = Some (words_alone words)
 of_program depth (programs.File path) = Some (words_alone (source_path depth path ∷ []))
 
-abbrev pub is_executable : Kind → Bool
-is_executable kinds.Executable = true
-is_executable _ = false
-
 -- a program of the build folder itself is called as `./prog`
 abbrev pub called : BuildData → Path
-called t = if is_executable t.kind && not (has_slash (file_path t)) then codes "./" ++ file_path t else file_path t
+called t = if not (is_library t.kind) && not (has_slash (file_path t)) then codes "./" ++ file_path t else file_path t
 
 abbrev pub of_build_target : BuildData → PartData
 of_build_target t = one_path (called t) (one_made (file_path t))

@@ -10,7 +10,7 @@ use Rattle.target_calls.specs.BuildTargets.{NamedTargetData}
 use Rattle.target_calls.specs.CustomInstalls.{add_custom}
 use Rattle.target_calls.specs.CustomTargets.{count_named, declared_custom}
 use Rattle.target_calls.specs.Files.{all_required}
-use Rattle.target_calls.specs.Here.{here_of}
+use Rattle.world.specs.Here.{here_of}
 use Rattle.target_calls.specs.Targets.{required_fit}
 
 -- what the arguments say: E9 where they say no target

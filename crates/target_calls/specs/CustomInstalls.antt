@@ -4,9 +4,9 @@ use Rattle.arguments.specs.Arguments.{ArgumentsData}
 use Rattle.arguments.specs.Given.{text_of}
 use Rattle.edge.specs.Texts.{Path, Text}
 use Rattle.paths.specs.Below.{path_below}
+use Rattle.paths.specs.Paths.{path_in}
 use Rattle.project.specs.World.{InstallData}
 use Rattle.targets.specs.Data.{Build, Custom, CustomData, TargetData}
-use Rattle.paths.specs.Paths.{path_in}
 use Rattle.world.specs.Declaring.{add_install, add_target}
 use Rattle.world.specs.Deed.{Deed, give, read, ◌>>=◌}
 use Rattle.target_calls.specs.Installs.{FoldersData, folders_in}

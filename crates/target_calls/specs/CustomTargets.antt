@@ -19,7 +19,7 @@ use Rattle.named_sources.specs.Each.{each_or_none}
 use Rattle.named_sources.specs.Sources.{sources_of}
 use Rattle.target_calls.specs.BuildTargets.{NamedTargetData}
 use Rattle.target_calls.specs.Commands.{PartData, command_of}
-use Rattle.target_calls.specs.Here.{HereData}
+use Rattle.world.specs.Here.{HereData}
 use Rattle.target_calls.specs.Sources.{file_in, sources_in}
 
 -- ---- what may be given

@@ -11,8 +11,6 @@ pub mod CustomTargetsView
 pub mod Dependencies
 pub mod Files
 pub mod FitBreaches
-pub mod Here
-pub mod HereView
 pub mod Installs
 pub mod InstallsView
 pub mod ProjectWords

@@ -16,7 +16,7 @@ use Rattle.target_calls.specs.Breaches.{build_breach}
 use Rattle.target_calls.specs.FitBreaches.{fit_breach}
 use Rattle.target_calls.specs.BuildTargets.{NamedTargetData, declared}
 use Rattle.target_calls.specs.Files.{all_required}
-use Rattle.target_calls.specs.Here.{here_of}
+use Rattle.world.specs.Here.{here_of}
 use Rattle.target_calls.specs.Installs.{folders_in, install_of, noted}
 
 -- what the arguments say: E9 where they say no target

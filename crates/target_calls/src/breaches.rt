@@ -1,21 +1,20 @@
 //! Which rule is broken by arguments that say no target: it is looked for only where a call is refused.
 ghost use Rattle.std.specs.Prelude.{◌≡◌, IfOk, Some, codes, map};
-ghost use Rattle.arguments.specs.Arguments.{arguments_data};
 ghost use Rattle.targets.specs.View.{source_view};
+ghost use Rattle.world.specs.Prelude.{arguments_data, here_view};
 ghost use Rattle.target_calls.specs.Breaches.{build_breach, custom_breach, input_breach, lost_file, lost_folder, written_breach};
 ghost use Rattle.target_calls.specs.CustomTargets.{sources_by, written_files};
-ghost use Rattle.target_calls.specs.HereView.{here_view};
 
 use crate::build_target::{named_sources, source_values, version_fits};
 use crate::custom::{
     captures_one, count_named, has_place, names_of, place_with, sources_by, written, written_files,
 };
-use crate::here::Here;
 use arguments::{Arguments, Rule};
 use named_sources::{unnamed_folder, unnamed_source};
 use paths::{folder_path, tree_path};
 use std::alloc::{AllocError, Global};
 use targets::{Source, source_paths};
+use world::Here;
 
 /// The first of these texts that names no file of the tree.
 pub fn lost_file<'t>(

@@ -1,17 +1,14 @@
 //! An executable or a library as the arguments of a call say it.
 ghost use Rattle.std.specs.Prelude.{◌≡◌, IfOk, codes, map, option_map, string_bytes};
-ghost use Rattle.arguments.specs.Arguments.{arguments_data};
 ghost use Rattle.arguments.specs.Given.{text_given};
-ghost use Rattle.data.specs.View.{data_of};
 ghost use Rattle.targets.specs.View.{build_view, lists_view, source_view};
 ghost use Rattle.named_sources.specs.SourcesView.{named_view, named_views};
+ghost use Rattle.world.specs.Prelude.{arguments_data, data_of, here_view};
 ghost use Rattle.target_calls.specs.BuildTargets.{build_target, declared, declared_from, named_sources, number_in, own_lists};
 ghost use Rattle.target_calls.specs.BuildTargets.{source_values, soversion_given, version_fits};
 ghost use Rattle.target_calls.specs.BuildTargetsView.{named_target_view};
-ghost use Rattle.target_calls.specs.HereView.{here_view};
 
 use crate::dependencies::dependencies_of;
-use crate::here::Here;
 use crate::sources::{files_among, sources_in};
 use arguments::Arguments;
 use data::Value;
@@ -19,6 +16,7 @@ use named_sources::{NamedSource, folders_of, is_library_version, numbers_of, sou
 use std::alloc::{AllocError, Global};
 use std::rc::Rc;
 use targets::{BuildTarget, Kind, Lists, Source, Target};
+use world::Here;
 
 /// What a call declares.
 #[derive(Drop)]

@@ -1,23 +1,22 @@
 //! The command of a custom target.
 ghost use Rattle.std.specs.Prelude.{◌≡◌, ◌∷◌, [], IfOk, None, Some, map, option_map, string_bytes, if◌then◌else◌};
-ghost use Rattle.data.specs.View.{data_of};
 ghost use Rattle.edge.specs.Texts.{texts};
 ghost use Rattle.named_sources.specs.HolesView.{place_view};
 ghost use Rattle.targets.specs.View.{build_view, source_view};
-ghost use Rattle.target_calls.specs.Commands.{build_target_at, called, command_of, is_executable, joined, of_build_target, of_file};
+ghost use Rattle.world.specs.Prelude.{data_of, here_view};
+ghost use Rattle.target_calls.specs.Commands.{build_target_at, called, command_of, joined, of_build_target, of_file};
 ghost use Rattle.target_calls.specs.Commands.{of_object, of_output, of_outputs, of_program, one_path, output_named, outputs_named};
 ghost use Rattle.target_calls.specs.Commands.{of_text, part_of, words_alone};
 ghost use Rattle.target_calls.specs.CommandsView.{part_view};
-ghost use Rattle.target_calls.specs.HereView.{here_view};
 
-use crate::here::Here;
 use crate::sources::{made_of, one_made_of};
 use data::{Object, Program, Value};
 use edge::{push_copies, source_path};
 use named_sources::{Place, output_at, outputs_at, push_words, strings};
 use paths::has_slash;
 use std::alloc::{AllocError, Global};
-use targets::{BuildTarget, Kind, Source, build_target_at, file_path};
+use targets::{BuildTarget, Source, build_target_at, file_path};
+use world::Here;
 
 /// The words of a part of the command, and what has to be there for it.
 #[derive(Drop)]
@@ -75,21 +74,12 @@ fn push_program(
     }
 }
 
-fn is_executable(kind: Kind) -> bool
-    ensures { result ≡ is_executable kind }
-{
-    match kind {
-        Kind::Executable => true,
-        Kind::StaticLibrary | Kind::SharedLibrary => false,
-    }
-}
-
 // A program of the build folder itself is called as `./prog`.
 fn called(alloc: Global, target: &BuildTarget) -> Result<String, AllocError>
     ensures { IfOk result (λ s. string_bytes s ≡ called (build_view target.now)) }
 {
     let path = file_path(alloc, target)?;
-    if is_executable(target.kind) && !has_slash(&path) {
+    if !target.kind.is_library() && !has_slash(&path) {
         format!(in alloc; "./{path}")
     } else {
         Ok(path)

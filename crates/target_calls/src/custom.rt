@@ -1,10 +1,9 @@
 //! A custom target as the arguments of a call say it.
-ghost use Rattle.std.specs.Prelude.{◌≡◌, ◌++◌, ◌∷◌, [], IfOk, IfSome, Some, codes, count_by, flat_map, map, option_map};
+ghost use Rattle.std.specs.Prelude.{◌≡◌, ◌++◌, ◌∷◌, [], IfOk, IfSome, Some, codes, count_by, map, option_map};
 ghost use Rattle.std.specs.Prelude.{string_bytes, unwrap_or};
 ghost use Rattle.std.specs.Bool.{OnTrue};
-ghost use Rattle.arguments.specs.Arguments.{arguments_data, named_data};
+ghost use Rattle.arguments.specs.Arguments.{named_data};
 ghost use Rattle.arguments.specs.Given.{texts as texts_given};
-ghost use Rattle.data.specs.View.{data_of};
 ghost use Rattle.edge.specs.Texts.{texts};
 ghost use Rattle.edge.specs.Folders.{build_folder, source_folder};
 ghost use Rattle.edge.specs.Paths.{source_root};
@@ -14,6 +13,7 @@ ghost use Rattle.paths.specs.Paths.{path_in as path_of_file};
 ghost use Rattle.targets.specs.View.{custom_view, source_view};
 ghost use Rattle.named_sources.specs.Sources.{sources_of as named_in};
 ghost use Rattle.named_sources.specs.SourcesView.{named_views};
+ghost use Rattle.world.specs.Prelude.{arguments_data, data_of, here_view};
 ghost use Rattle.target_calls.specs.BuildTargetsView.{named_target_view};
 ghost use Rattle.target_calls.specs.CommandsView.{part_view};
 ghost use Rattle.target_calls.specs.CustomTargets.{IsAllInput, call_fits, captures_one, count_named, custom_from, custom_target};
@@ -21,11 +21,9 @@ ghost use Rattle.target_calls.specs.CustomTargets.{declared_custom, declared_fil
 ghost use Rattle.target_calls.specs.CustomTargets.{names_in, names_of, sources_by, whole_command};
 ghost use Rattle.target_calls.specs.CustomTargets.{written, written_files, written_in};
 ghost use Rattle.target_calls.specs.CustomTargetsView.{names_view};
-ghost use Rattle.target_calls.specs.HereView.{here_view};
 
 use crate::build_target::NamedTarget;
 use crate::command::{Part, command_of};
-use crate::here::Here;
 use crate::sources::{files_among, sources_in};
 use arguments::{Arguments, Named};
 use data::{Value, flat, opened, opened_count};
@@ -33,6 +31,7 @@ use named_sources::{NamedSource, Place, Scope, filled, sources_of};
 use paths::path_in;
 use std::alloc::{AllocError, Global};
 use targets::{CustomTarget, Source, Target, paths_in, source_paths};
+use world::Here;
 
 /// Names of files of the folder.
 #[derive(Drop)]

@@ -1,9 +1,6 @@
 //! `custom_target`.
-ghost use Rattle.std.specs.Prelude.{◌≡◌, option_map};
-ghost use Rattle.arguments.specs.Arguments.{arguments_data};
-ghost use Rattle.data.specs.View.{data_of};
-ghost use Rattle.world.specs.Answering.{Carries, HasRoom};
-ghost use Rattle.world.specs.Caller.{state_of};
+ghost use Rattle.std.specs.Prelude.{option_map};
+ghost use Rattle.world.specs.Prelude.{Does, MayFail, arguments_data, data_of};
 ghost use Rattle.target_calls.specs.BuildTargetsView.{named_target_view};
 ghost use Rattle.target_calls.specs.CustomCalls.{custom_target, said_custom};
 
@@ -12,7 +9,6 @@ use crate::build_target::NamedTarget;
 use crate::custom::{count_named, declared_custom};
 use crate::custom_installs::add_custom;
 use crate::declaring::require_fit;
-use crate::here::here_of;
 use crate::tree::require_all;
 use arguments::Arguments;
 use data::{Object, Value};
@@ -24,10 +20,9 @@ fn said_custom<T: Tree, O: Outputs>(
     caller: &Caller<'_, T, O>,
     arguments: &Arguments,
 ) -> Result<NamedTarget, Stop>
-    ensures { Carries named_target_view (said_custom (arguments_data arguments.now))
-        (state_of T.seen O.seen caller.now) result (state_of T.seen O.seen caller.now) }
+    ensures { Does T.seen O.seen named_target_view (said_custom (arguments_data arguments.now)) caller.now result caller.now }
 {
-    let here = here_of(caller);
+    let here = caller.here();
     let found = declared_custom(&here, arguments)?;
     match found {
         Some(named) => Ok(named),
@@ -43,9 +38,8 @@ pub fn custom_target<T: Tree, O: Outputs>(
     caller: &mut Caller<'_, T, O>,
     arguments: &Arguments,
 ) -> Result<Option<Value>, Stop>
-    requires { HasRoom (state_of T.seen O.seen caller.old) }
-    ensures { Carries (option_map data_of) (custom_target (arguments_data arguments.now))
-        (state_of T.seen O.seen caller.old) result (state_of T.seen O.seen caller.new) }
+    requires { MayFail T.seen O.seen caller.old }
+    ensures { Does T.seen O.seen (option_map data_of) (custom_target (arguments_data arguments.now)) caller.old result caller.new }
 {
     let outputs = count_named(arguments, "output");
     let named = said_custom(caller, arguments)?;

@@ -1,11 +1,9 @@
 //! Where the outputs of a custom target go when it is installed.
 ghost use Rattle.std.specs.Prelude.{◌≡◌, IfOk};
-ghost use Rattle.arguments.specs.Arguments.{arguments_data};
 ghost use Rattle.edge.specs.Texts.{texts};
 ghost use Rattle.project.specs.View.{install_view};
 ghost use Rattle.targets.specs.View.{custom_view, target_view};
-ghost use Rattle.world.specs.Answering.{Carries};
-ghost use Rattle.world.specs.Caller.{state_of};
+ghost use Rattle.world.specs.Prelude.{Does, arguments_data};
 ghost use Rattle.target_calls.specs.CustomInstalls.{add_custom, all_noted, custom_names, installed_names, output_install, way_of};
 ghost use Rattle.target_calls.specs.CustomInstallsView.{way_view};
 ghost use Rattle.target_calls.specs.InstallsView.{folders_view};
@@ -78,8 +76,7 @@ fn note_all<T: Tree, O: Outputs>(
     way: &Way,
     names: &[String],
 ) -> Result<(), Stop>
-    ensures { Carries (λ u. u) (all_noted (way_view way.now) (texts names.now))
-        (state_of T.seen O.seen caller.old) result (state_of T.seen O.seen caller.new) }
+    ensures { Does T.seen O.seen (λ u. u) (all_noted (way_view way.now) (texts names.now)) caller.old result caller.new }
 {
     for name in names {
         let install = output_install(caller.alloc, way, name.as_str())?;
@@ -94,8 +91,7 @@ pub fn add_custom<T: Tree, O: Outputs>(
     arguments: &Arguments,
     target: Target,
 ) -> Result<usize, Stop>
-    ensures { Carries (λ n. n) (add_custom (arguments_data arguments.now) (target_view target))
-        (state_of T.seen O.seen caller.old) result (state_of T.seen O.seen caller.new) }
+    ensures { Does T.seen O.seen (λ n. n) (add_custom (arguments_data arguments.now) (target_view target)) caller.old result caller.new }
 {
     let names = installed_names(caller.alloc, &target)?;
     if !is_some_list(&names) {

@@ -1,18 +1,14 @@
 //! Functions that declare an executable or a library.
 ghost use Rattle.std.specs.Prelude.{◌≡◌, option_map};
-ghost use Rattle.arguments.specs.Arguments.{arguments_data};
-ghost use Rattle.data.specs.View.{data_of};
 ghost use Rattle.option_values.specs.View.{value_in};
 ghost use Rattle.targets.specs.View.{target_view};
-ghost use Rattle.world.specs.Answering.{Carries, HasRoom};
-ghost use Rattle.world.specs.Caller.{state_of};
+ghost use Rattle.world.specs.Prelude.{Does, MayFail, arguments_data, data_of};
 ghost use Rattle.target_calls.specs.BuildTargetsView.{named_target_view};
 ghost use Rattle.target_calls.specs.Targets.{add_installed, declare, library, library_kind, required_fit, said};
 
 use crate::breaches::build_breach;
 use crate::build_target::{NamedTarget, declared};
 use crate::fit_breaches::fit_breach;
-use crate::here::here_of;
 use crate::installs::{install_of, note};
 use crate::tree::require_all;
 use arguments::Arguments;
@@ -28,10 +24,9 @@ fn said<T: Tree, O: Outputs>(
     kind: Kind,
     arguments: &Arguments,
 ) -> Result<NamedTarget, Stop>
-    ensures { Carries named_target_view (said kind (arguments_data arguments.now))
-        (state_of T.seen O.seen caller.now) result (state_of T.seen O.seen caller.now) }
+    ensures { Does T.seen O.seen named_target_view (said kind (arguments_data arguments.now)) caller.now result caller.now }
 {
-    let here = here_of(caller);
+    let here = caller.here();
     let found = declared(&here, kind, arguments)?;
     match found {
         Some(named) => Ok(named),
@@ -47,8 +42,7 @@ pub fn require_fit<T: Tree, O: Outputs>(
     caller: &Caller<'_, T, O>,
     target: &Target,
 ) -> Result<(), Stop>
-    ensures { Carries (λ u. u) (required_fit (target_view target.now)) (state_of T.seen O.seen caller.now) result
-        (state_of T.seen O.seen caller.now) }
+    ensures { Does T.seen O.seen (λ u. u) (required_fit (target_view target.now)) caller.now result caller.now }
 {
     let project = caller.store.project();
     let fits = project.fits(target)?;
@@ -66,8 +60,7 @@ fn add_installed<T: Tree, O: Outputs>(
     arguments: &Arguments,
     target: Target,
 ) -> Result<usize, Stop>
-    ensures { Carries (λ n. n) (add_installed (arguments_data arguments.now) (target_view target))
-        (state_of T.seen O.seen caller.old) result (state_of T.seen O.seen caller.new) }
+    ensures { Does T.seen O.seen (λ n. n) (add_installed (arguments_data arguments.now) (target_view target)) caller.old result caller.new }
 {
     let install = install_of(caller, arguments, &target)?;
     let number = caller.add_target(target)?;
@@ -81,9 +74,8 @@ pub fn declare<T: Tree, O: Outputs>(
     kind: Kind,
     arguments: &Arguments,
 ) -> Result<Option<Value>, Stop>
-    requires { HasRoom (state_of T.seen O.seen caller.old) }
-    ensures { Carries (option_map data_of) (declare kind (arguments_data arguments.now))
-        (state_of T.seen O.seen caller.old) result (state_of T.seen O.seen caller.new) }
+    requires { MayFail T.seen O.seen caller.old }
+    ensures { Does T.seen O.seen (option_map data_of) (declare kind (arguments_data arguments.now)) caller.old result caller.new }
 {
     let named = said(caller, kind, arguments)?;
     require_fit(caller, &named.target)?;
@@ -114,9 +106,8 @@ pub fn library<T: Tree, O: Outputs>(
     caller: &mut Caller<'_, T, O>,
     arguments: &Arguments,
 ) -> Result<Option<Value>, Stop>
-    requires { HasRoom (state_of T.seen O.seen caller.old) }
-    ensures { Carries (option_map data_of) (library (arguments_data arguments.now))
-        (state_of T.seen O.seen caller.old) result (state_of T.seen O.seen caller.new) }
+    requires { MayFail T.seen O.seen caller.old }
+    ensures { Does T.seen O.seen (option_map data_of) (library (arguments_data arguments.now)) caller.old result caller.new }
 {
     let kind = library_kind(caller.store.option("default_library"));
     declare(caller, kind, arguments)

@@ -1,9 +1,9 @@
 //! What dependencies bring to a target.
 ghost use Rattle.std.specs.Prelude.{◌≡◌, IfOk, map, option_map};
-ghost use Rattle.data.specs.View.{data_of};
 ghost use Rattle.targets.specs.LinkedViews.{linked_views};
 ghost use Rattle.targets.specs.View.{lists_view};
 ghost use Rattle.named_sources.specs.SourcesView.{named_view};
+ghost use Rattle.world.specs.Prelude.{data_of};
 ghost use Rattle.target_calls.specs.Dependencies.{dependencies_of, found_in, lists_of, named_of};
 
 use crate::sources::sources_in;

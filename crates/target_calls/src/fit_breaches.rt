@@ -3,7 +3,7 @@ ghost use Rattle.std.specs.Prelude.{◌≡◌, ◌∷◌, IfOk, map, option_map,
 ghost use Rattle.edge.specs.Texts.{texts};
 ghost use Rattle.project.specs.Adding.{is_target_name};
 ghost use Rattle.targets.specs.Files.{file_name, link_names};
-ghost use Rattle.targets.specs.Sources.{is_foreign, is_header};
+ghost use Rattle.targets.specs.Sources.{is_header};
 ghost use Rattle.targets.specs.LinkedViews.{linked_views};
 ghost use Rattle.targets.specs.View.{build_view, custom_view, lists_view, source_view, target_view};
 ghost use Rattle.target_calls.specs.FitBreaches.{bad_name, build_fit, custom_fit, file_breach, fit_breach, foreign_among, foreign_in};

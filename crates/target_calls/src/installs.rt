@@ -1,10 +1,8 @@
 //! Where targets go when they are installed.
 ghost use Rattle.std.specs.Prelude.{◌≡◌, IfOk, option_map};
-ghost use Rattle.arguments.specs.Arguments.{arguments_data};
 ghost use Rattle.project.specs.View.{install_view};
 ghost use Rattle.targets.specs.View.{build_view, target_view};
-ghost use Rattle.world.specs.Answering.{Carries};
-ghost use Rattle.world.specs.Caller.{state_of};
+ghost use Rattle.world.specs.Prelude.{Does, arguments_data, state_of};
 ghost use Rattle.target_calls.specs.Installs.{asked_install, build_install, folders_in, install_folder, install_of, noted, usual_folder};
 ghost use Rattle.target_calls.specs.InstallsView.{folders_view};
 
@@ -119,8 +117,7 @@ pub fn note<T: Tree, O: Outputs>(
     caller: &mut Caller<'_, T, O>,
     install: Option<Install>,
 ) -> Result<(), Stop>
-    ensures { Carries (λ u. u) (noted (option_map install_view install))
-        (state_of T.seen O.seen caller.old) result (state_of T.seen O.seen caller.new) }
+    ensures { Does T.seen O.seen (λ u. u) (noted (option_map install_view install)) caller.old result caller.new }
 {
     match install {
         Some(install) => caller.add_install(install),

@@ -10,7 +10,6 @@ mod custom_installs;
 mod declaring;
 mod dependencies;
 mod fit_breaches;
-mod here;
 mod installs;
 mod project_words;
 mod rows;

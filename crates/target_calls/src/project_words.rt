@@ -1,12 +1,9 @@
 //! `add_project_arguments` and `add_project_link_arguments`.
 ghost use Rattle.std.specs.Prelude.{◌≡◌, IfOk, map, option_map};
 ghost use Rattle.std.specs.List.{list_all};
-ghost use Rattle.arguments.specs.Arguments.{arguments_data};
 ghost use Rattle.data.specs.Flat.{flat_all};
-ghost use Rattle.data.specs.View.{data_of};
 ghost use Rattle.edge.specs.Texts.{texts};
-ghost use Rattle.world.specs.Answering.{Carries};
-ghost use Rattle.world.specs.Caller.{state_of};
+ghost use Rattle.world.specs.Prelude.{Does, arguments_data, data_of};
 ghost use Rattle.target_calls.specs.ProjectWords.{add_project_arguments, add_project_link_arguments, are_c, is_c, required_c};
 
 use arguments::{Arguments, Rule};
@@ -50,8 +47,7 @@ fn require_c<T: Tree, O: Outputs>(
     caller: &Caller<'_, T, O>,
     arguments: &Arguments,
 ) -> Result<(), Stop>
-    ensures { Carries (λ u. u) (required_c (arguments_data arguments.now)) (state_of T.seen O.seen caller.now) result
-        (state_of T.seen O.seen caller.now) }
+    ensures { Does T.seen O.seen (λ u. u) (required_c (arguments_data arguments.now)) caller.now result caller.now }
 {
     let languages = arguments.texts(caller.alloc, "language")?;
     let is_so = are_c(&languages);
@@ -63,8 +59,7 @@ pub fn add_project_arguments<T: Tree, O: Outputs>(
     caller: &mut Caller<'_, T, O>,
     arguments: &Arguments,
 ) -> Result<Option<Value>, Stop>
-    ensures { Carries (option_map data_of) (add_project_arguments (arguments_data arguments.now))
-        (state_of T.seen O.seen caller.old) result (state_of T.seen O.seen caller.new) }
+    ensures { Does T.seen O.seen (option_map data_of) (add_project_arguments (arguments_data arguments.now)) caller.old result caller.new }
 {
     require_c(caller, arguments)?;
     let words = words(caller.alloc, arguments)?;
@@ -77,8 +72,8 @@ pub fn add_project_link_arguments<T: Tree, O: Outputs>(
     caller: &mut Caller<'_, T, O>,
     arguments: &Arguments,
 ) -> Result<Option<Value>, Stop>
-    ensures { Carries (option_map data_of) (add_project_link_arguments (arguments_data arguments.now))
-        (state_of T.seen O.seen caller.old) result (state_of T.seen O.seen caller.new) }
+    ensures { Does T.seen O.seen (option_map data_of) (add_project_link_arguments (arguments_data arguments.now))
+        caller.old result caller.new }
 {
     require_c(caller, arguments)?;
     let words = words(caller.alloc, arguments)?;

@@ -1,10 +1,7 @@
 //! `files` and `include_directories`.
-ghost use Rattle.std.specs.Prelude.{◌≡◌, map, option_map, string_bytes};
-ghost use Rattle.data.specs.View.{data_of};
-ghost use Rattle.arguments.specs.Arguments.{arguments_data};
+ghost use Rattle.std.specs.Prelude.{map, option_map, string_bytes};
 ghost use Rattle.paths.specs.Folder.{strings_of};
-ghost use Rattle.world.specs.Answering.{Carries, HasRoom};
-ghost use Rattle.world.specs.Caller.{state_of};
+ghost use Rattle.world.specs.Prelude.{Does, MayFail, arguments_data, data_of};
 ghost use Rattle.target_calls.specs.Files.{all_required, files, include_directories, named_files, named_folders};
 
 use crate::breaches::{lost_file, lost_folder};
@@ -20,8 +17,7 @@ pub(crate) fn named_files<T: Tree, O: Outputs>(
     caller: &Caller<'_, T, O>,
     texts: &[&str],
 ) -> Result<Vec<String>, Stop>
-    ensures { Carries strings_of (named_files (map (λ t. t.now) texts.now))
-        (state_of T.seen O.seen caller.now) result (state_of T.seen O.seen caller.now) }
+    ensures { Does T.seen O.seen strings_of (named_files (map (λ t. t.now) texts.now)) caller.now result caller.now }
 {
     let source_root = caller.store.settings().source_root.as_str();
     let folder = caller.store.folder();
@@ -40,8 +36,7 @@ fn named_folders<T: Tree, O: Outputs>(
     caller: &Caller<'_, T, O>,
     texts: &[&str],
 ) -> Result<Vec<String>, Stop>
-    ensures { Carries strings_of (named_folders (map (λ t. t.now) texts.now))
-        (state_of T.seen O.seen caller.now) result (state_of T.seen O.seen caller.now) }
+    ensures { Does T.seen O.seen strings_of (named_folders (map (λ t. t.now) texts.now)) caller.now result caller.now }
 {
     let source_root = caller.store.settings().source_root.as_str();
     let folder = caller.store.folder();
@@ -60,9 +55,8 @@ pub(crate) fn require_all<T: Tree, O: Outputs>(
     caller: &mut Caller<'_, T, O>,
     paths: Vec<String>,
 ) -> Result<(), Stop>
-    requires { HasRoom (state_of T.seen O.seen caller.old) }
-    ensures { Carries (λ u. u) (all_required (map string_bytes paths.items))
-        (state_of T.seen O.seen caller.old) result (state_of T.seen O.seen caller.new) }
+    requires { MayFail T.seen O.seen caller.old }
+    ensures { Does T.seen O.seen (λ u. u) (all_required (map string_bytes paths.items)) caller.old result caller.new }
 {
     for path in paths {
         caller.require_own_file(path)?;
@@ -75,9 +69,8 @@ pub fn files<T: Tree, O: Outputs>(
     caller: &mut Caller<'_, T, O>,
     arguments: &Arguments,
 ) -> Result<Option<Value>, Stop>
-    requires { HasRoom (state_of T.seen O.seen caller.old) }
-    ensures { Carries (option_map data_of) (files (arguments_data arguments.now))
-        (state_of T.seen O.seen caller.old) result (state_of T.seen O.seen caller.new) }
+    requires { MayFail T.seen O.seen caller.old }
+    ensures { Does T.seen O.seen (option_map data_of) (files (arguments_data arguments.now)) caller.old result caller.new }
 {
     let texts = arguments.all_texts(caller.alloc)?;
     let paths = named_files(caller, &texts)?;
@@ -92,8 +85,7 @@ pub fn include_directories<T: Tree, O: Outputs>(
     caller: &Caller<'_, T, O>,
     arguments: &Arguments,
 ) -> Result<Option<Value>, Stop>
-    ensures { Carries (option_map data_of) (include_directories (arguments_data arguments.now))
-        (state_of T.seen O.seen caller.now) result (state_of T.seen O.seen caller.now) }
+    ensures { Does T.seen O.seen (option_map data_of) (include_directories (arguments_data arguments.now)) caller.now result caller.now }
 {
     let texts = arguments.all_texts(caller.alloc)?;
     let paths = named_folders(caller, &texts)?;

@@ -8,8 +8,8 @@ use Rattle.edge.specs.Texts.{Path, Text}
 use Rattle.edge.specs.Paths.{way_up, source_path}
 use Rattle.edge.specs.Holding.{is_path, path_held, value_byte_held, value_held, value_held_if, is_some_list, is_writable, are_writable}
 use Rattle.edge.proofs.Held.{path_as_value}
-use Rattle.targets.specs.Data.{SourceData, Tree, Built, Made, CustomData}
 use Rattle.paths.specs.Paths.{path_in}
+use Rattle.targets.specs.Data.{SourceData, Tree, Built, Made, CustomData}
 use Rattle.targets.specs.Files.{output_paths}
 use Rattle.targets.specs.Sources.{source_paths}
 use Rattle.target_edges.specs.Edges.{first_of, and_path, custom_edge}

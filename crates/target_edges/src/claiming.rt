@@ -1,7 +1,7 @@
 //! What a project asks of a target's edges before it takes the target. They are not made for it, but for those that make symbolic links.
 ghost use Rattle.std.specs.Prelude.{◌≡◌, ◌∷◌, [], ◌++◌, ◌&&◌, ◌||◌, map, flat_map, IfOk, option_map, string_bytes};
 ghost use Rattle.std.specs.List.{list_all};
-ghost use Rattle.edge.specs.Holding.{is_path as is_path_of, is_writable, are_writable as are_writable_of};
+ghost use Rattle.edge.specs.Holding.{is_path as is_path_of, are_writable as are_writable_of};
 ghost use Rattle.edge.specs.Texts.{texts};
 ghost use Rattle.edge.specs.View.{edge_view};
 ghost use Rattle.targets.specs.Data.{Build, Custom};

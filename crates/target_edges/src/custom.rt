@@ -1,5 +1,5 @@
 //! The edge of a custom target. It is not made: what it has of the target is lent.
-ghost use Rattle.std.specs.Prelude.{◌≡◌, ◌++◌, [], map, flat_map, IfOk, string_bytes, option_map, codes, None, if◌then◌else◌};
+ghost use Rattle.std.specs.Prelude.{◌≡◌, ◌++◌, [], flat_map, IfOk, string_bytes, option_map, codes, None, if◌then◌else◌};
 ghost use Rattle.edge.specs.Texts.{texts};
 ghost use Rattle.edge.specs.Own.{lent_view};
 ghost use Rattle.targets.specs.Files.{output_paths};

@@ -1,13 +1,13 @@
 //! The edges that link and archive objects.
-ghost use Rattle.std.specs.Prelude.{◌≡◌, ◌++◌, ◌∷◌, ◌&&◌, [], Some, map, flat_map, IfOk, string_bytes, codes};
+ghost use Rattle.std.specs.Prelude.{◌≡◌, ◌++◌, ◌&&◌, Some, map, flat_map, IfOk, string_bytes, codes};
 ghost use Rattle.std.specs.List.{list_all};
 ghost use Rattle.edge.specs.Holding.{is_path as is_path_of, is_writable, value_held};
-ghost use Rattle.edge.specs.Texts.{texts, first_kept as first_of_texts};
+ghost use Rattle.edge.specs.Texts.{texts};
 ghost use Rattle.edge.specs.View.{edge_view};
 ghost use Rattle.targets.specs.LinkedViews.{linked_views};
 ghost use Rattle.targets.specs.View.{surroundings_view, build_view};
 ghost use Rattle.targets.specs.Files.{so_name as so_name_of};
-ghost use Rattle.target_edges.specs.Words.{file_in, library_file, library_files, shared_folder_in, shared_folder, static_arguments_in};
+ghost use Rattle.target_edges.specs.Words.{library_file, library_files, shared_folder_in, shared_folder, static_arguments_in};
 ghost use Rattle.target_edges.specs.Words.{static_arguments, search_word, search_words, shared_words};
 ghost use Rattle.target_edges.specs.Words.{shared_library_words, link_arguments, library_words, link_words};
 ghost use Rattle.target_edges.specs.Edges.{archiving, linking, file_edge, naming};

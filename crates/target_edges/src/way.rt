@@ -1,7 +1,7 @@
 //! The way from one folder of the build folder to another.
 ghost use Rattle.std.specs.Prelude.{◌≡◌, ◌++◌, ◌==◌, map, flat_map, IfOk, string_bytes};
 ghost use Rattle.std.specs.List.{slice_split};
-ghost use Rattle.target_edges.specs.Ways.{parts_of, steps_up, step_down, up_and_down, way_between, relative_way};
+ghost use Rattle.target_edges.specs.Ways.{parts_of, steps_up, step_down, way_between, relative_way};
 
 use std::alloc::{AllocError, Global};
 

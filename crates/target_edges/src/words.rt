@@ -1,9 +1,8 @@
 //! Words of commands.
-ghost use Rattle.std.specs.Prelude.{◌≡◌, ◌++◌, ◌∷◌, [], map, flat_map, IfOk, string_bytes, codes, nat_le};
+ghost use Rattle.std.specs.Prelude.{◌≡◌, ◌++◌, IfOk, string_bytes};
 ghost use Rattle.edge.specs.Texts.{texts};
-ghost use Rattle.targets.specs.Data.{ListsData};
 ghost use Rattle.targets.specs.Sources.{brought};
-ghost use Rattle.targets.specs.View.{lists_view, build_view};
+ghost use Rattle.targets.specs.View.{build_view};
 ghost use Rattle.target_edges.specs.Words.{word_if};
 
 use edge::push_copies;

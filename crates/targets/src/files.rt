@@ -1,5 +1,5 @@
 //! The files that a target makes.
-ghost use Rattle.std.specs.Prelude.{◌≡◌, ◌++◌, map, IfOk, codes, string_bytes, option_map};
+ghost use Rattle.std.specs.Prelude.{◌≡◌, ◌++◌, map, IfOk, string_bytes, option_map};
 ghost use Rattle.edge.specs.Texts.{texts};
 ghost use Rattle.edge.specs.Paths.{object_path};
 ghost use Rattle.paths.specs.Paths.{path_in};

@@ -1,5 +1,5 @@
 //! The sources of a target, and which of them are compiled.
-ghost use Rattle.std.specs.Prelude.{◌≡◌, ◌++◌, ◌∷◌, [], map, flat_map, IfOk, string_bytes};
+ghost use Rattle.std.specs.Prelude.{◌≡◌, ◌++◌, [], map, flat_map, IfOk, string_bytes};
 ghost use Rattle.std.specs.List.{list_any};
 ghost use Rattle.edge.specs.Texts.{texts};
 ghost use Rattle.targets.specs.Sources.{is_c, is_header, c_input, own_input, c_inputs_in, put_inputs, compiled, if_not_c, generated_in};

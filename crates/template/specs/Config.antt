@@ -22,6 +22,10 @@ pub record Configuration : Type 0 where
   pub entries : Entries
   pub frozen : Bool
 
+-- entries that may be changed
+abbrev pub unfrozen : Entries → Configuration
+unfrozen entries = record { entries = entries; frozen = false }
+
 abbrev pub names : Entries → List (List ℕ)
 names entries = map (λ entry. entry.0) entries
 

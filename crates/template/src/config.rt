@@ -1,11 +1,12 @@
-ghost use Rattle.std.specs.Prelude.{◌≡◌, ◌↔◌, ℕ, List, [], true, false, pos, IsTrue, IsErrOf, OnOk, OnErr, IfOk, None, Some, is_some, map, string_bytes, if◌then◌else◌};
+ghost use Rattle.std.specs.Prelude.{◌≡◌, ◌↔◌, ℕ, List, [], true, false, pos, IsTrue, IsErrOf, OnOk, OnErr, IfOk, None, Some, is_some, map};
+ghost use Rattle.std.specs.Prelude.{string_bytes, if◌then◌else◌};
 ghost use Rattle.std.specs.Option.{option_map, option_or};
 ghost use Rattle.std.specs.List.{AllPass};
 ghost use Rattle.std.specs.List.Sorted.{IsStrictlySortedBy};
 ghost use Rattle.std.specs.Cmp.Lexicographic.{slice_cmp};
 ghost use Rattle.std.specs.Ordering.{nat_cmp};
 ghost use Rattle.std.specs.Str.{bytes_eq};
-ghost use Rattle.template.specs.Config.{Entries, Flag, Number, Bytes, merged, names, quoted, value_of, with_value};
+ghost use Rattle.template.specs.Config.{Entries, Number, Bytes, merged, names, quoted, unfrozen, value_of, with_value};
 ghost use Rattle.template.specs.ConfigData.{content_of, entries_of};
 ghost use Rattle.template.specs.Line.{is_name_byte};
 ghost use Rattle.template.specs.Undo.{AreSet, IsSet, changes_of};
@@ -92,7 +93,7 @@ impl Model for ConfigData {
 impl ConfigData {
     /// No values.
     pub fn new(alloc: Global) -> ConfigData
-        ensures { result ≡ record { entries = []; frozen = false } }
+        ensures { result ≡ unfrozen [] }
     {
         ConfigData {
             alloc,
@@ -103,7 +104,7 @@ impl ConfigData {
 
     /// The same values, not frozen.
     pub fn copy(&self) -> Result<ConfigData, AllocError>
-        ensures { IfOk result (λ copy. copy ≡ record { entries = self.now.entries; frozen = false }) }
+        ensures { IfOk result (λ copy. copy ≡ unfrozen self.now.entries) }
     {
         Ok(ConfigData {
             alloc: self.alloc,

@@ -1,5 +1,5 @@
 ghost use Rattle.ports.specs.Endings.{ended};
-ghost use Rattle.ports.specs.Outputs.{OutputState, IsOpen, Writes};
+ghost use Rattle.ports.specs.Outputs.{IsOpen, Writes};
 ghost use Rattle.template.specs.Header.{header_steps};
 
 use crate::ConfigData;

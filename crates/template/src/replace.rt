@@ -1,11 +1,12 @@
 ghost use Rattle.std.specs.Prelude.{MatchOption, length, None, ◌≡◌, ◌≤◌, IfSome};
 ghost use Rattle.ports.specs.Endings.{HasRoom, ended};
-ghost use Rattle.ports.specs.Outputs.{OutputState, IsOpen, Writes, puts, logs};
+ghost use Rattle.ports.specs.Outputs.{IsOpen, Writes, puts};
 ghost use Rattle.std.specs.List.{prefix_len, list_all, AllPass};
 ghost use Rattle.template.specs.Config.{value_of, printed};
 ghost use Rattle.template.specs.ConfigData.{content_of};
 ghost use Rattle.template.specs.Template.{Agrees, ending_of, first_fault};
-ghost use Rattle.template.specs.Line.{Defines, Malformed, body_length, defined_in, definition, definition_or_comment, is_blank, is_name, line_fault, line_steps, in_place, name_length, no_value, replaced, warning, words, is_name_byte};
+ghost use Rattle.template.specs.Line.{Defines, Malformed, body_length, defined_in, definition, definition_or_comment, is_blank, is_name};
+ghost use Rattle.template.specs.Line.{line_fault, line_steps, in_place, name_length, no_value, replaced, warning, words, is_name_byte};
 ghost use Rattle.template.specs.Scan.{is_word_byte, IsFirstWord, IsPlain, IsSign, slashes_at};
 
 use crate::{ConfigData, ConfigValue, PassStop};

@@ -1,10 +1,10 @@
 ghost use Rattle.std.specs.Prelude.{◌≡◌, ℕ, ◌+◌, ◌-◌, ◌^◌, ◌<◌, ◌≤◌, ◌++◌, List, take, drop, length, nat_lt, IsTrue, IfOk};
 ghost use Rattle.ports.specs.Endings.{HasRoom, ended, is_whole};
-ghost use Rattle.ports.specs.Outputs.{OutputState, IsOpen, Sends, Writes};
-ghost use Rattle.ports.specs.Tree.{TreeState, bytes_at, Asks, Stays};
+ghost use Rattle.ports.specs.Outputs.{IsOpen, Sends, Writes};
+ghost use Rattle.ports.specs.Tree.{bytes_at, Asks, Stays};
 ghost use Rattle.template.specs.Given.{Gave, Passed, UnlessFailed};
-ghost use Rattle.template.specs.Line.{line_fault, line_steps};
-ghost use Rattle.template.specs.Template.{Agrees, Lacks, PassFailures, ending_of, fault_from, first_fault, lines_of, steps_from, template_fault, template_steps};
+ghost use Rattle.template.specs.Template.{Agrees, Lacks, PassFailures, ending_of, fault_from, lines_of, steps_from, template_fault};
+ghost use Rattle.template.specs.Template.{template_steps};
 
 use crate::replace::replace_line;
 use crate::{ConfigData, PassStop};

@@ -2,7 +2,7 @@
 
 ghost use Rattle.std.specs.Prelude.{◌≡◌, ◌++◌, map, IfOk};
 ghost use Rattle.texts.specs.Joined.{joined, replaced};
-ghost use Rattle.data.specs.Limits.{within_bytes, Appends};
+ghost use Rattle.data.specs.Prelude.{Appends, within_bytes};
 
 use crate::cut::first_part;
 use data::{Refusal, Text};

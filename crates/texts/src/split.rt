@@ -2,7 +2,7 @@
 
 ghost use Rattle.std.specs.Prelude.{◌≡◌, false, All, IfOk};
 ghost use Rattle.texts.specs.Pieces.{words, lines, split_at, within_items};
-ghost use Rattle.texts.specs.Cut.{pieces, left, CanCut};
+ghost use Rattle.texts.specs.Cut.{pieces, CanCut};
 ghost use Rattle.texts.specs.Search.{contains};
 ghost use Rattle.texts.specs.Joined.{joined};
 ghost use Rattle.texts.specs.Answers.{pieces_in};

@@ -1,5 +1,7 @@
 -- Changes of configuration data, against their deeds.
-use Rattle.std.proofs.Common.{◌≡◌, ◌↔◌, ℕ, Bool, true, false, not, List, [], Result, Ok, Err, IsErrOf, IsTrue, OnOk, OnErr, IsErrAnd, sym, subst, ◌∙◌, refl}
+use Rattle.std.proofs.Common.{◌≡◌, ◌↔◌, ℕ, Bool, true, false, not, List, [], Result, Ok, Err, IsErrOf, IsTrue, OnOk, OnErr, IsErrAnd, Some, None, unwrap_or, sym, subst, ap, ◌∙◌, refl}
+use Rattle.std.specs.Prelude.{slice_get}
+use Rattle.std.proofs.lemmas.Option.{get_or_from_slice_get, unwrap_or-slice_get}
 use Rattle.basics.specs.declared.faults.refusal.Refusal.TheVariants as refusals
 use Rattle.ports.specs.Outputs.{OutputState}
 use Rattle.ports.specs.Tree.{TreeState}
@@ -7,13 +9,19 @@ use Rattle.template.specs.Config.{Configuration}
 use Rattle.template.specs.declared.config.SetStop.{SetStop}
 use Rattle.template.specs.declared.config.SetStop.TheVariants as set_stops
 use Rattle.world.specs.Answering.{State, Carries, IsConfigured, Refuses}
-use Rattle.world.specs.Configuring.{configure, is_frozen_at, with_configured}
+use Rattle.world.specs.Configuring.{configuration_at, configure, is_frozen_at, no_values, with_configured}
 use Rattle.world.specs.Store.{changing}
 use Rattle.world.specs.World.{World, fault_here}
 use Rattle.world.specs.declared.stop.Stop.{Stop}
 use Rattle.world.specs.declared.stop.Stop.TheVariants as stops
 use Rattle.world.proofs.Answering.{carries_wanted, carries_change, carries_read, carries_stop, carries_then, need_yes, need_no}
 use Rattle.world.proofs.Marks.{front_as}
+
+pub found_at : (n : ℕ) (cs : List Configuration) (c : Configuration) → slice_get cs n ≡ Some c → configuration_at n cs ≡ c
+found_at n cs c is = get_or_from_slice_get cs n c no_values is
+
+pub none_at : (n : ℕ) (cs : List Configuration) → slice_get cs n ≡ None → configuration_at n cs ≡ no_values
+none_at n cs is = sym (unwrap_or-slice_get cs n no_values) ∙ ap (λ o. unwrap_or o no_values) is
 
 not_frozen : (b : Bool) (given : Result (Unit {0}) SetStop) → given ≡ Ok tt → (IsErrOf given set_stops.Frozen ↔ IsTrue b) → not b ≡ true
 not_frozen true given is h = absurd (let e : Ok tt ≡ Err set_stops.Frozen = sym is ∙ h.1 refl in cc)

@@ -4,11 +4,11 @@ use Rattle.std.specs.Prelude.{◌||◌, bytes_eq, if◌then◌else◌}
 use Rattle.std.proofs.lemmas.List.Folds.{list_any-append}
 use Rattle.std.proofs.lemmas.Slice.Eq.{bytes_eq-Decides}
 use Rattle.basics.specs.Faults.{FaultData}
+use Rattle.paths.specs.Paths.{path_in}
 use Rattle.ports.specs.Outputs.{Step, closing, opening}
 use Rattle.ports.specs.Tree.{file_at}
 use Rattle.project.specs.Adding.{output_answer}
 use Rattle.project.specs.Refused.{RefusedData}
-use Rattle.paths.specs.Paths.{path_in}
 use Rattle.world.specs.Making.{Filling, after_output, given_up, taken, taken_by, telling, written}
 use Rattle.world.specs.Store.{changing}
 use Rattle.world.specs.Trace.{Mark, Told, Ended, ends_of}

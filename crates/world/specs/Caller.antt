@@ -1,9 +1,12 @@
--- The state that a caller stands for.
+-- The state that a caller stands for, and what it does.
+use Rattle.std.specs.Prelude.{Result}
 use Rattle.ports.specs.Outputs.{OutputState}
 use Rattle.ports.specs.Tree.{TreeState}
-use Rattle.world.specs.Answering.{State}
+use Rattle.world.specs.Answering.{Carries, HasRoom, State}
+use Rattle.world.specs.Deed.{Deed}
 use Rattle.world.specs.Store.{world_of}
 use Rattle.world.specs.declared.caller.Caller.{Caller}
+use Rattle.world.specs.declared.stop.Stop.{Stop}
 
 module _ {T O : Type 0} where
   -- where its devices are seen so
@@ -15,3 +18,12 @@ module _ {T O : Type 0} where
     out = out c.out.now;
     lent = (c.store.ghost_name, c.tree.ghost_name, c.out.ghost_name);
   }
+
+  -- a device of its own that fails can still count it
+  abbrev pub MayFail : (T → TreeState) → (O → OutputState) → Caller T O → Type 0
+  MayFail tree out c = HasRoom (state_of tree out c)
+
+  -- it did what the deed does, or a beginning of what that tells
+  abbrev pub Does : {A B : Type 0} → (T → TreeState) → (O → OutputState) → (B → A) → Deed A → (old : Caller T O) → Result B Stop
+      → (new : Caller T O) → Type 0
+  Does tree out view deed old result new = Carries view deed (state_of tree out old) result (state_of tree out new)

@@ -1,13 +1,13 @@
 -- Deeds on configuration data. An object names data by their number, and only data that there are; a number that none have stands for data
 -- without values, which no change reaches.
-use Rattle.std.specs.Prelude.{ℕ, Bool, true, false, not, List, [], ◌∷◌, ◌++◌, length, slice_index_or, slice_set, refl}
+use Rattle.std.specs.Prelude.{ℕ, Bool, true, not, List, [], ◌∷◌, ◌++◌, length, slice_index_or, slice_set, refl}
 use Rattle.basics.specs.declared.faults.refusal.Refusal.TheVariants as refusals
-use Rattle.template.specs.Config.{Configuration, Content, Bytes, merged, quoted, with_value}
+use Rattle.template.specs.Config.{Configuration, Content, Bytes, merged, quoted, unfrozen, with_value}
 use Rattle.world.specs.World.{Facts, with_configurations}
 use Rattle.world.specs.Deed.{Deed, give, read, change, need, ◌>>=◌}
 
 abbrev pub no_values : Configuration
-no_values = record { entries = []; frozen = false }
+no_values = unfrozen []
 
 -- the data with a number
 abbrev pub configuration_at : ℕ → List Configuration → Configuration
@@ -48,6 +48,12 @@ add_configuration c = do
   facts ← read
   _ ← change (with_more c) (λ facts. refl)
   give (length facts.configurations)
+
+-- further data, with the values of those with a number, and their own number
+unfoldable pub copy_configuration : ℕ → Deed ℕ
+copy_configuration number = do
+  facts ← read
+  add_configuration (unfrozen (configuration_at number facts.configurations).entries)
 
 -- the data change, unless they are frozen (E20)
 unfoldable pub configure : ℕ → (Configuration → Configuration) → Deed (Unit {0})

@@ -7,6 +7,8 @@ pub mod Declaring
 pub mod Deed
 pub mod Fit
 pub mod Gives
+pub mod Here
+pub mod HereView
 pub mod Look
 pub mod Made
 pub mod Making
@@ -14,6 +16,7 @@ pub mod Noted
 pub mod Options
 pub mod Plan
 pub mod Operation
+pub mod Prelude
 pub mod Ruled
 pub mod Run
 pub mod Settings

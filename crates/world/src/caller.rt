@@ -1,6 +1,6 @@
 //! What the code of a function works on: the world of a run and its devices.
 ghost use Rattle.std.specs.Prelude.{◌≡◌, IfOk, string_bytes};
-ghost use Rattle.world.specs.Answering.{Carries, HasRoom, IsAnswered, IsFitting, Refuses};
+ghost use Rattle.world.specs.Answering.{IsAnswered, IsFitting, Refuses};
 ghost use Rattle.machine_file.specs.Questions.{Key, answer_to, plain};
 ghost use Rattle.machine_file.specs.QuestionsView.{question_in};
 ghost use Rattle.world.specs.Deed.{consult, need, required, say, there};
@@ -11,12 +11,14 @@ ghost use Rattle.world.specs.World.{fault_here};
 mod configuring;
 mod declaring;
 mod fitting;
+mod here;
 mod ruling;
 
 use crate::operation::of_operation;
 use crate::stop::Stop;
 use crate::store::Store;
 use basics::faults::{Fault, Refusal};
+pub use here::Here;
 use machine_file::{Question, Topic};
 use ports::{Outputs, Tree, log_all};
 use std::alloc::{AllocError, Global};
@@ -31,7 +33,7 @@ pub struct Caller<'a, T, O> {
 }
 
 impl<'a, T: Tree, O: Outputs> Caller<'a, T, O> {
-    ghost use Rattle.world.specs.Caller.{state_of};
+    ghost use Rattle.world.specs.Caller.{Does, MayFail};
 
     fn fault(&self, refusal: Refusal, detail: &str) -> Result<Fault, AllocError>
         ensures { IfOk result (λ f. fault_view f ≡ fault_here (world_of self.now.store.now) refusal detail.now) }
@@ -72,8 +74,7 @@ impl<'a, T: Tree, O: Outputs> Caller<'a, T, O> {
 
     /// Refuses the call unless it is true.
     pub fn need(&self, is_so: bool, refusal: Refusal, detail: &str) -> Result<(), Stop>
-        ensures { Carries (λ u. u) (need is_so refusal detail.now) (state_of T.seen O.seen self.now)
-            result (state_of T.seen O.seen self.now) }
+        ensures { Does T.seen O.seen (λ u. u) (need is_so refusal detail.now) self.now result self.now }
     {
         if is_so {
             Ok(())
@@ -84,8 +85,8 @@ impl<'a, T: Tree, O: Outputs> Caller<'a, T, O> {
 
     /// Whether a file is at this path, which counts as looked at.
     pub fn is_there(&mut self, path: &str) -> Result<bool, Stop>
-        requires { HasRoom (state_of T.seen O.seen self.old) }
-        ensures { Carries (λ b. b) (there path.now) (state_of T.seen O.seen self.old) result (state_of T.seen O.seen self.new) }
+        requires { MayFail T.seen O.seen self.old }
+        ensures { Does T.seen O.seen (λ b. b) (there path.now) self.old result self.new }
     {
         let size = self.tree.size(path)?;
         let found = size.is_some();
@@ -95,8 +96,8 @@ impl<'a, T: Tree, O: Outputs> Caller<'a, T, O> {
 
     /// Refuses the call unless a file is at this path.
     pub fn require_file(&mut self, path: &str) -> Result<(), Stop>
-        requires { HasRoom (state_of T.seen O.seen self.old) }
-        ensures { Carries (λ u. u) (required path.now) (state_of T.seen O.seen self.old) result (state_of T.seen O.seen self.new) }
+        requires { MayFail T.seen O.seen self.old }
+        ensures { Does T.seen O.seen (λ u. u) (required path.now) self.old result self.new }
     {
         let path = String::from_str(self.alloc, path)?;
         self.require_own_file(path)
@@ -104,9 +105,8 @@ impl<'a, T: Tree, O: Outputs> Caller<'a, T, O> {
 
     /// The same of a path that is given away.
     pub fn require_own_file(&mut self, path: String) -> Result<(), Stop>
-        requires { HasRoom (state_of T.seen O.seen self.old) }
-        ensures { Carries (λ u. u) (required (string_bytes path))
-            (state_of T.seen O.seen self.old) result (state_of T.seen O.seen self.new) }
+        requires { MayFail T.seen O.seen self.old }
+        ensures { Does T.seen O.seen (λ u. u) (required (string_bytes path)) self.old result self.new }
     {
         let size = self.tree.size(&path)?;
         let found = size.is_some();
@@ -120,8 +120,8 @@ impl<'a, T: Tree, O: Outputs> Caller<'a, T, O> {
 
     /// Asks a question of the machine file; the answer is then read off `store.machine()`.
     pub fn ask(&mut self, question: Question) -> Result<(), Stop>
-        ensures deed { Carries (λ u. answer_to self.old.store.now.machine (question_in question).topic) (consult (question_in question))
-            (state_of T.seen O.seen self.old) result (state_of T.seen O.seen self.new) }
+        ensures deed { Does T.seen O.seen (λ u. answer_to self.old.store.now.machine (question_in question).topic)
+            (consult (question_in question)) self.old result self.new }
         ensures machine { self.new.store.now.machine ≡ self.old.store.now.machine }
     {
         self.store.ask(self.alloc, question)?;
@@ -130,8 +130,8 @@ impl<'a, T: Tree, O: Outputs> Caller<'a, T, O> {
 
     /// Asks for the value at a key of a section of the machine file, beside which nothing is said.
     pub fn ask_key(&mut self, section: &str, key: &str) -> Result<(), Stop>
-        ensures deed { Carries (λ u. answer_to self.old.store.now.machine (Key section.now key.now))
-            (consult (plain (Key section.now key.now))) (state_of T.seen O.seen self.old) result (state_of T.seen O.seen self.new) }
+        ensures deed { Does T.seen O.seen (λ u. answer_to self.old.store.now.machine (Key section.now key.now))
+            (consult (plain (Key section.now key.now))) self.old result self.new }
         ensures machine { self.new.store.now.machine ≡ self.old.store.now.machine }
     {
         let topic = Topic::key(self.alloc, section, key)?;
@@ -140,8 +140,8 @@ impl<'a, T: Tree, O: Outputs> Caller<'a, T, O> {
 
     /// Logs bytes.
     pub fn say(&mut self, text: &str) -> Result<(), Stop>
-        requires { HasRoom (state_of T.seen O.seen self.old) }
-        ensures { Carries (λ u. u) (say text.now) (state_of T.seen O.seen self.old) result (state_of T.seen O.seen self.new) }
+        requires { MayFail T.seen O.seen self.old }
+        ensures { Does T.seen O.seen (λ u. u) (say text.now) self.old result self.new }
     {
         log_all(self.out, text.as_bytes())?;
         Ok(())

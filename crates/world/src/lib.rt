@@ -27,7 +27,7 @@ mod store;
 mod trail;
 
 pub use asked::Asked;
-pub use caller::Caller;
+pub use caller::{Caller, Here};
 pub use operation::of_operation;
 pub use settings::Settings;
 pub use steps::{Steps, ended, ends_keep_up, new_steps};

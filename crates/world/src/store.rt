@@ -1,5 +1,5 @@
 //! What a run keeps: its world.
-ghost use Rattle.std.specs.Prelude.{◌≡◌, ◌≢◌, ◌<◌, ◌≤◌, ◌+◌, ◌==◌, ℕ, List, IfOk, OnOk, is_ok, not, None, Some, false, true, length, map};
+ghost use Rattle.std.specs.Prelude.{◌≡◌, ◌≢◌, ◌<◌, ◌≤◌, ◌+◌, ◌==◌, ℕ, IfOk, OnOk, None, Some, false, length};
 ghost use Rattle.std.specs.Prelude.{max, option_map, slice_index_or, string_bytes, [], bytes_eq, IsTrue};
 ghost use Rattle.std.specs.List.{list_any};
 ghost use Rattle.code.specs.Code.{code_tree};
@@ -85,7 +85,7 @@ impl Drop for Store {
 }
 
 impl Model for Store {
-    ghost use Rattle.std.specs.Prelude.{◌≤◌, length, map, string_bytes};
+    ghost use Rattle.std.specs.Prelude.{◌≤◌, length, string_bytes};
     ghost use Rattle.world.specs.SettingsView.{settings_view};
     ghost use Rattle.machine_file.specs.View.{machine_in};
     ghost use Rattle.world.specs.AskedView.{all_asked_in};

@@ -1,4 +1,4 @@
-ghost use Rattle.std.specs.Prelude.{◌≡◌, IfOk, string_bytes};
+ghost use Rattle.std.specs.Prelude.{◌≡◌, IfOk};
 ghost use Rattle.basics.specs.Faults.{number_of, plain_fault};
 ghost use Rattle.basics.specs.View.{fault_view};
 

@@ -6,7 +6,8 @@ ghost use Rattle.lexer.specs.Lexeme.{lexeme_of, lexemes};
 ghost use Rattle.grammar.specs.ExpressionTree.{expression_of};
 ghost use Rattle.grammar.specs.Expressions.{literal_of};
 ghost use Rattle.grammar.specs.Reading.{Gives, head_is, more_at};
-ghost use Rattle.grammar.specs.ReadingExpressions.{base_at, dictionary_at, ends_expression, entered_at, inner_at, list_at, single_at, single_of, ternary_at, unary_at};
+ghost use Rattle.grammar.specs.ReadingExpressions.{base_at, dictionary_at, ends_expression, entered_at, inner_at, list_at, single_at};
+ghost use Rattle.grammar.specs.ReadingExpressions.{single_of, ternary_at, unary_at};
 
 use super::{Parser, fitted, put};
 use crate::stop::ReadError;

@@ -7,7 +7,8 @@ ghost use Rattle.grammar.specs.ExpressionTree.{expression_of};
 ghost use Rattle.grammar.specs.Expressions.{comparative};
 ghost use Rattle.grammar.specs.Parts.{first_line, stands_for, taken};
 ghost use Rattle.grammar.specs.Reading.{Gives, begins, head_is, two_begin};
-ghost use Rattle.grammar.specs.ReadingExpressions.{chain_at, ternary_at, comparison_at, comparison_operator_at, compares, enter_at, expr_at, not_in_at, operator_of, part_at, unary_at};
+ghost use Rattle.grammar.specs.ReadingExpressions.{chain_at, ternary_at, comparison_at, comparison_operator_at, compares, enter_at};
+ghost use Rattle.grammar.specs.ReadingExpressions.{expr_at, not_in_at, operator_of, part_at, unary_at};
 
 use super::{Parser, fitted, put};
 use crate::stop::{ReadError, Stop};

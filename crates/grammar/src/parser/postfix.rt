@@ -4,9 +4,9 @@ ghost use Rattle.std.specs.Prelude.{Some, ◌≡◌, ◌||◌, ◌-◌, ◌<◌,
 ghost use Rattle.std.specs.Option.{option_map};
 ghost use Rattle.lexer.specs.Lexeme.{lexemes};
 ghost use Rattle.grammar.specs.ExpressionTree.{argument_of, expression_of, link_of};
-ghost use Rattle.grammar.specs.Parts.{first_line};
 ghost use Rattle.grammar.specs.Reading.{Gives, head_is, two_begin};
-ghost use Rattle.grammar.specs.ReadingExpressions.{entered_at, inner_at, items_at, label_at, link_at, links_on, name_colon_at, prefix_of, unary_at, word_of};
+ghost use Rattle.grammar.specs.ReadingExpressions.{entered_at, inner_at, items_at, label_at, link_at, links_on, name_colon_at, prefix_of};
+ghost use Rattle.grammar.specs.ReadingExpressions.{unary_at, word_of};
 
 use super::expression::boxed;
 use super::{Parser, fitted, put};

@@ -6,7 +6,9 @@ ghost use Rattle.lexer.specs.Lexeme.{lexemes};
 ghost use Rattle.grammar.specs.ExpressionTree.{expression_of};
 ghost use Rattle.grammar.specs.Reading.{Gives, begins, optional_at, two_begin};
 ghost use Rattle.grammar.specs.ReadingExpressions.{expr_at};
-ghost use Rattle.grammar.specs.ReadingStatements.{GivesLine, begins_block, body_at, branch_at, conditional_at, ends_line, foreach_at, in_body, leave_at, maybe_at, names_at, otherwise_at, parts_at, plain_at, second_at, set_at, set_tree, sign_of, simple_at, stmt_at};
+ghost use Rattle.grammar.specs.ReadingStatements.{GivesLine, begins_block, body_at, branch_at, conditional_at, ends_line, foreach_at};
+ghost use Rattle.grammar.specs.ReadingStatements.{in_body, leave_at, maybe_at, names_at, otherwise_at, parts_at, plain_at, second_at};
+ghost use Rattle.grammar.specs.ReadingStatements.{set_at, set_tree, sign_of, simple_at, stmt_at};
 ghost use Rattle.grammar.specs.Tree.{BreakTree, ContinueTree, branch_of, statement_of};
 
 use super::expression::boxed;

@@ -1,8 +1,7 @@
 //! What a function makes of configuration data.
-ghost use Rattle.std.specs.Prelude.{◌≡◌};
 ghost use Rattle.template.specs.ConfigData.{content_of};
-ghost use Rattle.world.specs.Answering.{Carries};
-ghost use Rattle.world.specs.Configuring.{add_configuration, freeze_configured, merge_configured, set_configured, set_quoted};
+ghost use Rattle.world.specs.Configuring.{add_configuration, copy_configuration, freeze_configured, merge_configured};
+ghost use Rattle.world.specs.Configuring.{set_configured, set_quoted};
 
 use crate::caller::Caller;
 use crate::stop::Stop;
@@ -11,7 +10,7 @@ use ports::{Outputs, Tree};
 use template::{ConfigData, ConfigValue, SetStop};
 
 impl<'a, T: Tree, O: Outputs> Caller<'a, T, O> {
-    ghost use Rattle.world.specs.Caller.{state_of};
+    ghost use Rattle.world.specs.Caller.{Does};
     ghost use Rattle.world.specs.Answering.{IsConfigured};
     ghost use Rattle.world.specs.Store.{world_of};
 
@@ -28,10 +27,18 @@ impl<'a, T: Tree, O: Outputs> Caller<'a, T, O> {
 
     /// Keeps further configuration data, and gives their number.
     pub fn add_configuration(&mut self, values: ConfigData) -> Result<usize, Stop>
-        ensures { Carries (λ n. n) (add_configuration values) (state_of T.seen O.seen self.old) result (state_of T.seen O.seen self.new) }
+        ensures { Does T.seen O.seen (λ n. n) (add_configuration values) self.old result self.new }
     {
         let number = self.store.add_configuration(values)?;
         Ok(number)
+    }
+
+    /// Keeps a copy of the configuration data with a number, which may be changed, and gives its own number.
+    pub fn copy_configuration(&mut self, number: usize) -> Result<usize, Stop>
+        ensures { Does T.seen O.seen (λ n. n) (copy_configuration number) self.old result self.new }
+    {
+        let copy = self.store.copy_configuration(self.alloc, number)?;
+        self.add_configuration(copy)
     }
 
     /// Gives a name a value in the data with a number, or refuses the call where they are frozen.
@@ -41,8 +48,7 @@ impl<'a, T: Tree, O: Outputs> Caller<'a, T, O> {
         name: &str,
         value: ConfigValue,
     ) -> Result<(), Stop>
-        ensures { Carries (λ u. u) (set_configured number name.now (content_of value))
-            (state_of T.seen O.seen self.old) result (state_of T.seen O.seen self.new) }
+        ensures { Does T.seen O.seen (λ u. u) (set_configured number name.now (content_of value)) self.old result self.new }
     {
         let answer = self.store.set_configured(number, name, value);
         self.configured(answer)
@@ -50,8 +56,7 @@ impl<'a, T: Tree, O: Outputs> Caller<'a, T, O> {
 
     /// Gives a name a text in quotes in the data with a number, or refuses the call where they are frozen.
     pub fn set_quoted(&mut self, number: usize, name: &str, text: &str) -> Result<(), Stop>
-        ensures { Carries (λ u. u) (set_quoted number name.now text.now)
-            (state_of T.seen O.seen self.old) result (state_of T.seen O.seen self.new) }
+        ensures { Does T.seen O.seen (λ u. u) (set_quoted number name.now text.now) self.old result self.new }
     {
         let answer = self.store.set_quoted(number, name, text);
         self.configured(answer)
@@ -59,8 +64,7 @@ impl<'a, T: Tree, O: Outputs> Caller<'a, T, O> {
 
     /// Gives each name of other data the value that it has there, in the data with a number, or refuses the call where these are frozen.
     pub fn merge_configured(&mut self, number: usize, others: &ConfigData) -> Result<(), Stop>
-        ensures { Carries (λ u. u) (merge_configured number others.now)
-            (state_of T.seen O.seen self.old) result (state_of T.seen O.seen self.new) }
+        ensures { Does T.seen O.seen (λ u. u) (merge_configured number others.now) self.old result self.new }
     {
         let answer = self.store.merge_configured(number, others);
         self.configured(answer)
@@ -68,7 +72,7 @@ impl<'a, T: Tree, O: Outputs> Caller<'a, T, O> {
 
     /// Lets no call change the data with a number from now on.
     pub fn freeze_configured(&mut self, number: usize) -> Result<(), Stop>
-        ensures { Carries (λ u. u) (freeze_configured number) (state_of T.seen O.seen self.old) result (state_of T.seen O.seen self.new) }
+        ensures { Does T.seen O.seen (λ u. u) (freeze_configured number) self.old result self.new }
     {
         self.store.freeze_configured(number);
         Ok(())

@@ -1,9 +1,9 @@
 //! What a function declares of the project.
-ghost use Rattle.std.specs.Prelude.{◌≡◌, Result, string_bytes};
+ghost use Rattle.std.specs.Prelude.{◌≡◌, Result};
 ghost use Rattle.edge.specs.Texts.{texts};
 ghost use Rattle.project.specs.View.{answer_view, install_view, test_view};
 ghost use Rattle.targets.specs.View.{facts_view, target_view};
-ghost use Rattle.world.specs.Answering.{Acts, Carries, IsAllowed};
+ghost use Rattle.world.specs.Answering.{Acts, IsAllowed};
 ghost use Rattle.world.specs.Declaring.{add_arguments, add_dependency, add_install, add_link_arguments, add_target, add_test};
 ghost use Rattle.world.specs.Deed.{begin_project};
 ghost use Rattle.world.specs.Making.{taken};
@@ -32,7 +32,7 @@ pub fn of_project(refusal: project::Refusal) -> Refusal
 }
 
 impl<'a, T: Tree, O: Outputs> Caller<'a, T, O> {
-    ghost use Rattle.world.specs.Caller.{state_of};
+    ghost use Rattle.world.specs.Caller.{Does, state_of};
 
     /// What the project answered, or the stop of its refusal, with what that is about.
     pub fn allowed<A>(&self, answer: Result<A, Refused>) -> Result<A, Stop>
@@ -46,8 +46,7 @@ impl<'a, T: Tree, O: Outputs> Caller<'a, T, O> {
 
     /// Begins the project, of which nothing is declared yet.
     pub fn begin(&mut self, facts: Facts) -> Result<(), Stop>
-        ensures { Carries (λ u. u) (begin_project (facts_view facts))
-            (state_of T.seen O.seen self.old) result (state_of T.seen O.seen self.new) }
+        ensures { Does T.seen O.seen (λ u. u) (begin_project (facts_view facts)) self.old result self.new }
     {
         self.store.begin(self.alloc, facts)?;
         Ok(())
@@ -55,8 +54,7 @@ impl<'a, T: Tree, O: Outputs> Caller<'a, T, O> {
 
     /// Adds a target and gives its number, or refuses the call as the project does.
     pub fn add_target(&mut self, target: Target) -> Result<usize, Stop>
-        ensures { Carries (λ n. n) (add_target (target_view target))
-            (state_of T.seen O.seen self.old) result (state_of T.seen O.seen self.new) }
+        ensures { Does T.seen O.seen (λ n. n) (add_target (target_view target)) self.old result self.new }
     {
         let answer = self.store.add_target(target)?;
         self.allowed(answer)
@@ -74,8 +72,7 @@ impl<'a, T: Tree, O: Outputs> Caller<'a, T, O> {
 
     /// Adds words to those of all compile commands, or refuses the call as the project does.
     pub fn add_arguments(&mut self, words: &[String]) -> Result<(), Stop>
-        ensures { Carries (λ u. u) (add_arguments (texts words.now))
-            (state_of T.seen O.seen self.old) result (state_of T.seen O.seen self.new) }
+        ensures { Does T.seen O.seen (λ u. u) (add_arguments (texts words.now)) self.old result self.new }
     {
         let answer = self.store.add_arguments(words)?;
         self.allowed(answer)
@@ -83,8 +80,7 @@ impl<'a, T: Tree, O: Outputs> Caller<'a, T, O> {
 
     /// Adds words to those of all link commands, or refuses the call as the project does.
     pub fn add_link_arguments(&mut self, words: &[String]) -> Result<(), Stop>
-        ensures { Carries (λ u. u) (add_link_arguments (texts words.now))
-            (state_of T.seen O.seen self.old) result (state_of T.seen O.seen self.new) }
+        ensures { Does T.seen O.seen (λ u. u) (add_link_arguments (texts words.now)) self.old result self.new }
     {
         let answer = self.store.add_link_arguments(words)?;
         self.allowed(answer)
@@ -92,8 +88,7 @@ impl<'a, T: Tree, O: Outputs> Caller<'a, T, O> {
 
     /// Notes what a call of `dependency` answered.
     pub fn add_dependency(&mut self, answer: Answer) -> Result<(), Stop>
-        ensures { Carries (λ u. u) (add_dependency (answer_view answer))
-            (state_of T.seen O.seen self.old) result (state_of T.seen O.seen self.new) }
+        ensures { Does T.seen O.seen (λ u. u) (add_dependency (answer_view answer)) self.old result self.new }
     {
         self.store.add_dependency(answer)?;
         Ok(())
@@ -101,8 +96,7 @@ impl<'a, T: Tree, O: Outputs> Caller<'a, T, O> {
 
     /// Notes a file that is installed.
     pub fn add_install(&mut self, install: Install) -> Result<(), Stop>
-        ensures { Carries (λ u. u) (add_install (install_view install))
-            (state_of T.seen O.seen self.old) result (state_of T.seen O.seen self.new) }
+        ensures { Does T.seen O.seen (λ u. u) (add_install (install_view install)) self.old result self.new }
     {
         self.store.add_install(install)?;
         Ok(())
@@ -110,7 +104,7 @@ impl<'a, T: Tree, O: Outputs> Caller<'a, T, O> {
 
     /// Notes a test.
     pub fn add_test(&mut self, test: Test) -> Result<(), Stop>
-        ensures { Carries (λ u. u) (add_test (test_view test)) (state_of T.seen O.seen self.old) result (state_of T.seen O.seen self.new) }
+        ensures { Does T.seen O.seen (λ u. u) (add_test (test_view test)) self.old result self.new }
     {
         self.store.add_test(test)?;
         Ok(())

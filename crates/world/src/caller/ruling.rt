@@ -1,7 +1,7 @@
 //! Refuses a call that breaks a rule.
 ghost use Rattle.arguments.specs.Rules.{broken};
 ghost use Rattle.basics.specs.declared.faults.refusal.Refusal.TheVariants.{Arguments as ArgumentsRefused};
-ghost use Rattle.world.specs.Answering.{Carries, IsAnsweredBy, Refuses};
+ghost use Rattle.world.specs.Answering.{IsAnsweredBy, Refuses};
 ghost use Rattle.world.specs.Ruled.{obeyed};
 ghost use Rattle.world.specs.Store.{world_of};
 ghost use Rattle.world.specs.World.{fault_here};
@@ -14,7 +14,7 @@ use basics::faults::Refusal;
 use ports::{Outputs, Tree};
 
 impl<'a, T: Tree, O: Outputs> Caller<'a, T, O> {
-    ghost use Rattle.world.specs.Caller.{state_of};
+    ghost use Rattle.world.specs.Caller.{Does};
 
     /// Refuses the call as this, since this text breaks the rule. The words are made only here.
     pub fn refuse_for<A>(&self, refusal: Refusal, rule: Rule, text: &str) -> Result<A, Stop>
@@ -49,8 +49,7 @@ impl<'a, T: Tree, O: Outputs> Caller<'a, T, O> {
 
     /// Refuses the call unless the rule is kept, which else this text breaks, or the keyword of this name.
     pub fn obey(&self, is_so: bool, rule: Rule, text: &str) -> Result<(), Stop>
-        ensures { Carries (λ u. u) (obeyed is_so rule text.now) (state_of T.seen O.seen self.now)
-            result (state_of T.seen O.seen self.now) }
+        ensures { Does T.seen O.seen (λ u. u) (obeyed is_so rule text.now) self.now result self.now }
     {
         if is_so {
             Ok(())

@@ -1,12 +1,12 @@
 //! The configuration data of a run.
 ghost use Rattle.std.specs.Prelude.{◌≡◌, ◌↔◌, IfOk, IsErrOf, IsTrue, OnErr, OnOk, length, option_map, slice_get};
-ghost use Rattle.template.specs.Config.{Bytes, quoted};
+ghost use Rattle.template.specs.Config.{Bytes, quoted, unfrozen};
 ghost use Rattle.template.specs.ConfigData.{content_of};
-ghost use Rattle.world.specs.Configuring.{frozen, is_frozen_at, merged_with, with_configured, with_content, with_more};
+ghost use Rattle.world.specs.Configuring.{configuration_at, frozen, is_frozen_at, merged_with, with_configured, with_content, with_more};
 ghost use Rattle.world.specs.Store.{changing, world_of};
 
 use crate::store::Store;
-use std::alloc::AllocError;
+use std::alloc::{AllocError, Global};
 use template::{ConfigData, ConfigValue, SetStop};
 
 impl Store {
@@ -15,6 +15,16 @@ impl Store {
         ensures { option_map (λ c. c.now) result ≡ slice_get self.now.configurations number }
     {
         self.configurations.get(number)
+    }
+
+    /// A copy of the configuration data with a number, which may be changed.
+    pub fn copy_configuration(&self, alloc: Global, number: usize) -> Result<ConfigData, AllocError>
+        ensures { IfOk result (λ c. c ≡ unfrozen (configuration_at number self.now.configurations).entries) }
+    {
+        match self.configuration(number) {
+            Some(values) => values.copy(),
+            None => Ok(ConfigData::new(alloc)),
+        }
     }
 
     /// Keeps further configuration data, and gives their number.

@@ -5,7 +5,6 @@ ghost use Rattle.project.specs.Adding.{after_target, arguments_answer, output_an
 ghost use Rattle.project.specs.Adding.{with_test};
 ghost use Rattle.project.specs.Refused.{answer_data};
 ghost use Rattle.project.specs.View.{answer_view, install_view, test_view};
-ghost use Rattle.project.specs.World.{WorldData};
 ghost use Rattle.targets.specs.View.{facts_view, target_view};
 ghost use Rattle.world.specs.Declaring.{after_arguments, after_link_arguments};
 ghost use Rattle.world.specs.Making.{after_output};

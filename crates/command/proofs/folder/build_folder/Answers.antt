@@ -9,8 +9,8 @@ returns-clause-tidy c = λ x e.
     let parts = map (λ (s : Bor (List ℕ)). s.now) c.in_ok-parts.parts.items in
     let below : are_below parts ≡ true =
     ap (λ (xs : List (Bor (List ℕ))). are_below (map (λ s. s.now) xs)) (sym c.deref.ensures.value) ∙ sym c.are_below.ensures ∙ c.if-not-are_below.false in
-    let bytes : string_bytes c.in_ok-joined.field-0 ≡ join_with_byte 47 parts =
-    c.in_ok-joined.ensures ∙ ap (λ (xs : List (Bor (List ℕ))). join_with_byte 47 (map (λ s. s.now) xs)) c.deref-2.ensures.value in
-    let tidy = joined_is_tidy c.args.path.now (string_bytes c.in_ok-joined.field-0) parts c.in_ok-parts.ensures below bytes in
-    let same : c.in_ok-joined.field-0 ≡ x = cc in
+    let bytes : string_bytes c.in_ok-join_parts.field-0 ≡ join_with_byte 47 parts =
+    c.in_ok-join_parts.ensures ∙ ap (λ (xs : List (Bor (List ℕ))). join_with_byte 47 (map (λ s. s.now) xs)) c.deref-2.ensures.value in
+    let tidy = joined_is_tidy c.args.path.now (string_bytes c.in_ok-join_parts.field-0) parts c.in_ok-parts.ensures below bytes in
+    let same : c.in_ok-join_parts.field-0 ≡ x = cc in
     ap (λ (s : String Global). is_tidy_folder (string_bytes s)) (sym same) ∙ tidy

@@ -1,6 +1,6 @@
 use Rattle.std.proofs.Common.{◌+◌, Bor, Some, map, ap, refl, sym, ◌∙◌}
 use Rattle.arguments.specs.Given.{text_or_none}
-use Rattle.data.specs.Data.{items_append, no_items}
+use Rattle.data.specs.Data.{items_append}
 use Rattle.data.specs.View.{data_of, items_of}
 use Rattle.data.specs.declared.value.Value.{Value}
 use Rattle.machine_file.specs.Questions.{answer_to}

@@ -1,6 +1,6 @@
-use Rattle.std.proofs.Common.{option_map, sym, ap, refl, ◌∙◌}
+use Rattle.std.proofs.Common.{option_map, sym, ap, ◌∙◌}
 use Rattle.template.specs.Config.{Configuration, value_of}
-use Rattle.configuration_calls.proofs.Data.{found_at, none_at}
+use Rattle.world.proofs.Configuring.{found_at, none_at}
 use Rattle.configuration_calls.proofs.methods.content_at.Goals as goal
 
 pub returns-in-Some : goal.returns-in-Some

@@ -1,6 +1,7 @@
-use Rattle.std.proofs.Common.{[], map, option_map, sym, ap, refl, ◌∙◌}
+use Rattle.std.proofs.Common.{map, option_map, sym, ap, ◌∙◌}
 use Rattle.template.specs.Config.{Configuration, names}
-use Rattle.configuration_calls.proofs.Data.{found_at, list_as, none_at}
+use Rattle.world.proofs.Configuring.{found_at, none_at}
+use Rattle.configuration_calls.proofs.Data.{list_as}
 use Rattle.configuration_calls.proofs.methods.names_at.Goals as goal
 
 pub returns-in-Some : goal.returns-in-Some

@@ -1,4 +1,4 @@
-use Rattle.std.proofs.Common.{ℕ, sym, ◌∙◌}
+use Rattle.std.proofs.Common.{sym}
 use Rattle.configuration_calls.specs.Methods.{other_given}
 use Rattle.world.proofs.Found.{carries_itself}
 use Rattle.configuration_calls.proofs.methods.other_given.Goals as goal

@@ -1,8 +1,6 @@
 use Rattle.std.proofs.Common.{codes, option_and_then, option_map, sym, ap, ◌∙◌}
 use Rattle.arguments.specs.Arguments.{arguments_data}
 use Rattle.arguments.specs.Given.{keyword}
-use Rattle.data.specs.Data.{Data}
-use Rattle.data.specs.View.{data_of}
 use Rattle.world.specs.Ruled.{ruled}
 use Rattle.world.specs.Store.{world_of}
 use Rattle.world.proofs.Answering.{carries_as, carries_none, carries_read}

@@ -1,5 +1,4 @@
-use Rattle.std.proofs.Common.{◌++◌, is_ok, string_bytes, sym, ap, ◌∙◌, lit<, rules}
-use Rattle.std.specs.Prelude.{if◌then◌else◌}
+use Rattle.std.proofs.Common.{◌++◌, string_bytes, sym, ap, ◌∙◌, lit<, rules}
 use Rattle.std.proofs.lemmas.Str.Pattern.{split_parts}
 use Rattle.edge.specs.Paths.{flat_name}
 use Rattle.edge.proofs.PathTexts.{flat_name-plain, name-more, put_last}

@@ -1,10 +1,9 @@
-use Rattle.std.proofs.Common.{ap, sym, subst, ◌∙◌, ◌+◌}
+use Rattle.std.proofs.Common.{ap, subst, ◌∙◌, ◌+◌}
 use Rattle.ports.specs.Outputs.{OutputState}
 use Rattle.machine_file.specs.View.{machine_in}
 use Rattle.world.specs.Gives.{failures_after}
 use Rattle.world.specs.Plan.{carry}
 use Rattle.world.specs.Store.{world_of}
-use Rattle.world.specs.Trace.{seen}
 use Rattle.interp.specs.Evaluation.{definitions}
 use Rattle.hawkottoman.specs.Questions.{questions_text}
 use Rattle.hawkottoman.specs.Telling.{Ended}

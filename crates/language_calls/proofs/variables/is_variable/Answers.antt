@@ -1,10 +1,10 @@
-use Rattle.std.proofs.Common.{[], Some, is_some, ap, ◌∙◌}
+use Rattle.std.proofs.Common.{Some, is_some, ap, ◌∙◌}
 use Rattle.std.specs.Prelude.{◌||◌}
 use Rattle.arguments.specs.declared.rule.Rule.TheVariants as rules
 use Rattle.data.specs.Data.{boolean}
 use Rattle.world.specs.Ruled.{obeyed}
 use Rattle.world.specs.Store.{world_of}
-use Rattle.language_calls.specs.Names.{is_name, is_predefined}
+use Rattle.language_names.specs.Names.{is_name, is_predefined}
 use Rattle.language_calls.specs.Variables.{is_variable}
 use Rattle.world.proofs.Values.{two}
 use Rattle.world.proofs.Answering.{carries_as, carries_then, carries_stop, carries_none, carries_read, carries_give}

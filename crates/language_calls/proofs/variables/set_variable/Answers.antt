@@ -1,4 +1,4 @@
-use Rattle.std.proofs.Common.{[], ap, refl, ◌∙◌}
+use Rattle.std.proofs.Common.{ap, refl, ◌∙◌}
 use Rattle.arguments.specs.declared.rule.Rule.TheVariants as rules
 use Rattle.world.specs.Ruled.{obeyed}
 use Rattle.language_calls.specs.Variables.{set_variable, is_settable, set_to}

@@ -1,4 +1,4 @@
-use Rattle.std.proofs.Common.{◌≡◌, [], length, refl, arith}
+use Rattle.std.proofs.Common.{◌≡◌, [], length, arith}
 use Rattle.std.proofs.lemmas.Grind.{common_steps}
 use Rattle.operators.proofs.TextItems.{lies_there, puts_text}
 use Rattle.operators.proofs.literal.push_text.Goals as goal

@@ -1,8 +1,5 @@
-use Rattle.std.proofs.Common.{◌∙◌, Option, List, ℕ, Err, sym, ap}
+use Rattle.std.proofs.Common.{◌∙◌, List, ℕ, Err, sym, ap}
 use Rattle.std.specs.Option.{option_map}
-use Rattle.grammar.specs.ExpressionTree.{argument_of}
-use Rattle.option_file.specs.Calls.{or_fault}
-use Rattle.option_file.specs.Declarations.{Declaration}
 use Rattle.option_file.specs.Misfits.{LeftOut, RefusedData, Twice, refused_as}
 use Rattle.option_file.specs.View.{entry_in}
 use Rattle.option_file.proofs.Arguments.{call_left_out, call_else, call_twice}

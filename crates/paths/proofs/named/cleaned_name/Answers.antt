@@ -5,9 +5,9 @@ use Rattle.paths.specs.Paths.{named}
 use Rattle.paths.proofs.PathTexts.{named_some}
 use Rattle.paths.proofs.named.cleaned_name.Goals as goal
 
-pub returns-in_ok-joined-in-Some : goal.returns-in_ok-joined-in-Some
-returns-in_ok-joined-in-Some c =
+pub returns-in_ok-join_parts-in-Some : goal.returns-in_ok-join_parts-in-Some
+returns-in_ok-join_parts-in-Some c =
     let now : Bor (List ℕ) → List ℕ = λ part. part.now in
-    ap (λ l. Some l) c.in_ok-joined-in-Some.ensures
+    ap (λ l. Some l) c.in_ok-join_parts-in-Some.ensures
     ∙ sym (named_some (map now c.deref.result.now) _ c.if-not-is_empty.ensures (length-map c.deref.result.now now ∙ c.deref.ensures.len))
     ∙ ap named (ap (λ items. Some (reverse (map now items))) c.deref.ensures.value ∙ sym (ap (option_map folder_of) c.in-Some.is) ∙ c.in_ok-parts.ensures)

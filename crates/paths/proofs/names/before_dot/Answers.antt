@@ -5,15 +5,15 @@ use Rattle.paths.specs.Names.{before_dot}
 use Rattle.paths.proofs.NameTexts.{none_has, before_dot-none, before_dot-behind}
 use Rattle.paths.proofs.names.before_dot.Goals as goal
 
-pub returns-then-not-has_dot : goal.returns-then-not-has_dot
-returns-then-not-has_dot c =
+pub returns-then-not-has : goal.returns-then-not-has
+returns-then-not-has c =
     let rest = c.loop-part.rest.now in
     let part = c.in-Some.part.now in
     let behind = c.in-Some.behind.now in
     let front = string_bytes c.loop-part.front in
     let cut = rw c.in-Some.is at (split_parts 46 rest c.split_once.result c.split_once.ensures.cases (lit< tt)) in
     let is : before_dot rest ≡ part =
-    ap before_dot cut.0 ∙ before_dot-behind part behind ∙ ap (λ (b : Bool). if b then part ++ 46 ∷ before_dot behind else part) (sym c.has_dot.ensures ∙ c.if-not-has_dot.true) in
+    ap before_dot cut.0 ∙ before_dot-behind part behind ∙ ap (λ (b : Bool). if b then part ++ 46 ∷ before_dot behind else part) (sym c.has.ensures ∙ c.if-not-has.true) in
     c.in_ok-push_str.ensures.bytes ∙ ap (λ p. front ++ p) (sym is) ∙ c.loop-part.invariant.0
 
 pub loop-part-preserved : goal.loop-part-preserved
@@ -24,7 +24,7 @@ loop-part-preserved c =
     let front = string_bytes c.loop-part.front in
     let cut = rw c.in-Some.is at (split_parts 46 rest c.split_once.result c.split_once.ensures.cases (lit< tt)) in
     let is : before_dot rest ≡ part ++ 46 ∷ before_dot behind =
-    ap before_dot cut.0 ∙ before_dot-behind part behind ∙ ap (λ (b : Bool). if b then part ++ 46 ∷ before_dot behind else part) (sym c.has_dot.ensures ∙ c.if-not-has_dot.false) in (
+    ap before_dot cut.0 ∙ before_dot-behind part behind ∙ ap (λ (b : Bool). if b then part ++ 46 ∷ before_dot behind else part) (sym c.has.ensures ∙ c.if-not-has.false) in (
       ap (λ p. p ++ before_dot behind) (c.in_ok-push_str-2.ensures.bytes ∙ ap (λ p. p ++ codes ".") c.in_ok-push_str.ensures.bytes)
           ∙ append_assoc (front ++ part) (codes ".") (before_dot behind)
           ∙ append_assoc front part (46 ∷ before_dot behind)

@@ -1,11 +1,11 @@
 use Rattle.std.proofs.Common.{◌≡◌, ◌++◌, map, drop}
 use Rattle.edge.specs.Texts.{texts}
 use Rattle.paths.specs.Below.{path_below}
-use Rattle.resource_calls.specs.PlaceView.{place_view}
+use Rattle.world.specs.HereView.{here_view}
 use Rattle.resource_calls.proofs.commands.built_words.Given as goal
 
 -- what is there and what is left are all
 abbrev pub invariant-loop-path : goal.invariant-loop-path
 invariant-loop-path l =
-    texts l.words.items ++ map (path_below (place_view l.place).build_root) (texts (drop l.path-index l.paths))
-    ≡ map (path_below (place_view l.place).build_root) (texts l.paths)
+    texts l.words.items ++ map (path_below (here_view l.here).build_root) (texts (drop l.path-index l.paths))
+    ≡ map (path_below (here_view l.here).build_root) (texts l.paths)

@@ -2,12 +2,12 @@ use Rattle.std.proofs.Common.{◌≡◌, map, drop}
 use Rattle.data.specs.View.{data_of}
 use Rattle.edge.specs.Texts.{texts}
 use Rattle.named_sources.specs.Each.{all_behind}
-use Rattle.resource_calls.specs.PlaceView.{place_view}
+use Rattle.world.specs.HereView.{here_view}
 use Rattle.resource_calls.specs.TestCommands.{argument_words}
 use Rattle.resource_calls.proofs.commands.words_behind.Given as goal
 
 -- the words so far and the values that are left decide
 abbrev pub invariant-loop-value : goal.invariant-loop-value
 invariant-loop-value l =
-    all_behind (argument_words (place_view l.place)) (texts l.all.items) (map (λ v. data_of v.now) (drop l.value-index l.values))
-    ≡ all_behind (argument_words (place_view l.place)) (texts l.fn.words.items) (map (λ v. data_of v.now) l.values)
+    all_behind (argument_words (here_view l.here)) (texts l.all.items) (map (λ v. data_of v.now) (drop l.value-index l.values))
+    ≡ all_behind (argument_words (here_view l.here)) (texts l.fn.words.items) (map (λ v. data_of v.now) l.values)

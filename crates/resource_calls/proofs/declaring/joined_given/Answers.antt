@@ -7,7 +7,7 @@ use Rattle.world.proofs.Answering.{carries_none, carries_read}
 use Rattle.resource_calls.specs.DeclareDependency.{joined_given}
 use Rattle.resource_calls.specs.JoinedLists.{joined_dependency}
 use Rattle.resource_calls.specs.OwnListsView.{own_view}
-use Rattle.resource_calls.specs.Place.{PlaceData}
+use Rattle.world.specs.Here.{HereData}
 use Rattle.resource_calls.proofs.Exactly.{carries_exactly}
 use Rattle.resource_calls.proofs.declaring.joined_given.Goals as goal
 
@@ -19,6 +19,6 @@ unfolding joined_given
 returns g c =
     let version = c.as_str-version.ensures.value ∙ ap (λ (f : FactsData). f.version) c.facts.ensures
     ∙ ap (λ (p : WorldData). p.surroundings.facts.version) c.project.ensures in
-    let earlier = ap (λ (p : PlaceData). p.earlier) c.place_of-place.ensures in
+    let earlier = ap (λ (p : HereData). p.earlier) c.here-here.ensures in
     carries_read (carries_exactly (c.in_ok-answer.ensures
     ∙ two (λ v e. joined_dependency v e (arguments_data c.args.arguments.now) (own_view c.args.own.now)) version earlier) c.answered.ensures)

@@ -8,7 +8,7 @@ use Rattle.resource_calls.specs.Breaches.{Breach, lists_breach}
 use Rattle.resource_calls.specs.DeclareDependency.{said_lists}
 use Rattle.resource_calls.specs.OwnLists.{own_lists}
 use Rattle.resource_calls.specs.OwnListsView.{own_view}
-use Rattle.resource_calls.specs.Place.{PlaceData, place_of}
+use Rattle.world.specs.Here.{HereData, here_of}
 use Rattle.resource_calls.proofs.declaring.said_lists.Goals as goal
 
 pub returns-in_err-found : goal.returns-in_err-found
@@ -17,7 +17,7 @@ returns-in_err-found g c = carries_none c.from_residual.ensures.1
 pub returns-in-Some : goal.returns-in-Some
 unfolding said_lists
 returns-in-Some g c =
-    let said = c.in_ok-found.ensures ∙ ap (λ (p : PlaceData). own_lists p (arguments_data c.args.arguments.now)) c.place_of-place.ensures in
+    let said = c.in_ok-found.ensures ∙ ap (λ (p : HereData). own_lists p (arguments_data c.args.arguments.now)) c.here-here.ensures in
     carries_read (ruled_found {view = own_view} _ _ _ (ap (option_map own_view) (sym c.in-Some.is) ∙ said))
 
 pub returns-in_err-breach-in-None : goal.returns-in_err-breach-in-None
@@ -27,9 +27,9 @@ pub returns-in_ok-breach-in-None : goal.returns-in_ok-breach-in-None
 unfolding said_lists
 returns-in_ok-breach-in-None g c =
     let a = arguments_data c.args.arguments.now in
-    let place = place_of (world_of c.args.caller.now.store.now).facts in
+    let here = here_of (world_of c.args.caller.now.store.now).facts in
     let none = ap (option_map own_view) (sym c.in-None.is) ∙ c.in_ok-found.ensures
-    ∙ ap (λ (p : PlaceData). own_lists p a) c.place_of-place.ensures in
-    let breach = c.in_ok-breach-in-None.ensures ∙ ap (λ (p : PlaceData). lists_breach p a) c.place_of-place.ensures in
-    carries_read (carries_as (ap (λ (b : Breach). ruled (own_lists place a) b.0 b.1) breach)
+    ∙ ap (λ (p : HereData). own_lists p a) c.here-here.ensures in
+    let breach = c.in_ok-breach-in-None.ensures ∙ ap (λ (p : HereData). lists_breach p a) c.here-here.ensures in
+    carries_read (carries_as (ap (λ (b : Breach). ruled (own_lists here a) b.0 b.1) breach)
     (ruled_broken {view = own_view} _ _ _ none c.refuse_by.ensures))

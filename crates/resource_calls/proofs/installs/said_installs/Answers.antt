@@ -1,4 +1,4 @@
-use Rattle.std.proofs.Common.{List, ℕ, option_map, string_bytes, sym, ap, ◌∙◌}
+use Rattle.std.proofs.Common.{List, ℕ, option_map, sym, ap, ◌∙◌}
 use Rattle.arguments.specs.Arguments.{arguments_data}
 use Rattle.world.specs.Ruled.{ruled}
 use Rattle.world.specs.Store.{world_of}

@@ -3,7 +3,7 @@ use Rattle.data.specs.View.{data_of}
 use Rattle.named_sources.specs.HolesView.{place_view}
 use Rattle.target_calls.specs.Commands.{no_part, parts_behind}
 use Rattle.target_calls.specs.CommandsView.{part_view}
-use Rattle.target_calls.specs.HereView.{here_view}
+use Rattle.world.specs.HereView.{here_view}
 use Rattle.target_calls.proofs.command.command_of.Given as goal
 
 -- the parts so far and the values that are left decide

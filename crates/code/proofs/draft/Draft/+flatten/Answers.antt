@@ -1,4 +1,4 @@
-use Rattle.std.proofs.Common.{sym, ap, ◌∙◌, ◌&&◌, length, map, nat_lt, option_map, string_bytes, subst}
+use Rattle.std.proofs.Common.{sym, ap, ◌∙◌, ◌&&◌, length, map, nat_lt, option_map, subst}
 use Rattle.std.specs.Prelude.{IsTrue}
 use Rattle.code.specs.declared.node.CallNode.{CallNode}
 use Rattle.std.specs.List.{list_all}

@@ -1,7 +1,7 @@
 use Rattle.std.proofs.Common.{◌≡◌, ◌∙◌, length, string_bytes, lit<}
 use Rattle.std.proofs.lemmas.Iterator.Consumers.{count_from_yields_List}
 use Rattle.std.proofs.lemmas.Iterator.Splits.{YieldsList-from_str_split}
-use Rattle.command.specs.BuildFolder.{pieces_of}
+use Rattle.paths.specs.Paths.{parts_of}
 use Rattle.command.proofs.Paths.{pieces-le}
 use Rattle.command.proofs.line.Line.depth.Goals as goal
 
@@ -11,6 +11,6 @@ returns-clause-value c = count_from_yields_List c.split.result _ c.count.ensures
 
 pub returns-clause-limit : goal.returns-clause-limit
 returns-clause-limit c =
-    let value : c.count.result ≡ length (pieces_of (string_bytes c.args.self.now.folder)) = returns-clause-value c in
+    let value : c.count.result ≡ length (parts_of (string_bytes c.args.self.now.folder)) = returns-clause-value c in
     let limit = pieces-le (string_bytes c.args.self.now.folder) c.args.self.now.tidy in
     rw value limit

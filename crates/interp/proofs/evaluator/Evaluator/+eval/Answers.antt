@@ -1,4 +1,4 @@
-use Rattle.std.proofs.Common.{ℕ, suc, ◌+◌, ◌≤◌, max, Bool, List, [], ◌∷◌, drop, map, get_or, Option, Err, Some, option_map, refl, string_bytes, sym, ap, ◌∙◌, arith, rules}
+use Rattle.std.proofs.Common.{ℕ, suc, ◌+◌, ◌≤◌, max, Bool, List, [], ◌∷◌, drop, map, get_or, Option, Err, Some, option_map, refl, sym, ap, ◌∙◌, arith, rules}
 use Rattle.grammar.specs.ExpressionTree.{ListTree, DictionaryTree, FunctionTree, PostfixTree, ChainTree, expressions, entries, arguments, links, operands}
 use Rattle.grammar.specs.declared.tree.Operator.TheVariants as flatop
 use Rattle.code.specs.declared.node.Node.TheVariants as flat
@@ -14,7 +14,7 @@ use Rattle.data.proofs.ItemsLemmas.{items_of-append}
 use Rattle.operators.specs.Literal.{pairs_of}
 use Rattle.arguments.specs.Arguments.{arguments_data, no_arguments}
 use Rattle.world.specs.Plan.{ruled, next}
-use Rattle.interp.specs.Expressions.{arguments_of, chain_of, entries_of, link_of, links_of, method_called, method_of, value_of, values_of}
+use Rattle.interp.specs.Expressions.{arguments_of, chain_of, entries_of, link_of, links_of, method_of, value_of, values_of}
 use Rattle.operators.specs.declared.logic.Left.{Left}
 use Rattle.expressions.specs.Forms.{chosen, combined, listed, paired, unless_decided, variable}
 use Rattle.expressions.specs.declared.meaning.Meaning.{Meaning}

@@ -1,4 +1,4 @@
-use Rattle.std.proofs.Common.{ℕ, List, Some, None, map, sym, ap, refl, ◌∙◌}
+use Rattle.std.proofs.Common.{ℕ, List, map, sym, ap, refl, ◌∙◌}
 use Rattle.code.specs.Statements.{branch_at}
 use Rattle.grammar.specs.Tree.{branches}
 use Rattle.expressions.specs.Codes.{block_by, expressions_by, statements_by}

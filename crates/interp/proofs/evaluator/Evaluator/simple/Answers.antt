@@ -14,8 +14,8 @@ use Rattle.interp.specs.Statements.{does}
 use Rattle.interp.specs.declared.flow.Flow.{Flow}
 use Rattle.interp.specs.declared.flow.Flow.TheVariants as flows
 use Rattle.interp.proofs.Coming.{comes_as, comes_same}
-use Rattle.expressions.proofs.Evaluating.{given_as, given_give, leads_start}
-use Rattle.interp.proofs.Spelling.{named, node_is, parts_of, reads_at, spelled}
+use Rattle.expressions.proofs.Evaluating.{given_as, given_give}
+use Rattle.interp.proofs.Spelling.{named, parts_of, reads_at, spelled}
 use Rattle.interp.proofs.evaluator.Evaluator.simple.Goals as goal
 
 pub assign_value-requires-clause-here : goal.assign_value-requires-clause-here

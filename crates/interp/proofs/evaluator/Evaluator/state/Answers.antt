@@ -1,4 +1,4 @@
-use Rattle.std.proofs.Common.{◌≤◌, ℕ, List, [], ◌∷◌, ◌++◌, Ok, Err, length, map, string_bytes, sym, ap, subst, refl, ◌∙◌, arith}
+use Rattle.std.proofs.Common.{◌≤◌, ℕ, List, [], ◌∷◌, ◌++◌, Ok, Err, length, map, sym, ap, subst, refl, ◌∙◌, arith}
 use Rattle.code.specs.Nodes.{argument_at}
 use Rattle.code.specs.declared.node.ArgumentNode.{ArgumentNode}
 use Rattle.code.specs.declared.node.CallNode.{CallNode}

@@ -1,8 +1,7 @@
 use Rattle.std.proofs.Common.{ap}
-use Rattle.world.specs.Configuring.{add_configuration}
+use Rattle.world.specs.Configuring.{add_configuration, copy_configuration}
 use Rattle.world.proofs.Answering.{carries_as, carries_none, carries_read}
-use Rattle.configuration_calls.specs.ConfigurationData.{copy_configuration}
-use Rattle.configuration_calls.proofs.data_call.copied.Goals as goal
+use Rattle.world.proofs.caller.Caller.copy_configuration.Goals as goal
 
 pub returns-in_err-copy : goal.returns-in_err-copy
 returns-in_err-copy g c = carries_none c.from_residual.ensures.1

@@ -1,8 +1,8 @@
-//! The names that the language gives a meaning to.
+//! The names that the language gives a meaning to, and which texts are names.
 ghost use Rattle.std.specs.Prelude.{◌≡◌, IfOk};
 ghost use Rattle.std.specs.List.{list_all};
-ghost use Rattle.language_calls.specs.Names.{begins_name, is_left_out, is_name, is_name_byte, is_predefined, predefined};
-ghost use Rattle.data.specs.View.{data_of};
+ghost use Rattle.language_names.specs.Names.{begins_name, is_left_out, is_name, is_name_byte, is_predefined, predefined};
+ghost use Rattle.data.specs.Prelude.{data_of};
 
 use basics::text_lists::is_among;
 use data::{Object, Value};

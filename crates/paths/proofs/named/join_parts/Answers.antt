@@ -1,8 +1,8 @@
 use Rattle.std.proofs.Common.{ap, ◌∙◌, string_bytes, arith}
 use Rattle.std.proofs.lemmas.Grind.{common_steps}
 use Rattle.paths.proofs.PathTexts.{join_first, join_more}
-use Rattle.paths.proofs.named.joined.Goals as goal
-use Rattle.paths.proofs.named.joined.Goals.{then-i-gt0+in_ok-push_str, else-i-gt0}
+use Rattle.paths.proofs.named.join_parts.Goals as goal
+use Rattle.paths.proofs.named.join_parts.Goals.{then-i-gt0+in_ok-push_str, else-i-gt0}
 
 pub loop-i-preserved : goal.loop-i-preserved
 loop-i-preserved c =

@@ -2,7 +2,7 @@ use Rattle.std.proofs.Common.{rules, tests, not, lit<}
 use Rattle.std.proofs.lemmas.Iterator.Consumers.{YieldsList-at, YieldsList-from_filter, map_from_collect}
 use Rattle.std.proofs.lemmas.Iterator.Splits.{YieldsList-from_str_split}
 use Rattle.command.specs.BuildFolder.{is_idle}
-use Rattle.command.proofs.folder.parts_of.Goals as goal
+use Rattle.command.proofs.folder.leading_parts.Goals as goal
 
 pub returns : goal.returns
 returns c = map_from_collect _ c.collect.ensures.ran

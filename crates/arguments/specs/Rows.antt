@@ -1,0 +1,17 @@
+-- Rows without keywords.
+use Rattle.std.specs.Prelude.{ℕ, List, []}
+use Rattle.arguments.specs.declared.row.Kind.{Kind}
+use Rattle.arguments.specs.declared.row.Kind.TheVariants.{Any, Text}
+use Rattle.arguments.specs.Row.{RowData, row, with_others}
+
+-- values of any type
+abbrev pub any_values : RowData
+any_values = with_others Any (row [] 0 [])
+
+-- values of these kinds, of which so many are needed
+abbrev pub values : List Kind → ℕ → RowData
+values kinds needed = row kinds needed []
+
+-- one text at least
+abbrev pub some_texts : RowData
+some_texts = with_others Text (row [] 1 [])

@@ -1,0 +1,42 @@
+//! Where a call stands.
+ghost use Rattle.std.specs.Prelude.{◌≡◌};
+ghost use Rattle.world.specs.Here.{here_of};
+ghost use Rattle.world.specs.HereView.{here_view};
+
+use crate::caller::Caller;
+use ports::{Outputs, Tree};
+use std::alloc::Global;
+use targets::Linked;
+
+/// The roots, the present folder and the targets so far.
+#[derive(Clone, Copy)]
+pub struct Here<'a> {
+    pub alloc: Global,
+    /// An absolute path, as is `build_root`.
+    pub source_root: &'a str,
+    pub build_root: &'a str,
+    /// How many folders the build folder lies below the source root.
+    pub depth: usize,
+    /// The folder of the definition file, `""` for the root.
+    pub folder: &'a str,
+    /// The targets before the call.
+    pub earlier: &'a [Linked],
+}
+
+impl<'a, T: Tree, O: Outputs> Caller<'a, T, O> {
+    ghost use Rattle.world.specs.Caller.{state_of};
+
+    /// Where the call stands.
+    pub fn here(&self) -> Here<'_>
+        ensures { here_view result ≡ here_of (state_of T.seen O.seen self.now).world.facts }
+    {
+        Here {
+            alloc: self.alloc,
+            source_root: self.store.settings().source_root.as_str(),
+            build_root: self.store.settings().build_root.as_str(),
+            depth: self.store.settings().depth,
+            folder: self.store.folder(),
+            earlier: self.store.project().targets(),
+        }
+    }
+}
