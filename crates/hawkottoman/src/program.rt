@@ -82,9 +82,6 @@ fn perform<R: Files<File = File> + AllocGlobal, L: Write + Drop, F: Write + Drop
     let machine = machine_bytes(rt, root, &line.machine_file)?;
     let place = place_below(rt.alloc(), root, line.folder.as_str())?;
     let mut out = DiskOutputs::new(rt, rt.alloc(), place, log, faults)?;
-    if matches!(line.task, Task::Setup) {
-        out.claim()?;
-    }
     perform_over(rt, line, root, &machine, &mut out)
 }
 
@@ -96,25 +93,27 @@ fn place_below(alloc: Global, root: &str, folder: &str) -> Result<OutputPlace, A
 }
 
 // Does what the line says over the sources in this folder, with these bytes of a machine file and these outputs.
-fn perform_over<R: Files<File = File> + AllocGlobal, O: Outputs>(
+fn perform_over<'o, R: Files<File = File> + AllocGlobal, L: Write + Drop, F: Write + Drop>(
     rt: &R,
     line: Line,
     root: &str,
     machine: &[u8],
-    out: &mut O,
+    out: &mut DiskOutputs<'o, R, L, F>,
 ) -> io::Result<Status>
-    requires { HasRoom (O.seen out.old).failures }
+    requires { HasRoom (⟦<DiskOutputs<'o, R, L, F> as Outputs>⟧.seen out.old).failures }
 {
     let task = line.task;
     let settings = settings_of(rt.alloc(), line, root)?;
     let current = String::from_str(rt.alloc(), CURRENT_FOLDER)?;
     let mut tree = DiskTree::new(rt, rt.alloc(), current);
-    let status = match task {
-        Task::Setup => setup(rt.alloc(), &mut tree, &settings, machine, out),
-        Task::Questions => questions(rt.alloc(), &mut tree, &settings, machine, out),
-        Task::Fault => fault(rt.alloc(), &mut tree, &settings, machine, out),
-    };
-    Ok(status)
+    match task {
+        Task::Setup => {
+            out.claim()?;
+            Ok(setup(rt.alloc(), &mut tree, &settings, machine, out))
+        }
+        Task::Questions => Ok(questions(rt.alloc(), &mut tree, &settings, machine, out)),
+        Task::Fault => Ok(fault(rt.alloc(), &mut tree, &settings, machine, out)),
+    }
 }
 
 // Whether there is a `meson.build` in the folder below this root.

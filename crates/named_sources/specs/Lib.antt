@@ -6,6 +6,8 @@ pub mod Libraries
 pub mod Outputs
 pub mod Sources
 pub mod SourcesView
+pub mod Things
+pub mod ThingsView
 pub mod Unnamed
 pub mod Values
 pub mod ValuesView

@@ -1,13 +1,11 @@
 -- The command and the environment of a test. Files and targets are absolute paths.
-use Rattle.std.specs.Prelude.{ℕ, Bool, true, false, List, [], ◌∷◌, map, Option, Some, None, option_map, option_and_then, codes}
+use Rattle.std.specs.Prelude.{Bool, true, false, List, [], ◌∷◌, map, Option, Some, None, option_and_then, codes}
 use Rattle.std.specs.Prelude.{if◌then◌else◌}
 use Rattle.arguments.specs.Arguments.{ArgumentsData}
 use Rattle.arguments.specs.Given.{argument}
 use Rattle.arguments.specs.Leaves.{leaves_named}
 use Rattle.arguments.specs.Maybe.{◌>>=◌}
 use Rattle.data.specs.Data.{Data, text, object}
-use Rattle.data.specs.declared.object.Object.{Object}
-use Rattle.data.specs.declared.object.Object.TheVariants as objects
 use Rattle.data.specs.declared.object.Program.{Program}
 use Rattle.data.specs.declared.object.Program.TheVariants as programs
 use Rattle.edge.specs.Texts.{Path, Text}
@@ -15,9 +13,8 @@ use Rattle.paths.specs.Below.{path_below}
 use Rattle.resources.specs.Testing.{environment}
 use Rattle.targets.specs.Data.{BuildData}
 use Rattle.targets.specs.Files.{file_path, is_library}
-use Rattle.targets.specs.Libraries.{build_at}
 use Rattle.named_sources.specs.Each.{all_behind}
-use Rattle.named_sources.specs.Outputs.{output_at, outputs_at}
+use Rattle.named_sources.specs.Things.{ThingData, a_file, a_program, a_target, all_outputs, an_output, thing_of}
 use Rattle.world.specs.Here.{HereData}
 
 -- ---- things of the project, by the words that they are
@@ -32,23 +29,13 @@ target_word here t = path_below here.build_root (file_path t)
 abbrev pub one_word : Text → List Text
 one_word w = w ∷ []
 
-abbrev pub target_words : HereData → ℕ → Option (List Text)
-target_words here number = option_map (λ t. one_word (target_word here t)) (build_at here.earlier number)
-
--- all outputs of a target
-abbrev pub outputs_words : HereData → ℕ → Option (List Text)
-outputs_words here number = option_map (map (path_below here.build_root)) (outputs_at here.earlier number)
-
-abbrev pub output_words : HereData → ℕ → ℕ → Option (List Text)
-output_words here target output = option_map (λ path. one_word (path_below here.build_root path)) (output_at here.earlier target output)
-
--- the words of a file, a target or an output of one; none of anything else
-abbrev pub words_of_object : HereData → Object → Option (List Text)
-words_of_object here (objects.File path is_built) = Some (one_word (file_word here path is_built))
-words_of_object here (objects.BuildTarget number) = target_words here number
-words_of_object here (objects.CustomTarget number count) = outputs_words here number
-words_of_object here (objects.CustomOutput target output) = output_words here target output
-words_of_object here _ = None
+-- the words of a file, a target or outputs of one; none of a program
+abbrev pub words_of : HereData → ThingData → Option (List Text)
+words_of here (a_program p) = None
+words_of here (a_file path is_built) = Some (one_word (file_word here path is_built))
+words_of here (a_target t) = Some (one_word (target_word here t))
+words_of here (all_outputs paths) = Some (map (path_below here.build_root) paths)
+words_of here (an_output path) = Some (one_word (path_below here.build_root path))
 
 -- ---- the program
 
@@ -62,17 +49,14 @@ words_of_program here (programs.File path) = Some (one_word (path_below here.sou
 abbrev pub word_if_executable : HereData → BuildData → Option (List Text)
 word_if_executable here t = if is_library t.kind then None else Some (one_word (target_word here t))
 
-abbrev pub executable_words : HereData → ℕ → Option (List Text)
-executable_words here number = option_and_then (word_if_executable here) (build_at here.earlier number)
-
-abbrev pub command_of_object : HereData → Object → Option (List Text)
-command_of_object here (objects.Program p) = words_of_program here p
-command_of_object here (objects.BuildTarget number) = executable_words here number
-command_of_object here o = words_of_object here o
+abbrev pub command_words : HereData → ThingData → Option (List Text)
+command_words here (a_program p) = words_of_program here p
+command_words here (a_target t) = word_if_executable here t
+command_words here thing = words_of here thing
 
 -- the words that call the program that a value is; none where it can't run
 abbrev pub command_of : HereData → Data → Option (List Text)
-command_of here (object o) = command_of_object here o
+command_of here (object o) = option_and_then (command_words here) (thing_of here.earlier o)
 command_of here _ = None
 
 -- ---- arguments
@@ -80,7 +64,7 @@ command_of here _ = None
 -- the words of an argument of the program: a text, a file, a target or an output of one
 abbrev pub argument_words : HereData → Data → Option (List Text)
 argument_words here (text t) = Some (one_word t)
-argument_words here (object o) = words_of_object here o
+argument_words here (object o) = option_and_then (words_of here) (thing_of here.earlier o)
 argument_words here _ = None
 
 -- ---- what runs

@@ -2,21 +2,21 @@
 ghost use Rattle.std.specs.Prelude.{◌≡◌, IfOk, map, option_map, string_bytes};
 ghost use Rattle.edge.specs.Texts.{texts};
 ghost use Rattle.named_sources.specs.Each.{all_behind};
+ghost use Rattle.named_sources.specs.ThingsView.{thing_view};
 ghost use Rattle.paths.specs.Below.{path_below};
 ghost use Rattle.targets.specs.View.{build_view};
 ghost use Rattle.world.specs.Prelude.{arguments_data, data_of, here_view};
-ghost use Rattle.resource_calls.specs.TestCommands.{argument_words, command_given, command_of, command_of_object, file_word, one_word};
-ghost use Rattle.resource_calls.specs.TestCommands.{output_words, outputs_words, run_of, target_word, target_words, executable_words};
-ghost use Rattle.resource_calls.specs.TestCommands.{word_if_executable, words_of_object, words_of_program};
+ghost use Rattle.resource_calls.specs.TestCommands.{argument_words, command_given, command_of, command_words, file_word, one_word};
+ghost use Rattle.resource_calls.specs.TestCommands.{run_of, target_word, word_if_executable, words_of, words_of_program};
 ghost use Rattle.resource_calls.specs.TestCommandsView.{run_view};
 
 use arguments::Arguments;
-use data::{Object, Program, Value};
-use named_sources::{output_at, outputs_at, strings};
+use data::{Program, Value};
+use named_sources::{Thing, strings, thing_of};
 use paths::path_below;
 use resources::environment;
 use std::alloc::{AllocError, Global};
-use targets::{BuildTarget, build_target_at, file_path};
+use targets::{BuildTarget, file_path};
 use world::Here;
 
 /// What a test runs.
@@ -55,15 +55,6 @@ fn target_word(here: &Here<'_>, target: &BuildTarget) -> Result<String, AllocErr
     path_below(here.alloc, here.build_root, path.as_str())
 }
 
-fn target_words(here: &Here<'_>, number: usize) -> Result<Option<Vec<String>>, AllocError>
-    ensures { IfOk result (λ ws. option_map (λ v. texts v.items) ws ≡ target_words (here_view here.now) number) }
-{
-    match build_target_at(here.earlier, number) {
-        Some(target) => Ok(Some(one_word(here.alloc, target_word(here, target)?)?)),
-        None => Ok(None),
-    }
-}
-
 // Each path below the build root.
 fn built_words(here: &Here<'_>, paths: &[String]) -> Result<Vec<String>, AllocError>
     ensures { IfOk result (λ v. texts v.items ≡ map (path_below (here_view here.now).build_root) (texts paths.now)) }
@@ -75,45 +66,18 @@ fn built_words(here: &Here<'_>, paths: &[String]) -> Result<Vec<String>, AllocEr
     Ok(words)
 }
 
-fn outputs_words(here: &Here<'_>, number: usize) -> Result<Option<Vec<String>>, AllocError>
-    ensures { IfOk result (λ ws. option_map (λ v. texts v.items) ws ≡ outputs_words (here_view here.now) number) }
+// The words of a file, a target or outputs of one; none of a program.
+fn words_of(here: &Here<'_>, thing: Thing<'_>) -> Result<Option<Vec<String>>, AllocError>
+    ensures { IfOk result (λ ws. option_map (λ v. texts v.items) ws ≡ words_of (here_view here.now) (thing_view thing.entry)) }
 {
-    match outputs_at(here.earlier, number) {
-        Some(paths) => Ok(Some(built_words(here, paths)?)),
-        None => Ok(None),
-    }
-}
-
-fn output_words(
-    here: &Here<'_>,
-    target: usize,
-    output: usize,
-) -> Result<Option<Vec<String>>, AllocError>
-    ensures { IfOk result (λ ws. option_map (λ v. texts v.items) ws ≡ output_words (here_view here.now) target output) }
-{
-    match output_at(here.earlier, target, output) {
-        Some(path) => {
-            let word = path_below(here.alloc, here.build_root, path)?;
-            Ok(Some(one_word(here.alloc, word)?))
-        }
-        None => Ok(None),
-    }
-}
-
-// The words of a file, a target or an output of one; none of anything else.
-fn words_of_object(here: &Here<'_>, object: &Object) -> Result<Option<Vec<String>>, AllocError>
-    ensures { IfOk result (λ ws. option_map (λ v. texts v.items) ws ≡ words_of_object (here_view here.now) object.now) }
-{
-    match object {
-        Object::File { path, is_built } => {
-            let word = file_word(here, path.as_str(), *is_built)?;
-            Ok(Some(one_word(here.alloc, word)?))
-        }
-        Object::BuildTarget(number) => target_words(here, *number),
-        Object::CustomTarget { number, .. } => outputs_words(here, *number),
-        Object::CustomOutput { target, output } => output_words(here, *target, *output),
-        _ => Ok(None),
-    }
+    let word = match thing {
+        Thing::Program(_) => return Ok(None),
+        Thing::Outputs(paths) => return Ok(Some(built_words(here, paths)?)),
+        Thing::File { path, is_built } => file_word(here, path, is_built)?,
+        Thing::Target(target) => target_word(here, target)?,
+        Thing::Output(path) => path_below(here.alloc, here.build_root, path)?,
+    };
+    Ok(Some(one_word(here.alloc, word)?))
 }
 
 // ---- the program
@@ -147,22 +111,13 @@ fn word_if_executable(
     }
 }
 
-fn executable_words(here: &Here<'_>, number: usize) -> Result<Option<Vec<String>>, AllocError>
-    ensures { IfOk result (λ ws. option_map (λ v. texts v.items) ws ≡ executable_words (here_view here.now) number) }
+fn command_words(here: &Here<'_>, thing: Thing<'_>) -> Result<Option<Vec<String>>, AllocError>
+    ensures { IfOk result (λ ws. option_map (λ v. texts v.items) ws ≡ command_words (here_view here.now) (thing_view thing.entry)) }
 {
-    match build_target_at(here.earlier, number) {
-        Some(target) => word_if_executable(here, target),
-        None => Ok(None),
-    }
-}
-
-fn command_of_object(here: &Here<'_>, object: &Object) -> Result<Option<Vec<String>>, AllocError>
-    ensures { IfOk result (λ ws. option_map (λ v. texts v.items) ws ≡ command_of_object (here_view here.now) object.now) }
-{
-    match object {
-        Object::Program(program) => words_of_program(here, program),
-        Object::BuildTarget(number) => executable_words(here, *number),
-        _ => words_of_object(here, object),
+    match thing {
+        Thing::Program(program) => words_of_program(here, program),
+        Thing::Target(target) => word_if_executable(here, target),
+        _ => words_of(here, thing),
     }
 }
 
@@ -171,7 +126,10 @@ fn command_of(here: &Here<'_>, value: &Value) -> Result<Option<Vec<String>>, All
     ensures { IfOk result (λ ws. option_map (λ v. texts v.items) ws ≡ command_of (here_view here.now) (data_of value.now)) }
 {
     match value {
-        Value::Object(object) => command_of_object(here, object),
+        Value::Object(object) => match thing_of(here.earlier, object) {
+            Some(thing) => command_words(here, thing),
+            None => Ok(None),
+        },
         _ => Ok(None),
     }
 }
@@ -187,7 +145,10 @@ fn argument_words(here: &Here<'_>, value: &Value) -> Result<Option<Vec<String>>,
             let word = String::from_str(here.alloc, text.as_str())?;
             Ok(Some(one_word(here.alloc, word)?))
         }
-        Value::Object(object) => words_of_object(here, object),
+        Value::Object(object) => match thing_of(here.earlier, object) {
+            Some(thing) => words_of(here, thing),
+            None => Ok(None),
+        },
         _ => Ok(None),
     }
 }

@@ -3,17 +3,15 @@ use Rattle.std.specs.Prelude.{ℕ, Bool, true, false, ◌&&◌, not, List, [], �
 use Rattle.std.specs.Prelude.{Option, Some, None, option_and_then, option_map, if◌then◌else◌}
 use Rattle.data.specs.Data.{Data, text, object}
 use Rattle.data.specs.declared.object.Object.{Object}
-use Rattle.data.specs.declared.object.Object.TheVariants as objects
 use Rattle.data.specs.declared.object.Program.{Program}
 use Rattle.data.specs.declared.object.Program.TheVariants as programs
 use Rattle.edge.specs.Paths.{source_path}
 use Rattle.edge.specs.Texts.{Path, Text}
 use Rattle.named_sources.specs.Holes.{PlaceData, words_of}
-use Rattle.named_sources.specs.Outputs.{output_at, outputs_at}
+use Rattle.named_sources.specs.Things.{ThingData, a_file, a_program, a_target, all_outputs, an_output, thing_of}
 use Rattle.paths.specs.Names.{has_slash}
 use Rattle.targets.specs.Data.{BuildData, SourceData, Tree, Built, Made}
 use Rattle.targets.specs.Files.{file_path, is_library}
-use Rattle.targets.specs.Libraries.{build_at}
 use Rattle.world.specs.Here.{HereData}
 use Rattle.target_calls.specs.Sources.{one_made}
 
@@ -51,23 +49,16 @@ abbrev pub of_file : ℕ → Path → Bool → PartData
 of_file depth path true = one_path path (Built path)
 of_file depth path false = one_path (source_path depth path) (Tree path)
 
-abbrev pub build_target_at : HereData → ℕ → Option PartData
-build_target_at here number = option_map of_build_target (build_at here.earlier number)
-
-abbrev pub outputs_named : HereData → ℕ → Option PartData
-outputs_named here number = option_map of_outputs (outputs_at here.earlier number)
-
-abbrev pub output_named : HereData → ℕ → ℕ → Option PartData
-output_named here number place = option_map of_output (output_at here.earlier number place)
+abbrev pub of_thing : ℕ → ThingData → Option PartData
+of_thing depth (a_program program) = of_program depth program
+of_thing depth (a_file path is_built) = Some (of_file depth path is_built)
+of_thing depth (a_target t) = Some (of_build_target t)
+of_thing depth (all_outputs paths) = Some (of_outputs paths)
+of_thing depth (an_output path) = Some (of_output path)
 
 -- what an object is in a command, or none where it can't stand there
 abbrev pub of_object : HereData → Object → Option PartData
-of_object here (objects.Program program) = of_program here.depth program
-of_object here (objects.File path is_built) = Some (of_file here.depth path is_built)
-of_object here (objects.BuildTarget number) = build_target_at here number
-of_object here (objects.CustomTarget number count) = outputs_named here number
-of_object here (objects.CustomOutput target place) = output_named here target place
-of_object here _ = None
+of_object here o = option_and_then (of_thing here.depth) (thing_of here.earlier o)
 
 abbrev pub of_text : PlaceData → Text → Option PartData
 of_text place t = option_map words_alone (words_of place t)

@@ -2,20 +2,20 @@
 ghost use Rattle.std.specs.Prelude.{◌≡◌, ◌∷◌, [], IfOk, None, Some, map, option_map, string_bytes, if◌then◌else◌};
 ghost use Rattle.edge.specs.Texts.{texts};
 ghost use Rattle.named_sources.specs.HolesView.{place_view};
+ghost use Rattle.named_sources.specs.ThingsView.{thing_view};
 ghost use Rattle.targets.specs.View.{build_view, source_view};
 ghost use Rattle.world.specs.Prelude.{data_of, here_view};
-ghost use Rattle.target_calls.specs.Commands.{build_target_at, called, command_of, joined, of_build_target, of_file};
-ghost use Rattle.target_calls.specs.Commands.{of_object, of_output, of_outputs, of_program, one_path, output_named, outputs_named};
-ghost use Rattle.target_calls.specs.Commands.{of_text, part_of, words_alone};
+ghost use Rattle.target_calls.specs.Commands.{called, command_of, joined, of_build_target, of_file, of_object, of_output, of_outputs};
+ghost use Rattle.target_calls.specs.Commands.{of_program, of_text, of_thing, one_path, part_of, words_alone};
 ghost use Rattle.target_calls.specs.CommandsView.{part_view};
 
 use crate::sources::{made_of, one_made_of};
 use data::{Object, Program, Value};
 use edge::{push_copies, source_path};
-use named_sources::{Place, output_at, outputs_at, push_words, strings};
+use named_sources::{Place, Thing, push_words, strings, thing_of};
 use paths::has_slash;
 use std::alloc::{AllocError, Global};
-use targets::{BuildTarget, Source, build_target_at, file_path};
+use targets::{BuildTarget, Source, file_path};
 use world::Here;
 
 /// The words of a part of the command, and what has to be there for it.
@@ -134,52 +134,23 @@ fn push_file(
     }
 }
 
-fn push_build_target_at(
+fn push_thing(
     whole: &mut Part,
-    here: &Here<'_>,
-    number: usize,
+    alloc: Global,
+    depth: usize,
+    thing: Thing<'_>,
 ) -> Result<bool, AllocError>
     ensures { IfOk result (λ done. (if done then Some (part_view whole.new) else None)
-        ≡ option_map (joined (part_view whole.old)) (build_target_at (here_view here.now) number)) }
+        ≡ option_map (joined (part_view whole.old)) (of_thing depth (thing_view thing.entry))) }
 {
-    match build_target_at(here.earlier, number) {
-        Some(target) => {
-            push_build_target(whole, here.alloc, target)?;
-            Ok(true)
-        }
-        None => Ok(false),
+    match thing {
+        Thing::Program(program) => return push_program(whole, alloc, depth, program),
+        Thing::File { path, is_built } => push_file(whole, alloc, depth, path, is_built)?,
+        Thing::Target(target) => push_build_target(whole, alloc, target)?,
+        Thing::Outputs(paths) => push_outputs(whole, alloc, paths)?,
+        Thing::Output(path) => push_output(whole, alloc, path)?,
     }
-}
-
-fn push_outputs_at(whole: &mut Part, here: &Here<'_>, number: usize) -> Result<bool, AllocError>
-    ensures { IfOk result (λ done. (if done then Some (part_view whole.new) else None)
-        ≡ option_map (joined (part_view whole.old)) (outputs_named (here_view here.now) number)) }
-{
-    match outputs_at(here.earlier, number) {
-        Some(paths) => {
-            push_outputs(whole, here.alloc, paths)?;
-            Ok(true)
-        }
-        None => Ok(false),
-    }
-}
-
-fn push_output_at(
-    whole: &mut Part,
-    here: &Here<'_>,
-    number: usize,
-    place: usize,
-) -> Result<bool, AllocError>
-    ensures { IfOk result (λ done. (if done then Some (part_view whole.new) else None)
-        ≡ option_map (joined (part_view whole.old)) (output_named (here_view here.now) number place)) }
-{
-    match output_at(here.earlier, number, place) {
-        Some(path) => {
-            push_output(whole, here.alloc, path)?;
-            Ok(true)
-        }
-        None => Ok(false),
-    }
+    Ok(true)
 }
 
 // Appends what an object is in a command, or answers that it can't stand there.
@@ -187,16 +158,9 @@ fn push_object(whole: &mut Part, here: &Here<'_>, object: &Object) -> Result<boo
     ensures { IfOk result (λ done. (if done then Some (part_view whole.new) else None)
         ≡ option_map (joined (part_view whole.old)) (of_object (here_view here.now) object.now)) }
 {
-    match object {
-        Object::Program(program) => push_program(whole, here.alloc, here.depth, program),
-        Object::File { path, is_built } => {
-            push_file(whole, here.alloc, here.depth, path.as_str(), *is_built)?;
-            Ok(true)
-        }
-        Object::BuildTarget(number) => push_build_target_at(whole, here, *number),
-        Object::CustomTarget { number, .. } => push_outputs_at(whole, here, *number),
-        Object::CustomOutput { target, output } => push_output_at(whole, here, *target, *output),
-        _ => Ok(false),
+    match thing_of(here.earlier, object) {
+        Some(thing) => push_thing(whole, here.alloc, here.depth, thing),
+        None => Ok(false),
     }
 }
 

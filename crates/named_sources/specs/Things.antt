@@ -1,0 +1,27 @@
+-- What objects name that may stand in a command.
+use Rattle.std.specs.Prelude.{Bool, List, Option, Some, None, option_map}
+use Rattle.data.specs.declared.object.Object.{Object}
+use Rattle.data.specs.declared.object.Object.TheVariants as objects
+use Rattle.data.specs.declared.object.Program.{Program}
+use Rattle.edge.specs.Texts.{Path}
+use Rattle.targets.specs.Data.{BuildData}
+use Rattle.targets.specs.Libraries.{LinkedData, build_at}
+use Rattle.named_sources.specs.Outputs.{output_at, outputs_at}
+
+pub data ThingData : Type 0 where
+  a_program : (program : Program) → ThingData
+  -- of the tree, or of the build folder
+  a_file : (path : Path) (is_built : Bool) → ThingData
+  a_target : (target : BuildData) → ThingData
+  -- all outputs of a target, and one of them
+  all_outputs : (paths : List Path) → ThingData
+  an_output : (path : Path) → ThingData
+
+-- none where the object is of another kind, or no target has its number
+abbrev pub thing_of : List LinkedData → Object → Option ThingData
+thing_of earlier (objects.Program program) = Some (a_program program)
+thing_of earlier (objects.File path is_built) = Some (a_file path is_built)
+thing_of earlier (objects.BuildTarget number) = option_map a_target (build_at earlier number)
+thing_of earlier (objects.CustomTarget number count) = option_map all_outputs (outputs_at earlier number)
+thing_of earlier (objects.CustomOutput target place) = option_map an_output (output_at earlier target place)
+thing_of earlier _ = None

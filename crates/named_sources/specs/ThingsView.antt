@@ -1,0 +1,13 @@
+-- Things, without where they lie in memory.
+use Rattle.edge.specs.Texts.{texts}
+use Rattle.targets.specs.View.{build_view}
+use Rattle.named_sources.specs.Things.{ThingData, a_file, a_program, a_target, all_outputs, an_output}
+use Rattle.named_sources.specs.declared.things.Thing.{Thing}
+use Rattle.named_sources.specs.declared.things.Thing.TheVariants as things
+
+abbrev pub thing_view : Thing → ThingData
+thing_view (things.Program program) = a_program program.now
+thing_view (things.File path is_built) = a_file path.now is_built
+thing_view (things.Target target) = a_target (build_view target.now)
+thing_view (things.Outputs paths) = all_outputs (texts paths.now)
+thing_view (things.Output path) = an_output path.now

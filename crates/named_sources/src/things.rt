@@ -1,0 +1,43 @@
+//! What objects name that may stand in a command.
+ghost use Rattle.std.specs.Prelude.{◌≡◌, option_map};
+ghost use Rattle.targets.specs.LinkedViews.{linked_views};
+ghost use Rattle.named_sources.specs.Things.{thing_of};
+ghost use Rattle.named_sources.specs.ThingsView.{thing_view};
+
+use crate::outputs::{output_at, outputs_at};
+use data::{Object, Program};
+use targets::{BuildTarget, Linked, build_target_at};
+
+/// What may stand in a command: a program, a file, a target or outputs of one.
+#[derive(Clone, Copy)]
+pub enum Thing<'t> {
+    Program(&'t Program),
+    /// A file of the source tree, or one that is built, by its path.
+    File { path: &'t str, is_built: bool },
+    /// An executable or a library.
+    Target(&'t BuildTarget),
+    /// All outputs of a custom target, by their paths.
+    Outputs(&'t [String]),
+    /// One of them.
+    Output(&'t str),
+}
+
+/// What an object names of the targets so far and of what is there without them. None where it is of another kind, or no target has its
+/// number.
+pub fn thing_of<'t>(earlier: &'t [Linked], object: &'t Object) -> Option<Thing<'t>>
+    ensures { option_map thing_view result ≡ thing_of (linked_views earlier.now) object.now }
+{
+    match object {
+        Object::Program(program) => Some(Thing::Program(program)),
+        Object::File { path, is_built } => Some(Thing::File {
+            path: path.as_str(),
+            is_built: *is_built,
+        }),
+        Object::BuildTarget(number) => Some(Thing::Target(build_target_at(earlier, *number)?)),
+        Object::CustomTarget { number, .. } => Some(Thing::Outputs(outputs_at(earlier, *number)?)),
+        Object::CustomOutput { target, output } => {
+            Some(Thing::Output(output_at(earlier, *target, *output)?))
+        }
+        _ => None,
+    }
+}
