@@ -1,5 +1,5 @@
 -- What an edge is: plain data, without where it lies in memory.
-use Rattle.std.specs.Prelude.{ℕ, List, Option}
+use Rattle.std.specs.Prelude.{List, Option}
 use Rattle.edge.specs.Texts.{Path, Text}
 use Rattle.edge.specs.declared.rule.Rule.{Rule}
 

@@ -1,5 +1,5 @@
 -- Where sources and objects lie, as seen from the build folder.
-use Rattle.std.specs.Prelude.{ℕ, zero, suc, ◌-◌, ◌==◌, Bool, List, [], ◌++◌, map, codes, take, bytes_eq, if◌then◌else◌}
+use Rattle.std.specs.Prelude.{ℕ, zero, suc, ◌-◌, ◌==◌, Bool, [], ◌++◌, map, codes, take, bytes_eq, if◌then◌else◌}
 use Rattle.edge.specs.Texts.{Path, Text}
 
 -- `../` so many times

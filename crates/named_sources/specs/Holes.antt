@@ -1,5 +1,5 @@
 -- What the placeholders of a custom target stand for, inside a word.
-use Rattle.std.specs.Prelude.{ℕ, nat_lt, nat_eq, Bool, ◌==◌, ◌&&◌, List, [], ◌∷◌, ◌++◌, length, drop, slice_get, bytes_eq, codes}
+use Rattle.std.specs.Prelude.{nat_lt, nat_eq, Bool, ◌==◌, ◌&&◌, List, [], ◌∷◌, ◌++◌, length, drop, slice_get, bytes_eq, codes}
 use Rattle.std.specs.Prelude.{Option, Some, None, option_map, if◌then◌else◌}
 use Rattle.std.specs.List.{list_all, starts_with, slice_split}
 use Rattle.std.specs.Char.{is_ascii_digit}

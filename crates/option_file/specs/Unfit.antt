@@ -1,11 +1,11 @@
 -- Why a call of `option` declares none: the first thing that is wrong with its arguments, in their order.
 use Rattle.std.specs.Prelude.{ℕ, Bool, not, List, [], ◌∷◌, Option, Some, None, codes, is_some, if◌then◌else◌}
-use Rattle.grammar.specs.ExpressionTree.{ArgumentTree, ArgumentTrees, ExpressionTree, MoreArguments, NoArgument, arguments}
+use Rattle.grammar.specs.ExpressionTree.{ArgumentTree, ArgumentTrees, MoreArguments, NoArgument}
 use Rattle.option_values.specs.BuiltIns.{is_built_in}
 use Rattle.option_values.specs.declared.kind.OptionType.{OptionType}
 use Rattle.option_values.specs.declared.kind.OptionType.TheVariants as types
 use Rattle.option_file.specs.Given.{Given, Text, given}
-use Rattle.option_file.specs.Keywords.{Keywords, bound_in, choices_in, is_left_out, keyword_named, type_in}
+use Rattle.option_file.specs.Keywords.{Keywords, bound_in, choices_in, keyword_named, type_in}
 use Rattle.option_file.specs.Misfits.{MisfitData, RefusedData, Nameless, NoName, BuiltIn, TooMany, Unknown}
 use Rattle.option_file.specs.Misfits.{NoPlain, NoType, NoChoices, NoBound, Missing, refused_as}
 use Rattle.option_file.specs.Names.{is_name}

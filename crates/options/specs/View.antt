@@ -1,5 +1,5 @@
 -- What the code's own types stand for.
-use Rattle.std.specs.Prelude.{◌≡◌, ℕ, List, [], map, Result, Ok, Err, string_bytes, String}
+use Rattle.std.specs.Prelude.{◌≡◌, ℕ, List, map, Result, Ok, Err, string_bytes, String}
 use Rattle.std.specs.declared.alloc.Global.{Global}
 use Rattle.std.specs.Option.{option_map}
 use denote.Ref.{Bor}
