@@ -8,8 +8,7 @@ ghost use Rattle.world.specs.Fit.{fit};
 ghost use Rattle.configuration_calls.specs.Contents.{content_in};
 ghost use Rattle.configuration_calls.specs.Given.{entries_of, number_in};
 ghost use Rattle.configuration_calls.specs.Methods.{configuration_method, content_given, does, fitting_does, get, get_unquoted, has};
-ghost use Rattle.configuration_calls.specs.Methods.{has_method};
-ghost use Rattle.configuration_calls.specs.Methods.{keys, merge_from, name_given, one_or_zero, other_given, set, set10};
+ghost use Rattle.configuration_calls.specs.Methods.{has_method, keys, merge_from, name_given, one_or_zero, other_given, set, set10};
 ghost use Rattle.configuration_calls.specs.Methods.{set_text_quoted};
 ghost use Rattle.configuration_calls.specs.Rows.{row_of};
 
@@ -156,7 +155,7 @@ fn merge_from<T: Tree, O: Outputs>(
     ensures { Does T.seen O.seen (option_map data_of) (merge_from number (arguments_data arguments.now)) caller.old result caller.new }
 {
     let other = other_given(caller, arguments)?;
-    let others = caller.store.copy_configuration(caller.alloc, other)?;
+    let others = caller.store.copy_of_configuration(caller.alloc, other)?;
     caller.merge_configured(number, &others)?;
     Ok(None)
 }

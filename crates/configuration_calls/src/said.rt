@@ -143,7 +143,7 @@ fn given_by(alloc: Global, store: &Store, value: &Value) -> Result<Option<Given>
 {
     match number_in(value) {
         Some(number) => Ok(Some(Given {
-            values: store.copy_configuration(alloc, number)?,
+            values: store.copy_of_configuration(alloc, number)?,
             number: Some(number),
         })),
         None => dictionary_given(alloc, value),

@@ -24,8 +24,8 @@ use Rattle.world.specs.declared.stop.Stop.TheVariants as stops
 use Rattle.world.proofs.Follow.{after-nil, begun, done, ends_grown, gives_later, refused_later}
 use Rattle.world.proofs.Marks.{front_as, grown_added, none_added}
 use Rattle.expressions.specs.Contexts.{Stand, Given, seen_of}
-use Rattle.definition_files.specs.Files.{line_at, most_bytes, refusal_of, refuse_line, spelled, spelled_by, tree_or_fault}
-use Rattle.definition_files.specs.Reading.{IsNoFault}
+use Rattle.world.specs.DefinitionFiles.{line_at, most_bytes, refusal_of, refuse_line, spelled, spelled_by, tree_or_fault}
+use Rattle.world.specs.FileReading.{IsNoFault}
 use Rattle.expressions.proofs.Evaluating.{given_refuse}
 
 -- ---- what was entered, and where it is refused

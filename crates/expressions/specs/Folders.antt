@@ -9,7 +9,7 @@ use Rattle.paths.specs.Paths.{folder_below}
 use Rattle.world.specs.Costs.{definition_file}
 use Rattle.world.specs.World.{Facts, with_place}
 use Rattle.world.specs.Deed.{refuse, ask, read, change, need}
-use Rattle.definition_files.specs.Files.{spelled}
+use Rattle.world.specs.DefinitionFiles.{spelled}
 use Rattle.world.specs.Plan.{Plan, deed, enter, entered, ◌>>=◌, give}
 
 -- what is done next is done in a folder's definition file

@@ -10,7 +10,7 @@ ghost use Rattle.world.specs.Prelude.{Files, Holds, Refuses, failures_after};
 ghost use Rattle.world.specs.Costs.{definition_file};
 ghost use Rattle.world.specs.Plan.{deed, give};
 ghost use Rattle.expressions.specs.Codes.{file_by};
-ghost use Rattle.definition_files.specs.Files.{spelled, spelled_by, tree_or_fault};
+ghost use Rattle.world.specs.DefinitionFiles.{spelled, spelled_by, tree_or_fault};
 ghost use Rattle.expressions.specs.Folders.{fresh, fresh_by, opened, opened_by};
 
 use crate::context::Context;
@@ -18,7 +18,6 @@ use arguments::Rule;
 use basics::faults::Refusal;
 use basics::limits::FOLDERS;
 use code::Code;
-use definition_files::{MOST_BYTES, line_at, read_file, refusal_of};
 use grammar::fault::SyntaxError;
 use grammar::parse;
 use grammar::tree::File;
@@ -28,6 +27,7 @@ use ports::{Outputs, Tree};
 use std::alloc::AllocError;
 use std::str;
 use std::sync::ledger::Ledger;
+use world::definition_files::{MOST_BYTES, line_at, read_file, refusal_of};
 use world::{Place, Stop};
 
 impl<'a, T: Tree, O: Outputs, L: Ledger> Context<'a, T, O, L> {

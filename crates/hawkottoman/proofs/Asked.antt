@@ -1,7 +1,7 @@
 -- What a run asks.
 use Rattle.std.proofs.Common.{◌≡◌, ◌≢◌, ℕ, zero, suc, ◌+◌, ◌≤◌, List, [], Result, Ok, Err, IsErrAnd, refl, sym, ap, subst, ◌∙◌, arith}
 use Rattle.basics.specs.Faults.{FaultData}
-use Rattle.definition_files.specs.Details.{refuse_about}
+use Rattle.world.specs.Details.{refuse_about}
 use Rattle.machine_file.specs.Fault.{MachineFaultData, told}
 use Rattle.machine_file.specs.Files.{Section}
 use Rattle.world.specs.Deed.{Files}

@@ -106,14 +106,15 @@ fn perform_over<'o, R: Files<File = File> + AllocGlobal, L: Write + Drop, F: Wri
     let settings = settings_of(rt.alloc(), line, root)?;
     let current = String::from_str(rt.alloc(), CURRENT_FOLDER)?;
     let mut tree = DiskTree::new(rt, rt.alloc(), current);
-    match task {
+    let status = match task {
         Task::Setup => {
             out.claim()?;
-            Ok(setup(rt.alloc(), &mut tree, &settings, machine, out))
+            setup(rt.alloc(), &mut tree, &settings, machine, out)
         }
-        Task::Questions => Ok(questions(rt.alloc(), &mut tree, &settings, machine, out)),
-        Task::Fault => Ok(fault(rt.alloc(), &mut tree, &settings, machine, out)),
-    }
+        Task::Questions => questions(rt.alloc(), &mut tree, &settings, machine, out),
+        Task::Fault => fault(rt.alloc(), &mut tree, &settings, machine, out),
+    };
+    Ok(status)
 }
 
 // Whether there is a `meson.build` in the folder below this root.

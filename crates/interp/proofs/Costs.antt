@@ -66,11 +66,11 @@ use Rattle.expressions.specs.Assignments.{configuration_in, own_by, own, added, 
 use Rattle.expressions.specs.Rounds.{Round, looped, item_rounds, entry_rounds}
 use Rattle.expressions.specs.Folders.{opened_by, opened, fresh_by, fresh, go_back}
 use Rattle.interp.specs.Folders.{folder_by}
-use Rattle.definition_files.specs.Files.{most_bytes, refuse_line, tree_or_fault, spelled_by, spelled}
+use Rattle.world.specs.DefinitionFiles.{most_bytes, refuse_line, tree_or_fault, spelled_by, spelled}
 use Rattle.interp.specs.Evaluation.{begun_by, is_project, begins, begins_all, root, MachineSaid, sections_of, defined, evaluated_few, evaluation}
 use Rattle.interp.specs.Laws.{StepsWithinCost}
 use Rattle.interp.proofs.Paths.{not_opened, is_definition}
-use Rattle.definition_files.specs.Details.{refuse_about}
+use Rattle.world.specs.Details.{refuse_about}
 
 module _ (files : Files) where
   more : {A : Type 0} {p : Plan A} {c d : ℕ} → c ≤ d → Takes file_cost files c p → Takes file_cost files d p

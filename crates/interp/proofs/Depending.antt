@@ -1,6 +1,6 @@
 -- What an evaluation depends on.
 use Rattle.std.proofs.Common.{false, ◌≡◌, [], Ok, Err, ap, ◌∙◌}
-use Rattle.definition_files.specs.Details.{refuse_about}
+use Rattle.world.specs.Details.{refuse_about}
 use Rattle.machine_file.specs.Fault.{MachineFaultData}
 use Rattle.world.specs.Deed.{Files}
 use Rattle.world.specs.Look.{ran_over}

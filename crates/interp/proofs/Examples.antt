@@ -9,7 +9,7 @@ use Rattle.grammar.specs.Tree.{AssignTree, BreakTree, ForeachTree, ValueTree, St
 use Rattle.grammar.specs.declared.tree.Literal.TheVariants as literals
 use Rattle.basics.specs.declared.faults.refusal.Refusal.TheVariants as refusals
 use Rattle.data.specs.Data.{boolean}
-use Rattle.definition_files.specs.Files.{refuse_line, spelled, spelled_by, tree_or_fault}
+use Rattle.world.specs.DefinitionFiles.{refuse_line, spelled, spelled_by, tree_or_fault}
 use Rattle.world.specs.Deed.{Files, need}
 use Rattle.world.specs.Plan.{◌>>=◌, carry, give}
 use Rattle.world.specs.Run.{Run, Faulted, marks_of, outcome_of, world_after}

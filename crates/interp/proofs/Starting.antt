@@ -13,7 +13,7 @@ use Rattle.expressions.specs.Contexts.{Given, Stand}
 use Rattle.expressions.specs.Codes.{expressions_by, statements_by}
 use Rattle.machine_file.specs.Fault.{told}
 use Rattle.machine_file.specs.Files.{Section}
-use Rattle.definition_files.specs.Details.{refuse_about}
+use Rattle.world.specs.Details.{refuse_about}
 use Rattle.world.specs.Settings.{SettingsData}
 use Rattle.world.specs.Start.{first_world}
 use Rattle.world.specs.Deed.{Files}

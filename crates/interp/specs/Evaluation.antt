@@ -4,7 +4,7 @@ use Rattle.grammar.specs.ExpressionTree.{ExpressionTree, FunctionTree}
 use Rattle.grammar.specs.Tree.{StatementTree, AssignTree, AppendTree, ValueTree, BreakTree, ContinueTree, IfTree, ForeachTree, Statements}
 use Rattle.grammar.specs.Tree.{NoStatement, MoreStatements}
 use Rattle.basics.specs.declared.faults.refusal.Refusal.TheVariants as refusals
-use Rattle.definition_files.specs.Details.{refuse_about}
+use Rattle.world.specs.Details.{refuse_about}
 pub use Rattle.machine_file.specs.Answers.{IsSaid, MachineSaid}
 use Rattle.machine_file.specs.Files.{Section}
 use Rattle.world.specs.Deed.{Files}

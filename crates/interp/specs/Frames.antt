@@ -1,7 +1,6 @@
 -- What is left to do of statements that have begun, frame by frame.
 use Rattle.std.specs.Prelude.{◌≡◌, Bool, ℕ, zero, suc, ◌+◌, ◌≤◌, List, [], ◌∷◌, ◌++◌, drop, length, map, option_map, Option, Some, None}
-use Rattle.std.specs.Prelude.{Result}
-use Rattle.std.specs.Prelude.{Ok, Err, string_bytes, refl}
+use Rattle.std.specs.Prelude.{Result, Ok, Err, string_bytes, refl}
 use Rattle.code.specs.Draft.{IsFront}
 use Rattle.code.specs.Statements.{branch_at, name_at, statement_at}
 use Rattle.code.specs.declared.code.Code.{Code}
@@ -27,6 +26,7 @@ use Rattle.interp.specs.declared.touring.Tour.{Tour}
 use Rattle.interp.specs.declared.touring.Tour.TheVariants as tours
 use Rattle.interp.specs.declared.walking.Walk.{Walk}
 use Rattle.interp.specs.declared.walking.Walk.TheVariants as walks
+use Rattle.world.specs.declared.store.Place.{Place}
 use Rattle.interp.specs.declared.frames.BlockRest.{BlockRest}
 use Rattle.interp.specs.declared.frames.LoopHead.{LoopHead}
 use Rattle.interp.specs.declared.frames.LoopRest.{LoopRest}
@@ -229,6 +229,11 @@ tour_left parts left rounds (tours.Stands walk at) = ruled (walk_left parts left
 abbrev pub Lays : List Frame → Frame → Result (Unit {0}) Stop → List Frame → Type 0
 Lays before frame (Ok u) after = after ≡ (before ++ frame ∷ []) ++ frames.End ∷ []
 Lays before frame (Err stop) after = stop ≡ stops.Memory
+
+-- the statements of a folder's file were put on a stack, and below them the end of a rule and the way back; or no memory was left
+abbrev pub LaysFolder : List Frame → Place → BlockRest → Result (Unit {0}) Stop → List Frame → Type 0
+LaysFolder before outer file (Ok u) after = after ≡ ((before ++ frames.Left outer ∷ []) ++ frames.End ∷ []) ++ frames.Block file ∷ []
+LaysFolder before outer file (Err stop) after = stop ≡ stops.Memory
 
 -- how far a branch reaches: its condition
 abbrev pub above_branch : BranchNode → ℕ

@@ -8,6 +8,7 @@ use crate::block::Block;
 use crate::evaluator::Evaluator;
 use crate::flow::Flow;
 use crate::frames::{BlockRest, Frame};
+use crate::laying::lay_folder;
 use basics::faults::Refusal;
 use ports::{Outputs, Tree};
 use std::rc::Rc;
@@ -34,14 +35,13 @@ impl<'a, T: Tree, O: Outputs, L: Ledger> Evaluator<'a, T, O, L> {
         let outer = self.context.place()?;
         let opened = self.context.open(&path)?;
         let code = Rc::new(self.context.alloc, opened)?;
-        stack.push(Frame::Left(outer))?;
-        stack.push(Frame::End)?;
-        stack.push(Frame::Block(BlockRest {
+        let file = BlockRest {
             code,
             block: Block::File,
             at: 0,
             left: left - 1,
-        }))?;
+        };
+        lay_folder(stack, outer, file)?;
         Ok(Flow::Next)
     }
 }

@@ -30,6 +30,7 @@ mod functions;
 mod halt;
 mod inside;
 mod law;
+mod laying;
 mod nodes;
 mod operation;
 mod project_functions;

@@ -1,17 +1,17 @@
 //! The statements of a file and of those that it enters, on one stack of frames.
-ghost use Rattle.std.specs.Prelude.{Bool, ◌≡◌, ℕ, Ok, length};
-ghost use Rattle.world.specs.Prelude.{failures_after};
+ghost use Rattle.std.specs.Prelude.{Bool, ◌≡◌, Ok, length};
 ghost use Rattle.interp.specs.Bounds.{bounds};
 ghost use Rattle.expressions.specs.Codes.{file_by};
 ghost use Rattle.interp.specs.Blocks.{BeginsDeep};
 ghost use Rattle.interp.specs.Folders.{folder};
-ghost use Rattle.interp.specs.Frames.{Does, Lays, Steps, Turns, others_by, parts_by, round_by, rounds_left, walk_left};
+ghost use Rattle.interp.specs.Frames.{Does, Steps, Turns, others_by, parts_by, round_by, rounds_left, walk_left};
 ghost use Rattle.interp.specs.Statements.{after_round, do_all, on_next, rounds_of};
 
 use crate::block::Block;
 use crate::evaluator::Evaluator;
 use crate::flow::Flow;
 use crate::frames::{BlockRest, Frame, LoopRest};
+use crate::laying::lay;
 use crate::touring::Tour;
 use crate::unwinding::unwind;
 use crate::walking::Walk;
@@ -22,17 +22,6 @@ use std::mem::forget;
 use std::rc::Rc;
 use std::sync::ledger::Ledger;
 use world::Stop;
-
-// Puts a frame on the stack, and the end of a rule.
-#[inline(always)]
-fn lay(stack: &mut Vec<Frame>, frame: Frame) -> Result<(), Stop>
-    ensures lays { Lays stack.old.items frame result stack.new.items }
-    ensures quiet { (n : ℕ) → failures_after n result ≡ n }
-{
-    stack.push(frame)?;
-    stack.push(Frame::End)?;
-    Ok(())
-}
 
 impl<'a, T: Tree, O: Outputs, L: Ledger> Evaluator<'a, T, O, L> {
     ghost use Rattle.expressions.specs.Contexts.{Answers, Fails, HasRoom, Same};

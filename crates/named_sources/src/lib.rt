@@ -6,6 +6,7 @@
 mod filling;
 mod folders;
 mod holes;
+mod keywords;
 mod libraries;
 mod outputs;
 mod sources;
@@ -18,7 +19,7 @@ mod words;
 pub use filling::filled;
 pub use folders::{folders_of, strings};
 pub use holes::{Meaning, Place, Scope, meaning_of};
-pub use libraries::numbers_of;
+pub use keywords::{folders_named, numbers_named, sources_named};
 pub use outputs::{output_at, outputs_at};
 pub use sources::{NamedSource, sources_of};
 pub use things::{Thing, thing_of};

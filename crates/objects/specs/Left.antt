@@ -1,6 +1,6 @@
 -- The methods that are left out for good.
 use Rattle.std.specs.Prelude.{ℕ, Bool, false, List}
-use Rattle.compiler_methods.specs.Names.{is_left_out as is_left_out_of_compilers}
+use Rattle.objects.specs.CompilerNames.{is_left_out as is_left_out_of_compilers}
 use Rattle.data.specs.declared.object.Object.{Object}
 use Rattle.data.specs.declared.object.Object.TheVariants as objects
 

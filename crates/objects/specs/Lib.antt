@@ -1,3 +1,8 @@
+pub mod CompilerChecks
+pub mod CompilerMethods
+pub mod CompilerNames
+pub mod CompilerRows
+pub mod CompilerSaid
 pub mod Dependencies
 pub mod Features
 pub mod Left

@@ -3,7 +3,7 @@ use Rattle.std.specs.Prelude.{ℕ, List, [], Option, Some, None, codes}
 use Rattle.arguments.specs.Arguments.{ArgumentsData}
 use Rattle.arguments.specs.Row.{row}
 use Rattle.basics.specs.declared.faults.refusal.Refusal.TheVariants as refusals
-use Rattle.compiler_methods.specs.Said.{said_or}
+use Rattle.objects.specs.CompilerSaid.{said_or}
 use Rattle.data.specs.Data.{Data, text}
 use Rattle.data.specs.Limits.{within}
 use Rattle.machine_file.specs.Questions.{Topic, Key, plain}

@@ -4,7 +4,7 @@ use Rattle.arguments.specs.Arguments.{ArgumentsData}
 use Rattle.arguments.specs.Given.{text_at}
 use Rattle.arguments.specs.declared.rule.Rule.{Rule}
 use Rattle.arguments.specs.declared.rule.Rule.TheVariants as rules
-use Rattle.compiler_methods.specs.Methods as compilers
+use Rattle.objects.specs.CompilerMethods as compilers
 use Rattle.configuration_calls.specs.Methods as configurations
 use Rattle.data.specs.Data.{Data}
 use Rattle.data.specs.declared.object.Object.{Object}

@@ -6,6 +6,7 @@ ghost use Rattle.objects.specs.Machines.{machine_method};
 ghost use Rattle.objects.specs.Methods.{breaking, has_method, object_method, rule_of, tell, told_of};
 ghost use Rattle.objects.specs.Rows.{row_of};
 
+use crate::compiler::{compiler_method, has_compiler_method};
 use crate::dependencies::dependency_answer;
 use crate::features::feature_answer;
 use crate::machines::machine_answer;
@@ -13,7 +14,6 @@ use crate::meson_object::meson_answer;
 use crate::programs::program_answer;
 use crate::target_methods::{build_answer, custom_answer, output_answer};
 use arguments::{Arguments, Kind, Row, Rule};
-use compiler_methods::{compiler_method, has_compiler_method};
 use configuration_calls::{configuration_method, has_configuration_method};
 use data::{Object, Refusal, Value};
 use language_names::MethodName;

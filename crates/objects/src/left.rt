@@ -2,7 +2,7 @@
 ghost use Rattle.std.specs.Prelude.{◌≡◌};
 ghost use Rattle.objects.specs.Left.{is_left_out};
 
-use compiler_methods::is_left_out_compiler_method;
+use crate::compiler::is_left_out_compiler_method;
 use data::Object;
 
 /// Whether a method of this name, which the manual gives to the object, is left out: E23.

@@ -5,6 +5,7 @@
 #![tactic(auto)]
 
 mod calling;
+mod compiler;
 mod dependencies;
 mod features;
 mod left;

@@ -1,6 +1,6 @@
 //! The methods of a machine: the type `build_machine` of the page "Reference manual".
 ghost use Rattle.std.specs.Prelude.{◌≡◌, option_map};
-ghost use Rattle.compiler_methods.specs.Said.{said_or};
+ghost use Rattle.objects.specs.CompilerSaid.{said_or};
 ghost use Rattle.machine_file.specs.Questions.{answer_to};
 ghost use Rattle.machine_file.specs.View.{machine_in};
 ghost use Rattle.language_names.specs.ObjectMethods.{machine_method_named};

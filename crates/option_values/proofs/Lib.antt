@@ -5,3 +5,4 @@ pub mod Shell
 pub mod Known
 pub mod BuiltInRows
 pub mod EveryText
+pub mod Lookups

@@ -11,4 +11,6 @@ pub mod Given
 pub mod Takes
 pub mod WordsView
 pub mod Shell
+pub mod Settings
+pub mod SettingsView
 pub mod Laws

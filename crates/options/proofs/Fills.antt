@@ -7,10 +7,10 @@ use Rattle.std.specs.Map.{lookup, set_value, values_of}
 use Rattle.std.specs.Str.{bytes_eq}
 use Rattle.indexmap.specs.IndexMap.{set_value_at}
 use Rattle.option_values.specs.Values.{Value}
-use Rattle.options.specs.declared.settings.Setting.{Setting}
-use Rattle.options.specs.Settings as plain
-use Rattle.options.specs.Settings.{fill, or_given, change_at}
-use Rattle.options.specs.View.{Becomes, setting_in, entry_in, settings_in}
+use Rattle.option_values.specs.declared.settings.Setting.{Setting}
+use Rattle.option_values.specs.Settings as plain
+use Rattle.option_values.specs.Settings.{fill, or_given, change_at}
+use Rattle.option_values.specs.SettingsView.{Becomes, setting_in, entry_in, settings_in}
 
 fill_here : (b : Bool) (v : Value) (e : String Global
     × Setting) (es more : List (String Global × Setting)) (o : Option Setting) (old new : Setting) (rest : List plain.Setting)

@@ -22,7 +22,7 @@ use Rattle.options.specs.FillIns.{build_types, type_among, with_type, by_buildty
 use Rattle.options.specs.FillIns.{with_state, state_at, text_at, is_usr, filled_in}
 use Rattle.options.specs.Laws.{fits, fits_known, has_fitting, all_fit, names_in, built_in_names, declared_names}
 use Rattle.options.specs.Resolves.{State, after_verdict, unless_fault, next, verdicts, at_first, outcome_of, resolved}
-use Rattle.options.specs.Settings.{Setting, put, or_given, fill, built_in_settings}
+use Rattle.option_values.specs.Settings.{Setting, put, or_given, fill, built_in_settings}
 use Rattle.options.specs.Verdicts.{Verdict, Sets, Warns, Refuses, Default, of_declaration, of_default, of_project_default, of_section}
 use Rattle.options.specs.Verdicts.{of_words, kind_named}
 use Rattle.options.proofs.Bools.{both, first, second}

@@ -13,8 +13,8 @@ use Rattle.options.specs.FillIns as filling
 use Rattle.options.specs.FillIns.{build_types, type_among, with_type, by_buildtype, by_prefix, by_auto_features, decided, decided_value}
 use Rattle.options.specs.FillIns.{with_state, state_at, text_at, is_usr, filled_in}
 use Rattle.options.specs.Laws.{set_by, or_later, last_setting, is_auto}
-use Rattle.options.specs.Resolves.{State, after_verdict, unless_fault, next, verdicts, at_first, resolved, value_named}
-use Rattle.options.specs.Settings.{Setting, put, setting_named, or_given, fill}
+use Rattle.options.specs.Resolves.{State, after_verdict, unless_fault, next, verdicts, at_first, resolved}
+use Rattle.option_values.specs.Settings.{value_named, Setting, put, setting_named, or_given, fill}
 use Rattle.options.specs.Verdicts.{Verdict, Sets, Warns, Refuses, Default}
 use Rattle.options.proofs.FinalValues.{ended, no_fault, given_name}
 use Rattle.options.proofs.KnownKinds.{same_name, is_itself}

@@ -9,11 +9,11 @@ use Rattle.option_values.specs.Kinds.{Kind}
 use Rattle.option_values.specs.Values.{Value}
 use Rattle.option_values.specs.View.{kind_in, value_in, kinds_in, AreBuiltIns}
 use Rattle.option_values.specs.declared.kind.OptionKind.{OptionKind}
-use Rattle.options.specs.declared.settings.Setting.{Setting}
+use Rattle.option_values.specs.declared.settings.Setting.{Setting}
 use Rattle.option_values.specs.BuiltIns.{NamedKind, kind_among, built_in_kind}
-use Rattle.options.specs.Settings as plain
-use Rattle.options.specs.Settings.{setting_named}
-use Rattle.options.specs.View.{entry_in, settings_in}
+use Rattle.option_values.specs.Settings as plain
+use Rattle.option_values.specs.Settings.{setting_named}
+use Rattle.option_values.specs.SettingsView.{entry_in, settings_in}
 
 kinds_copied : (r : Option (Bor OptionKind)) → option_map (λ k. kind_in k.now) r ≡ option_map kind_in (option_copied r)
 kinds_copied None = refl
@@ -37,20 +37,6 @@ built_in_found name es r are e = kinds_copied r ∙ ap (option_map kind_in) e �
     ∙ ap (λ (ks : List NamedKind). kind_among ks name) are
 
 -- ---- settings
-
-setting_step : {X : Type 0} (f : Value → X) (b : Bool) (e : String Global × Setting) (o : Option Setting) (r : Option plain.Setting)
-    → option_map (λ (s : Setting). f (value_in s.value)) o ≡ option_map (λ (s : plain.Setting). f s.value) r
-    → option_map (λ (s : Setting). f (value_in s.value)) (cond b (Some e.1) o)
-    ≡ option_map (λ (s : plain.Setting). f s.value) (cond b (Some (entry_in e)) r)
-setting_step f true e o r h = refl
-setting_step f false e o r h = h
-
--- what is asked of the value of an option that is found
-pub setting_looked_up : {X : Type 0} (f : Value → X) (name : List ℕ) (es : List (String Global × Setting))
-    → option_map (λ (s : Setting). f (value_in s.value)) (lookup (λ k. bytes_eq name (string_bytes k)) es)
-    ≡ option_map (λ (s : plain.Setting). f s.value) (setting_named (settings_in es) name)
-setting_looked_up f name [] = refl
-setting_looked_up f name (e ∷ es) = setting_step f (bytes_eq name (string_bytes e.0)) e _ _ (setting_looked_up f name es)
 
 -- a part of the value of an option that is found, where it has that part
 pub part_looked_up : {X : Type 0} (f : Value → Option X) (name : List ℕ) (es : List (String Global × Setting)) (o : Option Setting)

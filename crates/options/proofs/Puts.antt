@@ -9,12 +9,12 @@ use Rattle.option_values.specs.declared.built_in.BuiltIn.{BuiltIn}
 use Rattle.std.specs.declared.alloc.Global.{Global}
 use Rattle.std.specs.String.{string_eq}
 use Rattle.indexmap.specs.IndexMap.{insert_entry}
-use Rattle.options.specs.declared.settings.Setting.{Setting}
+use Rattle.option_values.specs.declared.settings.Setting.{Setting}
 use Rattle.option_values.specs.BuiltIns.{built_ins}
 use Rattle.option_values.specs.View.{row_in}
-use Rattle.options.specs.Settings as plain
-use Rattle.options.specs.Settings.{put, add_setting, built_in_settings}
-use Rattle.options.specs.View.{setting_in, entry_in, settings_in}
+use Rattle.option_values.specs.Settings as plain
+use Rattle.option_values.specs.Settings.{put, add_setting, built_in_settings}
+use Rattle.option_values.specs.SettingsView.{setting_in, entry_in, settings_in}
 
 put_step : (b : Bool) (e : String Global × Setting) (s : Setting) (es more : List (String Global × Setting)) (rest : List plain.Setting)
     → settings_in more ≡ rest

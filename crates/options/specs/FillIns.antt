@@ -4,7 +4,7 @@ use Rattle.std.specs.Option.{option_and_then}
 use Rattle.option_values.specs.declared.kind.FeatureState.{FeatureState}
 use Rattle.option_values.specs.declared.kind.FeatureState.TheVariants.{Auto}
 use Rattle.option_values.specs.Values.{Value, Text, Boolean, Combo, Feature}
-use Rattle.options.specs.Settings.{Setting, setting_named, fill}
+use Rattle.option_values.specs.Settings.{Setting, setting_named, fill}
 
 -- what a type of build says of the options `debug` and `optimization`
 pub record BuildType : Type 0 where

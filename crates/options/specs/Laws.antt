@@ -9,7 +9,7 @@ use Rattle.option_values.specs.Kinds as kind
 use Rattle.option_values.specs.Lists.{are_among}
 use Rattle.option_values.specs.Values as value
 use Rattle.option_file.specs.Declarations.{Declaration}
-use Rattle.options.specs.Settings.{Setting}
+use Rattle.option_values.specs.Settings.{Setting}
 use Rattle.options.specs.Verdicts.{Verdict, Sets, Warns, Refuses, kind_named}
 
 -- ---- each value is one of its option's type

@@ -1,4 +1,3 @@
-pub mod Settings
 pub mod Defaults
 pub mod Misfits
 pub mod MisfitView

@@ -1,12 +1,10 @@
 -- The values that the options of a project have in the end.
 use Rattle.std.specs.Prelude.{ℕ, List, [], ◌∷◌, ◌++◌, map, fold, Option, Some, None, Result, Ok, Err}
 use Rattle.std.specs.List.{flat_map}
-use Rattle.std.specs.Option.{option_map}
 use Rattle.machine_file.specs.Files as machine
-use Rattle.option_values.specs.Values.{Value}
 use Rattle.option_file.specs.Declarations.{Declaration}
 use Rattle.options.specs.Faults.{OptionFaultData}
-use Rattle.options.specs.Settings.{Setting, put, setting_named, built_in_settings}
+use Rattle.option_values.specs.Settings.{Setting, put, built_in_settings}
 use Rattle.options.specs.Verdicts.{Verdict, Sets, Warns, Refuses, Default, of_declaration, of_project_default, of_section, of_words}
 use Rattle.options.specs.FillIns.{filled_in}
 
@@ -55,11 +53,3 @@ resolution_of s = record { unknown = s.unknown; outcome = outcome_of s.fault s.s
 -- the options of a project with these declarations, this `default_options`, sections of a machine file and words
 unfoldable pub resolved : List Declaration → List Default → List machine.Section → List (List ℕ) → Resolution
 resolved ds defaults sections words = resolution_of (fold next at_first (verdicts ds defaults sections words))
-
--- the value of the option of this name
-abbrev pub value_named : List Setting → List ℕ → Option Value
-value_named ss name = option_map (λ s. s.value) (setting_named ss name)
-
--- an option as it is shown: its name and its value
-abbrev pub named_value : Setting → List ℕ × Value
-named_value s = (s.name, s.value)

@@ -17,7 +17,7 @@ use Rattle.options.specs.declared.known.Scope.{Scope}
 use Rattle.options.specs.declared.known.Scope.TheVariants.{BuiltIn, OfProject}
 use Rattle.options.specs.Faults.{OptionFaultData}
 use Rattle.options.specs.Misfits.{MisfitData, NoOption, NoSign, Both, NoValue, NoDefault, refusal_of, words_of}
-use Rattle.options.specs.Settings.{Setting}
+use Rattle.option_values.specs.Settings.{Setting}
 use Rattle.options.specs.Defaults.{default_of}
 
 -- An option takes a value; or there is no option of this name, of which the user is warned; or the value is refused.

@@ -1,17 +1,13 @@
 -- What the code's own types stand for.
-use Rattle.std.specs.Prelude.{◌≡◌, ℕ, List, map, Result, Ok, Err, string_bytes, String}
-use Rattle.std.specs.declared.alloc.Global.{Global}
+use Rattle.std.specs.Prelude.{ℕ, List, map, Result, Ok, Err, string_bytes}
 use Rattle.std.specs.Option.{option_map}
-use denote.Ref.{Bor}
-use Rattle.option_values.specs.View.{value_in, strings_in}
-use Rattle.option_values.specs.Values.{Value}
-use Rattle.option_values.specs.declared.kind.OptionValue.{OptionValue}
+use Rattle.option_values.specs.View.{strings_in}
+use Rattle.option_values.specs.SettingsView.{options_in, setting_in, settings_in}
 use Rattle.machine_file.specs.Files as machine
 use Rattle.machine_file.specs.View.{value_in as machine_value_in}
 use Rattle.machine_file.specs.declared.machine.Entry.{Entry}
 use Rattle.options.specs.declared.fault.OptionFault.{OptionFault}
-use Rattle.options.specs.declared.settings.Setting.{Setting}
-use Rattle.options.specs.declared.settings.Options.{Options}
+use Rattle.option_values.specs.declared.settings.Options.{Options}
 use Rattle.options.specs.declared.state.State.{State}
 use Rattle.options.specs.declared.verdict.Verdict.{Verdict}
 use Rattle.options.specs.declared.verdict.Verdict.TheVariants as verdict
@@ -24,31 +20,9 @@ use Rattle.options.specs.declared.place.ProjectDefault.{ProjectDefault}
 use Rattle.options.specs.declared.place.ProjectDefault.TheVariants as given
 use Rattle.options.specs.FillIns as filling
 use Rattle.options.specs.Faults.{OptionFaultData}
-use Rattle.options.specs.Settings as plain
+use Rattle.option_values.specs.Settings as plain
 use Rattle.options.specs.Resolves as resolving
 use Rattle.options.specs.Verdicts as judged
-
--- an option with its name
-abbrev pub setting_in : List ℕ → Setting → plain.Setting
-setting_in name s = record { name = name; value = value_in s.value; given = s.given }
-
--- an option of any name has become what f makes of it
-abbrev pub Becomes : (plain.Setting → plain.Setting) → Setting → Setting → Type 0
-Becomes f old new = (name : List ℕ) → setting_in name new ≡ f (setting_in name old)
-
-abbrev pub entry_in : String Global × Setting → plain.Setting
-entry_in e = setting_in (string_bytes e.0) e.1
-
-abbrev pub settings_in : List (String Global × Setting) → List plain.Setting
-settings_in entries = map entry_in entries
-
--- the options, in their order
-abbrev pub options_in : Options → List plain.Setting
-options_in options = settings_in options.settings.entries
-
--- an option that is shown with its name
-abbrev pub shown_in : Bor (List ℕ) × Bor OptionValue → List ℕ × Value
-shown_in e = (e.0.now, value_in e.1.now)
 
 abbrev pub fault_in : OptionFault → OptionFaultData
 fault_in f = record { place = f.place; refusal = f.refusal; detail = string_bytes f.detail }

@@ -2,13 +2,12 @@
 
 ghost use Rattle.std.specs.Prelude.{◌≡◌, IfOk, OnOk};
 ghost use Rattle.option_values.specs.View.{row_in};
-ghost use Rattle.options.specs.Settings.{built_in_settings, add_setting};
-ghost use Rattle.options.specs.View.{settings_in};
+ghost use Rattle.option_values.specs.Settings.{built_in_settings, add_setting};
+ghost use Rattle.option_values.specs.SettingsView.{settings_in};
 
-use crate::settings::Setting;
 use crate::state::put;
 use basics::tables::{SipMap, new_map};
-use option_values::{BuiltIn, built_in_value, built_ins};
+use option_values::{BuiltIn, Setting, built_in_value, built_ins};
 use std::alloc::{AllocError, Global};
 
 // The option of a row of the table has the value that stands there.

@@ -5,12 +5,12 @@ ghost use Rattle.std.specs.Option.{option_map};
 ghost use Rattle.option_values.specs.View.{value_in};
 ghost use Rattle.options.specs.FillIns.{build_types, type_among, text_in, state_in, text_at, state_at, is_usr, decided};
 ghost use Rattle.options.specs.FillIns.{by_buildtype, by_prefix, by_auto_features, filled_in};
-ghost use Rattle.options.specs.Settings.{or_given, fill, change_at};
-ghost use Rattle.options.specs.View.{Becomes, settings_in, type_in};
+ghost use Rattle.option_values.specs.Settings.{or_given, fill, change_at};
+ghost use Rattle.options.specs.View.{type_in};
+ghost use Rattle.option_values.specs.SettingsView.{Becomes, settings_in};
 
-use crate::settings::Setting;
 use basics::tables::SipMap;
-use option_values::{FeatureState, OptionValue};
+use option_values::{FeatureState, OptionValue, Setting};
 use std::alloc::{AllocError, Global};
 
 /// What a type of build says of the options `debug` and `optimization`.

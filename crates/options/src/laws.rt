@@ -5,8 +5,8 @@ ghost use Rattle.std.specs.Prelude.{◌≡◌, ◌++◌, ℕ, List, Ok, Some, tr
 ghost use Rattle.machine_file.specs.Files.{Section};
 ghost use Rattle.option_file.specs.View.{options_in as declared_in};
 ghost use Rattle.options.specs.Laws.{all_fit, names_in, built_in_names, declared_names, last_setting, is_auto};
-ghost use Rattle.options.specs.Resolves.{resolved, verdicts, value_named};
-ghost use Rattle.options.specs.Settings.{Setting as SettingSaid};
+ghost use Rattle.options.specs.Resolves.{resolved, verdicts};
+ghost use Rattle.option_values.specs.Settings.{value_named, Setting as SettingSaid};
 ghost use Rattle.options.specs.Verdicts.{Default};
 
 use option_file::Declared;

@@ -26,7 +26,6 @@ pub mod laws;
 mod misfit;
 mod place;
 mod resolution;
-mod settings;
 mod state;
 mod verdict;
 
@@ -35,7 +34,6 @@ pub use machine_file::fault::MachineFault;
 pub use machine_file::{Machine, MachineValue, Section};
 pub use option_file::fault::DeclareFault;
 pub use option_file::{Declared, declare};
-pub use option_values::{FeatureState, OptionType, OptionValue, is_built_in};
+pub use option_values::{FeatureState, OptionType, OptionValue, Options, is_built_in};
 pub use place::ProjectDefault;
 pub use resolution::{Resolved, resolve};
-pub use settings::Options;

@@ -15,12 +15,11 @@ use crate::default::default_of;
 use crate::fault::Place;
 use crate::known::{Known, Scope, scope_of};
 use crate::misfit::{Misfit, Written};
-use crate::settings::Setting;
 use crate::state::State;
 use crate::verdict::{Verdict, of_named, refused};
 use machine_file::{Entry, Machine, Section, cut_first};
 use option_file::{Declaration, Declared};
-use option_values::OptionKind;
+use option_values::{OptionKind, Setting};
 use std::alloc::{AllocError, Global};
 
 /// A value that the keyword `default_options` of `project` gives, with the name of its option.

@@ -12,10 +12,10 @@ use crate::built_in::built_in_settings;
 use crate::fault::OptionFault;
 use crate::known::Known;
 use crate::place::{ProjectDefault, take_declarations, take_defaults, take_machine, take_words};
-use crate::settings::Options;
 use crate::state::State;
 use machine_file::Machine;
 use option_file::Declared;
+use option_values::Options;
 use std::alloc::{AllocError, Global};
 
 /// What the values of a project's options come to.

@@ -3,15 +3,16 @@
 ghost use Rattle.std.specs.Prelude.{◌≡◌, is_some, IfOk, OnOk};
 ghost use Rattle.options.specs.Resolves.{after_verdict, next, resolution_of};
 ghost use Rattle.options.specs.Verdicts.{Warns};
-ghost use Rattle.options.specs.Settings.{put};
-ghost use Rattle.options.specs.View.{setting_in, settings_in, verdict_in, state_in, resolved_in};
+ghost use Rattle.option_values.specs.Settings.{put};
+ghost use Rattle.options.specs.View.{verdict_in, state_in, resolved_in};
+ghost use Rattle.option_values.specs.SettingsView.{setting_in, settings_in};
 
 use crate::fault::OptionFault;
 use crate::fill_in::fill_in;
 use crate::resolution::Resolved;
-use crate::settings::{Options, Setting};
 use crate::verdict::Verdict;
 use basics::tables::SipMap;
+use option_values::{Options, Setting};
 use std::alloc::{AllocError, Global};
 
 /// The names of no option so far, the options with their values, and the first fault.
@@ -113,7 +114,7 @@ impl State {
             }
             None => {
                 fill_in(alloc, &mut settings)?;
-                let outcome = Ok(Options { settings });
+                let outcome = Ok(Options::new(settings));
                 Ok(Resolved { unknown, outcome })
             }
         }

@@ -11,8 +11,7 @@ ghost use Rattle.options.specs.View.{verdict_in};
 
 use crate::fault::{OptionFault, Place};
 use crate::misfit::{Misfit, Written};
-use crate::settings::Setting;
-use option_values::{OptionKind, OptionValue, value_of_given, value_of_text};
+use option_values::{OptionKind, OptionValue, Setting, value_of_given, value_of_text};
 use std::alloc::{AllocError, Global};
 
 /// What a value at a place means.

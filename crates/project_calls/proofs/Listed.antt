@@ -4,8 +4,7 @@ use Rattle.std.proofs.lemmas.List.{take_more, map-append}
 use Rattle.std.proofs.lemmas.Option.{get_or_from_slice_get, slice_get_within, slice_get-get_or}
 use Rattle.option_file.specs.Declarations.{Declaration}
 use Rattle.option_values.specs.Values.{Value}
-use Rattle.options.specs.Resolves.{named_value}
-use Rattle.options.specs.Settings.{Setting}
+use Rattle.option_values.specs.Settings.{named_value, Setting}
 use Rattle.targets.specs.View.{option_entry_view}
 use Rattle.targets.specs.declared.facts.OptionEntry.{OptionEntry}
 use Rattle.project_calls.specs.Entries.{entry_of}

@@ -3,8 +3,8 @@ use Rattle.std.proofs.Common.{◌≡◌, ℕ, Bool, true, false, List, [], ◌�
 use Rattle.std.specs.Str.{IsUtf8, is_utf8}
 use Rattle.std.specs.Str.Lossy.{utf8_valid_len}
 use Rattle.std.proofs.lemmas.Str.{IsUtf8-from_is_utf8, is_utf8-from_IsUtf8}
-use Rattle.definition_files.specs.Details.{refuse_line_about}
-use Rattle.definition_files.specs.Files.{line_at, refusal_of, refuse_line, spelled_by, tree_or_fault}
+use Rattle.world.specs.Details.{refuse_line_about}
+use Rattle.world.specs.DefinitionFiles.{line_at, refusal_of, refuse_line, spelled_by, tree_or_fault}
 use Rattle.basics.specs.declared.faults.refusal.Refusal.{Refusal}
 use Rattle.basics.specs.declared.faults.refusal.Refusal.TheVariants as refusals
 use Rattle.grammar.specs.Parsed.{parsed}

@@ -3,8 +3,7 @@ use Rattle.std.specs.Prelude.{ℕ, List, map, codes}
 use Rattle.option_values.specs.Values as value
 use Rattle.option_values.specs.declared.kind.FeatureState.{FeatureState}
 use Rattle.option_values.specs.declared.kind.FeatureState.TheVariants as feature
-use Rattle.options.specs.Resolves.{named_value}
-use Rattle.options.specs.Settings.{Setting}
+use Rattle.option_values.specs.Settings.{named_value, Setting}
 use Rattle.targets.specs.Data.{OptionData, OptionEntryData, text, boolean, integer, texts}
 use Rattle.targets.specs.declared.facts.OptionType.{OptionType}
 use Rattle.targets.specs.declared.facts.OptionType.TheVariants as kind

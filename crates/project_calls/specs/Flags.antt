@@ -1,8 +1,7 @@
 -- What edges take from the options.
 use Rattle.std.specs.Prelude.{ℕ, Bool, false, List, [], Option, Some, codes, bytes_eq, if◌then◌else◌}
 use Rattle.option_values.specs.Values as value
-use Rattle.options.specs.Resolves.{value_named}
-use Rattle.options.specs.Settings.{Setting}
+use Rattle.option_values.specs.Settings.{value_named, Setting}
 use Rattle.targets.specs.Data.{FlagsData}
 
 -- the text that a value is, be it any or a choice

@@ -15,7 +15,7 @@ use Rattle.arguments.specs.declared.rule.Rule.TheVariants as rules
 use Rattle.option_values.specs.Values.{Value, Text, Boolean, Combo, Integer, Array, Feature as FeatureValue}
 use Rattle.option_values.specs.declared.kind.FeatureState.{FeatureState}
 use Rattle.option_values.specs.declared.kind.FeatureState.TheVariants as states
-use Rattle.options.specs.Resolves.{value_named}
+use Rattle.option_values.specs.Settings.{value_named}
 use Rattle.world.specs.Deed.{Deed, give, refuse, read, ◌>>=◌, answered}
 
 abbrev pub feature_of : FeatureState → Feature

@@ -7,9 +7,9 @@ use Rattle.basics.specs.declared.faults.refusal.Refusal.TheVariants as refusals
 use Rattle.option_file.specs.Declarations.{Declaration}
 use Rattle.option_file.specs.Declares.{file_declares}
 use Rattle.option_file.specs.Fault.{DeclareFaultData}
-use Rattle.definition_files.specs.Details.{refuse_line_about}
-use Rattle.definition_files.specs.Files.{spelled_by, tree_or_fault}
-use Rattle.definition_files.specs.Finding.{FoundData, nothing, too_long, bytes, find}
+use Rattle.world.specs.Details.{refuse_line_about}
+use Rattle.world.specs.DefinitionFiles.{spelled_by, tree_or_fault}
+use Rattle.world.specs.Finding.{FoundData, nothing, too_long, bytes, find}
 use Rattle.world.specs.World.{with_place}
 use Rattle.world.specs.Deed.{Deed, give, refuse, read, change, ◌>>=◌}
 

@@ -9,10 +9,10 @@ use Rattle.arguments.specs.Arguments.{ArgumentsData}
 use Rattle.arguments.specs.Given.{keyword, text_at, texts, texts_from}
 use Rattle.arguments.specs.Rules.{broken}
 use Rattle.arguments.specs.declared.rule.Rule.TheVariants as rules
-use Rattle.definition_files.specs.Details.{refuse_about}
+use Rattle.world.specs.Details.{refuse_about}
 use Rattle.options.specs.Faults.{OptionFaultData, file_of, line_of}
 use Rattle.options.specs.Resolves.{Resolution}
-use Rattle.options.specs.Settings.{Setting}
+use Rattle.option_values.specs.Settings.{Setting}
 use Rattle.project_calls.specs.Defaults.{entries_given, first_unprinted, printed_values}
 use Rattle.project_calls.specs.OptionFile.{option_file}
 use Rattle.project_calls.specs.Entries.{entries_in}

@@ -2,20 +2,20 @@
 ghost use Rattle.grammar.specs.Tree.{file_of};
 ghost use Rattle.option_file.specs.Declares.{file_declares};
 ghost use Rattle.option_file.specs.View.{options_in};
-ghost use Rattle.definition_files.specs.FindingView.{found_in};
+ghost use Rattle.world.specs.FindingView.{found_in};
 ghost use Rattle.world.specs.Prelude.{Does, MayFail};
 ghost use Rattle.project_calls.specs.OptionFile.{declared_at, declared_in, declared_or_fault, option_file, option_file_by, text_declares};
 ghost use Rattle.project_calls.specs.OptionFile.{bytes_declare};
 ghost use Rattle.project_calls.specs.OptionFileView.{file_in};
 
 use basics::faults::Refusal;
-use definition_files::{Found, find, line_at, refusal_of};
 use grammar::fault::SyntaxError;
 use grammar::parse;
 use grammar::tree::File;
 use options::{Declared, declare};
 use ports::{Outputs, Tree};
 use std::str;
+use world::definition_files::{Found, find, line_at, refusal_of};
 use world::{Caller, Place, Stop};
 
 /// An option file: its path, and the options that it declares.

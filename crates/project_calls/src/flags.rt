@@ -1,8 +1,8 @@
 //! What edges take from the options.
 ghost use Rattle.std.specs.Prelude.{◌≡◌, IfOk};
 ghost use Rattle.edge.specs.Texts.{texts};
-ghost use Rattle.options.specs.Resolves.{value_named};
-ghost use Rattle.options.specs.View.{options_in};
+ghost use Rattle.option_values.specs.Settings.{value_named};
+ghost use Rattle.option_values.specs.SettingsView.{options_in};
 ghost use Rattle.targets.specs.View.{flags_view};
 ghost use Rattle.project_calls.specs.Flags.{flags_in, is_set, items_in, level_of, text_in};
 

@@ -2,7 +2,8 @@
 ghost use Rattle.std.specs.Prelude.{◌≡◌, ◌++◌, codes, map, option_map, string_bytes, unwrap_or, IfOk};
 ghost use Rattle.data.specs.Data.{text_in};
 ghost use Rattle.option_values.specs.View.{strings_in};
-ghost use Rattle.options.specs.View.{options_in, outcome_in, resolved_in};
+ghost use Rattle.options.specs.View.{outcome_in, resolved_in};
+ghost use Rattle.option_values.specs.SettingsView.{options_in};
 ghost use Rattle.targets.specs.View.{facts_view};
 ghost use Rattle.world.specs.Prelude.{Does, MayFail, arguments_data, data_of, world_of};
 ghost use Rattle.project_calls.specs.DefaultsView.{strings_of};

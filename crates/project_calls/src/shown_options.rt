@@ -1,7 +1,7 @@
 //! Options as they are listed.
 ghost use Rattle.std.specs.Prelude.{◌≡◌, IfOk, map};
 ghost use Rattle.option_values.specs.View.{value_in};
-ghost use Rattle.options.specs.View.{options_in};
+ghost use Rattle.option_values.specs.SettingsView.{options_in};
 ghost use Rattle.targets.specs.View.{option_entry_view, option_view};
 ghost use Rattle.project_calls.specs.Entries.{entries_in, entry_of, shown, type_of, word_of};
 

@@ -11,17 +11,15 @@ use Rattle.paths.specs.Names.{plain_name}
 use Rattle.resources.specs.Installs.{destination, headers_folder, man_folder}
 use Rattle.named_sources.specs.Each.{each_or_none}
 use Rattle.named_sources.specs.Sources.{NamedData, tree, built, sources_of}
+use Rattle.world.specs.Here.{HereData, here_of}
 use Rattle.world.specs.Options.{option_text}
 use Rattle.world.specs.World.{Facts}
 use Rattle.resource_calls.specs.declared.destinations.Sort.{Sort}
 use Rattle.resource_calls.specs.declared.destinations.Sort.TheVariants as sorts
 
--- the roots, the folder of the definition file, the folders of the options `prefix`, `includedir`, `datadir` and `mandir`, and the name of
--- the project
+-- where the call stands, the folders of the options `prefix`, `includedir`, `datadir` and `mandir`, and the name of the project
 pub record FoldersData : Type 0 where
-  pub source_root : Path
-  pub build_root : Path
-  pub folder : Path
+  pub here : HereData
   pub prefix : Path
   pub includedir : Path
   pub datadir : Path
@@ -30,9 +28,7 @@ pub record FoldersData : Type 0 where
 
 abbrev pub folders_in : Facts → FoldersData
 folders_in facts = record {
-  source_root = facts.settings.source_root;
-  build_root = facts.settings.build_root;
-  folder = facts.folder;
+  here = here_of facts;
   prefix = option_text facts.options (codes "prefix");
   includedir = option_text facts.options (codes "includedir");
   datadir = option_text facts.options (codes "datadir");
@@ -67,8 +63,8 @@ install_at folders sort a root path =
 
 -- a target can't be installed so
 abbrev pub install_of : FoldersData → Sort → ArgumentsData → NamedData → Option InstallData
-install_of folders sort a (tree path) = install_at folders sort a folders.source_root path
-install_of folders sort a (built path) = install_at folders sort a folders.build_root path
+install_of folders sort a (tree path) = install_at folders sort a folders.here.source_root path
+install_of folders sort a (built path) = install_at folders sort a folders.here.build_root path
 install_of folders sort a _ = None
 
 -- ---- the call
@@ -86,5 +82,5 @@ said_from folders sort a named = do
 -- what the call says; none where a path leads out of the tree, or a man page has no section
 abbrev pub said_of : FoldersData → Sort → ArgumentsData → Option SaidData
 said_of folders sort a = do
-  named ← sources_of folders.source_root folders.folder (leaves_from 0 a)
+  named ← sources_of folders.here.source_root folders.here.folder (leaves_from 0 a)
   said_from folders sort a named

@@ -2,15 +2,14 @@
 use Rattle.std.specs.Prelude.{map}
 use Rattle.project.specs.View.{install_view}
 use Rattle.named_sources.specs.SourcesView.{named_view}
+use Rattle.world.specs.HereView.{here_view}
 use Rattle.resource_calls.specs.Destinations.{FoldersData, SaidData}
 use Rattle.resource_calls.specs.declared.destinations.Folders.{Folders}
 use Rattle.resource_calls.specs.declared.destinations.Said.{Said}
 
 abbrev pub folders_view : Folders → FoldersData
 folders_view f = record {
-  source_root = f.source_root.now;
-  build_root = f.build_root.now;
-  folder = f.folder.now;
+  here = here_view f.here;
   prefix = f.prefix.now;
   includedir = f.includedir.now;
   datadir = f.datadir.now;

@@ -1,6 +1,5 @@
 -- The command and the environment of a test. Files and targets are absolute paths.
-use Rattle.std.specs.Prelude.{Bool, true, false, List, [], ◌∷◌, map, Option, Some, None, option_and_then, codes}
-use Rattle.std.specs.Prelude.{if◌then◌else◌}
+use Rattle.std.specs.Prelude.{Bool, true, false, List, [], ◌∷◌, map, Option, Some, None, option_and_then, codes, if◌then◌else◌}
 use Rattle.arguments.specs.Arguments.{ArgumentsData}
 use Rattle.arguments.specs.Given.{argument}
 use Rattle.arguments.specs.Leaves.{leaves_named}
@@ -18,6 +17,11 @@ use Rattle.named_sources.specs.Things.{ThingData, a_file, a_program, a_target, a
 use Rattle.world.specs.Here.{HereData}
 
 -- ---- things of the project, by the words that they are
+
+-- what a value names that may stand in a command
+abbrev pub thing_in : HereData → Data → Option ThingData
+thing_in here (object o) = thing_of here.earlier o
+thing_in here _ = None
 
 abbrev pub file_word : HereData → Path → Bool → Text
 file_word here path true = path_below here.build_root path
@@ -56,16 +60,14 @@ command_words here thing = words_of here thing
 
 -- the words that call the program that a value is; none where it can't run
 abbrev pub command_of : HereData → Data → Option (List Text)
-command_of here (object o) = option_and_then (command_words here) (thing_of here.earlier o)
-command_of here _ = None
+command_of here d = option_and_then (command_words here) (thing_in here d)
 
 -- ---- arguments
 
 -- the words of an argument of the program: a text, a file, a target or an output of one
 abbrev pub argument_words : HereData → Data → Option (List Text)
 argument_words here (text t) = Some (one_word t)
-argument_words here (object o) = option_and_then (words_of here) (thing_of here.earlier o)
-argument_words here _ = None
+argument_words here d = option_and_then (words_of here) (thing_in here d)
 
 -- ---- what runs
 

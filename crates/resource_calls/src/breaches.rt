@@ -11,7 +11,7 @@ ghost use Rattle.resource_calls.specs.OwnLists.{libraries_of};
 
 use crate::commands::command_given;
 use crate::destinations::{Folders, Sort, install_of};
-use crate::own_lists::libraries_of;
+use crate::own_lists::libraries_given;
 use arguments::{Arguments, Rule};
 use data::{Object, Value};
 use named_sources::{NamedSource, folders_of, sources_of, unnamed_folder, unnamed_source};
@@ -43,10 +43,10 @@ fn first_homeless(
     for one in named {
         match install_of(folders, sort, arguments, one)? {
             Some(_) => {}
-            None => return path_said(folders.alloc, one),
+            None => return path_said(folders.here.alloc, one),
         }
     }
-    Ok(String::new(folders.alloc))
+    Ok(String::new(folders.here.alloc))
 }
 
 /// Of a call that installs files: the rule, and the text that breaks it.
@@ -58,12 +58,12 @@ pub fn install_breach(
     ensures { IfOk result (λ b. (b.0, string_bytes b.1)
         ≡ install_breach (folders_view folders.now) sort (arguments_data arguments.now)) }
 {
-    let alloc = folders.alloc;
-    let values = arguments.leaves_behind(alloc, 0)?;
-    match sources_of(alloc, folders.source_root, folders.folder, &values)? {
+    let here = folders.here;
+    let values = arguments.leaves_behind(here.alloc, 0)?;
+    match sources_of(here.alloc, here.source_root, here.folder, &values)? {
         None => {
-            let text = unnamed_source(alloc, folders.source_root, folders.folder, &values)?;
-            Ok((Rule::NamesFile, String::from_str(alloc, text)?))
+            let text = unnamed_source(here.alloc, here.source_root, here.folder, &values)?;
+            Ok((Rule::NamesFile, String::from_str(here.alloc, text)?))
         }
         Some(named) => {
             let path = first_homeless(folders, sort, arguments, &named)?;
@@ -80,8 +80,7 @@ fn library_breach<'v>(
     ensures { IfOk result (λ b. (b.0, b.1.now) ≡ library_breach (here_view here.now) (arguments_data arguments.now)
         (libraries_of (here_view here.now).earlier (leaves_named (codes "link_with") (arguments_data arguments.now)))) }
 {
-    let values = arguments.leaves(here.alloc, "link_with")?;
-    match libraries_of(here.alloc, here.earlier, &values)? {
+    match libraries_given(here.alloc, here.earlier, arguments)? {
         None => Ok((Rule::TakesLibraries, "link_with")),
         Some(_) => {
             let values = arguments.leaves(here.alloc, "sources")?;

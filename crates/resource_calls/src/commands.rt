@@ -7,7 +7,7 @@ ghost use Rattle.paths.specs.Below.{path_below};
 ghost use Rattle.targets.specs.View.{build_view};
 ghost use Rattle.world.specs.Prelude.{arguments_data, data_of, here_view};
 ghost use Rattle.resource_calls.specs.TestCommands.{argument_words, command_given, command_of, command_words, file_word, one_word};
-ghost use Rattle.resource_calls.specs.TestCommands.{run_of, target_word, word_if_executable, words_of, words_of_program};
+ghost use Rattle.resource_calls.specs.TestCommands.{run_of, target_word, thing_in, word_if_executable, words_of, words_of_program};
 ghost use Rattle.resource_calls.specs.TestCommandsView.{run_view};
 
 use arguments::Arguments;
@@ -36,6 +36,16 @@ fn one_word(alloc: Global, word: String) -> Result<Vec<String>, AllocError>
     let mut words = Vec::new(alloc);
     words.push(word)?;
     Ok(words)
+}
+
+// What a value names that may stand in a command.
+fn thing_in<'t>(here: &Here<'t>, value: &'t Value) -> Option<Thing<'t>>
+    ensures { option_map thing_view result ≡ thing_in (here_view here.now) (data_of value.now) }
+{
+    match value {
+        Value::Object(object) => thing_of(here.earlier, object),
+        _ => None,
+    }
 }
 
 fn file_word(here: &Here<'_>, path: &str, is_built: bool) -> Result<String, AllocError>
@@ -125,12 +135,9 @@ fn command_words(here: &Here<'_>, thing: Thing<'_>) -> Result<Option<Vec<String>
 fn command_of(here: &Here<'_>, value: &Value) -> Result<Option<Vec<String>>, AllocError>
     ensures { IfOk result (λ ws. option_map (λ v. texts v.items) ws ≡ command_of (here_view here.now) (data_of value.now)) }
 {
-    match value {
-        Value::Object(object) => match thing_of(here.earlier, object) {
-            Some(thing) => command_words(here, thing),
-            None => Ok(None),
-        },
-        _ => Ok(None),
+    match thing_in(here, value) {
+        Some(thing) => command_words(here, thing),
+        None => Ok(None),
     }
 }
 
@@ -145,11 +152,10 @@ fn argument_words(here: &Here<'_>, value: &Value) -> Result<Option<Vec<String>>,
             let word = String::from_str(here.alloc, text.as_str())?;
             Ok(Some(one_word(here.alloc, word)?))
         }
-        Value::Object(object) => match thing_of(here.earlier, object) {
+        _ => match thing_in(here, value) {
             Some(thing) => words_of(here, thing),
             None => Ok(None),
         },
-        _ => Ok(None),
     }
 }
 

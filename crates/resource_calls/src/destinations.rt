@@ -5,8 +5,7 @@ ghost use Rattle.project.specs.View.{install_view};
 ghost use Rattle.named_sources.specs.Each.{each_or_none};
 ghost use Rattle.named_sources.specs.SourcesView.{named_view};
 ghost use Rattle.world.specs.Prelude.{arguments_data, state_of};
-ghost use Rattle.resource_calls.specs.Destinations.{folders_in, given_or, install_at, install_folder, install_of, said_of};
-ghost use Rattle.resource_calls.specs.Destinations.{usual_folder};
+ghost use Rattle.resource_calls.specs.Destinations.{folders_in, given_or, install_at, install_folder, install_of, said_of, usual_folder};
 ghost use Rattle.resource_calls.specs.DestinationsView.{folders_view, said_view};
 
 use arguments::Arguments;
@@ -16,7 +15,7 @@ use ports::{Outputs, Tree};
 use project::Install;
 use resources::{destination, headers_folder, man_folder};
 use std::alloc::{AllocError, Global};
-use world::Caller;
+use world::{Caller, Here};
 
 /// What sort of file is installed.
 #[derive(Clone, Copy)]
@@ -27,15 +26,10 @@ pub enum Sort {
     ManPage,
 }
 
-/// The roots, the present folder, and the folders of options that installed files go to.
+/// Where the call stands, and the folders of options that installed files go to.
 #[derive(Clone, Copy)]
 pub struct Folders<'a> {
-    pub alloc: Global,
-    /// An absolute path, as is `build_root`.
-    pub source_root: &'a str,
-    pub build_root: &'a str,
-    /// The folder of the definition file, `""` for the root.
-    pub folder: &'a str,
+    pub here: Here<'a>,
     pub prefix: &'a str,
     pub includedir: &'a str,
     pub datadir: &'a str,
@@ -57,10 +51,7 @@ pub fn folders_in<'c, T: Tree, O: Outputs>(caller: &'c Caller<'_, T, O>) -> Fold
     ensures { folders_view result ≡ folders_in (state_of T.seen O.seen caller.now).world.facts }
 {
     Folders {
-        alloc: caller.alloc,
-        source_root: caller.store.settings().source_root.as_str(),
-        build_root: caller.store.settings().build_root.as_str(),
-        folder: caller.store.folder(),
+        here: caller.here(),
         prefix: caller.store.option_text("prefix"),
         includedir: caller.store.option_text("includedir"),
         datadir: caller.store.option_text("datadir"),
@@ -85,14 +76,14 @@ fn usual_folder(
     match sort {
         Sort::Header => {
             let folder = headers_folder(
-                folders.alloc,
+                folders.here.alloc,
                 folders.includedir,
                 arguments.text("subdir"),
             )?;
             Ok(Some(folder))
         }
-        Sort::Data => Ok(Some(path_below(folders.alloc, folders.datadir, folders.project)?)),
-        Sort::ManPage => man_folder(folders.alloc, folders.mandir, name),
+        Sort::Data => Ok(Some(path_below(folders.here.alloc, folders.datadir, folders.project)?)),
+        Sort::ManPage => man_folder(folders.here.alloc, folders.mandir, name),
     }
 }
 
@@ -117,7 +108,7 @@ fn install_folder(
         ≡ install_folder (folders_view folders.now) sort (arguments_data arguments.now) name.now) }
 {
     match usual_folder(folders, sort, arguments, name)? {
-        Some(usual) => Ok(Some(given_or(folders.alloc, arguments, usual)?)),
+        Some(usual) => Ok(Some(given_or(folders.here.alloc, arguments, usual)?)),
         None => Ok(None),
     }
 }
@@ -138,8 +129,8 @@ fn install_at(
     let name = plain_name(path);
     match install_folder(folders, sort, arguments, name)? {
         Some(folder) => Ok(Some(Install {
-            source: path_below(folders.alloc, root, path)?,
-            destination: destination(folders.alloc, folders.prefix, folder.as_str(), name)?,
+            source: path_below(folders.here.alloc, root, path)?,
+            destination: destination(folders.here.alloc, folders.prefix, folder.as_str(), name)?,
         })),
         None => Ok(None),
     }
@@ -155,12 +146,13 @@ pub(crate) fn install_of(
     ensures { IfOk result (λ i. option_map install_view i
         ≡ install_of (folders_view folders.now) sort (arguments_data arguments.now) (named_view named.now)) }
 {
+    let here = folders.here;
     match named {
         NamedSource::Tree(path) => {
-            install_at(folders, sort, arguments, folders.source_root, path.as_str())
+            install_at(folders, sort, arguments, here.source_root, path.as_str())
         }
         NamedSource::Built(path) => {
-            install_at(folders, sort, arguments, folders.build_root, path.as_str())
+            install_at(folders, sort, arguments, here.build_root, path.as_str())
         }
         NamedSource::Outputs(_) | NamedSource::Output { .. } => Ok(None),
     }
@@ -176,7 +168,7 @@ fn installs_of(
     ensures { IfOk result (λ is. option_map (λ v. map install_view v.items) is
         ≡ each_or_none (install_of (folders_view folders.now) sort (arguments_data arguments.now)) (map named_view named.now)) }
 {
-    let mut installs = Vec::new(folders.alloc);
+    let mut installs = Vec::new(folders.here.alloc);
     for one in named {
         match install_of(folders, sort, arguments, one)? {
             Some(install) => installs.push(install)?,
@@ -194,9 +186,9 @@ pub fn said_of(
 ) -> Result<Option<Said>, AllocError>
     ensures { IfOk result (λ s. option_map said_view s ≡ said_of (folders_view folders.now) sort (arguments_data arguments.now)) }
 {
-    let values = arguments.leaves_behind(folders.alloc, 0)?;
-    let Some(named) = sources_of(folders.alloc, folders.source_root, folders.folder, &values)?
-    else {
+    let here = folders.here;
+    let values = arguments.leaves_behind(here.alloc, 0)?;
+    let Some(named) = sources_of(here.alloc, here.source_root, here.folder, &values)? else {
         return Ok(None);
     };
     match installs_of(folders, sort, arguments, &named)? {

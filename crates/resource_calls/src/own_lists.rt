@@ -1,13 +1,13 @@
 //! What `declare_dependency` lists of its own, as its arguments name it.
-ghost use Rattle.std.specs.Prelude.{◌≡◌, IfOk, map, option_map};
+ghost use Rattle.std.specs.Prelude.{◌≡◌, IfOk, codes, option_map};
+ghost use Rattle.arguments.specs.Leaves.{leaves_named};
 ghost use Rattle.targets.specs.LinkedViews.{linked_views};
-ghost use Rattle.world.specs.Prelude.{arguments_data, data_of, here_view};
+ghost use Rattle.world.specs.Prelude.{arguments_data, here_view};
 ghost use Rattle.resource_calls.specs.OwnLists.{if_libraries, libraries_of, own_lists};
 ghost use Rattle.resource_calls.specs.OwnListsView.{own_view};
 
 use arguments::Arguments;
-use data::Value;
-use named_sources::{NamedSource, folders_of, numbers_of, sources_of};
+use named_sources::{NamedSource, folders_named, numbers_named, sources_named};
 use std::alloc::{AllocError, Global};
 use targets::{Linked, are_libraries};
 use world::Here;
@@ -32,35 +32,40 @@ fn if_libraries(earlier: &[Linked], numbers: Vec<usize>) -> Option<Vec<usize>>
     }
 }
 
-/// The libraries that values are.
-pub(crate) fn libraries_of(
+/// The libraries that the keyword `link_with` names.
+pub(crate) fn libraries_given(
     alloc: Global,
     earlier: &[Linked],
-    values: &[&Value],
+    arguments: &Arguments,
 ) -> Result<Option<Vec<usize>>, AllocError>
     ensures { IfOk result (λ ns. option_map (λ v. v.items) ns
-        ≡ libraries_of (linked_views earlier.now) (map (λ v. data_of v.now) values.now)) }
+        ≡ libraries_of (linked_views earlier.now) (leaves_named (codes "link_with") (arguments_data arguments.now))) }
 {
-    let Some(numbers) = numbers_of(alloc, values)? else {
-        return Ok(None);
-    };
-    Ok(if_libraries(earlier, numbers))
+    match numbers_named(alloc, arguments, "link_with")? {
+        Some(numbers) => Ok(if_libraries(earlier, numbers)),
+        None => Ok(None),
+    }
 }
 
 /// What the call lists of its own. None where a path leads out of the tree, or something to link with is no library.
 pub fn own_lists(here: &Here<'_>, arguments: &Arguments) -> Result<Option<Own>, AllocError>
     ensures { IfOk result (λ own. option_map own_view own ≡ own_lists (here_view here.now) (arguments_data arguments.now)) }
 {
-    let values = arguments.leaves(here.alloc, "include_directories")?;
-    let Some(folders) = folders_of(here.alloc, here.source_root, here.folder, &values)? else {
+    let Here {
+        alloc,
+        source_root,
+        folder,
+        earlier,
+        ..
+    } = *here;
+    let key = "include_directories";
+    let Some(folders) = folders_named(alloc, source_root, folder, arguments, key)? else {
         return Ok(None);
     };
-    let values = arguments.leaves(here.alloc, "link_with")?;
-    let Some(libraries) = libraries_of(here.alloc, here.earlier, &values)? else {
+    let Some(libraries) = libraries_given(alloc, earlier, arguments)? else {
         return Ok(None);
     };
-    let values = arguments.leaves(here.alloc, "sources")?;
-    let Some(sources) = sources_of(here.alloc, here.source_root, here.folder, &values)? else {
+    let Some(sources) = sources_named(alloc, source_root, folder, arguments, "sources")? else {
         return Ok(None);
     };
     Ok(Some(Own {

@@ -20,8 +20,8 @@ pub record WayData : Type 0 where
 -- files go to `install_dir` below `prefix`, or to `install_dir` alone where that is absolute
 abbrev pub way_of : FoldersData → ArgumentsData → WayData
 way_of folders a = record {
-  build_root = folders.build_root;
-  folder = folders.folder;
+  build_root = folders.here.build_root;
+  folder = folders.here.folder;
   destination = path_below folders.prefix (text_of (codes "install_dir") a);
 }
 

@@ -11,21 +11,20 @@ use Rattle.targets.specs.declared.target.Kind.{Kind}
 use Rattle.targets.specs.declared.target.Kind.TheVariants as kinds
 use Rattle.world.specs.Declaring.{add_install}
 use Rattle.world.specs.Deed.{Deed, give}
+use Rattle.world.specs.Here.{HereData, here_of}
 use Rattle.world.specs.Options.{option_text}
 use Rattle.world.specs.World.{Facts}
 
--- the build folder, the folder of the definition file, and the folders of the options `prefix`, `bindir` and `libdir`
+-- where the call stands, and the folders of the options `prefix`, `bindir` and `libdir`
 pub record FoldersData : Type 0 where
-  pub build_root : Path
-  pub folder : Path
+  pub here : HereData
   pub prefix : Path
   pub bindir : Path
   pub libdir : Path
 
 abbrev pub folders_in : Facts → FoldersData
 folders_in facts = record {
-  build_root = facts.settings.build_root;
-  folder = facts.folder;
+  here = here_of facts;
   prefix = option_text facts.options (codes "prefix");
   bindir = option_text facts.options (codes "bindir");
   libdir = option_text facts.options (codes "libdir");
@@ -43,7 +42,7 @@ install_folder folders a kind = unwrap_or (text_given (codes "install_dir") a) (
 -- the target's file goes to the folder below `prefix`, or to the folder alone where that is absolute; symbolic links are not listed
 abbrev pub build_install : FoldersData → ArgumentsData → BuildData → InstallData
 build_install folders a t = record {
-  source = path_below folders.build_root (file_path t);
+  source = path_below folders.here.build_root (file_path t);
   destination = path_below (path_below folders.prefix (install_folder folders a t.kind)) (file_name t);
 }
 

@@ -4,7 +4,7 @@ use Rattle.arguments.specs.Arguments.{ArgumentsData}
 use Rattle.data.specs.Data.{Data, object}
 use Rattle.data.specs.declared.object.Object.TheVariants as objects
 use Rattle.option_values.specs.Values as option
-use Rattle.options.specs.Resolves.{value_named}
+use Rattle.option_values.specs.Settings.{value_named}
 use Rattle.project.specs.Adding.{is_fit}
 use Rattle.targets.specs.Data.{TargetData}
 use Rattle.targets.specs.declared.target.Kind.{Kind}

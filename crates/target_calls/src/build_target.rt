@@ -8,11 +8,11 @@ ghost use Rattle.target_calls.specs.BuildTargets.{build_target, declared, declar
 ghost use Rattle.target_calls.specs.BuildTargets.{source_values, soversion_given, version_fits};
 ghost use Rattle.target_calls.specs.BuildTargetsView.{named_target_view};
 
-use crate::dependencies::dependencies_of;
+use crate::dependencies::dependencies_given;
 use crate::sources::{files_among, sources_in};
 use arguments::Arguments;
 use data::Value;
-use named_sources::{NamedSource, folders_of, is_library_version, numbers_of, sources_of};
+use named_sources::{NamedSource, folders_named, is_library_version, numbers_named, sources_of};
 use std::alloc::{AllocError, Global};
 use std::rc::Rc;
 use targets::{BuildTarget, Kind, Lists, Source, Target};
@@ -105,20 +105,24 @@ fn own_lists(
     ensures { IfOk result (λ l. option_map lists_view l
         ≡ own_lists (here_view here.now) (arguments_data arguments.now) (map source_view sources.items)) }
 {
-    let folders = arguments.leaves(here.alloc, "include_directories")?;
-    let Some(include_folders) = folders_of(here.alloc, here.source_root, here.folder, &folders)?
-    else {
+    let Here {
+        alloc,
+        source_root,
+        folder,
+        ..
+    } = *here;
+    let key = "include_directories";
+    let Some(include_folders) = folders_named(alloc, source_root, folder, arguments, key)? else {
         return Ok(None);
     };
-    let libraries = arguments.leaves(here.alloc, "link_with")?;
-    let Some(link_with) = numbers_of(here.alloc, &libraries)? else {
+    let Some(link_with) = numbers_named(alloc, arguments, "link_with")? else {
         return Ok(None);
     };
     Ok(Some(Lists {
         sources,
         include_folders,
-        compile_args: arguments.texts(here.alloc, "c_args")?,
-        link_args: arguments.texts(here.alloc, "link_args")?,
+        compile_args: arguments.texts(alloc, "c_args")?,
+        link_args: arguments.texts(alloc, "link_args")?,
         link_with,
     }))
 }
@@ -165,8 +169,7 @@ fn declared_from(
     let Some(own) = own_lists(here, arguments, sources)? else {
         return Ok(None);
     };
-    let values = arguments.leaves(here.alloc, "dependencies")?;
-    let Some(dependencies) = dependencies_of(here.alloc, here.earlier, &values)? else {
+    let Some(dependencies) = dependencies_given(here, arguments)? else {
         return Ok(None);
     };
     let target = build_target(here, kind, arguments, own, dependencies)?;

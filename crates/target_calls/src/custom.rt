@@ -1,9 +1,9 @@
 //! A custom target as the arguments of a call say it.
-ghost use Rattle.std.specs.Prelude.{◌≡◌, ◌++◌, ◌∷◌, [], IfOk, IfSome, Some, codes, count_by, map, option_map};
-ghost use Rattle.std.specs.Prelude.{string_bytes, unwrap_or};
+ghost use Rattle.std.specs.Prelude.{◌≡◌, ◌++◌, ◌∷◌, [], IfOk, IfSome, Some, codes, count_by, map, option_map, string_bytes, unwrap_or};
 ghost use Rattle.std.specs.Bool.{OnTrue};
 ghost use Rattle.arguments.specs.Arguments.{named_data};
 ghost use Rattle.arguments.specs.Given.{texts as texts_given};
+ghost use Rattle.arguments.specs.Leaves.{leaves_named};
 ghost use Rattle.edge.specs.Texts.{texts};
 ghost use Rattle.edge.specs.Folders.{build_folder, source_folder};
 ghost use Rattle.edge.specs.Paths.{source_root};
@@ -15,11 +15,11 @@ ghost use Rattle.named_sources.specs.Sources.{sources_of as named_in};
 ghost use Rattle.named_sources.specs.SourcesView.{named_views};
 ghost use Rattle.world.specs.Prelude.{arguments_data, data_of, here_view};
 ghost use Rattle.target_calls.specs.BuildTargetsView.{named_target_view};
+ghost use Rattle.target_calls.specs.Commands.{command_of};
 ghost use Rattle.target_calls.specs.CommandsView.{part_view};
 ghost use Rattle.target_calls.specs.CustomTargets.{IsAllInput, call_fits, captures_one, count_named, custom_from, custom_target};
 ghost use Rattle.target_calls.specs.CustomTargets.{declared_custom, declared_files, has_place, is_made, is_source_keyword, longest};
-ghost use Rattle.target_calls.specs.CustomTargets.{names_in, names_of, sources_by, whole_command};
-ghost use Rattle.target_calls.specs.CustomTargets.{written, written_files, written_in};
+ghost use Rattle.target_calls.specs.CustomTargets.{names_in, names_of, sources_by, whole_command, written, written_files, written_in};
 ghost use Rattle.target_calls.specs.CustomTargetsView.{names_view};
 
 use crate::build_target::NamedTarget;
@@ -27,7 +27,7 @@ use crate::command::{Part, command_of};
 use crate::sources::{files_among, sources_in};
 use arguments::{Arguments, Named};
 use data::{Value, flat, opened, opened_count};
-use named_sources::{NamedSource, Place, Scope, filled, sources_of};
+use named_sources::{NamedSource, Place, Scope, filled, sources_named, sources_of};
 use paths::path_in;
 use std::alloc::{AllocError, Global};
 use targets::{CustomTarget, Source, Target, paths_in, source_paths};
@@ -212,8 +212,7 @@ pub(crate) fn sources_by(
     ensures { IfOk result (λ ss. option_map (λ v. map source_view v.items) ss
         ≡ sources_by (here_view here.now) (arguments_data arguments.now) name.now) }
 {
-    let values = arguments.leaves(here.alloc, name)?;
-    match sources_of(here.alloc, here.source_root, here.folder, &values)? {
+    match sources_named(here.alloc, here.source_root, here.folder, arguments, name)? {
         Some(named) => sources_in(here.alloc, here.earlier, named),
         None => Ok(None),
     }
@@ -393,6 +392,20 @@ fn custom_target(
     })
 }
 
+// The part of the command that a keyword says.
+fn command_given(
+    here: &Here<'_>,
+    arguments: &Arguments,
+    place: &Place<'_>,
+    name: &str,
+) -> Result<Option<Part>, AllocError>
+    ensures { IfOk result (λ p. option_map part_view p
+        ≡ command_of (here_view here.now) (place_view place.now) (leaves_named name.now (arguments_data arguments.now))) }
+{
+    let values = arguments.leaves(here.alloc, name)?;
+    command_of(here, place, &values)
+}
+
 // The command, and what has to be there: files and targets in it, then `depends`, then `depend_files`.
 fn whole_command(
     here: &Here<'_>,
@@ -402,12 +415,10 @@ fn whole_command(
     ensures { IfOk result (λ p. option_map part_view p
         ≡ whole_command (here_view here.now) (arguments_data arguments.now) (place_view place.now)) }
 {
-    let words = arguments.leaves(here.alloc, "command")?;
-    let Some(mut command) = command_of(here, place, &words)? else {
+    let Some(mut command) = command_given(here, arguments, place, "command")? else {
         return Ok(None);
     };
-    let targets = arguments.leaves(here.alloc, "depends")?;
-    let Some(mut depends) = command_of(here, place, &targets)? else {
+    let Some(mut depends) = command_given(here, arguments, place, "depends")? else {
         return Ok(None);
     };
     let Some(mut files) = sources_by(here, arguments, "depend_files")? else {

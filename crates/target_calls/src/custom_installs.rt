@@ -32,10 +32,10 @@ pub struct Way {
 fn way_of(folders: &Folders<'_>, arguments: &Arguments) -> Result<Way, AllocError>
     ensures { IfOk result (λ w. way_view w ≡ way_of (folders_view folders.now) (arguments_data arguments.now)) }
 {
-    let alloc = folders.alloc;
+    let alloc = folders.here.alloc;
     Ok(Way {
-        build_root: String::from_str(alloc, folders.build_root)?,
-        folder: String::from_str(alloc, folders.folder)?,
+        build_root: String::from_str(alloc, folders.here.build_root)?,
+        folder: String::from_str(alloc, folders.here.folder)?,
         destination: path_below(alloc, folders.prefix, arguments.text("install_dir"))?,
     })
 }

@@ -13,7 +13,7 @@ use crate::installs::{install_of, note};
 use crate::tree::require_all;
 use arguments::Arguments;
 use data::{Object, Value};
-use options::OptionValue;
+use option_values::OptionValue;
 use ports::{Outputs, Tree};
 use targets::{Kind, Target};
 use world::{Caller, Stop};

@@ -1,17 +1,20 @@
 //! What dependencies bring to a target.
-ghost use Rattle.std.specs.Prelude.{◌≡◌, IfOk, map, option_map};
+ghost use Rattle.std.specs.Prelude.{◌≡◌, IfOk, codes, map, option_map};
+ghost use Rattle.arguments.specs.Leaves.{leaves_named};
 ghost use Rattle.targets.specs.LinkedViews.{linked_views};
 ghost use Rattle.targets.specs.View.{lists_view};
 ghost use Rattle.named_sources.specs.SourcesView.{named_view};
-ghost use Rattle.world.specs.Prelude.{data_of};
+ghost use Rattle.world.specs.Prelude.{arguments_data, data_of, here_view};
 ghost use Rattle.target_calls.specs.Dependencies.{dependencies_of, found_in, lists_of, named_of};
 
 use crate::sources::sources_in;
+use arguments::Arguments;
 use data::{Dependency, Object, Value};
 use named_sources::{NamedSource, strings};
 use std::alloc::{AllocError, Global};
 use std::rc::Rc;
 use targets::{Linked, Lists};
+use world::Here;
 
 fn named_of(alloc: Global, source: &data::Source) -> Result<NamedSource, AllocError>
     ensures { IfOk result (λ n. named_view n ≡ named_of source.now) }
@@ -90,9 +93,8 @@ fn found_in(value: &Value) -> Option<&Dependency>
     }
 }
 
-/// What the dependencies that values are bring; one that was not found brings nothing. None where one has a source that no target
-/// makes.
-pub fn dependencies_of(
+// What the dependencies that values are bring; one that was not found brings nothing. None where one has a source that no target makes.
+fn dependencies_of(
     alloc: Global,
     earlier: &[Linked],
     values: &[&Value],
@@ -110,4 +112,16 @@ pub fn dependencies_of(
         }
     }
     Ok(Some(all))
+}
+
+/// What the dependencies bring that the keyword `dependencies` names. None where one has a source that no target makes.
+pub fn dependencies_given(
+    here: &Here<'_>,
+    arguments: &Arguments,
+) -> Result<Option<Vec<Rc<Lists>>>, AllocError>
+    ensures { IfOk result (λ ls. option_map (λ v. map (λ l. lists_view l.value) v.items) ls
+        ≡ dependencies_of (here_view here.now).earlier (leaves_named (codes "dependencies") (arguments_data arguments.now))) }
+{
+    let values = arguments.leaves(here.alloc, "dependencies")?;
+    dependencies_of(here.alloc, here.earlier, &values)
 }

@@ -10,18 +10,14 @@ use arguments::Arguments;
 use paths::path_below;
 use ports::{Outputs, Tree};
 use project::Install;
-use std::alloc::{AllocError, Global};
+use std::alloc::AllocError;
 use targets::{BuildTarget, Kind, Target, file_name, file_path};
-use world::{Caller, Stop};
+use world::{Caller, Here, Stop};
 
-/// The build folder, and the folders of options that installed files go to.
+/// Where the call stands, and the folders of options that targets go to.
 #[derive(Clone, Copy)]
 pub struct Folders<'a> {
-    pub alloc: Global,
-    /// An absolute path.
-    pub build_root: &'a str,
-    /// The folder of the definition file, `""` for the root.
-    pub folder: &'a str,
+    pub here: Here<'a>,
     pub prefix: &'a str,
     pub bindir: &'a str,
     pub libdir: &'a str,
@@ -32,9 +28,7 @@ pub fn folders_in<'c, T: Tree, O: Outputs>(caller: &'c Caller<'_, T, O>) -> Fold
     ensures { folders_view result ≡ folders_in (state_of T.seen O.seen caller.now).world.facts }
 {
     Folders {
-        alloc: caller.alloc,
-        build_root: caller.store.settings().build_root.as_str(),
-        folder: caller.store.folder(),
+        here: caller.here(),
         prefix: caller.store.option_text("prefix"),
         bindir: caller.store.option_text("bindir"),
         libdir: caller.store.option_text("libdir"),
@@ -69,13 +63,13 @@ fn build_install(
     ensures { IfOk result (λ i. install_view i
         ≡ build_install (folders_view folders.now) (arguments_data arguments.now) (build_view target.now)) }
 {
-    let alloc = folders.alloc;
+    let alloc = folders.here.alloc;
     let file = file_path(alloc, target)?;
     let name = file_name(alloc, target)?;
     let folder = install_folder(folders, arguments, target.kind);
     let below = path_below(alloc, folders.prefix, folder)?;
     Ok(Install {
-        source: path_below(alloc, folders.build_root, &file)?,
+        source: path_below(alloc, folders.here.build_root, &file)?,
         destination: path_below(alloc, &below, &name)?,
     })
 }

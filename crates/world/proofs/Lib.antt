@@ -1,3 +1,6 @@
+pub mod Detailed
+pub mod Looked
+mod Pieces
 pub mod Acting
 pub mod Answering
 pub mod Closing

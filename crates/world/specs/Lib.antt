@@ -1,3 +1,8 @@
+pub mod DefinitionFiles
+pub mod Details
+pub mod FileReading
+pub mod Finding
+pub mod FindingView
 pub mod Answering
 pub mod Caller
 pub mod Configuring

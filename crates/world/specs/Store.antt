@@ -5,9 +5,9 @@ use Rattle.data.specs.Data.{Data}
 use Rattle.data.specs.View.{data_of}
 use Rattle.data.specs.declared.value.Value.{Value}
 use Rattle.machine_file.specs.Files.{Section}
-use Rattle.options.specs.Settings.{Setting}
-use Rattle.options.specs.View.{options_in}
-use Rattle.options.specs.declared.settings.Options.{Options}
+use Rattle.option_values.specs.Settings.{Setting}
+use Rattle.option_values.specs.SettingsView.{options_in}
+use Rattle.option_values.specs.declared.settings.Options.{Options}
 use Rattle.project.specs.World.{WorldData}
 use Rattle.template.specs.Config.{Configuration}
 use Rattle.world.specs.Settings.{SettingsData}

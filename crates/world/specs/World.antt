@@ -7,7 +7,7 @@ use Rattle.basics.specs.Faults.{FaultData}
 use Rattle.basics.specs.declared.faults.refusal.Refusal.{Refusal}
 use Rattle.machine_file.specs.Files.{Section}
 use Rattle.machine_file.specs.Questions.{Question}
-use Rattle.options.specs.Settings.{Setting}
+use Rattle.option_values.specs.Settings.{Setting}
 use Rattle.project.specs.Adding.{with_absent, with_present}
 use Rattle.project.specs.World.{WorldData, new_world}
 use Rattle.targets.specs.Data.{FactsData}

@@ -19,6 +19,7 @@
 
 mod asked;
 mod caller;
+pub mod definition_files;
 mod operation;
 mod settings;
 mod steps;

@@ -37,7 +37,7 @@ impl<'a, T: Tree, O: Outputs> Caller<'a, T, O> {
     pub fn copy_configuration(&mut self, number: usize) -> Result<usize, Stop>
         ensures { Does T.seen O.seen (λ n. n) (copy_configuration number) self.old result self.new }
     {
-        let copy = self.store.copy_configuration(self.alloc, number)?;
+        let copy = self.store.copy_of_configuration(self.alloc, number)?;
         self.add_configuration(copy)
     }
 

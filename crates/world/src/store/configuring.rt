@@ -18,7 +18,11 @@ impl Store {
     }
 
     /// A copy of the configuration data with a number, which may be changed.
-    pub fn copy_configuration(&self, alloc: Global, number: usize) -> Result<ConfigData, AllocError>
+    pub fn copy_of_configuration(
+        &self,
+        alloc: Global,
+        number: usize,
+    ) -> Result<ConfigData, AllocError>
         ensures { IfOk result (λ c. c ≡ unfrozen (configuration_at number self.now.configurations).entries) }
     {
         match self.configuration(number) {

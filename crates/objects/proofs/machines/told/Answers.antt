@@ -1,6 +1,6 @@
 use Rattle.std.proofs.Common.{ap, refl, ◌∙◌}
 use Rattle.std.specs.Prelude.{codes}
-use Rattle.compiler_methods.specs.Said.{said_or}
+use Rattle.objects.specs.CompilerSaid.{said_or}
 use Rattle.data.specs.Data.{text}
 use Rattle.data.specs.Limits.{within}
 use Rattle.machine_file.specs.Questions.{answer_to}

@@ -1,7 +1,7 @@
 use Rattle.std.proofs.Common.{ap}
 use Rattle.data.specs.Data.{text}
 use Rattle.data.specs.Limits.{within}
-use Rattle.compiler_methods.proofs.Values.{answers_as}
+use Rattle.objects.proofs.Values.{answers_as}
 use Rattle.objects.proofs.meson_object.build_root_value.Goals as goal
 
 pub returns : goal.returns

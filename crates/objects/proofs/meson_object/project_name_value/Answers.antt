@@ -1,5 +1,5 @@
 use Rattle.std.proofs.Common.{ap}
-use Rattle.compiler_methods.proofs.Values.{answers_as}
+use Rattle.objects.proofs.Values.{answers_as}
 use Rattle.data.specs.Data.{text}
 use Rattle.data.specs.Limits.{within}
 use Rattle.objects.proofs.meson_object.project_name_value.Goals as goal

@@ -3,7 +3,7 @@ use Rattle.data.specs.Data.{text}
 use Rattle.data.specs.Limits.{within}
 use Rattle.world.specs.Store.{world_of}
 use Rattle.objects.specs.Meson.{folder_below}
-use Rattle.compiler_methods.proofs.Values.{answers_as}
+use Rattle.objects.proofs.Values.{answers_as}
 use Rattle.objects.proofs.meson_object.source_folder.Goals as goal
 
 pub returns : goal.returns

@@ -1,6 +1,6 @@
 use Rattle.std.proofs.Common.{ap}
 use Rattle.objects.specs.Programs.{full_path}
-use Rattle.compiler_methods.proofs.Values.{answers_as}
+use Rattle.objects.proofs.Values.{answers_as}
 use Rattle.objects.proofs.programs.path_of.Goals as goal
 
 pub returns : goal.returns

@@ -1,5 +1,5 @@
 use Rattle.std.proofs.Common.{option_map, string_bytes, sym, ap, ◌∙◌}
-use Rattle.compiler_methods.proofs.Values.{answers_as}
+use Rattle.objects.proofs.Values.{answers_as}
 use Rattle.targets.specs.Libraries.{linked_of}
 use Rattle.world.specs.Store.{world_of}
 use Rattle.objects.specs.Targets.{at, path_of, path_value, told_of}

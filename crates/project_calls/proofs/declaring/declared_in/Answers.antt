@@ -1,5 +1,5 @@
 use Rattle.std.proofs.Common.{ap, sym, ◌∙◌}
-use Rattle.definition_files.specs.FindingView.{found_in}
+use Rattle.world.specs.FindingView.{found_in}
 use Rattle.world.proofs.Answering.{carries_as, carries_give, carries_refuse}
 use Rattle.project_calls.specs.OptionFile.{bytes_declare, declared_in}
 use Rattle.project_calls.proofs.declaring.declared_in.Goals as goal

@@ -1,5 +1,5 @@
 use Rattle.std.proofs.Common.{ap, ◌∙◌}
-use Rattle.definition_files.specs.Files.{line_at}
+use Rattle.world.specs.DefinitionFiles.{line_at}
 use Rattle.basics.specs.declared.faults.refusal.Refusal.TheVariants as refusals
 use Rattle.world.proofs.Answering.{carries_as}
 use Rattle.project_calls.specs.OptionFile.{text_declares}

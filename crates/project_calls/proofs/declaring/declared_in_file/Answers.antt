@@ -2,7 +2,7 @@ use Rattle.std.proofs.Common.{ap, refl, sym, ◌∙◌}
 use Rattle.option_file.specs.View.{declared_in}
 use Rattle.world.proofs.Answering.{carries_as, carries_give, carries_none}
 use Rattle.project_calls.specs.OptionFile.{declared_or_fault}
-use Rattle.definition_files.specs.Details.{refuse_line_about}
+use Rattle.world.specs.Details.{refuse_line_about}
 use Rattle.project_calls.proofs.SpelledOptions.{carries_line_about}
 use Rattle.project_calls.proofs.declaring.declared_in_file.Goals as goal
 

@@ -1,5 +1,5 @@
 use Rattle.std.proofs.Common.{ap, sym, codes, ◌∙◌}
-use Rattle.definition_files.specs.FindingView.{found_in}
+use Rattle.world.specs.FindingView.{found_in}
 use Rattle.world.proofs.Answering.{carries_as, carries_stop, carries_then}
 use Rattle.project_calls.specs.OptionFile.{declared_at, option_file_by}
 use Rattle.project_calls.proofs.declaring.option_file_by.Goals as goal

@@ -1,5 +1,5 @@
 use Rattle.std.proofs.Common.{ap, refl, ◌∙◌}
-use Rattle.options.specs.Resolves.{value_named}
+use Rattle.option_values.specs.Settings.{value_named}
 use Rattle.world.proofs.Answering.{carries_as, carries_give, carries_none, carries_read, carries_refuse, carries_stop, carries_then, carries_value}
 use Rattle.project_calls.specs.GetOption.{get_option, given}
 use Rattle.project_calls.proofs.option_call.get_option.Goals as goal

@@ -1,5 +1,5 @@
 use Rattle.std.proofs.Common.{ap, refl, sym, ◌∙◌}
-use Rattle.definition_files.proofs.Detailed.{carries_refused_about}
+use Rattle.world.proofs.Detailed.{carries_refused_about}
 use Rattle.options.specs.Faults.{file_of, line_of, told_in}
 use Rattle.options.specs.View.{fault_in, outcome_in}
 use Rattle.world.proofs.Answering.{carries_as, carries_give, carries_none}

@@ -1,5 +1,5 @@
 use Rattle.std.proofs.Common.{arith}
-use Rattle.options.specs.View.{options_in}
+use Rattle.option_values.specs.SettingsView.{options_in}
 use Rattle.project_calls.proofs.Listed.{is_listed, listed_more}
 use Rattle.project_calls.proofs.shown_options.option_entries.Goals as goal
 

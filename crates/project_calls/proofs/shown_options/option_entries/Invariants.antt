@@ -1,6 +1,6 @@
 use Rattle.std.proofs.Common.{◌≡◌, map, take}
-use Rattle.options.specs.Resolves.{named_value}
-use Rattle.options.specs.View.{options_in}
+use Rattle.option_values.specs.Settings.{named_value}
+use Rattle.option_values.specs.SettingsView.{options_in}
 use Rattle.targets.specs.View.{option_entry_view}
 use Rattle.project_calls.specs.Entries.{entry_of}
 use Rattle.project_calls.proofs.shown_options.option_entries.Given as goal

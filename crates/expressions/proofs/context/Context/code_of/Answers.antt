@@ -2,7 +2,7 @@ use Rattle.std.proofs.Common.{ap, ◌∙◌}
 use Rattle.grammar.specs.Parsed.{parsed}
 use Rattle.basics.specs.declared.faults.refusal.Refusal.TheVariants as refusals
 use Rattle.world.specs.Plan.{deed}
-use Rattle.definition_files.specs.Files.{line_at, refuse_line, tree_or_fault}
+use Rattle.world.specs.DefinitionFiles.{line_at, refuse_line, tree_or_fault}
 use Rattle.expressions.proofs.Evaluating.{given_as}
 use Rattle.expressions.proofs.Opening.{given_line, is_no_text, is_text}
 use Rattle.expressions.proofs.context.Context.code_of.Goals as goal

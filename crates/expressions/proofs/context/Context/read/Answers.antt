@@ -3,7 +3,7 @@ use Rattle.std.specs.Str.{is_utf8}
 use Rattle.ports.specs.Tree.{bytes_at, file_at}
 use Rattle.world.specs.Plan.{deed}
 use Rattle.world.proofs.Holding.{holds_later}
-use Rattle.definition_files.specs.Files.{most_bytes, spelled_by}
+use Rattle.world.specs.DefinitionFiles.{most_bytes, spelled_by}
 use Rattle.expressions.proofs.Evaluating.{given_as, given_none}
 use Rattle.expressions.proofs.Opening.{given_over, given_short, given_within}
 use Rattle.expressions.proofs.context.Context.read.Goals as goal

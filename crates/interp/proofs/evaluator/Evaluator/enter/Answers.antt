@@ -1,4 +1,4 @@
-use Rattle.std.proofs.Common.{subst, ◌≡◌, ℕ, suc, ◌-◌, [], ◌∷◌, ◌++◌, sym, ap, refl, ◌∙◌, string_bytes, arith}
+use Rattle.std.proofs.Common.{subst, ◌≡◌, ℕ, suc, ◌-◌, List, [], ◌∷◌, ◌++◌, sym, ap, refl, ◌∙◌, string_bytes, arith}
 use Rattle.basics.specs.declared.faults.refusal.Refusal.TheVariants as refusals
 use Rattle.world.specs.Answering.{Refuses}
 use Rattle.world.specs.Plan.{next}
@@ -8,8 +8,10 @@ use Rattle.interp.specs.Folders.{folder_by}
 use Rattle.expressions.specs.Folders.{fresh, opened}
 use Rattle.interp.specs.Frames.{Rest, End, Left, behind, behind_all}
 use Rattle.interp.specs.Statements.{do_all}
+use Rattle.interp.specs.declared.frames.Frame.{Frame}
 use Rattle.interp.specs.declared.frames.Frame.TheVariants as frames
 use Rattle.expressions.proofs.Evaluating.{given_as, given_stop, given_then, leads_as, leads_further, leads_next, leads_start}
+use Rattle.interp.proofs.Doing.{memory_is}
 use Rattle.interp.proofs.Places.{entered_fresh, folder_is, given_refused_here, leads_fresh}
 use Rattle.interp.proofs.Stack.{behind_two, leads_under, left_here, made_now, moves_as, moves_block, moves_given, moves_none, moves_then, stacked_on, stacked_top}
 use Rattle.interp.proofs.evaluator.Evaluator.enter.Goals as goal
@@ -48,11 +50,13 @@ returns-clause-gives g c = λ few files rests hold stacked.
     let names = c.open.new.self.store.now.names in
     let here = c.args.self.now.context.store.now in
     let outer : Rest = Left here.file here.folder here.line in
-    let inside = stacked_on c.args.stack.now.items rests o.gives.written.names stacked in
-    let a = stacked_top c.args.stack.now.items c.push.new.self.items rests (frames.Left c.in_ok-outer.outer) outer c.in_ok-push.ensures.items inside (sym (left_here c.in_ok-outer.ensures.file c.in_ok-outer.ensures.folder c.in_ok-outer.ensures.line)) in
-    let b = stacked_top c.push.new.self.items c.push-2.new.self.items (rests ++ outer ∷ []) frames.End End c.in_ok-push-2.ensures.items a refl in
-    let body = file_by names c.in_ok-opened.opened in
-    moves_block few c.push-2.new.self.items c.push-3.new.self.items ((rests ++ outer ∷ []) ++ End ∷ []) _ names b c.in_ok-push-3.ensures.items
+    let fs = c.args.stack.now.items in
+    let back : List Frame = fs ++ frames.Left c.in_ok-outer.outer ∷ [] in
+    let ends : List Frame = back ++ frames.End ∷ [] in
+    let a = stacked_top fs back rests (frames.Left c.in_ok-outer.outer) outer refl (stacked_on fs rests o.gives.written.names stacked)
+    (sym (left_here c.in_ok-outer.ensures.file c.in_ok-outer.ensures.folder c.in_ok-outer.ensures.line)) in
+    let b = stacked_top back ends (rests ++ outer ∷ []) frames.End End refl a refl in
+    moves_block few ends c.lay_folder.new.stack.items ((rests ++ outer ∷ []) ++ End ∷ []) _ names b c.in_ok-lay_folder.ensures.lays
     (made_now c.in_ok-code.ensures.ok c.in_ok-opened.ensures.known)
     (leads_as (ap (λ d. behind_all rests (behind outer (behind End (do_all (folder_by few k) few (file_by names d))))) (sym c.in_ok-code.ensures.ok) ∙ sym (behind_two rests outer End _))
     (leads_under rests (leads_further f (leads_next o))))
@@ -65,26 +69,11 @@ returns-in_err-code-clause-gives g c = λ few files rests hold stacked.
     let o = given_as (ap opened path) (c.in_ok-opened.ensures.gives files f.holds) in
     moves_none c.from_residual-in_err-code.result c.args.stack.now.items (leads_under rests (leads_further f (leads_next o))) c.from_residual-in_err-code.ensures.1
 
-pub returns-in_err-push-clause-gives : goal.returns-in_err-push-clause-gives
-returns-in_err-push-clause-gives g c = λ few files rests hold stacked.
+pub returns-in_err-lay_folder-clause-gives : goal.returns-in_err-lay_folder-clause-gives
+returns-in_err-lay_folder-clause-gives g c = λ few files rests hold stacked.
     let more : suc (c.args.left - 1) ≡ c.args.left = omega arith in
     let f = leads_fresh few c.args.text.now more (c.in_ok-path.ensures.gives files hold) in
     let path : c.deref.result.now ≡ string_bytes c.in_ok-path.path = c.deref.ensures in
     let o = given_as (ap opened path) (c.in_ok-opened.ensures.gives files f.holds) in
-    moves_none c.from_residual-in_err-push.result c.push.new.self.items (leads_under rests (leads_further f (leads_next o))) c.from_residual-in_err-push.ensures.1
-
-pub returns-in_err-push-2-clause-gives : goal.returns-in_err-push-2-clause-gives
-returns-in_err-push-2-clause-gives g c = λ few files rests hold stacked.
-    let more : suc (c.args.left - 1) ≡ c.args.left = omega arith in
-    let f = leads_fresh few c.args.text.now more (c.in_ok-path.ensures.gives files hold) in
-    let path : c.deref.result.now ≡ string_bytes c.in_ok-path.path = c.deref.ensures in
-    let o = given_as (ap opened path) (c.in_ok-opened.ensures.gives files f.holds) in
-    moves_none c.from_residual-in_err-push-2.result c.push-2.new.self.items (leads_under rests (leads_further f (leads_next o))) c.from_residual-in_err-push-2.ensures.1
-
-pub returns-in_err-push-3-clause-gives : goal.returns-in_err-push-3-clause-gives
-returns-in_err-push-3-clause-gives g c = λ few files rests hold stacked.
-    let more : suc (c.args.left - 1) ≡ c.args.left = omega arith in
-    let f = leads_fresh few c.args.text.now more (c.in_ok-path.ensures.gives files hold) in
-    let path : c.deref.result.now ≡ string_bytes c.in_ok-path.path = c.deref.ensures in
-    let o = given_as (ap opened path) (c.in_ok-opened.ensures.gives files f.holds) in
-    moves_none c.from_residual-in_err-push-3.result c.push-3.new.self.items (leads_under rests (leads_further f (leads_next o))) c.from_residual-in_err-push-3.ensures.1
+    moves_none c.from_residual-in_err-lay_folder.result c.lay_folder.new.stack.items (leads_under rests (leads_further f (leads_next o)))
+    (memory_is c.from_residual-in_err-lay_folder.result c.in_err-lay_folder.ensures.lays c.from_residual-in_err-lay_folder.ensures.1)

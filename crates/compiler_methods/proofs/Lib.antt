@@ -1,3 +1,0 @@
-pub mod Values
-pub mod Asking
-pub mod Supported

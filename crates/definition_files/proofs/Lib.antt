@@ -1,3 +1,0 @@
-mod Pieces
-pub mod Looked
-pub mod Detailed

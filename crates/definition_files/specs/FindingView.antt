@@ -1,9 +1,0 @@
--- What the code's own type stands for.
-use Rattle.definition_files.specs.Finding.{FoundData, nothing, too_long, bytes}
-use Rattle.definition_files.specs.declared.finding.Found.{Found}
-use Rattle.definition_files.specs.declared.finding.Found.TheVariants as found
-
-abbrev pub found_in : Found → FoundData
-found_in found.Nothing = nothing
-found_in found.TooLong = too_long
-found_in (found.Bytes bs) = bytes bs.items

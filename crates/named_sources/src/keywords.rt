@@ -1,0 +1,57 @@
+//! What the keywords of a call name, their lists opened.
+ghost use Rattle.std.specs.Prelude.{◌≡◌, IfOk, option_map};
+ghost use Rattle.arguments.specs.Arguments.{arguments_data};
+ghost use Rattle.arguments.specs.Leaves.{leaves_named};
+ghost use Rattle.paths.specs.Folder.{strings_of};
+ghost use Rattle.named_sources.specs.Folders.{folders_of};
+ghost use Rattle.named_sources.specs.Libraries.{numbers_of};
+ghost use Rattle.named_sources.specs.Sources.{sources_of};
+ghost use Rattle.named_sources.specs.SourcesView.{named_views};
+
+use crate::folders::folders_of;
+use crate::libraries::numbers_of;
+use crate::sources::{NamedSource, sources_of};
+use arguments::Arguments;
+use std::alloc::{AllocError, Global};
+
+/// The folders that a keyword names, as [`folders_of`] gives them.
+pub fn folders_named(
+    alloc: Global,
+    source_root: &str,
+    folder: &str,
+    arguments: &Arguments,
+    name: &str,
+) -> Result<Option<Vec<String>>, AllocError>
+    ensures { IfOk result (λ ps. option_map strings_of ps
+        ≡ folders_of source_root.now folder.now (leaves_named name.now (arguments_data arguments.now))) }
+{
+    let values = arguments.leaves(alloc, name)?;
+    folders_of(alloc, source_root, folder, &values)
+}
+
+/// The sources that a keyword names, as [`sources_of`] gives them.
+pub fn sources_named(
+    alloc: Global,
+    source_root: &str,
+    folder: &str,
+    arguments: &Arguments,
+    name: &str,
+) -> Result<Option<Vec<NamedSource>>, AllocError>
+    ensures { IfOk result (λ ss. option_map named_views ss
+        ≡ sources_of source_root.now folder.now (leaves_named name.now (arguments_data arguments.now))) }
+{
+    let values = arguments.leaves(alloc, name)?;
+    sources_of(alloc, source_root, folder, &values)
+}
+
+/// The numbers of the build targets that a keyword names, as [`numbers_of`] gives them.
+pub fn numbers_named(
+    alloc: Global,
+    arguments: &Arguments,
+    name: &str,
+) -> Result<Option<Vec<usize>>, AllocError>
+    ensures { IfOk result (λ ns. option_map (λ v. v.items) ns ≡ numbers_of (leaves_named name.now (arguments_data arguments.now))) }
+{
+    let values = arguments.leaves(alloc, name)?;
+    numbers_of(alloc, &values)
+}

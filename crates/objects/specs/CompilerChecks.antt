@@ -1,0 +1,71 @@
+-- The checks of the compiler, and `find_library`.
+use Rattle.std.specs.Prelude.{ℕ, Bool, true, false, List, [], ◌∷◌, ◌++◌, Option, Some, None, Result, Ok, Err, option_and_then, codes}
+use Rattle.arguments.specs.Arguments.{ArgumentsData}
+use Rattle.data.specs.Flat.{flat_all}
+use Rattle.arguments.specs.Given.{argument, requirement, text_at}
+use Rattle.arguments.specs.declared.given.Requirement.{Requirement}
+use Rattle.arguments.specs.declared.given.Requirement.TheVariants as requirements
+use Rattle.data.specs.Data.{Data, boolean, object, text_in}
+use Rattle.data.specs.declared.object.Dependency.{Dependency}
+use Rattle.data.specs.declared.object.Object.TheVariants as objects
+use Rattle.data.specs.declared.refusal.Refusal.{Refusal}
+use Rattle.data.specs.declared.refusal.Refusal.TheVariants as operations
+use Rattle.basics.specs.declared.faults.refusal.Refusal.TheVariants as refusals
+use Rattle.machine_file.specs.Questions.{check_topic}
+use Rattle.resources.specs.Beside.{call_question}
+use Rattle.resources.specs.Found.{found, missing}
+use Rattle.world.specs.Deed.{Deed, give, consult, ◌>>=◌, answered, need}
+use Rattle.objects.specs.CompilerSaid.{is_true}
+
+-- whether it is so: what is required and is not so is E17 with a name, and what is not looked up is false
+unfoldable pub required_as : Requirement → Bool → List ℕ → Deed Bool
+required_as requirements.Required is_so name = do
+  _ ← need is_so refusals.NotFound name
+  give is_so
+required_as requirements.Optional is_so name = give is_so
+required_as requirements.Disabled is_so name = give false
+
+-- whether the check of a method of the texts of a call is true
+unfoldable pub is_checked : (method : List ℕ) → ArgumentsData → Deed Bool
+is_checked method a = do
+  answer ← consult (call_question (check_topic method (flat_all a.positional)) a)
+  give (is_true answer)
+
+-- the answer of a check to its texts, of which the first names it; the keyword `required` may say what is done where it is false
+unfoldable pub checked_for : (default : Requirement) → (method : List ℕ) → ArgumentsData → Deed Bool
+checked_for default method a = do
+  is_so ← is_checked method a
+  required_as (requirement default a) is_so (text_at 0 a)
+
+-- a check, as `has_function(name)`
+unfoldable pub check : (method : List ℕ) → ArgumentsData → Deed (Option Data)
+check method a = do
+  is_so ← checked_for requirements.Optional method a
+  give (Some (boolean is_so))
+
+-- ---- libraries
+
+-- the argument by which the linker finds a library
+abbrev pub library_argument : List ℕ → List ℕ
+library_argument name = codes "-l" ++ name
+
+-- the dependency that a library is: it has no version, and one argument for the linker
+abbrev pub library : Bool → List ℕ → Result Dependency Refusal
+library true name = found name (codes "unknown") [] (library_argument name ∷ [])
+library false name = missing name
+
+abbrev pub dependency_data : Result Dependency Refusal → Result Data Refusal
+dependency_data (Ok d) = Ok (object (objects.Dependency d))
+dependency_data (Err refusal) = Err refusal
+
+-- the same as a value; a library has a name, or E9
+abbrev pub library_named : Bool → Option (List ℕ) → Result Data Refusal
+library_named is_so None = Err operations.Arguments
+library_named is_so (Some name) = dependency_data (library is_so name)
+
+-- `find_library(name)`: the check of that name, and it has to be true where nothing else is said
+unfoldable pub find_library : ArgumentsData → Deed (Option Data)
+find_library a = do
+  is_so ← checked_for requirements.Required (codes "find_library") a
+  d ← answered (library_named is_so (option_and_then text_in (argument 0 a)))
+  give (Some d)

@@ -1,0 +1,227 @@
+//! A method of the compiler on its arguments.
+ghost use Rattle.std.specs.Prelude.{◌≡◌, IfOk, OnOk, Some, map, option_map};
+ghost use Rattle.arguments.specs.Given.{text_or_none};
+ghost use Rattle.data.specs.Data.{integer, items_append, list, no_items, text};
+ghost use Rattle.machine_file.specs.Questions.{answer_to, check_topic, plain};
+ghost use Rattle.machine_file.specs.View.{machine_in};
+ghost use Rattle.world.specs.Prelude.{Answers, Does, arguments_data, data_of, items_of, within};
+ghost use Rattle.world.specs.Deed.{consult};
+ghost use Rattle.world.specs.Fit.{fit};
+ghost use Rattle.objects.specs.CompilerMethods.{called, compiler_method, does, get_id, get_supported_arguments, kept, number};
+ghost use Rattle.objects.specs.CompilerMethods.{supported, version};
+ghost use Rattle.objects.specs.CompilerRows.{row_of};
+ghost use Rattle.objects.specs.CompilerSaid.{argument_topic, is_true, number_of};
+
+use crate::compiler::checks::{ask_check, check, find_library};
+use crate::compiler::rows::row;
+use crate::compiler::said::{id_of, is_true, number_of, version_of};
+use arguments::Arguments;
+use data::{List, Refusal, Value};
+use language_names::{CompilerMethod, MethodName};
+use machine_file::{Machine, Question, Topic};
+use ports::{Outputs, Tree};
+use std::alloc::{AllocError, Global};
+use world::{Caller, Stop};
+
+// `get_id()`
+fn get_id<T: Tree, O: Outputs>(caller: &mut Caller<'_, T, O>) -> Result<Option<Value>, Stop>
+    ensures { Does T.seen O.seen (option_map data_of) get_id caller.old result caller.new }
+{
+    caller.ask_key("compiler", "id")?;
+    let answer = Value::of_str(caller.alloc, id_of(caller.store.machine()))?;
+    let value = caller.answered(answer)?;
+    Ok(Some(value))
+}
+
+// `version()`
+fn version<T: Tree, O: Outputs>(caller: &mut Caller<'_, T, O>) -> Result<Option<Value>, Stop>
+    ensures { Does T.seen O.seen (option_map data_of) version caller.old result caller.new }
+{
+    caller.ask_key("compiler", "version")?;
+    let answer = Value::of_str(caller.alloc, version_of(caller.store.machine()))?;
+    let value = caller.answered(answer)?;
+    Ok(Some(value))
+}
+
+fn integer_value(number: i64) -> Value
+    ensures { data_of result ≡ integer number }
+{
+    Value::Integer(number as i128)
+}
+
+fn number_value(
+    alloc: Global,
+    machine: &Machine,
+    method: &str,
+    texts: &[&str],
+) -> Result<Value, AllocError>
+    ensures { IfOk result (λ v. data_of v
+        ≡ integer (number_of (answer_to (machine_in machine.now) (check_topic method.now (map (λ t. t.now) texts.now))))) }
+{
+    let number = number_of(alloc, machine, method, texts)?;
+    Ok(integer_value(number))
+}
+
+// `sizeof(type)` and `alignment(type)`: -1 where the machine file says nothing.
+fn number<T: Tree, O: Outputs>(
+    caller: &mut Caller<'_, T, O>,
+    method: &str,
+    arguments: &Arguments,
+) -> Result<Option<Value>, Stop>
+    ensures { Does T.seen O.seen (option_map data_of) (number method.now (arguments_data arguments.now)) caller.old result caller.new }
+{
+    let texts = arguments.all_texts(caller.alloc)?;
+    ask_check(caller, method, &texts, arguments)?;
+    let number = number_value(caller.alloc, caller.store.machine(), method, &texts)?;
+    Ok(Some(number))
+}
+
+// ---- the arguments that the compiler takes
+
+fn text_of(value: &Value) -> &str
+    ensures { result.now ≡ text_or_none (Some (data_of value.now)) }
+{
+    match value.as_text() {
+        Some(text) => text.as_str(),
+        None => "",
+    }
+}
+
+// Asks whether the compiler takes a value as an argument.
+fn ask_argument<T: Tree, O: Outputs>(
+    caller: &mut Caller<'_, T, O>,
+    value: &Value,
+) -> Result<(), Stop>
+    ensures deed { Does T.seen O.seen
+        (λ u. answer_to caller.old.store.now.machine (argument_topic (text_or_none (Some (data_of value.now)))))
+        (consult (plain (argument_topic (text_or_none (Some (data_of value.now)))))) caller.old result caller.new }
+    ensures machine { caller.new.store.now.machine ≡ caller.old.store.now.machine }
+{
+    let topic = Topic::check(caller.alloc, "has_argument", &[text_of(value)])?;
+    caller.ask(Question::plain(caller.alloc, topic))
+}
+
+fn is_supported(alloc: Global, machine: &Machine, value: &Value) -> Result<bool, AllocError>
+    ensures { IfOk result (λ b. b
+        ≡ is_true (answer_to (machine_in machine.now) (argument_topic (text_or_none (Some (data_of value.now)))))) }
+{
+    is_true(alloc, machine, "has_argument", &[text_of(value)])
+}
+
+// Puts a value behind others, where the compiler takes it. It is shared, and no byte is copied.
+fn keep(
+    alloc: Global,
+    machine: &Machine,
+    taken: &mut Vec<Value>,
+    value: &Value,
+) -> Result<(), AllocError>
+    ensures { OnOk result (items_of taken.new.items ≡ items_append (items_of taken.old.items)
+        (kept (data_of value.now) (answer_to (machine_in machine.now) (argument_topic (text_or_none (Some (data_of value.now))))))) }
+{
+    if is_supported(alloc, machine, value)? {
+        taken.push(value.clone()?)?;
+    }
+    Ok(())
+}
+
+// Those of the values that the compiler takes.
+fn supported<T: Tree, O: Outputs>(
+    caller: &mut Caller<'_, T, O>,
+    values: &[&Value],
+) -> Result<Vec<Value>, Stop>
+    ensures { Does T.seen O.seen (λ vs. items_of vs.items) (supported no_items (map (λ v. data_of v.now) values.now))
+        caller.old result caller.new }
+{
+    let mut taken = Vec::new(caller.alloc);
+    for value in values {
+        ask_argument(caller, value)?;
+        keep(caller.alloc, caller.store.machine(), &mut taken, value)?;
+    }
+    Ok(taken)
+}
+
+// The list of some values.
+fn list_of(alloc: Global, values: Vec<Value>) -> Result<Result<Value, Refusal>, AllocError>
+    ensures { IfOk result (λ r. Answers (within (list (items_of values.items))) r) }
+{
+    match List::from_items(values) {
+        Ok(list) => Ok(Ok(Value::of_list(alloc, list)?)),
+        Err(refusal) => Ok(Err(refusal)),
+    }
+}
+
+// `get_supported_arguments(flat texts..)`
+fn get_supported_arguments<T: Tree, O: Outputs>(
+    caller: &mut Caller<'_, T, O>,
+    arguments: &Arguments,
+) -> Result<Option<Value>, Stop>
+    ensures { Does T.seen O.seen (option_map data_of) (get_supported_arguments (arguments_data arguments.now))
+        caller.old result caller.new }
+{
+    let values = arguments.leaves_behind(caller.alloc, 0)?;
+    let taken = supported(caller, &values)?;
+    let answer = list_of(caller.alloc, taken)?;
+    let value = caller.answered(answer)?;
+    Ok(Some(value))
+}
+
+// ---- calls
+
+// Refuses arguments that the method does not take.
+fn fit<T: Tree, O: Outputs>(
+    caller: &Caller<'_, T, O>,
+    method: CompilerMethod,
+    arguments: &Arguments,
+) -> Result<(), Stop>
+    ensures { Does T.seen O.seen (λ u. u) (fit (row_of method) (arguments_data arguments.now)) caller.now result caller.now }
+{
+    caller.fit(&row(method), arguments)
+}
+
+// What a method does with arguments that its row has let through.
+fn act<T: Tree, O: Outputs>(
+    caller: &mut Caller<'_, T, O>,
+    method: CompilerMethod,
+    name: &str,
+    arguments: &Arguments,
+) -> Result<Option<Value>, Stop>
+    ensures { Does T.seen O.seen (option_map data_of) (does method name.now (arguments_data arguments.now)) caller.old result caller.new }
+{
+    match method {
+        CompilerMethod::Check => check(caller, name, arguments),
+        CompilerMethod::CheckInside => check(caller, name, arguments),
+        CompilerMethod::FindLibrary => find_library(caller, arguments),
+        CompilerMethod::Id => get_id(caller),
+        CompilerMethod::Number => number(caller, name, arguments),
+        CompilerMethod::SupportedArguments => get_supported_arguments(caller, arguments),
+        CompilerMethod::Version => version(caller),
+    }
+}
+
+fn called<T: Tree, O: Outputs>(
+    caller: &mut Caller<'_, T, O>,
+    method: CompilerMethod,
+    name: &str,
+    arguments: &Arguments,
+) -> Result<Option<Value>, Stop>
+    ensures { Does T.seen O.seen (option_map data_of) (called method name.now (arguments_data arguments.now)) caller.old result caller.new }
+{
+    fit(caller, method, arguments)?;
+    act(caller, method, name, arguments)
+}
+
+/// The method with a name on its arguments, which its row looks at first. The name is one for which
+/// [`has_compiler_method`](crate::compiler::has_compiler_method) is true; of any other it is E8.
+pub fn compiler_method<T: Tree, O: Outputs>(
+    caller: &mut Caller<'_, T, O>,
+    name: &MethodName,
+    arguments: &Arguments,
+) -> Result<Option<Value>, Stop>
+    ensures { Does T.seen O.seen (option_map data_of) (compiler_method name.now (arguments_data arguments.now))
+        caller.old result caller.new }
+{
+    match name.of_compiler() {
+        Some(method) => called(caller, method, name.as_str(), arguments),
+        None => caller.refuse(basics::faults::Refusal::UnknownFunction, ""),
+    }
+}

@@ -1,0 +1,52 @@
+//! What the machine file says in place of a compiler that is asked.
+ghost use Rattle.std.specs.Prelude.{◌≡◌, IfOk, map};
+ghost use Rattle.machine_file.specs.Questions.{answer_to, check_topic};
+ghost use Rattle.machine_file.specs.View.{machine_in};
+ghost use Rattle.objects.specs.CompilerSaid.{id_of, id_topic, is_true, number_of, version_of, version_topic};
+
+use machine_file::Machine;
+use std::alloc::{AllocError, Global};
+
+/// Which compiler it is, as `gcc`.
+pub fn id_of(machine: &Machine) -> &str
+    ensures { result.now ≡ id_of (answer_to (machine_in machine.now) id_topic) }
+{
+    machine.text_or("compiler", "id", "gcc")
+}
+
+/// The compiler's version.
+pub fn version_of(machine: &Machine) -> &str
+    ensures { result.now ≡ version_of (answer_to (machine_in machine.now) version_topic) }
+{
+    machine.text_or("compiler", "version", "unknown")
+}
+
+/// Whether a check is true.
+pub fn is_true(
+    alloc: Global,
+    machine: &Machine,
+    method: &str,
+    texts: &[&str],
+) -> Result<bool, AllocError>
+    ensures { IfOk result (λ b. b ≡ is_true (answer_to (machine_in machine.now) (check_topic method.now (map (λ t. t.now) texts.now)))) }
+{
+    match machine.check(alloc, method, texts)? {
+        Some(value) => Ok(value.boolean().unwrap_or(false)),
+        None => Ok(false),
+    }
+}
+
+/// The number of `sizeof` or `alignment`.
+pub fn number_of(
+    alloc: Global,
+    machine: &Machine,
+    method: &str,
+    texts: &[&str],
+) -> Result<i64, AllocError>
+    ensures { IfOk result (λ n. n ≡ number_of (answer_to (machine_in machine.now) (check_topic method.now (map (λ t. t.now) texts.now)))) }
+{
+    match machine.check(alloc, method, texts)? {
+        Some(value) => Ok(value.integer().unwrap_or(-1)),
+        None => Ok(-1),
+    }
+}

@@ -1,0 +1,78 @@
+//! The bytes of a definition file.
+ghost use Rattle.std.specs.Prelude.{◌≡◌, ℕ, ◌≤◌, List, length, take, IfOk};
+ghost use Rattle.ports.specs.Endings.{HasRoom, ended};
+ghost use Rattle.ports.specs.Reading.{GivenWhole};
+ghost use Rattle.ports.specs.Tree.{bytes_at, Asks, Stays};
+ghost use Rattle.world.specs.DefinitionFiles.{line_at, refusal_of};
+ghost use Rattle.world.specs.FileReading.{IsNoFault};
+ghost use Rattle.world.specs.Gives.{Holds, failures_after};
+
+use crate::stop::Stop;
+use basics::faults::Refusal;
+use grammar::fault::FaultKind;
+use ports::{DeviceFault, Tree};
+use std::alloc::Global;
+
+// Reads until the buffer is full or the file ends, and says how many bytes it read.
+fn fill<T: Tree>(tree: &mut T, path: &str, buffer: &mut [u8]) -> Result<usize, DeviceFault>
+    requires { HasRoom (T.seen tree.old).failures }
+    ensures within { IfOk result (λ n. n ≤ length buffer.old) }
+    ensures bytes { (files : List (List ℕ × List ℕ)) → Holds (T.seen tree.old) files
+        → length buffer.old ≡ length (bytes_at files path.now)
+        → IfOk result (λ n. (n ≡ length buffer.old) × (buffer.new ≡ bytes_at files path.now)) }
+    ensures given { IfOk result (λ n. GivenWhole T.gives path.now (length buffer.old) tree.old (take n buffer.new) tree.new) }
+    ensures asks { Asks (T.seen tree.old) (ended result) (T.seen tree.new) }
+{
+    let mut at = 0;
+    while at < buffer.len() {
+        let count = tree.read_at(path, at as u64, &mut buffer[at..])?;
+        if count == 0 {
+            break;
+        }
+        at += count;
+    }
+    Ok(at)
+}
+
+/// The first bytes of the file at this path, at most `size` of them. Of a file that ends before them they are all that it has.
+pub fn read_file<T: Tree>(
+    alloc: Global,
+    tree: &mut T,
+    path: &str,
+    size: usize,
+) -> Result<Vec<u8>, Stop>
+    requires { HasRoom (T.seen tree.old).failures }
+    ensures bytes { (files : List (List ℕ × List ℕ)) → Holds (T.seen tree.old) files → size ≡ length (bytes_at files path.now)
+        → IfOk result (λ bytes. bytes.items ≡ bytes_at files path.now) }
+
+    // Of any tree, steady or not: just the bytes that the tree gave. No byte behind the size is asked for, and an earlier end is the end.
+    ensures given { IfOk result (λ bytes. GivenWhole T.gives path.now size tree.old bytes.items tree.new) }
+    ensures within { IfOk result (λ bytes. length bytes.items ≤ size) }
+    ensures no_fault { IsNoFault result }
+    ensures stays { Stays (T.seen tree.old) (T.seen tree.new) }
+    ensures failures { (T.seen tree.new).failures ≡ failures_after (T.seen tree.old).failures result }
+{
+    let mut buffer = vec![in alloc; 0; size]?;
+    let count = fill(tree, path, &mut buffer)?;
+    buffer.truncate(count);
+    Ok(buffer)
+}
+
+/// The line of the byte at a place, from 1.
+pub fn line_at(bytes: &[u8], at: usize) -> usize
+    requires { at ≤ length bytes.now }
+    ensures { result ≡ line_at bytes.now at }
+{
+    1 + bytes[..at].iter().filter(|b| b'\n' == **b).count()
+}
+
+/// What a source is refused for that has no tree.
+pub fn refusal_of(kind: FaultKind) -> Refusal
+    ensures { result ≡ refusal_of kind }
+{
+    match kind {
+        FaultKind::Token => Refusal::Token,
+        FaultKind::Grammar => Refusal::Grammar,
+        FaultKind::Nesting => Refusal::Nesting,
+    }
+}
