@@ -3,4 +3,3 @@ pub mod Setup
 pub mod Laws
 pub mod Questions
 pub mod Telling
-pub mod Nothing

@@ -14,14 +14,13 @@ ghost use Rattle.hawkottoman.specs.Questions.{ending_with, lines_then, questions
 ghost use Rattle.hawkottoman.specs.Setup.{Concludes, FailsOnce};
 ghost use Rattle.hawkottoman.specs.Telling.{Asks, AsksOver, Ended, Told, text_of};
 
-use crate::nothing::NoOutputs;
 use crate::running::stopped;
 use crate::telling::questions_text;
 use basics::faults::Fault;
 use build_file::{Status, refuse};
 use interp::{Inputs, definitions, read_machine};
 use machine_file::Machine;
-use ports::{Outputs, Tree, log_all};
+use ports::{NoOutputs, Outputs, Tree, log_all};
 use std::alloc::{AllocError, Global};
 use std::marker::Brand;
 use std::rc::Rc;

@@ -24,7 +24,6 @@ mod given;
 mod law;
 #[cfg(test)]
 mod no_words;
-mod nothing;
 mod program;
 mod running;
 mod telling;

@@ -3,6 +3,7 @@ pub mod DiskTree
 pub mod Endings
 pub mod MemOutputs
 pub mod MemTree
+pub mod NoOutputs
 pub mod Outputs
 pub mod Plan
 pub mod Reading

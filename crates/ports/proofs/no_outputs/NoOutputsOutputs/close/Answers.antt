@@ -1,6 +1,6 @@
 use Rattle.std.proofs.Common.{refl}
 use Rattle.ports.proofs.Untold.{untold_closes}
-use Rattle.hawkottoman.proofs.nothing.NoOutputsOutputs.close.Goals as goal
+use Rattle.ports.proofs.no_outputs.NoOutputsOutputs.close.Goals as goal
 
 pub returns : goal.returns
 returns c = untold_closes refl refl refl

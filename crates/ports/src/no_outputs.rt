@@ -1,8 +1,9 @@
 //! Outputs that keep nothing.
 ghost use Rattle.std.specs.Prelude.{◌≡◌, None};
-ghost use Rattle.hawkottoman.specs.Nothing.{untold};
+ghost use Rattle.ports.specs.NoOutputs.{untold};
 
-use ports::{DeviceFault, Outputs};
+use crate::fault::DeviceFault;
+use crate::outputs::Outputs;
 use std::alloc::Global;
 
 /// Outputs that take all and keep nothing but the name of the open one, for a run of which only something else is wanted. A call fails
