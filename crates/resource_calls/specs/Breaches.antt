@@ -36,7 +36,8 @@ first_homeless folders sort a [] = []
 first_homeless folders sort a (n ∷ ns) = unless_named (install_of folders sort a n) (path_said n) (first_homeless folders sort a ns)
 
 abbrev pub named_breach : FoldersData → Sort → ArgumentsData → Option (List NamedData) → Breach
-named_breach folders sort a None = (rules.NamesFile, first_unnamed (source_of folders.here.source_root folders.here.folder) (leaves_from 0 a))
+named_breach folders sort a None =
+    (rules.NamesFile, first_unnamed (source_of folders.here.source_root folders.here.folder) (leaves_from 0 a))
 named_breach folders sort a (Some named) = (rules.IsManPage, first_homeless folders sort a named)
 
 -- a text that names no file, or else a page without a section
